@@ -1,4 +1,4 @@
--- Where packets end whose walks come to a port, and the first that ends elsewhere.
+-- The ends of packets whose walks reach a port, and the first packet that ends elsewhere.
 use Rattle.std.proofs.Common.{◌≡◌, ◌<◌, ◌≤◌, ℕ, zero, suc, Bool, true, false, cond, List, [], ◌∷◌, length, get_or, Option, None, Some, refl, sym, ap, ◌∙◌, arith, map}
 use Rattle.std.specs.Prelude.{nat_lt, not, slice_index_or, ◌&&◌, ◌||◌}
 use Rattle.std.specs.List.{list_all, position, position_or_len}
@@ -21,7 +21,7 @@ use Rattle.held_tables.specs.Tables.{is_owner, is_same_end}
 use Rattle.audit.specs.WalkEnds.{end_of, onward}
 use Rattle.audit.proofs.Judged.{same_ends}
 
--- what a function gives of an element, and of none
+-- the result of a function on an element, and on none
 pub found_there : {X Y : Type 0} (f : X → Option Y) (xs : List X) (k : ℕ) (x : X) → k < length xs → x ≡ get_or xs k x → f x ≡ get_or (map f xs) k None
 found_there f [] k x less is = absurd (omega arith)
 found_there f (y ∷ xs) zero x less is = ap f is
@@ -32,7 +32,7 @@ none_there f [] k past = refl
 none_there f (y ∷ xs) zero past = absurd (omega arith)
 none_there f (y ∷ xs) (suc k) past = none_there f xs k (omega arith)
 
--- one of end ports of which none is another than the port
+-- an owner, if all owners are the port
 pub sole_owner : (port e : EndPort) (owners : List EndPort) → is_sole port owners ≡ true → is_owner owners e ≡ true → is_same_end port e ≡ true
 sole_owner port e [] sole is = absurd (cc)
 sole_owner port e (x ∷ owners) sole is =
@@ -76,7 +76,7 @@ module _ (port : EndPort) (owners : List EndPort) (walks : List NextHop) where
       source_there sources index (sym are.sole_is ∙ only)
       (sym (λ i. comes_by (slice_index_or (are.firsts_are i) index None) (are.arrive_is i)) ∙ h)
 
-  -- where all come
+  -- if all walks end at the port
   among : (count : ℕ) (first : Option ℕ) (arrive : List Bool) → is_among count first ≡ true → count ≡ length arrive → list_all (λ (b : Bool). b) arrive ≡ true
       → comes_by first arrive ≡ true
   among count None arrive h e all = absurd (cc)
@@ -111,7 +111,7 @@ module _ {X : Type 0} (p : X → Bool) (xs : List X) (d : X) where
       position_or_len_is p xs (length xs) d (omega arith) (λ k h. before k (omega arith)) (λ h. absurd (omega arith)) in
       sym (ap (λ n. cond (nat_lt n (length xs)) (Some n) None) at ∙ ap (λ t. cond t (Some (length xs)) None) (le-ltb (length xs) (length xs) (omega arith)))
 
--- where no packet ends elsewhere
+-- if no packet ends elsewhere
 not_not : (b : Bool) → not b ≡ false → b ≡ true
 not_not true h = refl
 not_not false h = cc

@@ -1,4 +1,4 @@
--- The ends that are found are those of the walks by the tables held.
+-- The ends that are found are those of the walks by the held tables.
 use Rattle.std.proofs.Common.{◌≡◌, Bool, ℕ, zero, suc, ◌/◌, ◌%◌, List, [], ◌∷◌, length, Option, None, Some, Result, Ok, Err, refl, sym, ap, ◌∙◌, subst, arith}
 use Rattle.std.specs.Prelude.{map, slice_get, IfOk, ◌==◌}
 use Rattle.std.proofs.lemmas.List.Quantifiers.{position-Some}
@@ -45,7 +45,7 @@ module _ (cells : Cells) (held : HeldPlan) (lid number : ℕ) (rows : List (List
   steps_are [] = refl
   steps_are (g ∷ guids) = λ i. step_is g i ∷ steps_are guids i
 
-  -- each source's end
+  -- the end of the packet of a source
   abbrev end_by : List NextHop → Sender → Option End
   end_by ends source = end_of (onward ends (first_hop (owners_of held lid) source))
 
@@ -91,7 +91,7 @@ module _ (cells : Cells) (held : HeldPlan) (lid number : ℕ) (rows : List (List
       each_edge [] = refl
       each_edge (g ∷ gs) = λ i. edge_by (row_of cells g) (counted lid (top_of held g) (entry_is g (index_of held g) refl i)) ∷ each_edge gs i
 
-  -- and so are the entries
+  -- the entries that are found are those of the tables
   pub entries_are : (nodes : List AuditedSwitch) (guids : List ℕ) → nodes ≡ map (node_of cells held) guids
       → map (node_entry rows lid) nodes ≡ map (entry_for held lid) guids
   entries_are nodes guids e = ap (map (node_entry rows lid)) e ∙ each_entry guids
@@ -100,7 +100,7 @@ module _ (cells : Cells) (held : HeldPlan) (lid number : ℕ) (rows : List (List
       each_entry [] = refl
       each_entry (g ∷ gs) = λ i. counted lid (top_of held g) (entry_is g (index_of held g) refl i) ∷ each_entry gs i
 
-  -- and what the switches do by their entries
+  -- what the switches do by their entries is what the tables say
   pub switch_steps_are : (nodes : List AuditedSwitch) (guids : List ℕ) → nodes ≡ map (node_of cells held) guids
       → map (switch_step_of (owners_of held lid) rows lid) nodes ≡ map (switch_step cells held lid) guids
   switch_steps_are nodes guids e = ap (map (switch_step_of (owners_of held lid) rows lid)) e ∙ each_switch guids

@@ -1,4 +1,4 @@
--- Walks that have come to where they end, or go on.
+-- Walks that have reached their ends, or go on.
 use Rattle.std.proofs.Common.{◌≡◌, ℕ, zero, suc, ◌+◌, ◌<◌, ◌≤◌, true, false, cond, List, [], ◌∷◌, length, refl, sym, ap, ◌∙◌, arith, inl, inr}
 use Rattle.std.specs.Prelude.{map, count_by, slice_index_or}
 use Rattle.std.proofs.lemmas.Bool.{cases_lt}
@@ -19,7 +19,7 @@ pub after_ended : (n : ℕ) (steps : List NextHop) (e : End) → after n steps (
 after_ended zero steps e = refl
 after_ended (suc n) steps e = after_ended n steps e
 
--- what a list has at an index, and what a mapped one
+-- the element at an index of a list, and of the mapped list
 pub within : (f : NextHop → NextHop) (xs : List NextHop) (i : ℕ) (d : NextHop) → i < length xs → slice_index_or (map f xs) i d ≡ f (slice_index_or xs i d)
 within f [] i d h = absurd (omega arith)
 within f (x ∷ xs) zero d h = refl
@@ -56,7 +56,7 @@ tos_count [] = refl
 tos_count (x ∷ xs) =
     ap (λ n. one x + n) (tos_count xs) ∙ ap (λ n. n + count_by is_to xs) (one_is x) ∙ sym (sum_by-cons (λ (y : NextHop). cond (is_to y) 1 0) x xs)
 
--- what has ended stays so
+-- a walk that has ended stays so
 pub stays_ended : (jumps : List NextHop) (x : NextHop) → is_to (onward jumps x) ≡ true → is_to x ≡ true
 stays_ended jumps (To i) h = refl
 stays_ended jumps (Ends e) h = cc
@@ -75,7 +75,7 @@ head_same x (To j) e h = refl
 head_same (To i) (Ends k) e h = absurd (omega arith)
 head_same (Ends m) (Ends k) e h = cc
 
--- where as many have not ended, they are the same
+-- if the number of walks that have not ended stays, these are the same walks
 pub same_left : (f : NextHop → NextHop) (xs : List NextHop) (i : ℕ) (d : NextHop) → ((x : NextHop) → is_to (f x) ≡ true → is_to x ≡ true) → tos (map f xs)
     ≡ tos xs
     → i < length xs → is_to (slice_index_or xs i d) ≡ true → is_to (f (slice_index_or xs i d)) ≡ true
@@ -99,7 +99,7 @@ earlier m n steps s h =
       | Ends x ↦ λ e. let over : is_to (after (m + n) steps s) ≡ false = ap is_to (after_add m n steps s ∙ ap (after n steps) e ∙ after_ended n steps x) in cc
     ] refl
 
--- those that go on do so from the next switch on too
+-- walks that go on do so from the next switch too
 abbrev pub GoOn : List NextHop → List NextHop → Type 0
 GoOn steps jumps = (s : NextHop) → is_to (onward jumps s) ≡ true → is_to (onward jumps (onward steps s)) ≡ true
 

@@ -1,4 +1,4 @@
--- What facts that cover a part of a fabric say of its switches and its wires.
+-- What facts that describe a part of a fabric say of its switches and its wires.
 use Rattle.std.proofs.Common.{◌≡◌, ◌≢◌, ℕ, ◌≤◌, true, false, List, length, get_or, None, Some, refl, sym, ap, ◌∙◌, subst, arith}
 use Rattle.std.specs.Prelude.{slice_get, is_some, Contains, ◌==◌}
 use Rattle.std.specs.List.{position_or_len}
@@ -92,7 +92,7 @@ module _ (part : Part) (facts : Facts) (held : HeldPlan) (f : Fabric) (seen : Is
         slice_get-get_or guids i g found.0 ∙ ap (λ x. Some x) is_g,
       )
 
-  -- the wires are those that the facts tell
+  -- the wires are those of the facts
   same_index : (p q : NodePort) (a b : Node) → InFabric p a → InFabric q b → a.guid ≡ b.guid → p.node ≡ q.node
   same_index = seen.covers.guids_distinct
 

@@ -1,4 +1,4 @@
--- What a switch's row of far ends says of a port, and where the port is none of the switch.
+-- What a switch's row of far ends says of a port, also if the switch has no such port.
 use Rattle.std.proofs.Common.{◌≡◌, ℕ, ◌<◌, ◌≤◌, true, false, ◌||◌, None, Some, refl, sym, ap, ◌∙◌, subst, arith, inl, inr, ◌⊎◌}
 use Rattle.std.specs.Prelude.{nat_lt, slice_index_or, ◌==◌}
 use Rattle.std.proofs.lemmas.Bool.{cases_lt, eqb-true, ltb-true, ltb-false}
@@ -26,7 +26,7 @@ no_far cells g p e = ap (far_to (switches cells)) e
 pub row_at : (cells : Cells) (g p : ℕ) → p < 255 → slice_index_or (row_of cells g) p Nothing ≡ far_of cells g p
 row_at cells g p less = get_or-map-range_with_len (far_of cells g) 0 255 p p Nothing less (omega arith)
 
--- an entry that is none, or a port that the switch lacks
+-- 255, or a port that the switch lacks
 pub lacks : (p ports : ℕ) → (p == 255 || nat_lt ports p) ≡ true → (p ≡ 255) ⊎ (ports < p)
 lacks p ports e =
     elim (p == 255) as (λ t. (p == 255) ≡ t → (t || nat_lt ports p) ≡ true → (p ≡ 255) ⊎ (ports < p)) [
@@ -41,7 +41,7 @@ has p ports e =
       | false ↦ λ k. ltb-false ports p k
     ] e
 
--- such a port leads nowhere
+-- 255 and ports that the switch lacks have no wire
 pub no_port : (part : Part) (facts : Facts) (held : HeldPlan) (f : Fabric) (seen : IsSeenIn part (cells_of facts) held f) (k : ℕ) (node : Node) (p : ℕ)
     → IsNodeAt f k node → is_switch node.kind ≡ true → part (port_at k 0) → (p ≡ 255) ⊎ (node.ports < p)
     → slice_index_or (row_of (cells_of facts) node.guid) p Nothing ≡ Nothing

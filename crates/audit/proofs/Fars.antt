@@ -9,7 +9,7 @@ use Rattle.held_tables.specs.declared.far_end.Far.TheVariants.{Nothing}
 use Rattle.held_tables.specs.declared.audited_switch.AuditedSwitch.{AuditedSwitch}
 use Rattle.held_tables.specs.Switches.{node_of, row_of}
 
--- what is told of an element that a function gives
+-- a property of an element of a mapped list
 told : {X Y Z : Type 0} (f : X → Y) (p : Y → Z) (d : Z) (xs : List X) (k : ℕ)
     → option_map_or p (slice_get (map f xs) k) d ≡ option_map_or (λ x. p (f x)) (slice_get xs k) d
 told f p d [] k = refl

@@ -1,4 +1,4 @@
--- Walks that go on from where they have come, one after the other, until none ends that has not ended before.
+-- Walks that go on, one after the other, until a round in which no more of them end.
 use Rattle.std.proofs.Common.{◌≡◌, ℕ, zero, suc, ◌+◌, ◌-◌, ◌<◌, ◌≤◌, true, false, List, [], ◌∷◌, length, refl, sym, ap, ◌∙◌, subst, arith, inl, inr}
 use Rattle.std.specs.Prelude.{count_by, slice_index_or, slice_set, take}
 use Rattle.std.proofs.lemmas.Bool.{cases_eq, cases_lt}
@@ -9,7 +9,7 @@ use Rattle.audit.specs.declared.next_hop.NextHop.TheVariants.{To, Ends}
 use Rattle.audit.specs.WalkEnds.{onward, after, IsEndOf, is_to, end_of, HaveEnded, AreFurther, IsFurther}
 use Rattle.audit.proofs.Ended.{after_add, earlier, head_less, head_same, none_left, one, one_most, past, stays_ended, tos, tos_count}
 
--- in some steps, and at least one, each walk has come to where it is told of
+-- each walk has reached what `jumps` says, in at least one step
 abbrev IsReached : List NextHop → List NextHop → NextHop → Type 0
 IsReached steps jumps s = (n : ℕ) × (1 ≤ n) × (after n steps s ≡ onward jumps s)
 
@@ -53,7 +53,7 @@ module _ (steps old new : List NextHop) (reached : AreReached steps old) (furthe
   pub are_reached : AreReached steps new
   are_reached = record { as_many = further.as_many ∙ reached.as_many; each = reached_further }
 
--- what has ended stays so
+-- a walk that has ended stays so
 module _ (old new : List NextHop) (further : AreFurther old new) where
   pub ended_before : (s : NextHop) → is_to (onward new s) ≡ true → is_to (onward old s) ≡ true
   ended_before (Ends e) on = on
@@ -66,7 +66,7 @@ module _ (old new : List NextHop) (further : AreFurther old new) where
         | inr over ↦ ap is_to (past old i (To i) over)
       ]
 
-  -- and a walk that goes on was told to come to one that does
+  -- a walk that goes on had reached a switch whose walk goes on
   pub went_on : (s : NextHop) → is_to (onward new s) ≡ true → is_to (onward old (onward old s)) ≡ true
   went_on (Ends e) on = on
   went_on (To i) on =
@@ -79,7 +79,7 @@ module _ (old new : List NextHop) (further : AreFurther old new) where
         | inr over ↦ ap (λ r. is_to (onward old r)) (past old i (To i) over) ∙ ap is_to (past old i (To i) over)
       ]
 
--- where the next one always goes on
+-- if a walk goes on, so does the walk from the switch that it has reached
 abbrev pub LeadOn : List NextHop → Type 0
 LeadOn jumps = (s : NextHop) → is_to (onward jumps s) ≡ true → is_to (onward jumps (onward jumps s)) ≡ true
 
@@ -223,7 +223,7 @@ module _ (old now new : List NextHop) (count : ℕ) (step : NextHop) (so : Furth
   elsewhere : (i : ℕ) → (i ≡ count → ⊥) → onward new (To i) ≡ onward now (To i)
   elsewhere i apart = ap (λ xs. slice_index_or xs i (To i)) put ∙ get_or-set_other now count i step (To i) apart
 
-  -- what the next one has is either list's
+  -- the next step is from the old list or from the new one
   next_is : (x : NextHop) → onward old (To count) ≡ x → step ≡ onward now x → IsFurther old new count
   next_is (Ends e) at is = inl (here ∙ is ∙ sym (ap (onward old) at))
   next_is (To j) at is =
@@ -261,7 +261,7 @@ module _ (old now new : List NextHop) (count : ℕ) (step : NextHop) (so : Furth
 pub all_further : (old new : List NextHop) (count : ℕ) → FurtherSoFar old count new → length old ≤ count → AreFurther old new
 all_further old new count so past = record { as_many = so.as_many; each = λ i less. so.each i (omega arith) less }
 
--- and how many of the first have not ended
+-- how many of the first walks have not ended
 pub tos_more : (xs : List NextHop) (i : ℕ) (v : NextHop) → i < length xs → tos (take (i + 1) (slice_set xs i v)) ≡ tos (take i xs) + one v
 tos_more [] i v h = absurd (omega arith)
 tos_more (x ∷ xs) zero v h = omega arith

@@ -19,7 +19,7 @@ use Rattle.audit.specs.WalkEnds.{IsEndOf, after, onward}
 use Rattle.audit.proofs.Judged.{at_is}
 use Rattle.audit.proofs.LidBits.{both_has, either_has, none_has, with_has}
 
--- what a list has behind its end, and one of no LIDs
+-- no LIDs are seen past the end of a list
 none_past : (xs : List LidSet) (k : ℕ) → length xs ≤ k → lids_at xs k ≡ no_lids
 none_past [] k h = refl
 none_past (x ∷ xs) zero h = absurd (omega arith)
@@ -30,7 +30,7 @@ blank zero k = refl
 blank (suc n) zero = refl
 blank (suc n) (suc k) = blank n k
 
--- an exit of a list in which one was put, or behind which
+-- an exit of a list after one was set or appended
 set_there : (xs : List Exit) (slot k : ℕ) (e x : Exit) → slice_get (slice_set xs slot e) k ≡ Some x → (slice_get xs k ≡ Some x) ⊎ (x ≡ e)
 set_there [] slot k e x h = inl h
 set_there (y ∷ ys) zero zero e x h = inr (sym (same_Some e x h))
@@ -200,7 +200,7 @@ module _ (count : ℕ) (hops : ℕ → List NextHop) (target : ℕ → Option En
   times_seen zero exits arrived lead h = h
   times_seen (suc n) exits arrived lead h = by_seen exits (back_times n exits arrived) lead (times_seen n exits arrived lead h)
 
-  -- those that arrive from each switch
+  -- the LIDs that arrive from each switch
   come_from_each : (arrived : List LidSet) (i : ℕ) → length arrived ≡ count → Arrive arrived → has (from_each arrived) i ≡ true
       → ComeFromEach count (hops i) (target i)
   come_from_each arrived i long h is =

@@ -1,4 +1,4 @@
--- A walk that ends does so in no more steps than there are switches.
+-- A walk that ends takes no more steps than there are switches.
 use Rattle.std.proofs.Common.{◌≡◌, ℕ, zero, suc, ◌+◌, ◌-◌, ◌<◌, ◌≤◌, true, List, [], ◌∷◌, length, get_or, refl, sym, ap, ◌∙◌, subst, arith, inl, inr, ◌⊎◌}
 use Rattle.std.specs.Prelude.{map, slice_index_or, Option, None, Some}
 use Rattle.std.proofs.lemmas.Bool.{cases_lt}
@@ -82,7 +82,7 @@ after_more steps jumps n h = record {
       on_more steps jumps s h.as_many ∙ ap (onward steps) (h.onward_is s) ∙ sym (ap (λ m. after m steps s) e ∙ after_add n 1 steps s);
 }
 
--- where a step more ends none, those that are left go on
+-- if one step more ends no walk, the walks that are left go on
 go_on : (steps jumps : List NextHop) (n : ℕ) → AreAfter steps jumps n → tos (map (onward steps) jumps) ≡ tos jumps → GoOn steps jumps
 go_on steps jumps n h e (Ends x) to = absurd (cc)
 go_on steps jumps n h e (To i) to =
@@ -105,7 +105,7 @@ pub record AreSettled (steps : List NextHop) (n : ℕ) : Type 0 where
   are : AreAfter steps jumps count
   ended : HaveEnded steps jumps
 
--- or at most so many have not
+-- or at most so many walks as there are switches, less `n`, have not ended
 pub record AreFew (steps : List NextHop) (n : ℕ) : Type 0 where
   jumps : List NextHop
   are : AreAfter steps jumps n

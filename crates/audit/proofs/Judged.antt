@@ -44,7 +44,7 @@ listed facts e =
     same_tests (is_end_port (cells_of facts) e.node e.port) (is_owner ports e) (λ t. (owned ports e).1 (has.1 (law.0 t)))
     (λ t. law.1 (has.0 ((owned ports e).0 t)))
 
--- where packets end that all end at a port
+-- if packets end at a port
 pub at_is : (e : EndPort) (end : Option End) → is_at e end ≡ true → end ≡ Some (Taken e)
 at_is e None h = cc
 at_is e (Some (Lost g cause)) h = cc

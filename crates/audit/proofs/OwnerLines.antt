@@ -1,4 +1,4 @@
--- An end port that holds a LID has a line, and that of a line holds its LID.
+-- An end port that holds a LID has a line for it, and the end port of a line holds the line's LID.
 use Rattle.std.proofs.Common.{◌≡◌, ℕ, true, false, cond, ◌||◌, List, [], ◌∷◌, refl, ap, ◌∙◌, inl, inr}
 use Rattle.std.specs.Prelude.{map, filter, Contains, ◌==◌}
 use Rattle.std.proofs.lemmas.Bool.{eqb-true, eq-eqb}
@@ -52,7 +52,7 @@ lids_owner (x ∷ lids) line h =
       ])
     ] refl
 
--- so it is of the lines of tables
+-- a LID's owner by tables has a line there
 pub owner_line : (held : HeldPlan) (lid : ℕ) (e : EndPort) → is_owner (owners_of held lid) e ≡ true → LineOf held.lids lid e
 owner_line held lid e h =
     let l = lids_line (lines_of held) lid e h in

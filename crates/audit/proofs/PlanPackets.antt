@@ -1,4 +1,4 @@
--- By the plan of a view a packet for a LID comes to the end port that holds it.
+-- By the plan of a view, a packet for a LID gets to the end port that holds it.
 use Rattle.std.proofs.Common.{◌≡◌, ℕ, suc, ◌≤◌, true, false, List, [], ◌∷◌, None, Some, refl, sym, ap, ◌∙◌, subst, arith, cond, ◌==◌}
 use Rattle.std.specs.Prelude.{slice_get, slice_index_or, Contains, unwrap_or, is_some, MatchBool}
 use Rattle.std.specs.Option.{option_map_or}

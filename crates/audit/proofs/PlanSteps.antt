@@ -1,4 +1,4 @@
--- By the plan's entries a packet goes from switch to switch by the ports of the rule.
+-- By the plan's entries, a packet goes from switch to switch by the ports of the rule.
 use Rattle.std.proofs.Common.{◌≡◌, ℕ, zero, suc, ◌<◌, true, false, List, [], ◌∷◌, get_or, Option, None, Some}
 use Rattle.std.proofs.Common.{refl, sym, ap, ◌∙◌, subst, arith, inl, inr, cond, ◌==◌}
 use Rattle.std.specs.Prelude.{slice_get, slice_index_or, map, Contains, unwrap_or, option_and_then}

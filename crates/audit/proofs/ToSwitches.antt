@@ -1,4 +1,4 @@
--- Entries by which a switch sends packets on to another.
+-- Entries by which a switch forwards packets to another switch.
 use Rattle.std.proofs.Common.{◌≡◌, ◌==◌, ℕ, Bool, true, false, cond, List, Option, None, Some, refl, ap}
 use Rattle.std.specs.Prelude.{slice_index_or}
 use Rattle.std.proofs.lemmas.Option.{same_Some}

@@ -1,4 +1,4 @@
--- In each fabric that is seen, packets end as told.
+-- In a fabric that facts describe exactly and that holds the tables, packets end as these say.
 use Rattle.std.proofs.Common.{◌≡◌, ◌≢◌, ℕ, zero, suc, ◌≤◌, Bool, true, false, cond, ◌||◌, List, [], ◌∷◌, Option, None, Some, refl, sym, ap, ◌∙◌, subst, arith, inl, inr, ◌⊎◌}
 use Rattle.std.specs.Prelude.{IsTrue, slice_get, slice_index_or, map, nat_lt, ◌==◌}
 use Rattle.std.proofs.lemmas.Bool.{eqb-true, le-ltb}

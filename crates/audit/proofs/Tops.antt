@@ -1,4 +1,4 @@
--- The greatest of the tops of switches: above it no switch has an edge.
+-- The greatest top of the switches: above it no switch has an edge.
 use Rattle.std.proofs.Common.{◌≡◌, ◌<◌, ◌+◌, ◌||◌, ℕ, zero, suc, List, [], ◌∷◌, ◌++◌, length, map, take, get_or, refl, sym, ap, ◌∙◌, arith, max, true, false, cond}
 use Rattle.std.specs.Prelude.{None, slice_index_or, ◌==◌, nat_lt, nat_eq}
 use Rattle.std.specs.Ordering.{is_lt, nat_cmp}

@@ -1,4 +1,4 @@
--- What is seen of the packets for all LIDs of a block at once.
+-- What is seen of packets, for all LIDs of a block at once.
 use Rattle.std.specs.Prelude.{◌≡◌, ◌⊎◌, ◌<◌, ◌+◌, ◌*◌, ℕ, zero, suc, Bool, true, List, [], ◌∷◌, ◌++◌, Option, None, Some, length, map, slice_get, slice_index_or, slice_set, if◌then◌else◌}
 use Rattle.subnet_view.specs.declared.end_port.EndPort.{EndPort}
 use Rattle.held_tables.specs.declared.audited_switch.AuditedSwitch.{AuditedSwitch}
@@ -53,7 +53,7 @@ abbrev pub AreSeenBy : List AuditedSwitch → List Owner → List (List ℕ) →
 AreSeenBy nodes owners rows number arrived exits =
     AreSeen (length nodes) (hops_at nodes owners rows number) (target_at owners number) arrived exits
 
--- packets for a LID get from each of `count` switches to its end port
+-- packets for a LID get from each of `count` switches to the LID's end port
 pub record ComeFromEach (count : ℕ) (hops : List NextHop) (target : Option EndPort) : Type 0 where
   pub port : EndPort
   pub is_target : target ≡ Some port
@@ -64,7 +64,7 @@ abbrev pub AreDelivered : List AuditedSwitch → List Owner → List (List ℕ) 
 AreDelivered nodes owners rows number lids = (index : ℕ) → has lids index ≡ true
     → ComeFromEach (length nodes) (hops_at nodes owners rows number index) (target_at owners number index)
 
--- the LID at `index` arrives from `switch` besides
+-- packets for the LID at `index` arrive from `switch` too
 abbrev pub arrived_more : List LidSet → ℕ → ℕ → List LidSet
 arrived_more arrived switch index = slice_set arrived switch (with_lid (lids_at arrived switch) index)
 
@@ -75,14 +75,14 @@ arrived_if more arrived switch index = if more then arrived_more arrived switch 
 abbrev pub IsExit : List Exit → ℕ → ℕ → ℕ → LidSet → Type 0
 IsExit exits slot from to lids = slice_get exits slot ≡ Some (record { from = from; to = to; lids = lids })
 
--- an exit that is there gets the LID at `index`
+-- the LID at `index` is added to an exit that was already there
 pub record IsExitMore (old : List Exit) (from to index : ℕ) (new : List Exit) : Type 0 where
   pub slot : ℕ
   pub lids : LidSet
   pub there : IsExit old slot from to lids
   pub put : new ≡ slice_set old slot (record { from = from; to = to; lids = with_lid lids index })
 
--- an exit that is there gets the LID at `index`, or a new exit with it is appended
+-- the LID at `index` is added to an exit that was already there, or a new exit with it is appended
 abbrev pub IsWithExit : List Exit → ℕ → ℕ → ℕ → List Exit → Type 0
 IsWithExit old from to index new =
     IsExitMore old from to index new
@@ -95,7 +95,7 @@ IsWithHop arrived exits switch index port (To to) more others =
 IsWithHop arrived exits switch index port (Ends end) more others =
     (more ≡ arrived_if (is_at port (Some end)) arrived switch index) × (others ≡ exits)
 
--- the LIDs of the exit that arrive from where it leads arrive from where it begins too
+-- packets for the exit's LIDs that arrive from `exit.to` arrive from `exit.from` too
 abbrev pub back_over : Exit → List LidSet → List LidSet
 back_over exit arrived =
     slice_set arrived exit.from (either (lids_at arrived exit.from) (both (lids_at arrived exit.to) exit.lids))

@@ -1,4 +1,4 @@
--- The LIDs for which packets arrive, whichever switch they come from.
+-- The LIDs whose packets arrive from every switch.
 use Rattle.std.specs.Prelude.{◌≡◌, ◌<◌, ◌/◌, ◌%◌, ◌==◌, ◌&&◌, ℕ, Bool, true, [], ◌∷◌, Some, length}
 use Rattle.subnet_view.specs.declared.end_port.EndPort.{EndPort}
 use Rattle.subnet_view.specs.Reading.{Cells, switches}

@@ -32,7 +32,8 @@ comes_by (Some index) arrive = slice_index_or arrive index false
 abbrev pub all_come : Bool → List Bool → Bool → Bool
 all_come begin arrive sole = begin && sole && list_all (λ arrives. arrives) arrive
 
--- the first switches of the packets, whether the walk from each switch ends at the port, and what these show
+-- `firsts` has the first switches of the packets, `arrive` whether the walk from each switch ends at the port, and
+-- `sole` and `all` follow from these
 pub record AreEnds (port : EndPort) (sources : List Sender) (firsts : List (Option ℕ)) (owners : List EndPort)
     (walks : List NextHop) (arrive : List Bool)
     (sole all : Bool) : Type 0 where

@@ -16,9 +16,8 @@ use Rattle.audit.specs.declared.end.End.TheVariants.{Taken, Lost}
 use Rattle.audit.specs.NextHops.{IsBrought}
 use Rattle.held_tables.specs.Tables.{owners_of, is_owner, counted, entry_for}
 
--- an end port owns a LID if a line says that it holds it; the effective entry of a switch, by the top and the table of
--- its agent, is the one by its lines, which is 255 for LIDs over the top and for those of a block without a line; the
--- rest of its table is open
+-- An end port owns exactly the LIDs that its lines say. A switch's effective entry, by its agent's top and table, is
+-- the one by its lines: 255 for LIDs over the top and in a block without a line. The rest of its table may be anything.
 pub record HoldsTables (held : HeldPlan) (f : Fabric) : Type 0 where
   pub lids : (port : NodePort) (node : Node) (lid : ℕ) → IsNodeAt f port.node node → IsEndPort f port → 1 ≤ lid
       → owns f port lid ≡ is_owner (owners_of held lid) (record { node = node.guid; port = port.port })
@@ -38,7 +37,7 @@ pub record HoldsTablesIn (part : Part) (held : HeldPlan) (f : Fabric) : Type 0 w
   pub entries : (port : NodePort) (node : Node) (lid : ℕ) → IsEndPortIn part f port node → IsTrue (is_switch node.kind)
       → counted lid (f.top port.node) (f.entry port.node lid) ≡ entry_for held lid node.guid
 
--- a fabric in which the facts describe the part, whatever else they tell, and the part holds the tables
+-- the facts describe the part, whatever else they say, and the part holds the tables
 pub record IsSeenIn (part : Part) (cells : Cells) (held : HeldPlan) (f : Fabric) : Type 0 where
   pub is_fabric : IsFabric f
   pub covers : Covers part cells f
@@ -51,7 +50,8 @@ EndsAs f lid source (Some (Taken e)) =
 EndsAs f lid source (Some (Lost g cause)) = (hops : List Hop) × (id : ℕ) × IsLost f lid source hops id
 EndsAs f lid source None = (hops : List Hop) × (id : ℕ) × IsLost f lid source hops id
 
--- in each fabric that is seen, packets of each end port end as the facts and the tables tell
+-- in a fabric that the facts describe exactly and that holds the tables, packets of each end port end as facts and
+-- tables say
 abbrev pub PacketsEndAsTold : Type 0
 PacketsEndAsTold = (facts : Facts) (held : HeldPlan) (f : Fabric) → IsSeen (cells_of facts) held f
     → (source : NodePort) (node : Node) (lid : ℕ) (end : Option End) → IsNodeAt f source.node node → IsEndPort f source
@@ -59,8 +59,8 @@ PacketsEndAsTold = (facts : Facts) (held : HeldPlan) (f : Fabric) → IsSeen (ce
     → IsBrought (cells_of facts) held lid (record { node = node.guid; port = source.port }) end
     → EndsAs f lid source end
 
--- packets of the end ports that are joined to `origin` end as the facts and the tables tell, if the facts describe that
--- part and it holds the tables
+-- packets of the end ports that are joined to `origin` end as facts and tables say, if the facts describe that part and
+-- it holds the tables
 abbrev pub PacketsEndAsToldInParts : Type 0
 PacketsEndAsToldInParts = (facts : Facts) (held : HeldPlan) (f : Fabric) (origin : NodePort) → IsEndPort f origin
     → IsSeenIn (IsJoinedTo f origin) (cells_of facts) held f

@@ -21,11 +21,11 @@ use Rattle.held_tables.specs.Switches.{row_of, sender_of}
 use Rattle.held_tables.specs.Tables.{owners_of, is_owner, is_same_end, counted, entry_for, top_of}
 use Rattle.audit.specs.WalkEnds.{IsEndOf, after, end_of}
 
--- an adapter port takes a packet for a LID that it holds, and else loses it
+-- an adapter port takes a packet if it holds the LID; otherwise the packet is lost there
 abbrev pub at_port : List EndPort → EndPort → End
 at_port owners e = if is_owner owners e then Taken e else Lost e.node Foreign
 
--- a packet leaves node `g` by a port: to a switch, to an adapter port, or, without a wire, it is lost for `cause`
+-- what becomes of a packet that leaves node `g` over the wire in a port; without a wire it is lost for `cause`
 abbrev pub over : List EndPort → ℕ → Cause → Far → NextHop
 over owners g cause Nothing = Ends (Lost g cause)
 over owners g cause (Switch index) = To index
@@ -41,7 +41,7 @@ cause_by ports top lid entry =
 abbrev pub cause_of : Cells → HeldPlan → ℕ → ℕ → Cause
 cause_of cells held lid g = cause_by (port_count_of cells g) (top_of held g) lid (entry_for held lid g)
 
--- the next hop by the entry: 0 is the switch itself, and other entries lead out by the ports of its row
+-- the next hop by the entry: 0 is the switch itself, and any other entry is the port by which the packet leaves
 abbrev pub by_entry : List EndPort → ℕ → Cause → List Far → ℕ → NextHop
 by_entry owners g cause row entry =
     if entry == 0 then Ends (Taken (record { node = g; port = 0 })) else over owners g cause
@@ -83,7 +83,7 @@ switch_step_by owners lid node entry =
 abbrev pub switch_step_of : List EndPort → List (List ℕ) → ℕ → AuditedSwitch → SwitchStep
 switch_step_of owners rows lid node = switch_step_by owners lid node (node_entry rows lid node)
 
--- a switch's own packet begins there; an adapter port takes its own LID, and sends any other out by its port
+-- a switch's packet begins at the switch; an adapter port takes its own LID, and sends any other out by its port
 abbrev pub sent : List EndPort → EndPort → Option ℕ → Far → NextHop
 sent owners e (Some index) far = To index
 sent owners e None far = if is_owner owners e then Ends (Taken e) else over owners e.node NoLink far
@@ -92,7 +92,7 @@ sent owners e None far = if is_owner owners e then Ends (Taken e) else over owne
 abbrev pub first_hop : List EndPort → Sender → NextHop
 first_hop owners source = sent owners source.port source.switch source.far
 
--- where forwarding brings the packet that `e` sends for `lid`; None if it loops for ever
+-- the packet that `e` sends for `lid` ends at `end`; None if it loops for ever
 abbrev pub IsBrought : Cells → HeldPlan → ℕ → EndPort → Option End → Type 0
 IsBrought cells held lid e end =
     IsEndOf (next_hops_of cells held lid) (first_hop (owners_of held lid) (sender_of cells e)) end
@@ -103,7 +103,7 @@ end_for cells held lid e =
     end_of (after (length (switches cells)) (next_hops_of cells held lid)
     (first_hop (owners_of held lid) (sender_of cells e)))
 
--- forwarding brings a packet to `end_for`, and nowhere else
+-- a packet ends as `end_for` says, and in no other way
 abbrev pub EndsAreFound : Type 0
 EndsAreFound = (cells : Cells) (held : HeldPlan) (lid : ℕ) (e : EndPort) (end : Option End)
     → IsBrought cells held lid e end ↔ (end ≡ end_for cells held lid e)
@@ -112,7 +112,7 @@ EndsAreFound = (cells : Cells) (held : HeldPlan) (lid : ℕ) (e : EndPort) (end 
 abbrev pub entry_by : Cells → HeldPlan → ℕ → ℕ → Option ℕ
 entry_by cells held g lid = if is_usable cells g then Some (entry_for held lid g) else None
 
--- `ends` is where forwarding brings the packet of each end port, in order
+-- `ends` has, for each end port in order, where its packet ends
 pub record AreBrought (cells : Cells) (held : HeldPlan) (lid : ℕ) (ends : List (Option End)) : Type 0 where
   pub as_many : length ends ≡ length (end_ports cells)
   pub brought : (k : ℕ) (e : EndPort) (end : Option End) → slice_get (end_ports cells) k ≡ Some e → slice_get ends k

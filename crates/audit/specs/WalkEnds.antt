@@ -24,7 +24,7 @@ abbrev pub is_to : NextHop → Bool
 is_to (To i) = true
 is_to (Ends e) = false
 
--- where a walk has ended; None if it has come to a switch, and goes on for ever
+-- where a walk has ended; None if it has got to a switch
 abbrev pub end_of : NextHop → Option End
 end_of (To i) = None
 end_of (Ends e) = Some e
@@ -39,8 +39,8 @@ pub record AreAfter (steps jumps : List NextHop) (n : ℕ) : Type 0 where
   pub as_many : length jumps ≡ length steps
   pub onward_is : (s : NextHop) → onward jumps s ≡ after n steps s
 
--- the walk from the switch at `i` has gone on from where it had come: to where the next one had come, or to where that
--- one has come if it went on before
+-- the walk from switch `i` has gone on from the switch that it had got to: to where the walk from that switch had got
+-- to before, or, if that walk went on earlier in the round, to where it has got to now
 abbrev pub IsFurther : List NextHop → List NextHop → ℕ → Type 0
 IsFurther old new i =
     (onward new (To i) ≡ onward old (onward old (To i)))

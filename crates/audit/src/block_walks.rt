@@ -21,10 +21,10 @@ pub(crate) struct Exit {
     pub(crate) lids: LidSet,
 }
 
-/// What is seen of the packets for the LIDs of a block that a single end port holds.
+/// What is seen so far of packets for those LIDs of a block that exactly one end port holds.
 #[derive(Drop)]
 pub(crate) struct BlockWalks {
-    /// For each switch, the LIDs whose packets are seen to get from there to their end port.
+    /// For each switch, the LIDs whose packets are seen to get from there to the LID's end port.
     pub(crate) arrived: Vec<LidSet>,
     /// Which switches forward to which, and for which LIDs.
     pub(crate) exits: Vec<Exit>,
@@ -35,13 +35,14 @@ pub(crate) struct BlockWalks {
 /// Blocks from this number on have no LIDs.
 const NUMBERS: u16 = 0x400;
 
-/// The most rounds in which walks are followed. A walk with more switches is seen to arrive only if few of its switches
-/// have exits listed before those of the switches after them.
+/// The most rounds in which walks are followed. A walk over more switches is seen to arrive only if few of its switches
+/// have exits listed before those of the next switches on the walk.
 const MOST_ROUNDS: usize = 64;
 
-/// Returns the LIDs of the block `number` for which packets are seen to get from each switch to the only end port that
-/// holds the LID. Takes a step for each switch and LID, and in each round one for each two switches of which one
-/// forwards packets to the other. There are at most as many rounds as the longest walk has switches, and at most 64.
+/// Returns the LIDs of the block `number` that exactly one end port holds and whose packets are seen to get there from
+/// every switch. Takes a step for each switch and LID. In each round it also takes a step for each pair of switches if
+/// one forwards packets to the other. There are at most as many rounds as the longest walk has switches, and at most
+/// 64.
 pub(crate) fn delivered(
     alloc: Global,
     nodes: &[AuditedSwitch],
@@ -63,7 +64,7 @@ pub(crate) fn delivered(
 }
 
 impl BlockWalks {
-    /// Returns walks of which nothing is seen, over `count` switches.
+    /// Returns the walks over `count` switches, with nothing seen yet.
     fn none(alloc: Global, count: usize) -> Result<Self, AllocError>
         ensures arrived { IfOk result (λ walks. walks.arrived.items ≡ replicate count no_lids) }
         ensures exits { IfOk result (λ walks. walks.exits.items ≡ []) }
@@ -101,7 +102,8 @@ impl BlockWalks {
         Ok(())
     }
 
-    /// Adds what the switch does with packets for the LID at `index`, given that it forwards them to no switch.
+    /// Adds what the switch does with packets for the LID at `index`. The caller has checked that it does not forward
+    /// them to another switch.
     fn add_last(
         &mut self,
         nodes: &[AuditedSwitch],
@@ -126,7 +128,7 @@ impl BlockWalks {
         Ok(())
     }
 
-    /// Adds what becomes at the switch of packets for the LID at `index`; `port` is the only end port that holds it.
+    /// Adds `hop`, the switch's next hop for the LID at `index`; `port` is the only end port that holds the LID.
     fn add_hop(
         &mut self,
         switch: usize,
@@ -159,7 +161,7 @@ fn lid_at(number: u16, index: usize) -> Lid
     Lid::new(64 * number + index as u16)
 }
 
-/// Adds that the switch `from` forwards packets for the LID at `index` to the switch `to`.
+/// Records that the switch `from` forwards packets for the LID at `index` to the switch `to`.
 fn add_exit(
     exits: &mut Vec<Exit>,
     slots: &mut Vec<usize>,
@@ -215,7 +217,7 @@ fn put_slot(slots: &mut Vec<usize>, switch: usize, slot: usize) {
     }
 }
 
-/// Adds that packets for the LID at `index` get from the switch to the LID's end port.
+/// Records that packets for the LID at `index` get from the switch to the LID's end port.
 fn add_lid(arrived: &mut Vec<LidSet>, switch: usize, index: usize)
     requires { index < 64 }
     ensures { arrived.new.items ≡ arrived_more arrived.old.items switch index }

@@ -1,12 +1,12 @@
-//! The LIDs of a block for which packets arrive, whichever switch they come from.
+//! The LIDs of a block whose packets arrive from every switch.
 ghost use Rattle.std.specs.Prelude.{◌≡◌};
 ghost use Rattle.audit.specs.Deliveries.{is_delivered};
 
 use crate::lid_set::LidSet;
 use smp_bytes::Lid;
 
-/// The LIDs of a block for which packets are seen to get from each usable switch to the only end port that holds the
-/// LID.
+/// The LIDs of a block that exactly one end port holds and whose packets are seen to get there from every usable
+/// switch.
 #[derive(Clone, Copy, Debug, PartialEq, Eq)]
 pub struct Deliveries {
     /// The block's number.
@@ -15,7 +15,7 @@ pub struct Deliveries {
 }
 
 impl Deliveries {
-    /// Returns whether `lid` is one of them. Takes one step.
+    /// Returns whether `lid` is one of the deliveries. Takes one step.
     pub fn has(&self, lid: Lid) -> bool
         ensures { result ≡ is_delivered self.now lid }
     {

@@ -1,7 +1,7 @@
 use smp_bytes::Guid;
 use subnet_view::EndPort;
 
-/// Where a packet ends that does not loop for ever.
+/// The end of a packet that does not loop for ever.
 #[derive(Clone, Copy, Debug, PartialEq, Eq)]
 pub enum End {
     /// The packet is delivered at this port.
@@ -15,11 +15,11 @@ pub enum End {
 pub enum Cause {
     /// The LID is above the switch's top.
     AboveTop,
-    /// The entry is 255, as it is if no block is held.
+    /// The entry is 255. This includes the case that no block is held.
     NoEntry,
     /// The entry is above the number of the switch's ports.
     NoPort,
-    /// No wire is in the port: it is down, or has no cable.
+    /// The port has no wire: it is down or has no cable.
     NoLink,
     /// The packet came over a wire to a port that does not hold the LID.
     Foreign,

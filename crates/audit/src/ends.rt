@@ -15,10 +15,10 @@ use std::alloc::{AllocError, Global};
 use std::marker::Model;
 use subnet_view::EndPort;
 
-/// For each end port, in order, where the packet that it sends for the LID of an end port ends.
+/// For each end port, in order, where its packet for the LID of `port` ends.
 #[derive(Drop)]
 pub struct Ends<'a> {
-    /// The end port whose LID it is.
+    /// The end port whose LID the packets are for.
     port: EndPort,
     sources: &'a [Sender],
     /// For each source, the index of the first switch that its packet reaches.
@@ -27,11 +27,11 @@ pub struct Ends<'a> {
     owners: Vec<EndPort>,
     /// The ends of the walks from the switches.
     walks: Vec<NextHop>,
-    /// For each switch, whether that end is the end port.
+    /// For each switch, whether the walk from there ends at `port`.
     arrive: Vec<bool>,
     /// Whether no other end port holds the LID.
     sole: bool,
-    /// Whether the other fields show that all packets end at the end port.
+    /// Whether the other fields show that all packets end at `port`.
     all: bool,
 }
 

@@ -31,7 +31,7 @@ use std::alloc::{AllocError, Global};
 use std::marker::Model;
 use subnet_view::{EndPort, Wires, end_ports, is_usable, switches};
 
-/// What a view says of a subnet, with the forwarding tables that its switches hold.
+/// A subnet as a view describes it, with the forwarding tables that its switches hold.
 #[derive(Drop)]
 pub struct Network<'a> {
     store: &'a Store,
@@ -46,7 +46,7 @@ pub struct Network<'a> {
     begin: bool,
     /// For each held block, the next one with its number.
     chains: Chains,
-    /// The held LIDs, each with every end port that holds it once.
+    /// The held LIDs; each pair of a LID and an end port that holds it occurs once.
     lines: Vec<HeldLid>,
     /// Who holds each LID.
     owners: Vec<Owner>,
@@ -66,11 +66,11 @@ impl<'a> Model for Network<'a> {
         a.begin a.chains a.lines.items a.owners.items };
 }
 
-/// The blocks of a number that switches hold.
+/// The held blocks with one number.
 #[derive(Drop)]
 pub struct Blocks {
     pub(crate) number: u16,
-    /// The entries of the block, by the indices of the held switches.
+    /// For each held switch in order, the entries of its block.
     pub(crate) rows: Vec<[u8; 64]>,
 }
 
@@ -99,8 +99,8 @@ impl<'a> Network<'a> {
         })
     }
 
-    /// Returns the blocks with this number, which have the 64 LIDs from 64 times the number on. Takes a step for each
-    /// held switch and each of these blocks.
+    /// Returns the blocks `number`, which have the 64 LIDs from 64 * `number` on. Takes a step for each held switch and
+    /// each held block with this number.
     pub fn blocks(&self, alloc: Global, number: u16) -> Result<Blocks, AllocError>
         ensures { IfOk result (λ blocks. AreBlocks self.now.held blocks.number blocks.rows.items
             × (blocks.number ≡ number)) }
@@ -122,8 +122,8 @@ impl<'a> Network<'a> {
     }
 
     /// Returns where packets for the LID of `line` end, for each end port that sends one, in order; `None` if the
-    /// packet loops for ever. Takes some steps for each switch, by the number of digits of the longest way's length. If
-    /// several end ports hold the LID, also takes a walk over the held LIDs.
+    /// packet loops for ever. For each switch it takes some steps, in proportion to the number of binary digits of the
+    /// longest way's length. If several end ports hold the LID, it also walks the held LIDs.
     pub fn ends<'s>(
         &'s self,
         alloc: Global,
@@ -150,7 +150,7 @@ impl<'a> Network<'a> {
     }
 
     /// Returns the entry of each usable switch for `lid`, by rising GUID, and what the switch does by it. Takes a step
-    /// for each switch. If several end ports hold the LID, also takes a walk over the held LIDs.
+    /// for each switch. If several end ports hold the LID, it also walks the held LIDs.
     pub fn switch_steps(
         &self,
         alloc: Global,
@@ -177,10 +177,10 @@ impl<'a> Network<'a> {
         entries(alloc, &self.nodes, &blocks.rows, lid)
     }
 
-    /// Returns the LIDs of a block for which packets are seen to get from each usable switch to the only end port that
-    /// holds the LID. Takes a step for each switch and LID, and in each round one for each two switches of which one
-    /// forwards some of these packets to the other. There are at most as many rounds as the longest way has switches,
-    /// and at most 64.
+    /// Returns the LIDs of a block that exactly one end port holds and whose packets are seen to get there from every
+    /// usable switch. Takes a step for each switch and LID. In each round it also takes a step for each pair of
+    /// switches if one forwards some of these packets to the other. There are at most as many rounds as the longest way
+    /// has switches, and at most 64.
     pub fn deliveries(&self, alloc: Global, blocks: &Blocks) -> Result<Deliveries, AllocError>
         requires { AreBlocks self.now.held blocks.now.number blocks.now.rows.items }
         ensures { IfOk result (AreDeliveries (cells_of self.now.facts) self.now.held) }
@@ -215,8 +215,8 @@ impl<'a> Network<'a> {
         self.deliveries(alloc, blocks)
     }
 
-    /// Returns whether all packets which end ports send to the line's LID are seen to arrive at the line's port. Takes
-    /// a step or two, unless several end ports hold the LID.
+    /// Returns whether all packets that end ports send to the line's LID are seen to arrive at the line's port. Takes a
+    /// step or two, unless several end ports hold the LID.
     pub fn all_arrive(&self, deliveries: &Deliveries, line: &HeldLid) -> bool
         requires { AreDeliveries (cells_of self.now.facts) self.now.held deliveries.now }
         ensures { result ≡ true → LineArrives (cells_of self.now.facts) self.now.held line.now }
@@ -224,16 +224,15 @@ impl<'a> Network<'a> {
         self.begin && deliveries.has(line.lid) && self.is_sole_owner(line)
     }
 
-    /// Returns the end ports that hold `lid`. Takes a step or two if at most one does, and else a walk over the held
-    /// LIDs.
+    /// Returns the end ports that hold `lid`. Takes a step or two if at most one does; otherwise walks the held LIDs.
     pub fn owners(&self, alloc: Global, lid: Lid) -> Result<Vec<EndPort>, AllocError>
         ensures { IfOk result (λ owners. owners.items ≡ owners_of self.now.held lid) }
     {
         owners_of(alloc, &self.lines, &self.owners, lid)
     }
 
-    /// Returns whether no end port but the line's holds the line's LID. Takes no memory. Takes a step or two if at most
-    /// one holds it, and else a walk over the held LIDs.
+    /// Returns whether no end port other than the line's holds the line's LID. Takes no memory. Takes a step or two if
+    /// at most one end port holds it; otherwise walks the held LIDs.
     pub fn is_sole_owner(&self, line: &HeldLid) -> bool
         ensures { result ≡ is_sole line.now.port (owners_of self.now.held line.now.lid) }
     {
@@ -329,7 +328,7 @@ impl<'a> Network<'a> {
         &self.sources
     }
 
-    /// Returns the held LIDs in the order of the lines, each with every end port that holds it once.
+    /// Returns the held LIDs in the order of the lines. Each pair of a LID and an end port that holds it occurs once.
     pub fn lids(&self) -> &[HeldLid]
         ensures { result.now ≡ lines_of self.now.held }
     {
@@ -376,7 +375,7 @@ fn sources_of(alloc: Global, wires: &Wires, guids: &[Guid]) -> Result<Vec<Sender
     Ok(sources(alloc, wires, guids, &ports)?)
 }
 
-/// Returns the held LIDs, each with every end port that holds it once, and who holds each LID.
+/// Returns the held LIDs, each pair of a LID and an end port once, and who holds each LID.
 fn lines_and_owners(alloc: Global, held: &Held) -> Result<(Vec<HeldLid>, Vec<Owner>), AllocError>
     ensures lines { IfOk result (λ both. both.0.items ≡ lines_of held.now) }
     ensures owners { IfOk result (λ both. AreOwners both.0.items both.1.items) }

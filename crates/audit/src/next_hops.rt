@@ -154,7 +154,7 @@ fn entry_among(rows: &[[u8; 64]], index: Option<usize>, lid: Lid) -> u8
     }
 }
 
-/// Returns the effective entry: 255 for LID 0 and above the top, and else `entry`.
+/// Returns the effective entry: 255 for LID 0 and above the top, otherwise `entry`.
 pub(crate) fn counted(lid: Lid, top: Lid, entry: u8) -> u8
     ensures { result ≡ counted lid top entry }
 {
@@ -198,8 +198,8 @@ pub(crate) fn switch_by(node: &AuditedSwitch, entry: u8) -> Option<usize>
     node.row.switch(entry)
 }
 
-/// Returns what becomes of a packet that leaves a node by a port whose wire leads to `far`; without a wire it is lost
-/// for `cause`.
+/// Returns what becomes of a packet that leaves `node` over a wire to `far`. Without a wire the packet is lost for
+/// `cause`.
 fn over(owners: &[EndPort], node: Guid, cause: Cause, far: Far) -> NextHop
     ensures { result ≡ over owners.now node cause far }
 {

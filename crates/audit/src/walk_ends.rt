@@ -1,11 +1,11 @@
-//! The ends of walks from switch to switch: in each round each walk goes on from where it has come.
+//! The ends of walks from switch to switch, found in rounds: in each round every walk goes on from where it has got to.
 ghost use Rattle.std.specs.Prelude.{◌≡◌, count_by};
 ghost use Rattle.audit.specs.WalkEnds.{AreFurther, HaveEnded, end_of, is_to, onward};
 
 use crate::end::End;
 use crate::next_hop::NextHop;
 
-/// Returns the ends of the walks from the switches; a walk that has not ended then goes on for ever. A round takes a
+/// Returns where the walks from the switches end. A walk without an end in the result goes on for ever. A round takes a
 /// step for each switch. There are at most as many rounds as the longest walk's length has binary digits, and one more
 /// if some walk loops for ever.
 pub fn ends(steps: Vec<NextHop>) -> Vec<NextHop>
@@ -23,7 +23,7 @@ pub fn ends(steps: Vec<NextHop>) -> Vec<NextHop>
     jumps
 }
 
-/// Takes each walk on from where it has come, one after the other. Returns how many have not ended then.
+/// Takes each walk further, one after the other. Returns how many have not ended.
 fn go_further(jumps: &mut Vec<NextHop>) -> usize
     ensures further { AreFurther jumps.old.items jumps.new.items }
     ensures left { result ≡ count_by is_to jumps.new.items }
@@ -56,7 +56,7 @@ pub fn onward(steps: &[NextHop], step: NextHop) -> NextHop
     }
 }
 
-/// Returns where a walk ends that has come to `step`, or `None` if it goes on for ever.
+/// Returns the end of a walk that has got to `step`, or `None` if it has got to a switch.
 pub fn end_of(step: NextHop) -> Option<End>
     ensures { result ≡ end_of step }
 {

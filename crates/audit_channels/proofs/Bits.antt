@@ -46,7 +46,7 @@ module _ (known next : Known) (channel : ℕ) (row_is : next.row ≡ channel / 6
         | inr e ↦ inr (omega arith)
       ]
 
-  -- where none was known
+  -- if no channel was known
   pub knows_none : known.bits ≡ 0 → (other : ℕ) → Knows known other → Knows next other
   knows_none none other k =
       let bit = k.bit_is in

@@ -1,4 +1,4 @@
--- Ways over channels of which each follows the one before, until one comes again.
+-- Walks over channels, each of which follows the one before, until a channel recurs.
 use Rattle.std.proofs.Common.{◌≡◌, ◌<◌, ◌≤◌, ◌+◌, ◌-◌, ℕ, zero, suc, nat_eq, Bool, true, false, cond, List, [], ◌∷◌, ◌++◌, length, length-append, get_or, take, drop, length-drop, refl, sym, ap, ◌∙◌, subst, arith}
 use Rattle.std.specs.Prelude.{None, Some, position, slice_index_or, ◌==◌, ◌||◌, unwrap_or}
 use Rattle.std.specs.List.{list_any, find, position_or_len, IsDistinct}

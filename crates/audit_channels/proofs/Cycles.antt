@@ -5,7 +5,7 @@ use Rattle.std.specs.List.{list_any}
 use Rattle.std.proofs.lemmas.Bool.{eqb-true, eq-eqb}
 use Rattle.audit_channels.proofs.Passing.{found, list_any_true}
 
--- a channel is among others where one is equal to it
+-- a channel is in a list exactly if one of the list is equal to it
 pub is_among : (following : List ℕ) (next : ℕ) → (list_any (λ c. next == c) following ≡ true) ↔ Contains following next
 is_among following next = (there, λ h. list_any_true (λ c. next == c) following next h (eq-eqb next next refl))
   where

@@ -1,4 +1,4 @@
--- In each fabric that is seen, a packet takes channels as the edges of the facts and the tables lead.
+-- In a fabric that facts describe and that holds the tables, a packet takes channels as the edges lead.
 use Rattle.std.proofs.Common.{◌≡◌, ℕ, zero, suc, ◌<◌, ◌≤◌, ◌+◌, ◌*◌, Bool, true, false, cond, ◌||◌, List, [], ◌∷◌, Option, None, Some, refl, sym, ap, ◌∙◌, subst, arith}
 use Rattle.std.specs.Prelude.{slice_get, slice_index_or, map, nat_lt, ◌==◌}
 use Rattle.std.specs.Option.{option_map_or}

@@ -1,4 +1,4 @@
--- Numbers are given round by round.
+-- Numbers of channels, given round by round.
 use Rattle.std.proofs.Common.{◌≡◌, ◌≢◌, ◌<◌, ◌≤◌, ◌+◌, ℕ, zero, suc, Bool, true, false, cond, List, [], ◌∷◌, length, replicate, refl, sym, ap, ◌∙◌, subst, arith, inl, inr, ◌⊎◌}
 use Rattle.std.specs.Prelude.{count_by, slice_index_or, ◌==◌, not, ◌&&◌}
 use Rattle.std.specs.Prelude.{None, Some, position}
@@ -256,7 +256,7 @@ follows_channel [] c next h = absurd (contains_none next h)
 follows_channel (x ∷ waits) zero next h = omega arith
 follows_channel (x ∷ waits) (suc c) next h = let less = follows_channel waits c next h in omega arith
 
--- where each has a number they rise
+-- if each channel has a number, the numbers rise
 pub all_rise : (waits : List (List ℕ)) (numbers : List ℕ) → AreGiven waits numbers → position (λ n. n == 0) numbers ≡ None → Rise waits numbers
 all_rise waits numbers h e = record {
   as_many = h.as_many;

@@ -1,4 +1,4 @@
--- Lists of those that follow each channel, with one more.
+-- The lists of followers of each channel, with one follower more.
 use Rattle.std.proofs.Common.{◌≡◌, ◌<◌, ℕ, zero, suc, true, List, [], ◌∷◌, ◌++◌, length, replicate, refl, sym, ap, ◌∙◌, subst, arith, inl, inr, ◌⊎◌, slice_set}
 use Rattle.std.specs.Prelude.{Contains, map, slice_index_or, ◌==◌}
 use Rattle.std.specs.List.{list_any}

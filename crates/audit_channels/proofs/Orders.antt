@@ -1,4 +1,4 @@
--- The order of channels, in words of packets.
+-- The order of channels, in terms of packets.
 use Rattle.std.proofs.Common.{◌<◌, ℕ, List, [], ◌∷◌, ◌∙◌, arith}
 use Rattle.std.specs.Prelude.{slice_index_or}
 use Rattle.audit_channels.specs.Orders.{GoesOn, IsCycle, IsOrder, IsShortest}

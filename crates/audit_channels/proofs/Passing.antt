@@ -1,4 +1,4 @@
--- What a list has that passes a test.
+-- The elements of a list that pass a test.
 use Rattle.std.proofs.Common.{◌≡◌, List, [], ◌∷◌, inl, inr, refl, ap, Bool, true, false, ◌||◌}
 use Rattle.std.specs.Prelude.{Contains, Some}
 use Rattle.std.specs.List.{list_any, find}

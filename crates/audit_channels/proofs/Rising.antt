@@ -1,4 +1,4 @@
--- Numbers that rise along a way do not come back to the first.
+-- Numbers that rise along a walk do not come back to the first.
 use Rattle.std.proofs.Common.{◌<◌, ℕ, List, [], ◌∷◌, arith}
 use Rattle.std.specs.Prelude.{slice_index_or}
 use Rattle.audit_channels.specs.Orders.{Rise, GoesOn, NoCycleWhereNumbersRise}

@@ -1,4 +1,4 @@
--- A search in breadth: a channel more, and what is known where it ends.
+-- A breadth-first search: one channel more, and what is known at its end.
 use Rattle.std.proofs.Common.{◌≡◌, ◌≢◌, ◌<◌, ◌≤◌, ◌+◌, ℕ, zero, suc, true, List, [], ◌∷◌, ◌++◌, length, length-append, refl, sym, ap, ◌∙◌, subst, arith, inl, inr, ◌⊎◌, slice_set}
 use Rattle.std.specs.Prelude.{slice_index_or}
 use Rattle.std.proofs.lemmas.Bool.{cases_lt}
@@ -59,7 +59,7 @@ pub record SoFar (waits : List (List ℕ)) (numbers : List ℕ) (first least ind
   pub close : index < length reached → count ≤ (at_index reached index).count + 1
   pub done : (i : ℕ) → i < index → i < length reached → IsDone waits numbers first least reached i
 
--- from this index on, ways have so many channels
+-- from this index on, ways have at least `bound` channels
 abbrev pub IsPast : ℕ → List Visited → ℕ → Type 0
 IsPast index reached bound = (i : ℕ) → index ≤ i → i < length reached → bound ≤ (at_index reached i).count
 
@@ -294,7 +294,7 @@ module _ (waits : List (List ℕ)) (numbers : List ℕ) (first least index : ℕ
     done = done_now;
   }
 
--- at an index where nothing is, or what has so many channels
+-- an index past the end, or one with at least `bound` channels on its way
 pub past_end : (index bound : ℕ) (reached : List Visited) → length reached ≤ index → IsPast index reached bound
 past_end index bound reached more i from less = absurd (omega arith)
 

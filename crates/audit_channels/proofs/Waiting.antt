@@ -1,4 +1,4 @@
--- Those that packets take next, LID by LID up to the greatest top.
+-- The channels that packets take next, LID by LID up to the greatest top.
 use Rattle.std.proofs.Common.{◌≡◌, ◌<◌, ◌≤◌, ◌+◌, ◌*◌, ℕ, zero, suc, List, [], ◌∷◌, length, replicate, refl, sym, ap, ◌∙◌, subst, arith, inl, inr, ◌⊎◌}
 use Rattle.std.specs.Prelude.{Contains, Option, None, Some, map, slice_index_or, ◌↔◌}
 use Rattle.std.specs.Option.{SomeIff}

@@ -9,8 +9,8 @@ use Rattle.audit_channels.specs.Orders.{Follows}
 abbrev pub number_of : ℕ → Edge → ℕ
 number_of vertex edge = 256 * vertex + edge.port
 
--- a packet leaves `vertex` by `channel`, along its edge in `before`, and the vertex to which that leads by `next`,
--- along its edge in `now`
+-- a packet leaves `vertex` by `channel`, along its edge in `before`, and then the next vertex by `next`, along that
+-- vertex's edge in `now`
 pub record TakesAcross (before now : List (Option Edge)) (vertex channel next : ℕ) : Type 0 where
   pub first : Edge
   pub second : Edge
@@ -23,7 +23,7 @@ pub record TakesAcross (before now : List (Option Edge)) (vertex channel next : 
 abbrev pub TakesNone : List (Option Edge) → List (Option Edge) → ℕ → Type 0
 TakesNone before now vertex = (channel next : ℕ) → TakesAcross before now vertex channel next → ⊥
 
--- `turn` has the two channels, which are channels of the columns' vertices
+-- `turn` has two channels that a packet takes in turn, both among the channels of the columns' vertices
 pub record IsTurn (before now : List (Option Edge)) (vertex : ℕ) (turn : Turn) : Type 0 where
   pub takes : TakesAcross before now vertex turn.channel turn.next
   pub channel_within : turn.channel < 256 * length before

@@ -14,8 +14,8 @@ use Rattle.audit.specs.Fabrics.{IsSeenIn}
 use Rattle.held_tables.specs.Switches.{index_in}
 use Rattle.audit_channels.specs.Waiting.{RiseOnWays}
 
--- `hop` goes from one switch to another; its channel is that of the port by which it leaves the usable switch at an
--- index
+-- `hop` goes from one switch to another; `channel` is 256 times the index of the first one among the usable switches,
+-- plus the port by which the packet leaves it
 pub record IsChannel (cells : Cells) (f : Fabric) (hop : Hop) (channel : ℕ) : Type 0 where
   pub wire : IsWire f hop.out hop.into
   pub from : Node
@@ -48,8 +48,8 @@ pub record Travels (part : Part) (f : Fabric) (hops : List Hop) : Type 0 where
   pub end : Standing
   pub goes : Goes f lid (sent_from source) hops end
 
--- numbers rise from each channel that a packet takes to the next, if they rise on ways by facts and tables, the facts
--- describe what is joined to an end port, and that holds the tables
+-- the channels that a packet takes have rising numbers, if the numbers rise by facts and tables, the facts describe
+-- what is joined to an end port, and the end ports and switches there hold the tables
 abbrev pub ChannelsRise : Type 0
 ChannelsRise =
     (facts : Facts) (held : HeldPlan) (f : Fabric) (origin : NodePort) (numbers : List ℕ) → IsEndPort f origin

@@ -1,5 +1,5 @@
--- Channels that follow each other: numbers that rise, and cycles. For each channel there is a list of those that follow
--- it.
+-- Channels that follow each other: numbers that rise, and cycles. `waits` has, for each channel, the list of the
+-- channels that follow it.
 use Rattle.std.specs.Prelude.{◌≡◌, ◌↔◌, ◌⊎◌, ◌<◌, ◌≤◌, ℕ, List, [], ◌∷◌, Contains, length, slice_index_or}
 use Rattle.audit_channels.specs.declared.order.ChannelOrder.{ChannelOrder}
 use Rattle.audit_channels.specs.declared.order.ChannelOrder.TheVariants.{Rises, Cycle}
@@ -21,7 +21,7 @@ pub record IsWith (old : List (List ℕ)) (channel next : ℕ) (new : List (List
   pub as_many : length new ≡ length old
   pub follows : (a b : ℕ) → Follows new a b ↔ (Follows old a b ⊎ ((a ≡ channel) × (b ≡ next)))
 
--- each channel has a number, less than those of the channels that follow it
+-- each channel has a number, less than the numbers of the channels that follow it
 pub record Rise (waits : List (List ℕ)) (numbers : List ℕ) : Type 0 where
   pub as_many : length numbers ≡ length waits
   pub rises : (channel next : ℕ) → Follows waits channel next → slice_index_or numbers channel 0

@@ -19,7 +19,7 @@ pub record WaitsFor (cells : Cells) (held : HeldPlan) (channel next : ℕ) : Typ
   pub switch : ℕ
   pub takes : TakesInTurn (edges_of cells held lid) switch channel next
 
--- `waits` has, for each channel, those that packets take next
+-- `waits` has, for each channel, the channels that packets take next
 pub record AreWaits (cells : Cells) (held : HeldPlan) (waits : List (List ℕ)) : Type 0 where
   pub as_many : length waits ≡ 256 * length (switches cells)
   pub follows : (a b : ℕ) → Follows waits a b ↔ WaitsFor cells held a b
@@ -28,7 +28,7 @@ pub record AreWaits (cells : Cells) (held : HeldPlan) (waits : List (List ℕ)) 
 abbrev pub IsAdded : List (Option Edge) → List (List ℕ) → Type 0
 IsAdded column waits = (switch channel next : ℕ) → TakesInTurn column switch channel next → Follows waits channel next
 
--- each channel of each switch has a number, less than those of the channels that packets take next
+-- each channel of each switch has a number, less than the numbers of the channels that packets take next
 pub record RiseOnWays (cells : Cells) (held : HeldPlan) (numbers : List ℕ) : Type 0 where
   pub as_many : length numbers ≡ 256 * length (switches cells)
   pub rises : (a b : ℕ) → WaitsFor cells held a b → slice_index_or numbers a 0 < slice_index_or numbers b 0

@@ -7,9 +7,10 @@ use crate::waits::Waits;
 use port_graph::Edge;
 use std::alloc::AllocError;
 
-/// Adds that channels which packets for a LID take in turn follow each other; `column` has the edge by which the
-/// packets leave each vertex. The channel of a vertex's edge has the number 256 times the vertex, plus the edge's port.
-/// Takes a step for each vertex, and a walk over the channels that follow its own if the next one is not known to.
+/// Records that two channels follow each other if packets for one LID take the one and then the other. `column` has the
+/// edge by which these packets leave each vertex. The channel of a vertex's edge has the number 256 times the vertex,
+/// plus the edge's port. Takes a step for each vertex, and a walk over the channels that follow its channel if the next
+/// one is not known to.
 pub fn add_column(waits: &mut Waits, column: &[Option<Edge>]) -> Result<(), AllocError>
     requires channels { length waits.old ≡ 256 * length column.now }
     requires room { 256 * length column.now < 2 ^ 64 }
@@ -18,8 +19,8 @@ pub fn add_column(waits: &mut Waits, column: &[Option<Edge>]) -> Result<(), Allo
     add_across(waits, column, column)
 }
 
-/// Adds that channels which packets take in turn follow each other, if they leave a vertex by its edge in `before` and
-/// the next vertex by its edge in `now`.
+/// Records, for each vertex, that the channel of its edge in `before` is followed by the channel of the next vertex's
+/// edge in `now`.
 #[tactic(auto, using(crate::proofs::Columns::none_so_far))]
 pub fn add_across(
     waits: &mut Waits,

@@ -33,7 +33,7 @@ impl Following {
         &self.channels
     }
 
-    /// Adds `channel`, unless it is there already. Takes one step if it is known, and else a walk over all.
+    /// Adds `channel`, unless it is there already. Takes one step if it is known; otherwise walks all channels.
     pub(crate) fn add(&mut self, channel: usize) -> Result<(), AllocError>
         ensures added { OnOk result (AreWith self.old.channels.items channel self.new.channels.items) }
         ensures kept { OnErr result (self.new.channels.items ≡ self.old.channels.items) }

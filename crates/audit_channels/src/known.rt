@@ -2,7 +2,7 @@
 ghost use Rattle.std.specs.Prelude.{◌≡◌, ◌↔◌, ◌⊎◌, ◌/◌, ℕ, IsTrue};
 ghost use Rattle.audit_channels.specs.Known.{Knows};
 
-/// Known channels: those of a row of 64 at whose indices the bits of a word are set.
+/// Known channels, all in one row of 64: a bit of a word for each.
 #[derive(Clone, Copy)]
 pub(crate) struct Known {
     row: usize,
@@ -24,7 +24,7 @@ impl Known {
         self.row == channel / 64 && (self.bits >> (channel % 64)) & 1 == 1
     }
 
-    /// Returns the set with `channel` added, if that is of the set's row or the set was empty, and else the unchanged
+    /// Returns the set with `channel` added if it is in the set's row or the set was empty; otherwise the unchanged
     /// set.
     pub(crate) fn with(self, channel: usize) -> Self
         ensures kept { (other : ℕ) → Knows self other → Knows result other }

@@ -13,9 +13,9 @@ pub fn never_both()
     ensures law { NeverBoth }
 {}
 
-/// The channels that a packet takes have rising numbers, wire after wire, if numbers of channels rise by facts and
-/// tables, the facts describe what is joined to an end port of a fabric, that holds the tables, and the packet is sent
-/// from an end port there, for any LID.
+/// The channels that a packet takes have rising numbers, wire after wire, if the numbers rise by facts and tables, the
+/// facts describe what is joined to an end port of a fabric, the end ports and switches there hold the tables, and one
+/// of these end ports sends the packet, for any LID.
 pub fn channels_rise()
     ensures law { ChannelsRise }
 {}

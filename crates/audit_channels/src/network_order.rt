@@ -13,8 +13,8 @@ use std::alloc::{AllocError, Global};
 /// leaves, plus the port there.
 ///
 /// Costs what `Network::blocks` takes for each 64 LIDs up to the greatest top of a usable switch. Each LID costs a step
-/// for each switch, and a step for each channel that follows the switch's own, unless all packets leave as for the LID
-/// before.
+/// for each switch, and a step for each channel that follows the switch's own, unless every switch forwards packets for
+/// it as for the LID before.
 #[tactic(auto, using(crate::proofs::Orders::order_is, crate::proofs::Orders::shortest_is))]
 pub fn channel_order(alloc: Global, network: &Network) -> Result<ChannelOrder, AllocError>
     ensures order { IfOk result (λ found. IsOrderOf (cells_of network.now.facts) network.now.held found) }

@@ -9,8 +9,8 @@ use port_graph::Edge;
 use smp_bytes::Lid;
 use std::alloc::{AllocError, Global};
 
-/// Returns, for each channel, those that packets take next by the tables of `network`. Channels are numbered as in
-/// `channel_order`. Costs what `channel_order` takes without the ordering.
+/// Returns, for each channel, the channels that packets take next by the tables of `network`. Channels are numbered as
+/// in `channel_order`. Costs what `channel_order` takes without the ordering.
 pub fn channel_waits(alloc: Global, network: &Network) -> Result<Waits, AllocError>
     ensures { IfOk result (λ waits. AreWaits (cells_of network.now.facts) network.now.held waits) }
 {

@@ -6,7 +6,7 @@ use crate::waits::Waits;
 use std::alloc::{AllocError, Global};
 
 /// Returns a number for each channel that does not lead to a cycle, and 0 for the others. A round takes a step for each
-/// channel and each that follows it, and there are as many rounds as channels on the longest walk.
+/// channel and for each channel that follows it. There are as many rounds as channels on the longest walk.
 pub(crate) fn numbers(alloc: Global, waits: &Waits) -> Result<Vec<usize>, AllocError>
     ensures { IfOk result (λ numbers. AreGiven waits.now numbers.items) }
 {
@@ -41,7 +41,7 @@ fn further(
     Ok(next)
 }
 
-/// Returns the number of a channel: `number` if it has none and each channel that follows it has one, and else `old`.
+/// Returns the number of a channel: `number` if it has none and each channel that follows it has one, otherwise `old`.
 fn next_number(following: &[usize], numbers: &[usize], old: usize, number: usize) -> usize
     ensures { result ≡ next_number following.now numbers.now old number }
 {

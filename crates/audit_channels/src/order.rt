@@ -19,8 +19,8 @@ pub enum ChannelOrder {
 
 /// Returns numbers that rise, or a shortest cycle of channels if there are none.
 ///
-/// A round takes a step for each channel and each that follows it, and there are as many rounds as channels on the
-/// longest walk. If there is a cycle, finding one takes the square of the channels walked until one recurs, and then
+/// A round takes a step for each channel and for each channel that follows it. There are as many rounds as channels on
+/// the longest walk. If there is a cycle, finding one takes the square of the channels walked until one recurs. Then
 /// each channel without a number costs a breadth-first search over the channels that it reaches by fewer channels than
 /// that cycle has.
 pub fn order_channels(alloc: Global, waits: &Waits) -> Result<ChannelOrder, AllocError>

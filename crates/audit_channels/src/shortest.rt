@@ -32,7 +32,7 @@ pub(crate) fn shortest_cycle(
     Ok(shortest)
 }
 
-/// Returns a shorter cycle than `known` that passes through `first`, if there is one, and else `known`.
+/// Returns a shorter cycle than `known` that passes through `first`, if there is one, otherwise `known`.
 fn shorter_from(
     alloc: Global,
     waits: &Waits,
@@ -74,9 +74,9 @@ pub(crate) struct Visited {
     count: usize,
 }
 
-/// Returns a shortest cycle through `first` if it has fewer than `least` channels, and else an empty list. Takes a step
-/// for each channel to which fewer than `least` channels lead, and each that follows it. Marks what it reaches with
-/// `first` + 1.
+/// Returns a shortest cycle through `first` if it has fewer than `least` channels, otherwise an empty list. Takes a
+/// step for each channel reached by a way of fewer than `least` channels, and for each channel that follows it. Marks
+/// what it reaches with `first` + 1.
 fn cycle_of(
     alloc: Global,
     waits: &Waits,
@@ -195,7 +195,7 @@ fn reach(
     Ok(())
 }
 
-/// Returns the cycle that consists of the way to the channel reached at `index`, which `first` follows.
+/// Returns the way to the channel reached at `index`, which is a cycle since `first` follows that channel.
 fn way_back(
     alloc: Global,
     waits: &Waits,

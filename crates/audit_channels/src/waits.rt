@@ -53,8 +53,8 @@ impl Waits {
         }
     }
 
-    /// Adds that `next` follows `channel`. Takes one step if that is known, and else a walk over the channels that
-    /// follow it.
+    /// Records that `next` follows `channel`. Takes one step if that is known; otherwise walks the channels that follow
+    /// `channel`.
     pub fn add(&mut self, channel: usize, next: usize) -> Result<(), AllocError>
         requires channel { channel < length self.old }
         requires next { next < length self.old }

@@ -1,4 +1,4 @@
--- Packets that are counted one after another.
+-- Packets, counted one after the other.
 use Rattle.std.proofs.Common.{◌≡◌, ◌+◌, ℕ, List, [], ◌∷◌, ◌++◌, length, take, refl, sym, ap, ◌∙◌, subst, arith, Bool, true, false, cond}
 use Rattle.std.specs.Prelude.{Option, None, Some, count_by, filter, not, ◌&&◌}
 use Rattle.std.specs.List.{list_all}
@@ -23,7 +23,7 @@ use Rattle.audit_counts.specs.PacketTally.{IsTally, IsWith, IsWithArrived}
 use Rattle.audit_counts.specs.FirstFew.{Listed, first_of, listed, listed_of}
 use Rattle.audit_counts.proofs.Firsts.{listed_more}
 
--- one more where it passes
+-- the count goes up by one if the element passes
 counted_more : {X : Type 0} (p : X → Bool) (xs : List X) (x : X) (old new : ℕ) → old ≡ count_by p xs → new ≡ old + cond (p x) 1 0 → new
     ≡ count_by p (xs ++ x ∷ [])
 counted_more {X} p xs x old new h e = e ∙ ap (λ n. n + cond (p x) 1 0) h ∙ sym (sum_by_push (λ (y : X). cond (p y) 1 0) xs x)
@@ -181,7 +181,7 @@ all_counted (packet ∷ packets) all =
     let rest = all_counted packets parts.1 in
     split ∙ omega (arith, one, rest)
 
--- so many more are counted
+-- `count` packets more are counted
 pairs_arrived : (packets more : List SentPacket) (old new : Pairs) (count : ℕ) → ArePairs packets old → list_all arrives more ≡ true → count ≡ length more
     → ArePairsWithArrived old count new → ArePairs (packets ++ more) new
 pairs_arrived packets more old new count h all is w =

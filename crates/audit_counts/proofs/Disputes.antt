@@ -1,4 +1,4 @@
--- Disputed cells, counted down from all cells.
+-- Disputed cells, counted as all cells minus the known ones.
 use Rattle.std.proofs.Common.{◌≡◌, ◌+◌, ◌-◌, ◌≤◌, ℕ, ◌∷◌, ap, arith, length, true, false, cond}
 use Rattle.std.proofs.lemmas.List.Sums.{sum_by-cons, count_by-le-length}
 use Rattle.fact_join.specs.declared.cell.Cell.{Cell}
@@ -7,7 +7,7 @@ use Rattle.reply_facts.specs.declared.value.Value.{Value}
 use Rattle.subnet_view.specs.Reading.{Cells}
 use Rattle.audit_counts.specs.Disputed.{disputed, is_disputed}
 
--- those of the cells that were passed, and all that are left
+-- `count` is the number of disputed cells that were passed, plus all cells of `rest`
 abbrev pub CountedTo : ℕ → Cells → ℕ → Type 0
 CountedTo count rest all = count + disputed rest ≡ length rest + all
 

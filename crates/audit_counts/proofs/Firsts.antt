@@ -1,4 +1,4 @@
--- The first of a list that pass a test, with one element more.
+-- The first elements of a list that pass a test, with one element more.
 use Rattle.std.proofs.Common.{◌≡◌, ◌<◌, ◌≤◌, ◌+◌, ℕ, List, [], ◌∷◌, ◌++◌, inl, inr, refl, sym, ap, ◌∙◌, arith, Bool, true, false, cond, length, take, get_or}
 use Rattle.std.specs.Prelude.{count_by, filter, nat_lt}
 use Rattle.std.proofs.Math.Nat.{add-zero}
@@ -9,7 +9,7 @@ use Rattle.std.proofs.lemmas.List.Sums.{sum_by_push}
 use Rattle.audit_counts.specs.FirstFew.{Listed, first_of, listed, listed_of, first_few}
 
 module _ {X : Type 0} (most : ℕ) where
-  -- the first so many of a list with one more
+  -- the first elements, `most` at most, of a list with one element more
   take_one : (ys : List X) (x : X) → take most (ys ++ x ∷ []) ≡ first_few most (take most ys) x
   take_one ys x =
       elim (cases_lt (length ys) most) [

@@ -1,4 +1,4 @@
--- The sites of end ports, and which of them is that of a port.
+-- The sites of end ports, and which of them is the site of a port.
 use Rattle.std.proofs.Common.{◌≡◌, ◌<◌, ◌≤◌, ℕ, zero, suc, List, [], ◌∷◌, refl, sym, ap, subst, ◌∙◌, Bool, true, false, cond, ◌&&◌, ◌||◌, length, get_or, arith}
 use Rattle.std.specs.Prelude.{Contains, Option, None, Some, count_by, find, map, slice_get}
 use Rattle.std.proofs.lemmas.Bool.{eq-eqb, eqb-true, ltb-false}
@@ -26,7 +26,7 @@ module _ (cells : Cells) (port : EndPort) (ports : List EndPort) (sites : List S
       let same : there.0 ≡ port = same_ends port there.0 (ap (is_of port) there.2 ∙ h.1) in
       (sym there.2 ∙ ap (site_of cells) same, list_any_true (is_same_end port) ports there.0 there.1 (ap (is_of port) there.2 ∙ h.1))
 
-  -- where none is found, it is none of these
+  -- if no site is found, the port is none of these
   pub no_site : IsSiteOf sites port None → is_owner ports port ≡ false
   no_site e = sym (owned ports) ∙ ap (list_any (is_of port)) (sym sites_are) ∙ e
     where
@@ -41,7 +41,7 @@ site_there cells [] index site d h e = absurd (omega arith)
 site_there cells (x ∷ ports) zero site d h e = e
 site_there cells (x ∷ ports) (suc index) site d h e = site_there cells ports index site d (omega arith) e
 
--- where all lie in one component -----------------------------------------------------------------
+-- if all lie in one component --------------------------------------------------------------------
 
 one_root : (a b r : Option ℕ) → is_one_root a r ≡ true → is_one_root b r ≡ true → is_one_root a b ≡ true
 one_root None b r h k = absurd (cc)
@@ -97,7 +97,7 @@ and_false : (a b : Bool) → b ≡ false → (a && b) ≡ false
 and_false true b h = h
 and_false false b h = refl
 
--- where the end port is a switch's there are none
+-- if the end port is a switch's, it has no adapter ports beside it
 pub none_joined : (sites : List Site) (owner : Site) → is_adapter owner.port ≡ false → 0 ≡ count_by (λ site. are_joined_adapters site owner) sites
 none_joined sites owner other =
     count_none (λ (site : Site). are_joined_adapters site owner) sites

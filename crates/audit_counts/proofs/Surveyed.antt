@@ -1,4 +1,4 @@
--- The packets of a line, end port by end port, and those of all lines.
+-- The packets of a line, end port by end port, and the packets of all lines.
 use Rattle.std.proofs.Common.{◌≡◌, ◌<◌, ◌≤◌, ◌+◌, ℕ, suc, List, [], ◌∷◌, ◌++◌, refl, sym, ap, ◌∙◌, subst, arith, Bool, true, false, cond, length, get_or, map, take, append_assoc}
 use Rattle.std.specs.Prelude.{Option, None, Some, count_by, filter, not, ◌&&◌}
 use Rattle.std.specs.List.{flat_map, list_all, position}
@@ -86,7 +86,7 @@ module _ (cells : Cells) (held : HeldPlan) (line : HeldLid) where
       → e ≡ get_or (end_ports cells) n e → end ≡ get_or ends n None → end ≡ end_for cells held line.lid e
   end_there ends n e end h less is there = there ∙ found_at cells held line.lid ends n e h less ∙ ap (end_for cells held line.lid) (sym is)
 
-  -- where all end at the line's port, its packets arrive
+  -- if all packets end at the line's port, they arrive
   each_arrives : (ports : List EndPort) → ((k : ℕ) → k < length ports → is_at line.port (end_for cells held line.lid (get_or ports k line.port)) ≡ true)
       → list_all arrives (map (packet_of cells held line) (filter (λ e. in_one_component cells e line.port) ports)) ≡ true
   each_arrives [] h = refl
@@ -107,7 +107,7 @@ module _ (cells : Cells) (held : HeldPlan) (line : HeldLid) where
       let there = all_there port ends none k (omega arith) in
       ap (is_at line.port) (sym (found_at cells held line.lid ends k line.port h less)) ∙ ap (λ p. is_at p (get_or ends k None)) (sym own) ∙ there))
 
-  -- the same where all are seen to come there
+  -- if all packets are seen to arrive, those of the line's component do
   pub sent_come : AllComeTo cells held line → list_all arrives (sent_to cells held line) ≡ true
   sent_come come =
       each_arrives (end_ports cells)

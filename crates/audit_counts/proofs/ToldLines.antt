@@ -1,4 +1,4 @@
--- Of which lines it is told that all packets arrive, line by line.
+-- The lines that are marked as having all packets arrive, line by line.
 use Rattle.std.proofs.Common.{◌≡◌, ℕ, zero, suc, ◌+◌, ◌<◌, Bool, true, false, List, [], ◌∷◌, ◌++◌, length, get_or, refl, sym, ap, ◌∙◌, subst, arith, inl, inr, length-append}
 use Rattle.std.specs.Prelude.{Some, slice_get, slice_index_or}
 use Rattle.std.proofs.lemmas.Bool.{cases_lt}
@@ -20,7 +20,7 @@ before (t ∷ told) all zero less = refl
 before (t ∷ told) all (suc k) less = before told all k (omega arith)
 
 module _ (cells : Cells) (held : HeldPlan) (lines : List HeldLid) where
-  -- it is told rightly of the first lines
+  -- the marks of the first lines are right
   pub record ToldSoFar (n : ℕ) (told : List Bool) : Type 0 where
     pub as_many : length told ≡ n
     pub each : (k : ℕ) (line : HeldLid) → k < n → slice_get lines k ≡ Some line → slice_index_or told k false ≡ true → AllComeTo cells held line

@@ -34,7 +34,7 @@ causes_of packets = record {
   foreign = count_by (is_lost_for Foreign) packets;
 }
 
--- each count is one more if `is_for` holds of its cause
+-- each count goes up by one if `is_for` holds of its cause
 pub record AreCausesIf (old : Causes) (is_for : Cause → Bool) (new : Causes) : Type 0 where
   pub above_top : new.above_top ≡ old.above_top + (if is_for AboveTop then 1 else 0)
   pub no_entry : new.no_entry ≡ old.no_entry + (if is_for NoEntry then 1 else 0)
@@ -42,6 +42,6 @@ pub record AreCausesIf (old : Causes) (is_for : Cause → Bool) (new : Causes) :
   pub no_link : new.no_link ≡ old.no_link + (if is_for NoLink then 1 else 0)
   pub foreign : new.foreign ≡ old.foreign + (if is_for Foreign then 1 else 0)
 
--- one more packet is lost for the cause `why`
+-- a packet that is lost for the cause `why` is added
 abbrev pub AreCausesWith : Causes → Cause → Causes → Type 0
 AreCausesWith old why new = AreCausesIf old (λ cause. is_cause cause why) new

@@ -6,7 +6,7 @@ use Rattle.reply_facts.specs.declared.key.Key.{Key}
 use Rattle.reply_facts.specs.declared.value.Value.{Value}
 use Rattle.subnet_view.specs.Reading.{Cells}
 
--- different values were told in the newest generation
+-- the newest generation has different values
 abbrev pub is_disputed_cell : Cell Value → Bool
 is_disputed_cell (Known generation value) = false
 is_disputed_cell (Disputed generation) = true

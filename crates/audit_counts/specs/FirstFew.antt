@@ -1,11 +1,11 @@
--- The first items of a kind, which are told, and their number.
+-- The first items of a kind, which are listed, and how many there are.
 use Rattle.std.specs.Prelude.{ℕ, ◌+◌, ◌-◌, Bool, List, [], ◌∷◌, ◌++◌, count_by, filter, length, nat_lt, take, if◌then◌else◌}
 
 -- the first elements that pass `test`, `most` at most
 abbrev pub first_of : {X : Type 0} → ℕ → (X → Bool) → List X → List X
 first_of most test xs = take most (filter test xs)
 
--- `told` with `x` behind it, if `told` has fewer than `most` elements
+-- `told`, with `x` appended if `told` has fewer than `most` elements
 abbrev pub first_few : {X : Type 0} → ℕ → List X → X → List X
 first_few most told x = if nat_lt (length told) most then told ++ x ∷ [] else told
 
@@ -27,6 +27,6 @@ all_listed most xs = record { most = most; first = take most xs; count = length 
 abbrev pub listed : {X : Type 0} → Listed X → X → Listed X
 listed told x = record { most = told.most; first = first_few told.most told.first x; count = told.count + 1 }
 
--- the number of items beyond the first
+-- the number of items that are not listed
 abbrev pub more_of : {X : Type 0} → Listed X → ℕ
 more_of told = told.count - length told.first

@@ -17,7 +17,7 @@ pub record IsTally (most : ℕ) (packets : List SentPacket) (tally : PacketTally
   pub misdelivered : tally.misdelivered ≡ listed_of most is_misdelivered packets
   pub round : tally.round ≡ listed_of most goes_round packets
 
--- `packet` is added to those of its kind, if it does not arrive
+-- `packet` is added to the packets of its kind, if it does not arrive
 pub record IsTold (old : PacketTally) (packet : SentPacket) (new : PacketTally) : Type 0 where
   pub causes : AreCausesIf old.causes (λ cause. is_lost_for cause packet) new.causes
   pub lost : new.lost ≡ (if is_lost packet then listed old.lost packet else old.lost)
@@ -25,13 +25,13 @@ pub record IsTold (old : PacketTally) (packet : SentPacket) (new : PacketTally) 
       ≡ (if is_misdelivered packet then listed old.misdelivered packet else old.misdelivered)
   pub round : new.round ≡ (if goes_round packet then listed old.round packet else old.round)
 
--- `packet` is added to those of its kind, and `all` and `between` stay
+-- `packet` is added to the packets of its kind; `all` and `between` do not change
 pub record IsMissed (old : PacketTally) (packet : SentPacket) (new : PacketTally) : Type 0 where
   pub told : IsTold old packet new
   pub all : new.all ≡ old.all
   pub between : new.between ≡ old.between
 
--- `packet` is counted in `all` and `between`, and the rest stays
+-- `packet` is counted in `all` and `between`; the rest does not change
 pub record IsCountedWith (old : PacketTally) (packet : SentPacket) (new : PacketTally) : Type 0 where
   pub all : ArePairsIf old.all true (arrives packet) new.all
   pub between : ArePairsIf old.between (is_between packet) (arrives packet) new.between

@@ -34,7 +34,7 @@ packets_of cells held = flat_map (packets_for cells held) (lines_of held)
 abbrev pub arrives : SentPacket → Bool
 arrives packet = is_at packet.line.port packet.end
 
--- the packet ends at a node that does not take it
+-- the packet is dropped at a node
 abbrev pub is_lost_end : Option End → Bool
 is_lost_end None = false
 is_lost_end (Some (Taken e)) = false
@@ -43,7 +43,7 @@ is_lost_end (Some (Lost g cause)) = true
 abbrev pub is_lost : SentPacket → Bool
 is_lost packet = is_lost_end packet.end
 
--- a port takes the packet that does not hold its LID on the packet's line
+-- a port takes the packet, but not the port that holds its LID on the packet's line
 abbrev pub is_taken_end : Option End → Bool
 is_taken_end None = false
 is_taken_end (Some (Taken e)) = true

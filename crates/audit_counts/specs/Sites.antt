@@ -1,4 +1,5 @@
--- Which end ports lie in one component: those at switches of one, and two adapter ports with a wire between them.
+-- Which end ports lie in one component: end ports at switches of one component, and two adapter ports with a wire
+-- between them.
 use Rattle.std.specs.Prelude.{◌≡◌, ℕ, Bool, true, false, ◌==◌, ◌&&◌, ◌||◌, List, [], ◌∷◌, Option, None, Some, Contains, count_by, option_map, option_and_then}
 use Rattle.std.specs.List.{list_all, list_any}
 use Rattle.std.specs.Option.{option_map_or}
@@ -13,11 +14,11 @@ use Rattle.audit_ways.specs.Ways.{is_adapter}
 use Rattle.audit_counts.specs.declared.site.Census.{Census}
 use Rattle.audit_counts.specs.declared.site.Site.{Site}
 
--- the usable switch at which an end port lies: its own, or the one to which its wire leads
+-- the usable switch at which an end port lies: its own node, or the switch that its wire leads to
 abbrev pub switch_of : Cells → EndPort → Option ℕ
 switch_of cells e = option_map (λ h. h.0) (attachment_of cells e)
 
--- the root of the component of that switch
+-- the root of the component at whose switch the end port lies
 abbrev pub root_at : Cells → EndPort → Option ℕ
 root_at cells e = option_and_then (root_of (graph_of cells)) (switch_of cells e)
 
@@ -33,7 +34,7 @@ abbrev pub IsSiteOf : List Site → EndPort → Option Site → Type 0
 IsSiteOf sites port None = list_any (is_of port) sites ≡ false
 IsSiteOf sites port (Some site) = Contains sites site × (is_of port site ≡ true)
 
--- both components have a root, and it is the same
+-- both components have a root, and the roots are equal
 abbrev pub is_one_root : Option ℕ → Option ℕ → Bool
 is_one_root None s = false
 is_one_root (Some r) None = false

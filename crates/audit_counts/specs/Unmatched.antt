@@ -1,4 +1,4 @@
--- Differences between the held tables and the facts of the subnet, and what the facts do not tell.
+-- Differences between the held tables and the facts of the subnet, and gaps in the facts.
 use Rattle.std.specs.Prelude.{◌≡◌, ℕ, Bool, not, ◌==◌, List, map}
 use Rattle.std.specs.List.{list_any}
 use Rattle.subnet_view.specs.declared.end_port.EndPort.{EndPort}
@@ -12,11 +12,11 @@ use Rattle.held_tables.specs.Tables.{is_owner, is_same_end, lines_of}
 use Rattle.audit_counts.specs.declared.unmatched.Unmatched.{Unmatched}
 use Rattle.audit_counts.specs.FirstFew.{Listed, all_listed, listed_of}
 
--- the LIDs of `lines` with ports that are no end ports of the facts
+-- the LIDs of `lines` whose ports are not end ports of the facts
 abbrev pub unowned_among : ℕ → Cells → List HeldLid → Listed HeldLid
 unowned_among most cells lines = listed_of most (λ line. not (is_owner (end_ports cells) line.port)) lines
 
--- LIDs with ports that are no end ports of the facts
+-- LIDs whose ports are not end ports of the facts
 abbrev pub unowned : ℕ → Cells → HeldPlan → Listed HeldLid
 unowned most cells held = unowned_among most cells (lines_of held)
 
@@ -28,7 +28,7 @@ is_twice held line = is_told_twice (lines_of held) line.lid
 abbrev pub twice : ℕ → HeldPlan → Listed HeldLid
 twice most held = listed_of most (is_twice held) (lines_of held)
 
--- switches with tables that are no usable switches of the facts
+-- switches that have tables but are not usable switches of the facts
 abbrev pub unknown : ℕ → Cells → HeldPlan → Listed ℕ
 unknown most cells held = listed_of most (λ g. not (is_usable cells g)) (map (λ s. s.guid) held.switches)
 
@@ -56,11 +56,11 @@ lidless_among most ports held = listed_of most (λ e. not (has_lid held e)) port
 abbrev pub lidless : ℕ → Cells → HeldPlan → Listed EndPort
 lidless most cells held = lidless_among most (end_ports cells) held
 
--- nodes that the facts name without telling what they are
+-- nodes that the facts name without saying what they are
 abbrev pub unusable : ℕ → Cells → Listed ℕ
 unusable most cells = all_listed most (unusable_nodes cells)
 
--- ports that the facts name without telling where they lead
+-- ports that the facts name without saying where they lead
 abbrev pub unjoined : ℕ → Cells → Listed EndPort
 unjoined most cells = all_listed most (unjoined_ports cells)
 

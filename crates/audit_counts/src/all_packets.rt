@@ -21,14 +21,14 @@ use std::alloc::{AllocError, Global};
 #[derive(Drop)]
 pub struct PacketSurvey {
     pub tally: PacketTally,
-    /// For each line, by index: whether it is told that all packets for its LID are delivered at its port.
+    /// For each line, whether all packets for its LID are known to be delivered at its port.
     pub told: Vec<bool>,
 }
 
-/// Counts the packets that end ports send to the LIDs of their components, and keeps the first `most` of each kind that
-/// do not arrive. Takes what `Network::blocks` and `Network::deliveries` do for each 64 LIDs. For each LID whose packets
-/// are not seen to arrive by these it takes what `Network::ends` does, and a step for each end port if they do not
-/// arrive.
+/// Counts the packets that end ports send to the LIDs of their components. Keeps the first `most` of each kind that do
+/// not arrive. Takes what `Network::blocks` and `Network::deliveries` do for each 64 LIDs. If these do not show that
+/// all packets for a LID arrive, that LID also costs what `Network::ends` takes, and a step for each end port if not
+/// all arrive.
 pub fn survey(
     alloc: Global,
     most: usize,
@@ -138,7 +138,7 @@ fn add_packets(
     Ok(false)
 }
 
-/// Adds the packets that the end ports of a component send to `owner`, given that all arrive.
+/// Adds the packets that the end ports of a component send to `owner`. The caller knows that all arrive.
 fn add_arrived(
     tally: &mut PacketTally,
     sites: &[Site],

@@ -1,4 +1,4 @@
-//! How many facts are disputed.
+//! The number of disputed facts.
 ghost use Rattle.std.specs.Prelude.{◌≡◌};
 ghost use Rattle.fact_store.specs.View.{cells_of};
 ghost use Rattle.audit_counts.specs.Disputed.{disputed, is_disputed};
@@ -6,7 +6,7 @@ ghost use Rattle.audit_counts.specs.Disputed.{disputed, is_disputed};
 use fact_join::Cell;
 use fact_store::{Sighting, Store};
 
-/// Returns how many facts are disputed. Walks all cells; each one without a single value is disputed.
+/// Returns how many facts are disputed. Walks all cells.
 pub fn disputed(store: &Store) -> usize
     ensures { result ≡ disputed (cells_of store.now) }
 {
@@ -19,7 +19,7 @@ pub fn disputed(store: &Store) -> usize
     count
 }
 
-/// Returns whether different values were told in the newest generation.
+/// Returns whether the newest generation has different values.
 fn is_disputed(sighting: &Sighting) -> bool
     ensures { result ≡ is_disputed sighting.now }
 {

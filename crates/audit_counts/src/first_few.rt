@@ -1,11 +1,11 @@
-//! The first items of a kind, which are told, and their number.
+//! The first items of a kind, which are listed, and how many there are.
 ghost use Rattle.std.specs.Prelude.{◌≡◌, [], IfOk, OnOk};
 ghost use Rattle.audit_counts.specs.FirstFew.{all_listed, listed, more_of, first_few};
 
 use std::alloc::{AllocError, Global};
 use std::marker::Model;
 
-/// The number of items of a kind, and the first of them, which are told.
+/// The number of items of a kind, and the first of them, which are listed.
 #[derive(Drop)]
 pub struct FirstFew<T> {
     /// The most elements that are kept.
@@ -42,7 +42,7 @@ impl<T: Drop> FirstFew<T> {
         note(&mut self.first, self.most, item)
     }
 
-    /// Returns the first items, which are told.
+    /// Returns the first items, which are listed.
     pub fn first(&self) -> &[T]
         ensures { result.now ≡ self.now.first }
     {
@@ -56,7 +56,7 @@ impl<T: Drop> FirstFew<T> {
         self.count
     }
 
-    /// Returns the number of items beyond those that are told.
+    /// Returns the number of items that are not listed.
     pub fn more(&self) -> u64
         ensures { result ≡ more_of self.now }
     {

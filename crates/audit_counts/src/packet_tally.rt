@@ -8,7 +8,7 @@ use crate::sent_packet::SentPacket;
 use audit::End;
 use std::alloc::{AllocError, Global};
 
-/// The number of packets, how many arrive, and of the others the number and the first of each kind.
+/// The number of packets and how many arrive. Of the others, the number and the first packets of each kind.
 #[derive(Drop)]
 pub struct PacketTally {
     pub all: Pairs,
@@ -66,7 +66,7 @@ impl PacketTally {
         self.between.add(packet.is_between(), arrives)
     }
 
-    /// Adds a packet that does not arrive to those of its kind.
+    /// Adds a packet that does not arrive to the packets of its kind.
     fn miss(&mut self, packet: SentPacket) -> Result<(), AllocError>
         requires { arrives packet ≡ false }
         ensures { OnOk result (IsMissed self.old packet self.new) }

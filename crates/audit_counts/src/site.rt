@@ -39,7 +39,7 @@ impl Site {
     }
 }
 
-/// Returns whether both components have a root, and it is the same.
+/// Returns whether both components have a root, and the roots are equal.
 fn is_one_root(one: Option<Guid>, other: Option<Guid>) -> bool
     ensures { result ≡ is_one_root one other }
 {
@@ -102,8 +102,8 @@ fn adapter_count(sites: &[Site]) -> usize
     sites.iter().filter(|site| is_adapter(&site.port)).count()
 }
 
-/// Returns the number of end ports in the component of `owner`. Takes one step if all lie in one component, and else
-/// one for each.
+/// Returns the number of end ports in the component of `owner`. Takes one step if all end ports lie in one component,
+/// otherwise a step for each.
 pub(crate) fn joined_count(sites: &[Site], owner: &Site, census: Census) -> usize
     requires census { IsCensus sites.now census }
     requires listed { Contains sites.now owner.now }
@@ -115,8 +115,8 @@ pub(crate) fn joined_count(sites: &[Site], owner: &Site, census: Census) -> usiz
     sites.iter().filter(|site| site.is_joined_to(owner)).count()
 }
 
-/// Returns the number of adapter ports in the component of `owner` if that is an adapter's port, and else 0. Takes a
-/// step or two if all lie in one component, and else one for each.
+/// Returns the number of adapter ports in the component of `owner` if `owner` is an adapter port, otherwise 0. Takes a
+/// step or two if all end ports lie in one component, otherwise a step for each.
 pub(crate) fn joined_adapters(sites: &[Site], owner: &Site, census: Census) -> usize
     requires census { IsCensus sites.now census }
     requires listed { Contains sites.now owner.now }
@@ -240,7 +240,7 @@ fn switch_of(wires: &Wires, port: &EndPort) -> Option<Guid>
 }
 
 /// Returns the index of the site of `port`, or `sites.len()` if there is none. Takes a step or two if that is `index`
-/// or the next one, and else a walk.
+/// or the next one; otherwise walks the sites.
 pub(crate) fn index_of(sites: &[Site], index: usize, port: &EndPort) -> usize
     ensures { IsSiteOf sites.now port.now (slice_get sites.now result) }
 {

@@ -1,4 +1,4 @@
-//! Differences between the held tables and the facts of the subnet, and what the facts do not tell.
+//! Differences between the held tables and the facts of the subnet, and gaps in the facts.
 ghost use Rattle.std.specs.Prelude.{◌≡◌, IfOk};
 ghost use Rattle.fact_store.specs.View.{cells_of};
 ghost use Rattle.audit_counts.specs.Unmatched.{IsUnmatched, has_lid, is_held, lidless, lidless_among, tableless};
@@ -14,28 +14,28 @@ use smp_bytes::Guid;
 use std::alloc::{AllocError, Global};
 use subnet_view::{EndPort, end_ports, is_end_port, is_usable, switches};
 
-/// Differences between tables and facts, and what the facts do not tell.
+/// Differences between tables and facts, and gaps in the facts.
 #[derive(Drop)]
 pub struct Unmatched {
-    /// LIDs with ports that are no end ports of the facts.
+    /// LIDs whose ports are not end ports of the facts.
     pub unowned: FirstFew<HeldLid>,
     /// LIDs that more than one port holds.
     pub twice: FirstFew<HeldLid>,
-    /// Switches with tables that are no usable switches of the facts.
+    /// Switches that have tables but are not usable switches of the facts.
     pub unknown: FirstFew<Guid>,
     /// Usable switches without tables.
     pub tableless: FirstFew<Guid>,
-    /// Nodes that the facts name and whose type is unknown, and switches whose table room is unknown.
+    /// Nodes that the facts name but whose type is unknown, and switches whose table room is unknown.
     pub unusable: FirstFew<Guid>,
     /// End ports of the facts without a LID.
     pub lidless: FirstFew<EndPort>,
-    /// Ports that the facts name and of which it is unknown where they lead.
+    /// Ports that the facts name without saying where they lead.
     pub unjoined: FirstFew<EndPort>,
 }
 
 impl Unmatched {
-    /// Compares tables and facts, and keeps the first `most` differences of each kind. Takes two searches for each LID
-    /// that is held; a walk over the held switches for each switch; one over the LIDs for each end port; and what
+    /// Compares tables and facts, and keeps the first `most` differences of each kind. Takes two searches for each held
+    /// LID, a walk over the held switches for each switch, a walk over the LIDs for each end port, and what
     /// `unusable_nodes` and `unjoined_ports` take.
     pub fn of(alloc: Global, most: usize, network: &Network) -> Result<Self, Refused>
         ensures { IfOk result (IsUnmatched most (cells_of network.now.facts) network.now.held) }
@@ -56,7 +56,7 @@ impl Unmatched {
     }
 }
 
-/// Returns the LIDs with ports that are no end ports of the facts, and the LIDs that more than one port holds.
+/// Returns the LIDs whose ports are not end ports of the facts, and the LIDs that more than one port holds.
 fn unowned_and_twice(
     alloc: Global,
     most: usize,
@@ -70,7 +70,8 @@ fn unowned_and_twice(
     Ok((unowned, twice))
 }
 
-/// Returns the switches with tables that are no usable switches of the facts, and the usable switches without tables.
+/// Returns the switches that have tables but are not usable switches of the facts, and the usable switches without
+/// tables.
 fn unknown_and_tableless(
     alloc: Global,
     most: usize,
@@ -84,8 +85,8 @@ fn unknown_and_tableless(
     Ok((unknown, tableless))
 }
 
-/// Returns the nodes that the facts name without telling what they are, and the ports that they name without telling
-/// where they lead.
+/// Returns the nodes that the facts name without saying what they are, and the ports that they name without saying
+/// where these lead.
 fn unusable_and_unjoined(
     alloc: Global,
     most: usize,
@@ -99,7 +100,7 @@ fn unusable_and_unjoined(
     Ok((unusable, unjoined))
 }
 
-/// Returns the nodes that the facts name without telling what they are.
+/// Returns the nodes that the facts name without saying what they are.
 fn unusable_of(alloc: Global, most: usize, store: &Store) -> Result<FirstFew<Guid>, AllocError>
     ensures { IfOk result (λ few. few ≡ unusable most (cells_of store.now)) }
 {
@@ -107,7 +108,7 @@ fn unusable_of(alloc: Global, most: usize, store: &Store) -> Result<FirstFew<Gui
     FirstFew::of(alloc, most, &guids)
 }
 
-/// Returns the ports that the facts name without telling where they lead.
+/// Returns the ports that the facts name without saying where they lead.
 fn unjoined_of(alloc: Global, most: usize, store: &Store) -> Result<FirstFew<EndPort>, Refused>
     ensures { IfOk result (λ few. few ≡ unjoined most (cells_of store.now)) }
 {
@@ -131,7 +132,7 @@ fn lidless_of(alloc: Global, most: usize, network: &Network) -> Result<FirstFew<
     Ok(lidless(alloc, most, network.held(), &ports)?)
 }
 
-/// Returns the LIDs of `lines` with ports that are no end ports of the facts.
+/// Returns the LIDs of `lines` whose ports are not end ports of the facts.
 fn unowned(
     alloc: Global,
     most: usize,
@@ -162,7 +163,7 @@ fn twice(alloc: Global, most: usize, network: &Network) -> Result<FirstFew<HeldL
     Ok(few)
 }
 
-/// Returns the switches with tables that are no usable switches of the facts.
+/// Returns the switches that have tables but are not usable switches of the facts.
 fn unknown(
     alloc: Global,
     most: usize,

@@ -1,4 +1,4 @@
--- Where tables pass by facts, packets are delivered in the part of a fabric that the facts tell of.
+-- If tables pass by facts, packets are delivered in the part of a fabric that the facts describe.
 use Rattle.std.proofs.Common.{◌≡◌, ◌≢◌, ◌≤◌, ℕ, Bool, true, false, cond, ◌||◌, List, [], ◌∷◌, Option, None, Some, refl, sym, ap, ◌∙◌, subst}
 use Rattle.std.specs.Prelude.{Contains, is_some, nat_lt, option_and_then, option_map, slice_get, ◌==◌}
 use Rattle.std.specs.Option.{option_map_or}
@@ -147,7 +147,7 @@ module _ {cells : Cells} {f : Fabric} {origin : NodePort} (told : IsTold cells f
   of_type : (v : NodePort) (node : Node) → InPart v node → is_switch_node cells node.guid ≡ is_switch_at f v.node
   of_type v node here = known_type told v node here ∙ sym (type_at f v.node node here.node_there)
 
-  -- facts know where an end port lies
+  -- the facts have the attachment of an end port
   lies : (v h : NodePort) (node : Node) (g : ℕ) (here : InPart v node) (attachment : HasAttachment f origin v h g) → LiesAt f v h
       → attachment_of cells (name v node) ≡ Some (g, h.port)
   lies v h node g here attachment (itself s z e) =

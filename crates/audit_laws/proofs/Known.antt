@@ -1,4 +1,4 @@
--- Where tables pass, each node that the facts name is known, and each port that they name is known or told.
+-- If tables pass, each node that the facts name is known, and each port that they name is known or listed as unjoined.
 use Rattle.std.proofs.Common.{◌≡◌, ℕ, refl, ap, inl, inr, cond}
 use Rattle.std.specs.Prelude.{Contains, Option, None, Some, option_map}
 use Rattle.std.specs.FinMap.{find}

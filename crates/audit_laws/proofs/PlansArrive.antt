@@ -1,4 +1,4 @@
--- By the plan of a view each packet of a component arrives.
+-- By the plan of a view, each packet of a component arrives.
 use Rattle.std.proofs.Common.{◌≡◌, ℕ, true, false, ◌||◌, Option, None, Some, refl, sym, ap}
 use Rattle.std.specs.Prelude.{option_map, option_and_then}
 use Rattle.std.specs.Option.{option_map_or}

@@ -39,7 +39,7 @@ use Rattle.audit_report.specs.Passing.{CanRise}
 use Rattle.audit.proofs.PlanSteps.{contains_at, of_column, leaves, on_way}
 use Rattle.lft_blocks.specs.LidNumbers.{lid_numbers}
 
--- the number of a channel: the rule's, where its wire leads somewhere
+-- the number of a channel: the rule's, if its wire leads somewhere
 abbrev number_at : Routing → Cells → ℕ → ℕ → ℕ
 number_at rule cells g port = option_map_or (λ end. rule.channel g end.0) (across cells g port) 0
 
@@ -76,7 +76,7 @@ module _ (by : RuleValue) (facts : Facts) (lid t : ℕ) (t_there : Contains (swi
   is_switch : (s : ℕ) → Contains (switches cells) s → IsSwitch graph s
   is_switch s h = subst (λ (xs : List ℕ). Contains xs s) (sym (graph_guids cells)) h
 
-  -- where there is a next port there is a way
+  -- if there is a next port, there is a way
   way_there : (s p : ℕ) → Contains (switches cells) s → rule.next lid s t ≡ Some p → (n : ℕ) × Leads graph rule lid s t n
   way_there s p there next =
       let (n, cost) = next_has_cost by facts lid s t p (is_switch s there) (is_switch t t_there) next in
@@ -188,7 +188,7 @@ module _ (by : RuleValue) (lmc : ℕ) (facts : Facts) (range : AreInRange facts)
         | Some e ↦ λ owned. owned_rise a b w e owned
       ] refl
 
--- where nothing is held nothing waits
+-- if nothing is held, nothing waits
 no_top : (gs : List ℕ) → greatest (map (top_held nothing_held) gs) ≡ 0
 no_top [] = refl
 no_top (g ∷ gs) = let rest = no_top gs in omega arith

@@ -23,8 +23,8 @@ use Rattle.audit_counts.specs.declared.sent_packet.SentPacket.{SentPacket}
 use Rattle.audit_counts.specs.Packets.{arrives, packets_of}
 use Rattle.audit_report.specs.Passing.{EachNodeIsKnown, Passes}
 
--- the tables that the text of a view's plan tells pass by that view, by each rule and under each LMC, if its facts are
--- in range, there is room, and of each node that they name the type is known, and of a switch the table room
+-- the tables in the text of a view's plan pass by that view, by each rule and under each LMC, if its facts are in
+-- range, there is room, the type of each node that they name is known, and the table room of each switch
 abbrev pub PlansPass : Type 0
 PlansPass =
     (rule : RuleValue) (lmc : ℕ) (facts : Facts) → AreInRange facts → ¬ (IsNoRoom lmc (cells_of facts))
@@ -35,12 +35,12 @@ PlansPass =
 abbrev pub IsKnownOrTold : Cells → ℕ → ℕ → Type 0
 IsKnownOrTold cells g p = IsKnownPort cells g p ⊎ Contains (unjoined_ports cells) (record { node = g; port = p })
 
--- node g is known, and it is known where its port p leads, or lines `unjoined` tell the port
+-- node g is known, and it is known where its port p leads, or lines `unjoined` name or count the port
 abbrev pub AreKnown : Cells → ℕ → ℕ → Type 0
 AreKnown cells g p = IsKnownNode cells g × IsKnownOrTold cells g p
 
--- each node that a fact names is known, and each port that one names, unless it is told as unjoined; whatever facts
--- say, disputed or not
+-- each node that a fact names is known, and so is each port that a fact names, unless it is listed as unjoined;
+-- whatever facts say, disputed or not
 pub record KnowsAll (cells : Cells) : Type 0 where
   pub nodes : (g : ℕ) (c : Cell Value) → Contains cells ((key.Node g), c) → IsKnownNode cells g
   pub rooms : (g : ℕ) (c : Cell Value) → Contains cells ((key.Cap g), c) → IsKnownNode cells g
@@ -61,8 +61,8 @@ EachArrivesIn part f = (source target : NodePort) (from into : Node) (lid : ℕ)
     → IsEndPortIn part f target into → 1 ≤ lid
     → IsTrue (owns f target lid) → ArrivesAt f source target lid
 
--- if tables pass by facts, each packet of a part arrives, which is what an end port is joined to, if the facts describe
--- that part and it holds the tables
+-- if tables pass by facts, each packet of a part arrives, if the part is what an end port is joined to, the facts
+-- describe the part, and the part holds the tables
 abbrev pub PassingAuditsDeliver : Type 0
 PassingAuditsDeliver =
     (facts : Facts) (held : HeldPlan) (f : Fabric) (origin : NodePort) → IsEndPort f origin

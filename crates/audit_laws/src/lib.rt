@@ -1,4 +1,4 @@
-//! What audits promise of fabrics.
+//! What audits promise about fabrics.
 #![tactic(auto)]
 
 pub mod laws;

@@ -104,7 +104,7 @@ module _ (cells : Cells) (held : HeldPlan) where
       let i = from_packets p h in
       subst (λ (x : SentPacket). IsBrought cells held x.line.lid x.source x.end) (sym i.is) (end_is cells held i.line.lid i.source)
 
-  -- all arrive exactly where as many arrive as there are
+  -- all packets arrive exactly if the number that arrive is the number of packets
   arrive_all : count_by arrives (packets_of cells held) ≡ length (packets_of cells held) → EachArrives cells held
   arrive_all h line is_held e there is_end joined =
       let packet = packet_of cells held line e in
@@ -118,7 +118,7 @@ module _ (cells : Cells) (held : HeldPlan) where
       sym (end_found cells held i.line.lid i.source (Some (Taken i.line.port)) (h i.line i.is_held i.source i.there i.is_end i.joined)) in
       ap arrives i.is ∙ ap (is_at i.line.port) end ∙ same_itself i.line.port)
 
-  -- there is no cycle exactly where channels can be numbered
+  -- there is no cycle exactly if channels can be numbered
   no_cycle : (cycle : List ℕ) → IsCycle cells held cycle → CanRise cells held → length cycle ≡ 0
   no_cycle [] h k = refl
   no_cycle (channel ∷ later) h k = absurd (never_both cells held k.0 (channel ∷ later) k.1 h)

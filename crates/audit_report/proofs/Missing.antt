@@ -31,7 +31,7 @@ use Rattle.audit_report.specs.Passing.{EachHasTables, EachHoldsLid, EachNodeIsKn
 use Rattle.audit_counts.specs.FirstFew.{Listed}
 use Rattle.audit_counts.specs.Unmatched.{IsUnmatched, has_lid, is_held, lidless, tableless, unusable}
 
--- all of a list pass exactly where none is counted that does not
+-- all elements of a list pass exactly if the number of those that do not is 0
 module _ {X : Type 0} (p : X → Bool) where
   abbrev left : List X → ℕ
   left xs = count_by (λ x. not (p x)) xs
@@ -85,7 +85,7 @@ module _ (cells : Cells) (held : HeldPlan) where
   held_tables : (g : ℕ) → HoldsTables held g → is_held held g ≡ true
   held_tables g h = list_any_true (λ (s : HeldSwitch). s.guid == g) held.switches h.switch h.is_held (eq-eqb h.switch.guid g h.is_it)
 
-  -- where there is an end port each switch has tables
+  -- if there is an end port, each switch has tables
   some_tables : (most : ℕ) (ports : List EndPort) → ((e : EndPort) (g : ℕ) → Contains ports e → Contains (switches cells) g → HoldsTables held g)
       → (((tableless most cells held).count == 0) || (length ports == 0)) ≡ true
   some_tables most [] h = elim ((tableless most cells held).count == 0) as (λ t. (t || true) ≡ true) [ true ↦ refl | false ↦ refl ]

@@ -1,4 +1,4 @@
--- What is written of a tally is what is told of its packets.
+-- The text of a tally is the text of its packets.
 use Rattle.std.proofs.Common.{◌≡◌, ◌+◌, ◌-◌, ◌++◌, suc, List, [], ◌∷◌, refl, ◌∙◌, arith, Bool, true, false, cond, length}
 use Rattle.std.specs.Prelude.{ℕ, codes, count_by, filter, not}
 use Rattle.std.proofs.lemmas.List.Sums.{sum_by-cons}

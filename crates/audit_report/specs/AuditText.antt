@@ -98,7 +98,7 @@ packet_line cells held word packet =
 abbrev pub packets_text : Cells → HeldPlan → List ℕ → List SentPacket → List ℕ
 packets_text cells held word packets = flat_map (packet_line cells held word) packets
 
--- how many more there are of a kind than are listed; empty for 0
+-- how many items of a kind are not listed; empty for 0
 abbrev pub more_line : List ℕ → ℕ → List ℕ
 more_line word count = if nat_lt 0 count then codes "more " ++ word ++ codes " " ++ decimal count ++ codes "\n" else []
 
@@ -149,7 +149,7 @@ abbrev pub channels_text : Cells → List ℕ → List ℕ
 channels_text cells [] = codes " none"
 channels_text cells (channel ∷ later) = codes " on one lane" ++ flat_map (channel_text cells) (channel ∷ later)
 
--- the line of a credit loop, which is one on a single virtual lane
+-- the line of a credit loop, which is a loop if all packets use one virtual lane
 abbrev pub cycle_line : Cells → List ℕ → List ℕ
 cycle_line cells cycle = codes "credit loop" ++ channels_text cells cycle ++ codes "\n"
 
@@ -165,7 +165,7 @@ tally_text cells held tally =
     pairs_text tally.all tally.between ++ missed_line tally.causes tally.misdelivered.count tally.round.count
     ++ missed_text cells held tally.lost tally.misdelivered tally.round
 
--- where tables and facts differ, and what the facts do not tell
+-- where tables and facts differ, and what the facts leave open
 abbrev pub unmatched_text : Unmatched → List ℕ
 unmatched_text found =
     kind_text lid_line (codes "unowned") found.unowned ++ kind_text lid_line (codes "twice") found.twice
@@ -197,7 +197,7 @@ packets_told most cells held packets =
     ++ missed_text cells held (listed_of most is_lost packets) (listed_of most is_misdelivered packets)
     (listed_of most goes_round packets)
 
--- the first `most` of each kind in which tables and facts differ, or that the facts do not tell
+-- the first `most` of each kind of difference between tables and facts, and of gap in the facts
 abbrev pub unmatched_told : ℕ → Cells → HeldPlan → List ℕ
 unmatched_told most cells held =
     kind_text lid_line (codes "unowned") (unowned most cells held) ++ kind_text lid_line (codes "twice") (twice most held)

@@ -30,8 +30,8 @@ use Rattle.audit_counts.specs.Sites.{in_one_component}
 use Rattle.audit_counts.specs.PacketTally.{IsTally}
 use Rattle.audit_counts.specs.Unmatched.{IsUnmatched}
 
--- each packet that an end port of the line's component sends for the line's LID is delivered at the line's end port, an
--- end port of the facts
+-- if the line's end port is one of the facts, each packet that an end port of its component sends for the line's LID is
+-- delivered there
 abbrev pub ArriveAt : Cells → HeldPlan → HeldLid → Type 0
 ArriveAt cells held line = (e : EndPort) → Contains (end_ports cells) line.port → Contains (end_ports cells) e
     → in_one_component cells e line.port ≡ true
@@ -51,7 +51,7 @@ pub record HoldsLid (held : HeldPlan) (e : EndPort) : Type 0 where
   pub is_held : Contains held.lids line
   pub is_its : line.port ≡ e
 
--- a line tells the tables of switch `g`
+-- a line has the tables of switch `g`
 pub record HoldsTables (held : HeldPlan) (g : ℕ) : Type 0 where
   pub switch : HeldSwitch
   pub is_held : Contains held.switches switch
@@ -66,7 +66,7 @@ abbrev pub EachHasTables : Cells → HeldPlan → Type 0
 EachHasTables cells held =
     (e : EndPort) (g : ℕ) → Contains (end_ports cells) e → Contains (switches cells) g → HoldsTables held g
 
--- the type of each node that the facts name is known, and of a switch the table room
+-- the type of each node that the facts name is known, and the table room of each switch
 abbrev pub EachNodeIsKnown : Cells → Type 0
 EachNodeIsKnown cells = (g : ℕ) → IsNamedNode cells g → IsKnownNode cells g
 
@@ -86,7 +86,7 @@ pub record Passes (cells : Cells) (held : HeldPlan) : Type 0 where
   pub whole : IsWholeFor cells held
   pub sound : IsSound cells held
 
--- the greatest load is at most the bound, if there are both
+-- the greatest load is at most the bound, or there is no load or no bound
 abbrev pub is_within : Option ℕ → Option Figures → Bool
 is_within None load = true
 is_within (Some bound) None = true

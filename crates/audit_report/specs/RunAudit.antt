@@ -1,5 +1,5 @@
--- What an audit of tables and files does: it reads all of them and writes what happens to packets, or says which input
--- it refuses.
+-- What an audit of tables and files does: it reads all of them and writes what happens to packets, or returns the fault
+-- of an input.
 use Rattle.std.specs.Prelude.{◌↔◌, ◌⊎◌, ℕ, Bool, List, IsTrue, if◌then◌else◌}
 use Rattle.byte_io.specs.Source.{SourceState}
 use Rattle.fact_store.specs.View.{Facts, cells_of}
@@ -13,12 +13,12 @@ use Rattle.sm_cli.specs.declared.fault.Fault.TheVariants.{Write, Memory}
 use Rattle.sm_cli.specs.InputTables.{AreNoTablesAndFiles, AreTablesAndFiles}
 use Rattle.sm_cli.specs.declared.input_tables.TablesAndFacts.{TablesAndFacts}
 
--- the most lines of each kind: no bound that can be met if `all`, and else 20
+-- the most lines of each kind: 2^64 - 1, which no list reaches, if `all`, otherwise 20
 abbrev pub most_told : Bool → ℕ
 most_told all = if all then 18446744073709551615 else 20
 
--- `prints` holds of what was written: how packets fare, with a shortest credit loop if there is one. `passed` says
--- whether the tables pass, and no channel carries more than `asked` allows
+-- `prints` holds of the audit's text, with a shortest credit loop if there is one. `passed` says whether the tables
+-- pass and no channel carries more than `asked` allows
 pub record IsAudited (asked : AuditAsked) (facts : Facts) (held : HeldPlan) (prints : List ℕ → Type 0) (passed : Bool)
     : Type 0 where
   pub cycle : List ℕ
@@ -48,7 +48,7 @@ pub record FailsToAudit {S : Type 0} (state : S → SourceState) (floor : ℕ) (
   pub read : AreTablesAndFiles state floor olds news told
   pub why : IsAnswerFault sink_failed fault
 
--- why an audit over open inputs ends early: the inputs are not read, or their audit fails
+-- why an audit over open inputs fails: the inputs are not read, or their audit fails
 abbrev pub IsAuditFault : {S : Type 0} → (S → SourceState) → ℕ → List S → List S → Bool
     → Fault → Type 0
 IsAuditFault state floor olds news sink_failed fault =

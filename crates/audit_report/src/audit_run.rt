@@ -14,7 +14,7 @@ use sm_cli::{Fault, read_tables_and_files};
 use smp_bytes::Generation;
 use std::alloc::Global;
 
-/// The most lines of each kind, unless all are asked for.
+/// The most lines of each kind, unless all lines are asked for.
 const MOST_TOLD: usize = 20;
 
 /// The options of an audit.
@@ -22,14 +22,15 @@ const MOST_TOLD: usize = 20;
 pub struct AuditAsked {
     /// The floor: older facts are ignored.
     pub floor: Generation,
-    /// Whether all lines of each kind are written, or only the first 20.
+    /// Whether to write all lines of each kind, or only the first 20.
     pub all: bool,
     /// The most pairs of adapter ports that a channel may carry, if there is a bound.
     pub max_load: Option<u64>,
 }
 
-/// Reads the tables from the first input, then the files in order, and writes what these tables do with the packets of
-/// the subnet that the files describe together. Returns whether the tables pass.
+/// Reads the tables from the first input and then the files in order. Writes what these tables do with the packets of
+/// the subnet that the files describe together. Returns whether the tables pass and no channel carries more pairs than
+/// `asked.max_load`.
 ///
 /// # Errors
 ///

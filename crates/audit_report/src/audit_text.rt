@@ -26,13 +26,14 @@ use subnet_view::EndPort;
 
 /// Writes an audit, and flushes:
 ///
-/// - how many packets there are and how many arrive, of all, between adapter ports, and with a switch, and how many are
-///   lost for each cause;
-/// - the first of each kind that do not arrive, by rising LID and then by the order of end ports, and how many more;
-/// - the first of each kind in which tables and facts differ, and how many more;
+/// - how many packets there are and how many arrive: of all, between adapter ports, and with a switch at one end;
+/// - how many packets are lost for each cause;
+/// - the first packets of each kind that do not arrive, by rising LID and then in the order of the end ports, and how
+///   many more there are;
+/// - the first differences of each kind between tables and facts, and how many more there are;
 /// - how many facts are disputed, if any are;
 /// - the wires that packets between adapter ports take, and the loads of channels;
-/// - a cycle of channels, if there is one.
+/// - a credit loop, if there is one.
 ///
 /// Takes no memory.
 pub fn write_audit<W: Sink>(sink: &mut W, audit: &Audit) -> Result<(), WriteFault>
@@ -288,7 +289,7 @@ fn write_entry<W: Sink>(sink: &mut W, entry: Option<u8>) -> Result<(), WriteFaul
     }
 }
 
-/// Writes where tables and facts differ, and what the facts do not tell.
+/// Writes where tables and facts differ, and what the facts leave open.
 fn write_unmatched<W: Sink>(sink: &mut W, unmatched: &Unmatched) -> Result<(), WriteFault>
     ensures { WritesPart W.written W.has_failed result sink.old sink.new (unmatched_text unmatched.now) }
 {

@@ -60,12 +60,12 @@ impl<'a> Model for Audit<'a> {
 
 impl<'a> Audit<'a> {
     /// Audits the tables `held` in the subnet of `store`. Follows the packets for each held LID from every end port of
-    /// the component in which the LID's end port lies. Counts the wires and channels that packets between adapter ports
-    /// take, and orders channels.
+    /// its owner's component. Counts the wires and channels that packets between adapter ports take, and orders
+    /// channels.
     ///
     /// Costs what `Network::deliveries` takes for each 64 LIDs, and twice what `Network::edges` takes for each LID. If
-    /// the deliveries do not show that all packets for a LID arrive, that LID also costs what `Network::ends` takes;
-    /// twice that, and then a step or two for each end port, if not all are delivered at its port.
+    /// the deliveries do not show that all packets for a LID arrive, that LID also costs what `Network::ends` takes. If
+    /// not all are delivered at its port, it costs that twice, and a step or two for each end port.
     pub fn of(alloc: Global, most: usize, store: &'a Store, held: &'a Held) -> Result<Self, Refused>
         ensures most { IfOk result (λ audit. audit.most ≡ most) }
         ensures facts { IfOk result (λ audit. audit.facts ≡ store.now) }
@@ -104,16 +104,16 @@ impl<'a> Audit<'a> {
         self.is_whole() && self.is_sound()
     }
 
-    /// Returns whether nothing is missing. Each end port of the view must hold a LID, each usable switch must have
-    /// tables if there is an end port, and of each node that the view names the type must be known, and of a switch the
-    /// table room.
+    /// Returns whether nothing is missing. Each end port of the view must hold a LID. If there is an end port, each
+    /// usable switch must have tables. The type of each node that the view names must be known, and the table room of
+    /// each switch.
     fn is_whole(&self) -> bool
         ensures { IsTrue result ↔ IsWholeFor (cells_of self.now.facts) self.now.held }
     {
         self.has_lids() && self.has_tables() && self.has_nodes()
     }
 
-    /// Returns whether of each node that the view names the type is known, and of a switch the table room.
+    /// Returns whether the type of each node that the view names is known, and the table room of each switch.
     fn has_nodes(&self) -> bool
         ensures { IsTrue result ↔ EachNodeIsKnown (cells_of self.now.facts) }
     {
@@ -143,7 +143,7 @@ impl<'a> Audit<'a> {
     }
 }
 
-/// Returns whether the greatest load in `load` is at most `bound`, if there are both.
+/// Returns whether the greatest load in `load` is at most `bound`, or one of them is `None`.
 fn is_within(bound: Option<u64>, load: &Option<Figures>) -> bool
     ensures { result ≡ is_within bound load.now }
 {

@@ -1,4 +1,4 @@
--- Ways that are counted some times more.
+-- Routes that are counted several times.
 use Rattle.std.proofs.Common.{◌≡◌, ◌<◌, ◌≤◌, ◌+◌, ◌*◌, ℕ, zero, suc, true, false, cond, List, [], ◌∷◌, length, get_or, set, take, map, replicate, refl, sym, ap, ◌∙◌, arith}
 use Rattle.std.specs.Prelude.{max, nat_lt, sum, ◌↔◌}
 use Rattle.std.specs.List.{sum_by}

@@ -1,4 +1,4 @@
--- The packets for a LID by the switches at which they come first, end port by end port.
+-- The packets for a LID, grouped by the switches that they reach first, end port by end port.
 use Rattle.std.proofs.Common.{◌≡◌, ◌<◌, ◌≤◌, ◌+◌, ◌*◌, ℕ, zero, suc, Bool, true, false, cond, List, [], ◌∷◌, ◌++◌, length, get_or, set, take, map, replicate, refl, sym, ap, ◌∙◌, subst, arith}
 use Rattle.std.specs.Prelude.{filter, Option, None, Some, ◌==◌}
 use Rattle.std.specs.List.{sum_by}
@@ -140,7 +140,7 @@ in_list [] index some = absurd (omega arith)
 in_list (w ∷ weights) zero some = omega arith
 in_list (w ∷ weights) (suc index) some = let rest = in_list weights index some in omega arith
 
--- where a packet is
+-- a packet at a switch
 pub at_switch : (groups : Groups) (far : Far) (index : ℕ) → far ≡ Switch index → 1 ≤ packets_at groups (switch_over far) → 1
     ≤ get_or groups.weights.items index 0
 at_switch groups far index is some = subst (λ (f : Far). 1 ≤ packets_at groups (switch_over f)) is some

@@ -1,4 +1,4 @@
--- The loads of channels, one after another.
+-- The loads of channels, one after the other.
 use Rattle.std.proofs.Common.{◌≡◌, ◌+◌, ◌*◌, ℕ, zero, suc, Bool, true, false, cond, List, [], ◌∷◌, ◌++◌, length, get_or, map, refl, sym, ap, ◌∙◌, subst, arith}
 use Rattle.std.specs.Prelude.{filter, max, sum}
 use Rattle.std.specs.List.{range_with_len, sum_by}

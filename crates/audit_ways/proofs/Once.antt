@@ -1,4 +1,4 @@
--- Sums over a list that leave out an element which stands there once.
+-- Sums over a list without an element that occurs once.
 use Rattle.std.proofs.Common.{◌≡◌, ◌+◌, ◌*◌, ℕ, suc, Bool, true, false, cond, List, [], ◌∷◌, inl, inr, refl, ap, ◌∙◌, subst, arith}
 use Rattle.std.specs.Prelude.{Contains, count_by, filter, not, ◌&&◌}
 use Rattle.std.specs.List.{AllPairs, sum_by}
@@ -34,7 +34,7 @@ module _ {X : Type 0} (e : X) (same : X → Bool) (exact : (x : X) → same x �
         | false ↦ λ is. counted_later x xs is ∙ not_counted xs (λ h. none (contains_later x e xs h))
       ] refl
 
-  -- an element that does not come before itself stands once where all come before each other
+  -- an element that does not come before itself occurs once if all elements come before each other
   pub stands_once : (IsBefore : X → X → Type 0) → same e ≡ true → (IsBefore e e → ⊥) → (xs : List X) → AllPairs IsBefore xs → Contains xs e → count_by same xs
       ≡ 1
   stands_once IsBefore itself never [] pairs h = absurd (contains_none e h)

@@ -1,4 +1,4 @@
--- What a search in a roster of the end ports finds.
+-- The result of a search in a roster of the end ports.
 use Rattle.std.proofs.Common.{◌≡◌, ◌<◌, ℕ, List, [], ◌∷◌, Bool, true, false, get_or, length, map, inl, inr, refl, sym, ap, ◌∙◌, subst, arith}
 use Rattle.std.specs.Prelude.{Contains, Option, None, Some, ◌&&◌, ◌||◌}
 use Rattle.std.specs.Result.{result_ok}
@@ -68,7 +68,7 @@ module _ (roster : List Sender) (e : EndPort) where
         | inr g ↦ let greater : port_cmp (port_of at) sought ≡ Greater = parts.1 h.0 s g h.1 in absurd (cc)
       ]
 
-  -- where nothing is found no source has the port
+  -- if nothing is found, no source has the port
   pub none_found : (r : Result ℕ ℕ) → AreByPort roster → IsSearched r → result_ok r ≡ None → list_any (λ (s : Sender). is_same_end e s.port) roster ≡ false
   none_found (Ok j) sorted found is = absurd (cc)
   none_found (Err j) sorted found is =

@@ -1,4 +1,4 @@
--- The packets for a LID where all arrive: those of all adapter ports but the LID's own.
+-- The packets for a LID if all arrive: those of all adapter ports except the LID's own.
 use Rattle.std.proofs.Common.{◌≡◌, ◌≤◌, ◌*◌, ℕ, zero, suc, Bool, true, false, List, [], ◌∷◌, get_or, refl, sym, ap, ◌∙◌, subst, arith}
 use Rattle.std.specs.Prelude.{Contains, IsSome, Option, None, Some, count_by, is_some, not, ◌&&◌}
 use Rattle.std.specs.List.{position, sum_by}
@@ -103,7 +103,7 @@ module _ (facts : Facts) (held : HeldPlan) (line : HeldLid) (far : Far) (target 
   abbrev view : Cells
   view = cells_of facts
 
-  -- where all packets arrive
+  -- if all packets arrive
   all_reach : AllComeTo view held line → (e : EndPort) → Contains (end_ports view) e
       → reaches view held line e ≡ (is_adapter e && not (is_same_end line.port e))
   all_reach come e h = ap (reaches_if line e) (come e h) ∙ with_true (is_adapter e) (is_same_end line.port e)
@@ -157,7 +157,7 @@ module _ (facts : Facts) (held : HeldPlan) (line : HeldLid) (far : Far) (target 
     sums = λ number. h.sums number ∙ left.sums number ∙ sym (back.sums number);
   }
 
--- all packets arrive where none is seen to end elsewhere
+-- all packets arrive if none is seen to end elsewhere
 pub all_come_to : (cells : Cells) (held : HeldPlan) (line : HeldLid) (port : EndPort) (ends : List (Option End)) → AreBrought cells held line.lid ends
     → port ≡ line.port → position (λ end. not (is_at port end)) ends ≡ None → AllComeTo cells held line
 all_come_to cells held line port ends brought own none e h =

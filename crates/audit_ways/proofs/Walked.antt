@@ -1,4 +1,4 @@
--- The channels of a way, one after another.
+-- The channels of a route, one after the other.
 use Rattle.std.proofs.Common.{◌≡◌, ◌≢◌, ◌<◌, ◌≤◌, ◌+◌, ◌-◌, ◌*◌, ℕ, zero, suc, true, false, cond, List, [], ◌∷◌, length, get_or, set, refl, sym, ap, ◌∙◌, arith, get_or-set_other, get_or-set_same}
 use Rattle.std.specs.Prelude.{Option, None, Some, count_by, slice_index_or, ◌==◌}
 use Rattle.std.specs.Option.{option_map_or}
@@ -23,7 +23,7 @@ module _ (edges : List (Option Edge)) where
   no_channel zero switch e = refl
   no_channel (suc n) switch e = ap (λ o. option_map_or (λ (x : Edge). number_of switch x ∷ channels_from n edges x.to) o []) e
 
-  -- so many channels are taken, and the rest is that of the way
+  -- the first `taken` channels are counted, and the rest of the route is left
   pub record AreTaken (old : List ℕ) (first times taken switch : ℕ) (now : List ℕ) : Type 0 where
     pub as_many : length now ≡ length old
     pub count : taken + length (channels_from (length edges - taken) edges switch) ≡ length (channels_from (length edges) edges first)
@@ -83,7 +83,7 @@ module _ (edges : List (Option Edge)) where
             ∙ ap (λ (xs : List ℕ). get_or now channel 0 + times * times_in channel xs) (sym split) ∙ h.load channel;
       }
 
-  -- where the rest is nothing
+  -- if nothing is left of the route
   pub record AreAll (old : List ℕ) (first times taken : ℕ) (now : List ℕ) : Type 0 where
     pub loads : IsLoadedWith old (channels_from (length edges) edges first) times now
     pub count : taken ≡ length (channels_from (length edges) edges first)

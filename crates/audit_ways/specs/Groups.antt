@@ -20,7 +20,8 @@ use Rattle.audit_ways.specs.Ways.{is_adapter}
 abbrev pub IsWithin : ℕ → Far → Type 0
 IsWithin count far = (index : ℕ) → far ≡ Switch index → index < count
 
--- the sum of `number` over all packets, by the switch that a packet reaches first; None for an adapter, over one wire
+-- the sum of `number` over all packets: of the switch that a packet reaches first, or of None if it reaches an adapter
+-- over one wire
 abbrev pub total : (Option ℕ → ℕ) → Groups → ℕ
 total number groups = weighed (λ i. number (Some i)) groups.weights.items + groups.direct * number None
 
@@ -29,7 +30,7 @@ pub record IsGroupedWith (old : Groups) (far : Far) (new : Groups) : Type 0 wher
   pub as_many : length new.weights.items ≡ length old.weights.items
   pub sums : (number : Option ℕ → ℕ) → total number new ≡ total number old + number (switch_over far)
 
--- how many packets reach that switch first; for None, how many reach an adapter over one wire
+-- how many packets reach the switch first; for None, how many reach an adapter over one wire
 abbrev pub packets_at : Groups → Option ℕ → ℕ
 packets_at groups None = groups.direct
 packets_at groups (Some index) = slice_index groups.weights.items index

@@ -4,7 +4,7 @@ use Rattle.port_graph.specs.declared.edge.Edge.{Edge}
 use Rattle.audit_ways.specs.declared.way_tally.WayTally.{WayTally}
 use Rattle.audit_ways.specs.Ways.{Way, one_wire, times_on, way_from}
 
--- the sum of any number of a route over some routes
+-- a sum over some routes, of any number that a route has
 abbrev pub Sum : Type 0
 Sum = (Way → ℕ) → ℕ
 
@@ -42,7 +42,7 @@ weighed number (weight ∷ weights) = weight * number 0 + weighed (λ i. number 
 abbrev pub grouped : List (Option Edge) → List ℕ → ℕ → Sum
 grouped edges weights direct number = weighed (λ i. number (way_from edges i)) weights + direct * number one_wire
 
--- the routes with the sum `more` are counted besides
+-- the routes with the sum `more` are counted as well
 abbrev pub IsCountedMore : ℕ → WayTally → Sum → WayTally → Type 0
 IsCountedMore channels old more new =
     (sum : Sum) → IsCounted channels sum old → IsCounted channels (λ number. sum number + more number) new

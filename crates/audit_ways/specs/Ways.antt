@@ -26,7 +26,7 @@ pub record Way : Type 0 where
   pub wires : ℕ
   pub channels : List ℕ
 
--- the channels from `switch` on, at most as many as the first argument says
+-- the channels from `switch` on, at most as many as the first argument
 abbrev pub channels_from : ℕ → List (Option Edge) → ℕ → List ℕ
 channels_from zero edges switch = []
 channels_from (suc steps) edges switch =
@@ -63,7 +63,7 @@ reaches_if line e arrives = is_adapter e && not (is_same_end line.port e) && arr
 abbrev pub reaches_by : HeldLid → EndPort → Option End → Bool
 reaches_by line e end = reaches_if line e (is_at line.port end)
 
--- `e` is an adapter port, and its packet for the LID of `line` is delivered at the line's port, another one
+-- `e` is an adapter port other than the line's, and its packet for the LID of `line` is delivered at the line's port
 abbrev pub reaches : Cells → HeldPlan → HeldLid → EndPort → Bool
 reaches cells held line e = reaches_by line e (end_for cells held line.lid e)
 
@@ -72,7 +72,7 @@ abbrev pub AllComeTo : Cells → HeldPlan → HeldLid → Type 0
 AllComeTo cells held line =
     (e : EndPort) → Contains (end_ports cells) e → is_at line.port (end_for cells held line.lid e) ≡ true
 
--- all packets are delivered for the LID of each line whose mark in `told`, by index, is true
+-- if `told` marks the line at an index, all packets for its LID are delivered
 abbrev pub AreTold : Cells → HeldPlan → List Bool → Type 0
 AreTold cells held told = (index : ℕ) (line : HeldLid) → slice_get (lines_of held) index ≡ Some line
     → slice_index_or told index false ≡ true → AllComeTo cells held line

@@ -20,7 +20,7 @@ use audit::{Blocks, Far, Network};
 use plan_file::HeldLid;
 use std::alloc::{AllocError, Global};
 
-/// Figures of the packets that adapter ports send to the LIDs of each other and that are delivered there.
+/// Figures of the packets that adapter ports send to each other's LIDs and that are delivered.
 #[derive(Clone, Copy, Debug, PartialEq, Eq)]
 pub struct WayFigures {
     /// The figures of how many wires a packet takes, those at the adapters included. `None` if there is no packet.
@@ -31,9 +31,9 @@ pub struct WayFigures {
 
 /// Computes how many wires packets between adapter ports take, and how evenly they load the channels.
 ///
-/// Costs what `Network::ends` and `Network::edges` take for each LID, what `Network::blocks` takes for each 64 LIDs,
-/// for each LID a walk from each switch with an adapter, and a step for each end port if not all packets for the LID
-/// are delivered. Returns an error if memory runs out or 64 bits are too few.
+/// Costs what `Network::ends` and `Network::edges` take for each LID, and what `Network::blocks` takes for each 64
+/// LIDs. Each LID also costs a walk from each switch with an adapter, and a step for each end port if not all packets
+/// for the LID are delivered. Returns an error if memory runs out or 64 bits are too few.
 pub fn figures_of_ways(alloc: Global, network: &Network) -> Result<WayFigures, AllocError>
     ensures { IfOk result (IsToldOfWays (cells_of network.now.facts) network.now.held) }
 {
@@ -41,7 +41,7 @@ pub fn figures_of_ways(alloc: Global, network: &Network) -> Result<WayFigures, A
 }
 
 /// Computes the figures of `figures_of_ways`. `told` marks lines, by index, whose packets are all known to be delivered
-/// at their ports; for these it does not take what `Network::ends` does.
+/// at their ports. These lines do not cost what `Network::ends` takes.
 pub fn figures_of_ways_told(
     alloc: Global,
     network: &Network,

@@ -57,7 +57,7 @@ use Rattle.between_orders.proofs.GoalEntries.{entry_within, index_is, pair, towa
 use Rattle.between_orders.proofs.GoalTurns.{columns, find_found, goal, goal_is}
 use Rattle.between_orders.proofs.Safe.{count_is}
 
--- where one passes, one is found
+-- if an element passes, one is found
 find_some : {X : Type 0} (p : X → Bool) (xs : List X) (x : X) → Contains xs x → p x ≡ true → (y : X) × (find p xs ≡ Some y)
 find_some p [] x there h = absurd (contains_none x there)
 find_some {X = X} p (y ∷ xs) x there h =
@@ -85,7 +85,7 @@ pub fits_to : (orders : TwoOrders) (labels : List (Option Sides)) (s : Sides) (i
 fits_to orders labels s i (To j) h = record { to = j; is = refl; leads = h }
 fits_to orders labels s i (Ends e) h = absurd (cc)
 
--- by an order an edge that leads on leads up or down, and from where it leads down it goes on down
+-- by an order, an edge that leads on leads up or down, and a walk that goes down goes on down
 side_up : (positions : List ℕ) (up : Bool) (i j : ℕ) → up ≡ true → is_side positions up i j ≡ true → position_at positions j < position_at positions i
 side_up positions true i j e h = ltb-true (position_at positions j) (position_at positions i) h
 side_up positions false i j e h = absurd (cc)
@@ -158,7 +158,7 @@ module _ (facts : Facts) (range : AreInRange facts) (orders : TwoOrders) (order 
   hop_at : (i : ℕ) → i < n → at (next_hops_of cells tables lid) i ≡ step_at cells tables lid (switch_at cells i)
   hop_at i less = at_mapped (step_at cells tables lid) gs i (To i) less
 
-  -- where the plan leads to the port, so does the goal
+  -- if the plan leads to the port, so does the goal
   at_port : (i : ℕ) → i < n → arrives line.port (plan_hop i) ≡ true → at (next_hops_of cells tables lid) i ≡ Ends (Taken line.port)
   at_port i less h =
       let g = switch_at cells i in

@@ -89,7 +89,7 @@ module _ (facts : Facts) (tables : HeldPlan) (lid i j : ℕ) (l : Leads (cells_o
       (edge_there graph good g e is_g edge) in
       subst (λ (x : ℕ × ℕ). Contains (heads (edges_in cells) x.0) x.1) (λ k. (index_g k, index_h k)) there
 
--- where the goal delivers, a walk leads to a switch from which the plan leads to the end port
+-- if the goal delivers, a walk leads to a switch from which the plan leads to the end port
 module _ (facts : Facts) (range : AreInRange facts) (told by : List ℕ) (held plan : HeldPlan) (line : HeldLid) (is : IsGoalLine (cells_of facts) plan line) where
   abbrev cells : Cells
   cells = cells_of facts

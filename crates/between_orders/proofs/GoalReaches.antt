@@ -1,4 +1,4 @@
--- Each switch gets a label, if the first order grows, and the second over its tree.
+-- Each switch gets a label if the first order grows and the second grows over its tree.
 use Rattle.std.proofs.Common.{◌≡◌, ◌∙◌, ◌<◌, ℕ, Bool, true, false, cond, List, length, Option, None, Some, sym, ap, arith, inl, inr}
 use Rattle.std.specs.Prelude.{map}
 use Rattle.std.proofs.lemmas.Bool.{cases_lt}

@@ -137,7 +137,7 @@ module _ (facts : Facts) (orders : TwoOrders) (held plan : HeldPlan) (lid : ℕ)
         ])
       ]
 
-  -- where an edge of the graph leads by its port
+  -- the edge of the graph at an entry's port leads to the switch that the entry leads to
   edge_goes : (i j : ℕ) (e : Edge) → Contains (edges_at edges i) e → Leads cells goal lid i j → entry_for goal lid (switch_at cells i) ≡ e.port → e.to ≡ j
   edge_goes i j e h l is =
       let good = graph_law facts in

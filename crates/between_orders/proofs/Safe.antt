@@ -1,4 +1,4 @@
--- A step towards the goal is a step by the order that the held tables tell.
+-- A step towards the goal is a step by the goal's first order.
 use Rattle.std.proofs.Common.{◌≡◌, ◌∙◌, ◌<◌, ◌≤◌, ℕ, zero, suc, Bool, true, false, cond, List, [], ◌∷◌, length, refl, sym, ap, arith, subst, Some}
 use Rattle.std.specs.Prelude.{map, slice_index_or}
 use Rattle.std.proofs.lemmas.List.{length-replicate}

@@ -1,4 +1,4 @@
--- A step is the same towards two goals whose entries and owners are the same.
+-- A step towards two goals is the same if these have the same entries and owners.
 use Rattle.std.proofs.Common.{◌≡◌, ◌∙◌, ◌+◌, ◌<◌, ◌&&◌, ◌||◌, ◌==◌, ℕ, Bool, true, false, cond, not, List, length, refl, sym, ap, arith, inl, inr, Some}
 use Rattle.std.specs.Prelude.{map, slice_get}
 use Rattle.std.specs.List.{list_all, range_with_len}

@@ -11,7 +11,7 @@ use Rattle.next_tables.specs.ByOrder.{position_at}
 use Rattle.told_order.specs.ToldOrder.{AreTaken, is_left, position_in}
 use Rattle.between_orders.specs.Orders.{told_positions}
 
--- where a vertex stands first
+-- the position of a vertex, by its first occurrence
 pub found_in : (xs : List ℕ) (s k : ℕ) → k < length xs → slice_index_or xs k 0 ≡ s → ((i : ℕ) → i < k → slice_index_or xs i 0 ≡ s → ⊥)
     → position_in xs s ≡ length xs - 1 - k
 found_in [] s k h is none = absurd (omega arith)

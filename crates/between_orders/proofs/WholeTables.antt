@@ -1,4 +1,4 @@
--- Tables by which packets come everywhere are right by the order that grows by the one that they tell.
+-- Tables by which packets get everywhere are right by the order that grows by the one that they tell.
 use Rattle.std.proofs.Common.{◌≡◌, ◌∙◌, ◌<◌, ◌≤◌, ◌&&◌, ℕ, zero, suc, true, false, not, List, length, refl, sym, ap, arith, inl, inr, Some}
 use Rattle.std.specs.Prelude.{Contains, nat_lt}
 use Rattle.std.proofs.lemmas.Bool.{and_parts, cases_lt}

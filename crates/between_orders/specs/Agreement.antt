@@ -29,12 +29,12 @@ pub record AgreeTo (cells : Cells) (tables : HeldPlan) (by : List ℕ) (k : ℕ)
 abbrev pub AreRightBy : Cells → List ℕ → HeldPlan → Type 0
 AreRightBy cells positions tables = (lid : ℕ) → 1 ≤ lid → AreRight cells (position_at positions) tables lid
 
--- tables that tell an order are right by the one that grows by its positions
+-- the tables are right by the order that grows by the positions `told`
 abbrev pub IsRightByGrown : Cells → HeldPlan → List ℕ → Type 0
 IsRightByGrown cells tables told =
     are_right cells (position_at (positions_in (grown_by (edges_in cells) told) (length (edges_in cells)))) tables ≡ true
 
--- the positions that tables tell
+-- the positions of the switches in the order that tables tell
 pub record TellsPositions (cells : Cells) (tables : HeldPlan) (by : List ℕ) : Type 0 where
   pub taken : List ℕ
   pub is_told : IsTold cells tables (order_of_plan cells by) (Some taken)
@@ -62,21 +62,22 @@ pub data IsOnward (cells : Cells) (held next : HeldPlan) (by : List ℕ) (count 
       → IsOnward cells held next by count later
 
 -- each goal that is reached from tables that are right by the order that grows by the told one takes the agreement one
--- switch further, and no other tables on the way take it back
+-- switch further, and no other tables on the way make it less
 abbrev pub GoalsGoFurther : Type 0
 GoalsGoFurther =
     (facts : Facts) (held next : HeldPlan) (by : List ℕ) (count later : ℕ)
     → IsOnward (cells_of facts) held next by count later → AgreeTo (cells_of facts) held by count
     → AgreeTo (cells_of facts) next by later
 
--- a sequence of tables, each from the one before by a step or a goal. The first ones tell an order, and `reached m` counts
--- the goals until then
+-- a sequence of tables, each from the one before by a step or a goal. The first ones tell an order, and `reached m`
+-- counts the goals until then
 pub record AreOnTheWay (cells : Cells) (by : List ℕ) (tables : ℕ → HeldPlan) (reached : ℕ → ℕ) : Type 0 where
   pub told : TellsPositions cells (tables 0) by
   pub none_yet : reached 0 ≡ 0
   pub each : (m : ℕ) → IsOnward cells (tables m) (tables (suc m)) by (reached m) (reached (suc m))
 
--- once n - 1 such goals were reached, for n switches, tables are right by the plan's order
+-- once n - 1 goals were reached, for n switches, each from tables that are right by the order that grows by the told
+-- one, the tables are right by the plan's order
 abbrev pub GoalsAreFew : Type 0
 GoalsAreFew =
     (facts : Facts) (by : List ℕ) (tables : ℕ → HeldPlan) (reached : ℕ → ℕ)
@@ -85,8 +86,8 @@ GoalsAreFew =
     → AreRightBy (cells_of facts)
     (positions_in (order_of_plan (cells_of facts) by) (length (edges_in (cells_of facts)))) (tables m)
 
--- if tables are right by an order that grew, and this is the list of preferences, then the orders of the next step are
--- that one, and the one that grows by the plan's positions over its tree
+-- if tables are right by an order that grew, and that order is the list of preferences, then it is the first order of
+-- the next step, and the second order is the one that grows by the plan's positions over its tree
 abbrev pub OrdersStay : Type 0
 OrdersStay =
     (facts : Facts) (tables : HeldPlan) (told by taken : List ℕ)
@@ -97,7 +98,7 @@ OrdersStay =
     (told_positions taken (length (edges_in (cells_of facts))))
     ≡ grown_twice (edges_in (cells_of facts)) told by
 
--- packets for `lid` come from switch i to j over so many channels
+-- packets for `lid` get from switch i to switch j over n channels
 abbrev pub ComeTo : Cells → HeldPlan → ℕ → ℕ → ℕ → ℕ → Type 0
 ComeTo cells tables lid zero i j = i ≡ j
 ComeTo cells tables lid (suc n) i j = (x : ℕ) × Leads cells tables lid i x × ComeTo cells tables lid n x j
@@ -109,7 +110,7 @@ ComeEverywhere cells tables =
     (i j k : ℕ) → i < length (switches cells) → j < length (switches cells) → Walk (heads (edges_in cells)) i j k
     → (lid n : ℕ) × (1 ≤ lid) × ComeTo cells tables lid n i j
 
--- if packets come everywhere, tables are right by the order that grows by the one that they tell
+-- if packets get everywhere, tables are right by the order that grows by the one that they tell
 abbrev pub WholeTablesGrow : Type 0
 WholeTablesGrow =
     (facts : Facts) (tables : HeldPlan) (preferred taken : List ℕ) → ComeEverywhere (cells_of facts) tables

@@ -7,7 +7,7 @@ use Rattle.between_orders.specs.Goal.{tables_between}
 use Rattle.between_orders.specs.Orders.{AreOrders, edges_in}
 use Rattle.two_orders.specs.TwoOrders.{TwoOrders}
 
--- the positions of the first order, and the tables between the two
+-- the positions of the first order, and the tables between the two orders
 pub record Goal : Type 0 where
   pub positions : List ℕ
   pub tables : HeldPlan

@@ -1,4 +1,4 @@
--- What tables between two orders are, and what a step towards them brings.
+-- Laws of tables between two orders, and of steps towards them.
 use Rattle.std.specs.Prelude.{◌≡◌, ◌≤◌, ◌<◌, ◌⊎◌, ◌*◌, ℕ, suc, Contains, List, Option, Some, length, map, slice_get}
 use Rattle.fact_store.specs.View.{AreInRange, Facts, cells_of}
 use Rattle.port_graph.specs.Heads.{heads}
@@ -36,13 +36,14 @@ abbrev pub labels_of_line : Cells → TwoOrders → HeldPlan → HeldLid → Lis
 labels_of_line cells orders plan line =
     labels_towards line.port (edges_in cells) orders (map (switch_step cells plan line.lid) (switches cells))
 
--- the end port is the first that has the LID in the plan, whose switches have no lesser top
+-- the line's end port is the first that has the LID in the plan, and the plan gives no usable switch a top below the
+-- LID
 pub record IsGoalLine (cells : Cells) (plan : HeldPlan) (line : HeldLid) : Type 0 where
   pub some : 1 ≤ line.lid
   pub first : slice_get (owners_of plan line.lid) 0 ≡ Some line.port
   pub within : (g : ℕ) → Contains (switches cells) g → line.lid ≤ top_of plan g
 
--- from each switch with a label the tables between two orders deliver, if the first of these is one
+-- the tables between two orders deliver from each switch with a label, if the first is an order of the switches
 abbrev pub GoalDelivers : Type 0
 GoalDelivers =
     (facts : Facts) → AreInRange facts → (orders : TwoOrders) → IsOrder (cells_of facts) (position_at orders.first)
@@ -50,8 +51,8 @@ GoalDelivers =
     → (i : ℕ) (label : Sides) → label_at (labels_of_line (cells_of facts) orders plan line) i ≡ Some label
     → DeliverFrom (cells_of facts) (tables_between (cells_of facts) (edges_in (cells_of facts)) orders held plan) line i
 
--- if the first order grows, and the second over its tree, the tables between them deliver from each switch from which
--- wires lead to one from which the plan leads to the end port
+-- if the first order grows and the second grows over its tree, the tables between them deliver from each switch from
+-- which wires lead to one whose entry of the plan leads to the end port
 abbrev pub GoalReachesAll : Type 0
 GoalReachesAll =
     (facts : Facts) → AreInRange facts → (told by : List ℕ) (held plan : HeldPlan) (line : HeldLid)
@@ -66,23 +67,24 @@ GoalReachesAll =
 abbrev pub next_towards : Facts → HeldPlan → Goal → HeldPlan
 next_towards facts held goal = next_tables (cells_of facts) (by_order goal.positions) held goal.tables
 
--- they are a step by that order, and right by it for every LID; so no mixture makes a credit loop
+-- the next tables towards a goal are a step by the goal's order, and are right by it for every LID; so no mixture makes
+-- a credit loop
 abbrev pub GoalsAreSafe : Type 0
 GoalsAreSafe =
     (facts : Facts) (held plan : HeldPlan) (by : List ℕ) (goal : Goal) → IsGoal (cells_of facts) held plan by (Some goal)
     → IsStep (cells_of facts) (position_at goal.positions) held goal.tables (next_towards facts held goal)
     × ((lid : ℕ) → 1 ≤ lid → AreRight (cells_of facts) (position_at goal.positions) (next_towards facts held goal) lid)
 
--- for a LID that one end port alone holds, in the held tables and in the plan, they are the next tables of a line by the
--- rule of that order; so no packet that the held tables deliver is lost
+-- for a LID that one end port alone holds, in the held tables and in the plan, the next tables towards a goal are a
+-- step of a line by the goal's order; so no packet that the held tables deliver is lost
 abbrev pub GoalsFollowTheRule : Type 0
 GoalsFollowTheRule =
     (facts : Facts) (held plan : HeldPlan) (by : List ℕ) (goal : Goal) (line : HeldLid)
     → IsGoal (cells_of facts) held plan by (Some goal) → IsKept held plan line → 1 ≤ line.lid
     → IsLineStep (cells_of facts) (position_at goal.positions) held goal.tables line (next_towards facts held goal)
 
--- where each held entry is 255 or delivers, as after a step towards a goal, the goal between the same two orders is the
--- same from the next tables as from the held ones
+-- if each held entry is 255 or delivers, as after a step towards a goal, the goal between the two orders has the same
+-- entries for the LID from the next tables as from the held ones
 abbrev pub GoalStandsStill : Type 0
 GoalStandsStill =
     (facts : Facts) → AreInRange facts → (orders : TwoOrders) (held plan next : HeldPlan) (line : HeldLid)
@@ -95,8 +97,8 @@ GoalStandsStill =
     → entry_for (tables_between (cells_of facts) (edges_in (cells_of facts)) orders next plan) line.lid g
     ≡ entry_for (tables_between (cells_of facts) (edges_in (cells_of facts)) orders held plan) line.lid g
 
--- steps towards the goal between an order that grows and one that grows over its tree: each step has the goal from the
--- tables of the step before; at first each entry is 255 or delivers, as after any step
+-- steps towards the goal between an order that grows and one that grows over its tree. Each step goes towards the goal
+-- from the tables before it; at first each entry is 255 or delivers, as after any step
 pub record AreGoalSteps (facts : Facts) (told by : List ℕ) (plan : HeldPlan) (line : HeldLid) (tables : ℕ → HeldPlan)
     : Type 0 where
   pub is_line : IsGoalLine (cells_of facts) plan line
@@ -110,8 +112,8 @@ pub record AreGoalSteps (facts : Facts) (told by : List ℕ) (plan : HeldPlan) (
       (tables_between (cells_of facts) (edges_in (cells_of facts)) (grown_twice (edges_in (cells_of facts)) told by)
       (tables n) plan) line (tables (suc n))
 
--- after twice as many such steps as there are switches each switch from which the first goal delivers has its entry, and
--- the tables deliver from there
+-- each switch from which the first goal delivers has that goal's entry after twice as many steps as there are switches,
+-- and the tables deliver from there
 abbrev pub GoalIsReached : Type 0
 GoalIsReached =
     (facts : Facts) → AreInRange facts → (told by : List ℕ) (plan : HeldPlan) (line : HeldLid) (tables : ℕ → HeldPlan)
@@ -126,8 +128,8 @@ GoalIsReached =
     (grown_twice (edges_in (cells_of facts)) told by) (tables 0) plan) line.lid g)
     × DeliverFrom (cells_of facts) (tables m) line i
 
--- if the first tables bring packets to the end port at once only where the goal delivers, the tables are right for the
--- LID by the second order in the end, as the goal is
+-- if the goal delivers from each switch that sends packets straight to the end port by the first tables, the tables are
+-- right for the LID by the second order after twice as many steps as there are switches, as the goal is
 abbrev pub GoalEndsRight : Type 0
 GoalEndsRight =
     (facts : Facts) → AreInRange facts → (told by : List ℕ) (plan : HeldPlan) (line : HeldLid) (tables : ℕ → HeldPlan)

@@ -22,11 +22,11 @@ abbrev pub arrives : EndPort → NextHop → Bool
 arrives port (To j) = false
 arrives port (Ends e) = is_at port (Some e)
 
--- at first the switches have a label from which the plan leads to the end port
+-- the label of a switch at first: it has one, down by both orders, if its hop by the plan leads to the end port
 abbrev pub first_label : EndPort → SwitchStep → Option Sides
 first_label port plan = if arrives port plan.hop then Some both_down else None
 
--- the hop of switch i leads on to the sides of its label
+-- the hop leads on from switch i, which has the label `sides`
 abbrev pub fits : TwoOrders → List (Option Sides) → Sides → ℕ → NextHop → Bool
 fits orders labels sides i (To j) = leads_on orders labels sides i j
 fits orders labels sides i (Ends e) = false
@@ -52,7 +52,8 @@ abbrev pub entry_between : EndPort → List (List Edge) → TwoOrders → List (
 entry_between port edges orders labels x =
     if arrives port x.1.1.hop then x.1.1.entry else entry_with edges orders labels (label_at labels x.0) x.0 x.1
 
--- the entries of all switches towards an end port, from what each does by the held tables and by the plan
+-- the labels of all switches towards an end port, from what each does by the plan; and their entries, from these and
+-- what each does by the held tables and by the plan
 abbrev pub labels_towards : EndPort → List (List Edge) → TwoOrders → List SwitchStep → List (Option Sides)
 labels_towards port edges orders plan = labels_from edges orders (map (first_label port) plan)
 
@@ -60,7 +61,7 @@ unfoldable pub entries_towards : EndPort → List (List Edge) → TwoOrders → 
 entries_towards port edges orders held plan =
     map (entry_between port edges orders (labels_towards port edges orders plan)) (enumerate_from 0 (zip held plan))
 
--- those for a LID, towards the first of its owners; 255 if it has none
+-- the entries of all switches for a LID, towards the first of its owners; 255 if it has none
 abbrev pub column_for : Cells → List (List Edge) → TwoOrders → HeldPlan → HeldPlan → ℕ → List EndPort → List ℕ
 column_for cells edges orders held plan lid [] = replicate (length (switches cells)) 255
 column_for cells edges orders held plan lid (port ∷ ports) =

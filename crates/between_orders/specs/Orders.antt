@@ -1,4 +1,4 @@
--- The orders of switches by which a step goes from tables that tell an order by themselves: that order, and the next one.
+-- The two orders by which a step goes from tables that tell an order by themselves: that order, and the next one.
 use Rattle.std.specs.Prelude.{◌≡◌, ℕ, List, Option, None, Some, length, map, if◌then◌else◌}
 use Rattle.std.specs.List.{range_with_len}
 use Rattle.port_graph.specs.declared.edge.Edge.{Edge}
@@ -21,8 +21,9 @@ edges_in cells = by_index (graph_of cells)
 abbrev pub told_positions : List ℕ → ℕ → List ℕ
 told_positions taken n = map (position_in taken) (range_with_len 0 n)
 
--- from the positions that tables tell: if the tables are right by the order that grows by these, that one, and the one
--- that grows by the plan's positions over its tree; else the told order, and the one that grows by it
+-- the two orders, from the positions that tables tell. If the tables are right by the order that grows by these, it is
+-- the first order, and the second grows by the plan's positions over its tree. Else the told order is the first, and
+-- the second grows by it
 abbrev pub orders_by : Cells → HeldPlan → List (List Edge) → List ℕ → List ℕ → List ℕ → TwoOrders
 orders_by cells held edges plan told grown =
     if are_right cells (position_at (positions_in grown (length edges))) held
@@ -33,8 +34,8 @@ orders_by cells held edges plan told grown =
 abbrev pub orders_from : Cells → HeldPlan → List (List Edge) → List ℕ → List ℕ → TwoOrders
 orders_from cells held edges plan told = orders_by cells held edges plan told (grown_by edges told)
 
--- the orders of a step from `held`: by the order that the tables tell, of several switches that may be last the last in
--- the plan's order taken first; None if they tell none
+-- the orders of a step from `held`, by the order that the tables tell; of several switches that may be last, the last
+-- in the plan's order is taken first. None if the tables tell no order
 abbrev pub AreOrders : Cells → HeldPlan → List (List Edge) → List ℕ → Option TwoOrders → Type 0
 AreOrders cells held edges plan None = IsTold cells held (grown_by edges plan) None
 AreOrders cells held edges plan (Some orders) =

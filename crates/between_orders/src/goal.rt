@@ -18,9 +18,9 @@ use std::alloc::{AllocError, Global};
 use subnet_view::EndPort;
 use two_orders::{Orders, Sides, label_at, leads_on};
 
-/// Returns tables between two orders, which have an entry of the held tables or of the plan's if it fits. `edges` has
-/// the wires of each switch. For each LID takes some steps for each switch, and four for each wire if the LID before it
-/// has other targets.
+/// Returns tables between two orders. A switch has its held entry if that fits, or else the plan's if that does.
+/// `edges` has the wires of each switch. For each LID takes some steps for each switch, and four for each wire if the
+/// previous LID has other targets.
 pub(crate) fn tables_between(
     alloc: Global,
     edges: &Adjacency,
@@ -75,8 +75,8 @@ fn columns(
     Ok(columns)
 }
 
-/// Returns the entries of all usable switches for `lid`. `labelled` has the labels of the LID before, and then those of
-/// `lid`.
+/// Returns the entries of all usable switches for `lid`. `labelled` has the labels of the previous LID at first, and
+/// those of `lid` in the end.
 fn column(
     alloc: Global,
     edges: &Adjacency,
@@ -116,8 +116,8 @@ fn column(
     )
 }
 
-/// Returns the entries of all switches towards an end port, from what each does by the held tables and by the plan.
-/// `labelled` has the labels of the LID before, and then those towards this end port.
+/// Returns the entries of all switches towards `port`, from what each switch does by the held tables and by the plan.
+/// `labelled` has the labels of the previous LID at first, and those towards `port` in the end.
 fn entries_towards(
     alloc: Global,
     port: &EndPort,
@@ -138,7 +138,7 @@ fn entries_towards(
     entries_by(alloc, port, edges, orders, &labelled.labels, held, plan)
 }
 
-/// Returns the labels at first: of the switches from which the plan leads to the end port.
+/// Returns the labels at first: a switch has one if its hop by the plan leads to `port`.
 fn first_labels(
     alloc: Global,
     port: &EndPort,
@@ -165,7 +165,7 @@ fn first_label(port: &EndPort, plan: &SwitchStep) -> Option<Sides>
     }
 }
 
-/// Returns whether `hop` leads to the end port.
+/// Returns whether `hop` leads to `port`.
 fn arrives(port: &EndPort, hop: &NextHop) -> bool
     ensures { result ≡ arrives port.now hop.now }
 {
@@ -175,7 +175,7 @@ fn arrives(port: &EndPort, hop: &NextHop) -> bool
     }
 }
 
-/// Returns the entry of each switch towards an end port, by the labels.
+/// Returns the entry of each switch towards `port`, by the labels.
 fn entries_by(
     alloc: Global,
     port: &EndPort,
@@ -195,7 +195,7 @@ fn entries_by(
         .collect(alloc)
 }
 
-/// Returns the entry of the switch at `index`: the plan's if that leads to the end port, else one by its label.
+/// Returns the entry of the switch at `index`: the plan's if that leads to `port`, else one by its label.
 fn entry(
     port: &EndPort,
     edges: &Adjacency,
@@ -238,7 +238,7 @@ fn entry_to(
     }
 }
 
-/// Returns whether `hop` of the switch at `index` leads on to the sides of its label.
+/// Returns whether `hop` leads on from the switch at `index`, which has the label `sides`.
 fn fits(
     orders: &Orders,
     labels: &[Option<Sides>],
@@ -254,7 +254,7 @@ fn fits(
     }
 }
 
-/// Returns the port of the first of the edges of the switch at `index` that leads on, or 255 if none does.
+/// Returns the port of the first edge of the switch at `index` that leads on, or 255 if none does.
 fn first_port(
     edges: &[Edge],
     orders: &Orders,

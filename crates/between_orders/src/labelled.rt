@@ -6,7 +6,7 @@ use port_graph::Adjacency;
 use std::alloc::{AllocError, Global};
 use two_orders::{Orders, Sides, label_all};
 
-/// The labels of switches, and the labels at first that they came of.
+/// The labels of switches, and the labels at first from which they follow.
 #[derive(Drop)]
 pub(crate) struct Labelled {
     /// The labels at first, of the targets.
@@ -16,7 +16,7 @@ pub(crate) struct Labelled {
 }
 
 impl Labelled {
-    /// Returns the labels that come of none.
+    /// Returns the labels that follow if no switch has a label at first.
     pub fn none(alloc: Global, edges: &Adjacency, orders: &Orders) -> Self
         ensures { result.labels.items ≡ labels_from edges.now orders.now result.firsts.items }
     {
@@ -26,8 +26,8 @@ impl Labelled {
         Labelled { firsts, labels }
     }
 
-    /// Makes these the labels that come of `firsts`. Takes a step for each switch if they came of the same, and else
-    /// what `label_all` takes.
+    /// Replaces the labels by those that follow from `firsts`. Takes a step for each switch if the labels at first do
+    /// not change, otherwise what `label_all` takes.
     pub fn relabel(
         &mut self,
         alloc: Global,

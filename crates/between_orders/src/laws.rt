@@ -16,7 +16,8 @@ ghost use Rattle.between_orders.specs.BetweenLaws.{
 };
 ghost use Rattle.between_orders.specs.BetweenLaws.{GoalsAreSafe, GoalsFollowTheRule};
 
-/// In the tables between two orders, whatever these are, no packet for any LID goes down and then up by either order.
+/// By the tables between two orders, whatever the orders are, no packet for any LID goes down and then up by either
+/// order.
 pub fn goal_turns_well()
     ensures law { GoalTurnsWell }
 {}
@@ -27,27 +28,27 @@ pub fn goal_delivers()
     ensures law { GoalDelivers }
 {}
 
-/// The tables between an order that grows and one that grows over its tree deliver from each switch from which wires
-/// lead to one that delivers by the plan.
+/// If the first order grows and the second grows over its tree, the tables between them deliver from each switch from
+/// which wires lead, directly or over other switches, to one whose entry of the plan leads to the end port.
 pub fn goal_reaches_all()
     ensures law { GoalReachesAll }
 {}
 
-/// A step towards the goal of `between` is a step by the order that the held tables tell: whatever entries of both are
-/// mixed, no packet goes down and then up by it, so no channels wait for each other in a credit loop. The next tables
-/// are right by that order again.
+/// A step towards the goal of `between` is a step by the goal's first order: however entries of both are mixed, no
+/// packet goes down and then up by that order, so no channels wait for each other in a credit loop. The next tables are
+/// right by that order again.
 pub fn goals_are_safe()
     ensures law { GoalsAreSafe }
 {}
 
-/// For a LID that one end port alone holds, in the held tables and in the plan, the step follows the rule of the order
-/// that the held tables tell (`ordered_steps`): no packet that the held tables deliver is lost in any mixture.
+/// For a LID that one end port alone holds, in the held tables and in the plan, the step follows the rule of the goal's
+/// first order (`ordered_steps`): no packet that the held tables deliver is lost in any mixture.
 pub fn goals_follow_the_rule()
     ensures law { GoalsFollowTheRule }
 {}
 
-/// A step towards the goal leaves tables that tell an order, and this agrees with the plan's order on as many first
-/// switches as that of the held tables does.
+/// After a step towards the goal the tables tell an order that agrees with the plan's order on at least as many first
+/// switches as the order of the held tables does.
 pub fn steps_keep_agreement()
     ensures law { StepsKeepAgreement }
 {}
@@ -58,26 +59,27 @@ pub fn goals_go_further()
     ensures law { GoalsGoFurther }
 {}
 
-/// Once n - 1 such goals were reached, for n switches, the tables are right by the plan's order.
+/// Once n - 1 goals were reached, for n switches, each from tables that are right by the order that grows by the told
+/// one, the tables are right by the plan's order.
 pub fn goals_are_few()
     ensures law { GoalsAreFew }
 {}
 
-/// If each held entry for a LID is 255 or delivers, then the goal between the same two orders has the same entries for
-/// it after the step as before.
+/// If each held entry for a LID is 255 or delivers, then a step towards the goal between two orders does not change
+/// that goal's entries for the LID.
 pub fn goal_stands_still()
     ensures law { GoalStandsStill }
 {}
 
-/// After twice as many steps as there are switches, towards the goal between an order that grows and one that grows
-/// over its tree, each switch from which the goal delivers has the entry of the first goal, if each held entry was 255
-/// or delivered at first.
+/// Each switch from which the first goal delivers has that goal's entry after twice as many steps as there are
+/// switches, if the steps go towards the goal between an order that grows and one that grows over its tree, and each
+/// entry was 255 or delivered at first.
 pub fn goal_is_reached()
     ensures law { GoalIsReached }
 {}
 
-/// If tables are right by an order that grew, and this is the list of preferences, then the orders of the next step are
-/// that one, and the one that grows by the plan's positions over its tree.
+/// If tables are right by an order that grew, and that order is the list of preferences, then it is the first order of
+/// the next step, and the second order is the one that grows by the plan's positions over its tree.
 pub fn orders_stay()
     ensures law { OrdersStay }
 {}
@@ -88,8 +90,8 @@ pub fn whole_tables_grow()
     ensures law { WholeTablesGrow }
 {}
 
-/// After 2n such steps, for n switches, the tables are right for the LID by the second order, if the goal delivers from
-/// each switch that, by the first tables, sends packets for the LID straight to the end port.
+/// After 2n steps as in `goal_is_reached`, for n switches, the tables are right for the LID by the second order, if the
+/// goal delivers from each switch that, by the first tables, sends packets for the LID straight to the end port.
 pub fn goal_ends_right()
     ensures law { GoalEndsRight }
 {}

@@ -15,8 +15,8 @@ use two_orders::{Orders, grown_by, positions_in, tree};
 
 /// Returns the orders of a step from the tables of `held`: the one that they tell, and the next one on the way to the
 /// plan's. Of several switches that may be last, the last in the plan's order is taken first. Returns `None` if the
-/// tables tell no order. `edges` has the wires of each switch, and `plan` the position of each in the plan's order.
-/// Takes what `told_order` and `are_right` take, and a step for each two switches.
+/// tables tell no order. `edges` has the wires of each switch, and `plan` the position of each switch in the plan's
+/// order. Takes what `told_order` and `are_right` take, and a step for each pair of switches.
 pub(crate) fn orders(
     alloc: Global,
     edges: &Adjacency,
@@ -76,7 +76,7 @@ fn told_positions(alloc: Global, taken: &[usize], count: usize) -> Result<Vec<us
         .collect(alloc)
 }
 
-/// Returns how many vertices stand behind `vertex` in a list, or 0 if the list lacks it.
+/// Returns how many vertices come after `vertex` in a list, or 0 if the list lacks it.
 fn position_in(taken: &[usize], vertex: usize) -> usize
     ensures { result ≡ position_in taken.now vertex }
 {

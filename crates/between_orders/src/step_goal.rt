@@ -16,16 +16,17 @@ use subnet_view::{SwitchGraph, Wires};
 /// The goal of a step from tables that tell an order by themselves.
 #[derive(Drop)]
 pub struct StepGoal {
-    /// The position of each usable switch in the order that the tables tell, by rising GUID.
+    /// The position of each usable switch in the first of the goal's two orders, by rising GUID.
     pub positions: Vec<usize>,
-    /// Tables between that order and the next one on the way to the plan's.
+    /// The tables between the two orders.
     pub tables: Held,
 }
 
 /// Returns the goal of a step from the tables of `held` towards those of `plan`: tables that lead packets up and then
 /// down by the order that the held tables tell, and by the next one on the way to the plan's order. Returns `None` if
 /// the held tables tell no order. `positions` has the position of each usable switch in the plan's order, by rising
-/// GUID. Takes what `told_order` and `are_right` take, four steps for each wire and LID, and one for each two switches.
+/// GUID. Takes what `told_order` and `are_right` take, four steps for each wire and LID, and one for each pair of
+/// switches.
 pub fn between(
     alloc: Global,
     store: &Store,

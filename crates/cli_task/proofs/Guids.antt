@@ -1,4 +1,4 @@
--- Sixteen hex digits at most are read as a number.
+-- A word of at most sixteen hex digits is read as a number.
 use Rattle.std.proofs.Common.{◌≡◌, ◌&&◌, ◌||◌, ℕ, ◌≤◌, Bool, true, false, List, [], ◌∷◌, length, nat_lt, refl, ap, arith}
 use Rattle.std.proofs.lemmas.Bool.{and_parts, leb-true}
 use Rattle.std.specs.Prelude.{is_some, nat_le, None, Some, Option, if◌then◌else◌}

@@ -1,4 +1,4 @@
--- A rule takes as many texts as are counted for it.
+-- A rule takes as many texts as `texts_for` counts.
 use Rattle.std.proofs.Common.{◌≡◌, ℕ, List, [], ◌∷◌, Option, None, Some, length, ap, sym}
 use Rattle.std.proofs.lemmas.Option.{same_Some}
 use Rattle.std.specs.Prelude.{codes, option_map}

@@ -1,4 +1,4 @@
--- What the parser accepts is a number.
+-- A word that the parser accepts is a number.
 use Rattle.std.proofs.Common.{◌≡◌, ℕ, zero, suc, ◌≤◌, Bool, true, false, cond, List, drop, Some, refl, arith, ap, ◌∙◌}
 use Rattle.std.proofs.Common.{T, leb, pos, FitsSigned, w64, ◌≤ℤ◌}
 use Rattle.std.specs.Prelude.{is_some, option_and_then, if◌then◌else◌, neg_ℤ}

@@ -25,7 +25,7 @@ use Rattle.cli_task.specs.declared.task.Task.TheVariants.{Answer, Audit, OrderOf
 abbrev pub within : ℕ → ℕ → ℕ → Option ℕ
 within least most n = if nat_le least n && nat_le n most then Some n else None
 
--- the number that a word writes in decimal, with or without a sign; behind a minus only 0
+-- the number that a word writes in decimal, with or without a sign; after a minus sign, only 0
 abbrev pub number_in : List ℕ → Option ℕ
 number_in word =
     if starts_with_minus word then option_and_then (within 0 0) (number_of 10 (drop 1 word))

@@ -29,10 +29,10 @@ use std::alloc::{AllocError, Global};
 pub enum Task {
     /// Writing what files say.
     Answer(Invocation),
-    /// To audit tables in the subnet of files.
+    /// Auditing tables in the subnet that files describe.
     Audit(AuditAsked),
-    /// Writing the order of switches that tables tell in the subnet of the files' facts, ignoring what is older than
-    /// the generation.
+    /// Writing the order of switches that tables tell in the subnet that files describe. Facts of generations before
+    /// this one are ignored.
     OrderOf(Generation),
     /// Writing the tables to write next.
     Next(StepAsked),
@@ -71,7 +71,7 @@ impl Task {
     }
 }
 
-/// Returns the task that the words ask for, by the subcommand and the words behind it.
+/// Returns the task that the words ask for, by the subcommand and the words after it.
 pub fn task_of(matches: &ArgMatches<'_>) -> Option<Task>
     ensures { result ≡ task_asked matches.now }
 {
@@ -100,7 +100,7 @@ fn task_behind(command: &str, words: &ArgMatches<'_>) -> Option<Task>
     }
 }
 
-/// Returns the audit that the words behind a subcommand ask for.
+/// Returns the audit that the words after a subcommand ask for.
 fn audit_of(words: &ArgMatches<'_>) -> Option<AuditAsked>
     ensures { result ≡ audit_asked (first_value (found_of words.now)) }
 {
@@ -113,7 +113,7 @@ fn audit_of(words: &ArgMatches<'_>) -> Option<AuditAsked>
     })
 }
 
-/// Returns whether the words behind a subcommand set the flag `name`.
+/// Returns whether the words after a subcommand set the flag `name`.
 fn is_set(words: &ArgMatches<'_>, name: &str) -> bool
     ensures { result ≡ is_set (first_value (found_of words.now) name.now) }
 {
@@ -123,8 +123,8 @@ fn is_set(words: &ArgMatches<'_>, name: &str) -> bool
     }
 }
 
-/// Returns the greatest load that the words behind a subcommand let pass, if they name one; `None` if the word is no
-/// number of 32 bits.
+/// Returns the greatest load that passes; the inner value is `None` if the words after a subcommand name none. Returns
+/// `None` if the word is not a number of 32 bits.
 fn max_load_of(words: &ArgMatches<'_>) -> Option<Option<u64>>
     ensures { result ≡ max_load_asked (first_value (found_of words.now) (codes "max-load")) }
 {
@@ -134,7 +134,7 @@ fn max_load_of(words: &ArgMatches<'_>) -> Option<Option<u64>>
     }
 }
 
-/// Returns the step that `words`, behind a subcommand, ask for.
+/// Returns the step that `words`, after a subcommand, ask for.
 fn step_of(words: &ArgMatches<'_>) -> Option<StepAsked>
     ensures { result ≡ step_asked (first_value (found_of words.now)) }
 {
@@ -148,7 +148,7 @@ fn step_of(words: &ArgMatches<'_>) -> Option<StepAsked>
     })
 }
 
-/// Returns the manager that `words`, behind a subcommand, ask for.
+/// Returns the manager that `words`, after a subcommand, ask for.
 fn serving_of(words: &ArgMatches<'_>) -> Option<Serving>
     ensures { result ≡ serving_asked (first_value (found_of words.now)) }
 {
@@ -261,7 +261,7 @@ fn lmc_of(words: &ArgMatches<'_>) -> Option<Lmc>
     Lmc::new(u8::try_from(number_or(words, LMC, 0)?).ok()?)
 }
 
-/// Returns the number behind the option `name`, or `otherwise` if the option is not given.
+/// Returns the number after the option `name`, or `otherwise` if the option is not given.
 fn number_or(words: &ArgMatches<'_>, name: &str, otherwise: u32) -> Option<u32>
     ensures { result ≡ number_or otherwise (first_value (found_of words.now) name.now) }
 {
@@ -335,7 +335,7 @@ pub fn names_of<'a>(
     }
 }
 
-/// Returns the names of the task's inputs, given the words behind the subcommand.
+/// Returns the names of the task's inputs, by the words after the subcommand.
 fn names_behind<'a>(
     alloc: Global,
     words: &ArgMatches<'a>,

@@ -1,4 +1,4 @@
--- Numbers that are chained, from the last one on.
+-- Chains of numbers, built from the last number on.
 use Rattle.std.proofs.Common.{◌≡◌, ℕ, zero, suc, ◌<◌, ◌≤◌, List, length, refl, sym, ap, ◌∙◌, subst, arith, inl, inr, Vec, Global}
 use Rattle.std.specs.Prelude.{replicate, slice_index_or, slice_set}
 use Rattle.std.proofs.lemmas.Bool.{cases_eq}
@@ -6,7 +6,7 @@ use Rattle.std.proofs.lemmas.List.{get_or-set_other, length-set}
 use Rattle.std.proofs.lemmas.Grind.{get_or-set_at}
 use Rattle.held_tables.specs.Chains.{AreChains, IsNext}
 
--- those from an index on
+-- the chains of the numbers from the index `from` on
 pub record ChainedFrom (numbers : List ℕ) (from : ℕ) (firsts nexts : List ℕ) : Type 0 where
   pub all_numbers : length firsts ≡ 65536
   pub as_many : length nexts ≡ length numbers

@@ -1,4 +1,4 @@
--- The text of a view's plan says the plan's LIDs with their owners, and its entries.
+-- The text of a view's plan has the plan's LIDs with their owners, and its entries.
 use Rattle.std.proofs.Common.{◌≡◌, ℕ, zero, suc, ◌+◌, ◌*◌, ◌/◌, ◌%◌, ◌≤◌, false, ◌||◌, List, [], ◌∷◌}
 use Rattle.std.proofs.Common.{get_or, Option, None, Some, refl, sym, ap, ◌∙◌, arith, cond}
 use Rattle.std.specs.Prelude.{slice_get, map, Contains, option_and_then, nat_lt, ◌==◌}
@@ -77,7 +77,7 @@ module _ (rule : RuleValue) (lmc : ℕ) (facts : Facts) (has_room : ¬ (IsNoRoom
         ap (top_at held) placed_is
         ∙ ap (λ o. option_map_or (λ s. s.top) o 0) (slice_mapped (with_top top) plan.tables k table table_is)
 
-    -- and the plan's entry at each LID up to that
+    -- a usable switch has the plan's entry at each LID up to the greatest
     pub entry_held : (g lid : ℕ) → Contains (switches cells) g → lid ≤ top → entry_of held g lid ≡ planned_entry routing lmc cells g lid
     entry_held g lid there low =
         let b = lid / 64 in
@@ -96,7 +96,7 @@ module _ (rule : RuleValue) (lmc : ℕ) (facts : Facts) (has_room : ¬ (IsNoRoom
         ∙ at_index block (lid % 64) (planned_entry routing lmc cells g (64 * b + (0 + lid % 64))) 255 stands
         ∙ ap (planned_entry routing lmc cells g) whole
 
-    -- which counts where the LID is owned
+    -- if somebody owns the LID, the effective entry is the plan's
     pub entry_counts : (g lid : ℕ) (e : EndPort) → Contains (switches cells) g → owner_of given lid ≡ Some e
         → entry_for held lid g ≡ planned_entry routing lmc cells g lid
     entry_counts g lid e there owned =

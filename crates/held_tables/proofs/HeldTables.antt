@@ -1,4 +1,4 @@
--- Blocks and switches of tables as a text holds them: each block is found at its switch's index.
+-- Blocks and switches of tables as a text has them: each block is found at its switch's index.
 use Rattle.std.proofs.Common.{◌≡◌, ℕ, zero, suc, ◌+◌, ◌<◌, ◌≤◌, Bool, true, false, List, [], ◌∷◌, ◌++◌, length, get_or}
 use Rattle.std.proofs.Common.{None, Some, refl, sym, ap, ◌∙◌, subst, arith, inl, inr, ◌⊎◌, add-zero}
 use Rattle.std.specs.Prelude.{slice_get, map, Contains, reverse, ◌==◌, ◌&&◌}
@@ -16,7 +16,7 @@ use Rattle.plan_file.specs.declared.held.HeldSwitch.{HeldSwitch}
 use Rattle.plan_file.specs.Printed.{blocks_from, blocks_of, with_top}
 use Rattle.held_tables.specs.Tables.{is_block_of}
 
--- the blocks of tables, and where each is from
+-- the blocks of tables, and the table that each is from
 from_list : (index number : ℕ) (blocks : List (List ℕ)) (y : HeldBlock) → Contains (blocks_from index number blocks) y
     → (b : ℕ) × (y.switch ≡ index) × (y.number ≡ number + b) × (slice_get blocks b ≡ Some y.entries)
 from_list index number [] y h = absurd (contains_none y h)
@@ -37,7 +37,7 @@ in_list index number (suc b) (x ∷ blocks) block e =
     let (y, there, switch, at) = in_list index (number + 1) b blocks block e in
     (y, contains_later (record { switch = index; number = number; entries = x }) y (blocks_from index (number + 1) blocks) there, switch, omega arith)
 
--- of one list or the other
+-- an element of two lists is in the one or the other
 either : {X : Type 0} (xs ys : List X) (x : X) → Contains (xs ++ ys) x → Contains xs x ⊎ Contains ys x
 either [] ys x h = inr h
 either (y ∷ xs) ys x h =
@@ -105,7 +105,7 @@ in_tables index (t ∷ tables) (suc k) b table block e there =
     let there = behind (blocks_from index 0 t.blocks) (blocks_of (suc index) tables) later.y later.there in
     record { y = later.y; there = there; switch = omega arith; number = later.number }
 
--- in the reversed list
+-- an element of the reversed list
 turned : {X : Type 0} (xs : List X) (y x : X) → Contains (reverse xs ++ y ∷ []) x → Contains (reverse (y ∷ xs)) x
 turned xs y x h = subst (λ zs. Contains zs x) (sym (reverse-append (y ∷ []) xs)) h
 
@@ -143,7 +143,7 @@ found p (y ∷ xs) x h e =
       ])
     ] refl
 
--- so the block of a table is found
+-- the block of a table is found
 pub block_found : (tables : List SwitchTable) (k b : ℕ) (table : SwitchTable) (block : List ℕ) → slice_get tables k ≡ Some table
     → slice_get table.blocks b ≡ Some block
     → (y : HeldBlock) × (find (is_block_of k b) (reverse (blocks_of 0 tables)) ≡ Some y) × (y.entries ≡ block)

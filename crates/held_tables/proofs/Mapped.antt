@@ -1,4 +1,4 @@
--- What a function gives of the first elements of a list, one element further.
+-- A function mapped over the first elements of a list, and then over one element more.
 use Rattle.std.proofs.Common.{◌≡◌, ℕ, zero, suc, ◌+◌, ◌<◌, List, [], ◌∷◌, ◌++◌, length, take, refl, ap, ◌∙◌, arith}
 use Rattle.std.specs.Prelude.{map, slice_index_or}
 

@@ -1,4 +1,4 @@
--- Lines that tell each LID of an end port once.
+-- Lines that have each pair of a LID and an end port once.
 use Rattle.std.proofs.Common.{◌≡◌, ◌||◌, ◌&&◌, ◌==◌, ◌⊎◌, ℕ, Bool, true, false, List, [], ◌∷◌, ◌++◌, cond, map, refl, sym, ap, ◌∙◌, subst, inl, inr}
 use Rattle.std.specs.Prelude.{Contains, filter, not}
 use Rattle.std.specs.List.{list_any}
@@ -15,7 +15,7 @@ use Rattle.plan_file.specs.declared.held.HeldLid.{HeldLid}
 use Rattle.held_tables.specs.Owners.{SoleOwnersAreAlone, is_sole}
 use Rattle.held_tables.specs.Tables.{holders, is_owner, is_same_end, is_same_line, owners_of, told_once}
 
--- it tells something else
+-- two lines differ
 abbrev differs : HeldLid → HeldLid → Bool
 differs x y = not (is_same_line x y)
 
@@ -29,7 +29,7 @@ same_port e x h =
 same_itself : (e : EndPort) → is_same_end e e ≡ true
 same_itself e = and_from (e.node == e.node) (e.port == e.port) (eq-eqb e.node e.node refl) (eq-eqb e.port e.port refl)
 
--- a line that tells the same is the same
+-- lines that agree on the LID and the end port are equal
 same_line : (x y : HeldLid) → is_same_line x y ≡ true → x ≡ y
 same_line x y h =
     let parts = and_parts (y.lid == x.lid) (is_same_end x.port y.port) h in
@@ -49,7 +49,7 @@ last_kept : (x y : HeldLid) (before : Bool) → filter (differs x) (cond before 
 last_kept x y true = gone (is_same_line x y) (y ∷ [])
 last_kept x y false = kept (is_same_line x y) (y ∷ [])
 
--- one line more is told where none before it tells the same
+-- one line more is kept if no line before it agrees with it
 pub once_more : (xs : List HeldLid) (y : HeldLid) → told_once (xs ++ y ∷ []) ≡ told_once xs ++ cond (list_any (λ x. is_same_line x y) xs) [] (y ∷ [])
 once_more [] y = refl
 once_more (x ∷ xs) y =
@@ -57,7 +57,7 @@ once_more (x ∷ xs) y =
     ap (λ zs. x ∷ filter (differs x) zs) (once_more xs y) ∙ ap (λ zs. x ∷ zs) (filter-append (differs x) (told_once xs) (cond before [] (y ∷ [])))
     ∙ ap (λ zs. x ∷ (filter (differs x) (told_once xs) ++ zs)) (last_kept x y before)
 
--- what was told, as a set of keys -----------------------------------------------------------------
+-- the kept lines, as a set of keys ----------------------------------------------------------------
 
 abbrev pub key_of : HeldLid → ℕ × (ℕ × ℕ)
 key_of x = (x.lid, (x.port.node, x.port.port))
@@ -65,7 +65,7 @@ key_of x = (x.lid, (x.port.node, x.port.port))
 abbrev pub key_cmp : ℕ × (ℕ × ℕ) → ℕ × (ℕ × ℕ) → Ordering
 key_cmp a b = ordering_then (nat_cmp a.0 b.0) (ordering_then (nat_cmp a.1.0 b.1.0) (nat_cmp a.1.1 b.1.1))
 
--- lines that tell the same have one key
+-- lines that agree have one key
 same_key : (x y : HeldLid) → is_eq (key_cmp (key_of x) (key_of y)) ≡ is_same_line x y
 same_key x y =
     eq_then (nat_cmp x.lid y.lid) (ordering_then (nat_cmp x.port.node y.port.node) (nat_cmp x.port.port y.port.port))
@@ -86,11 +86,11 @@ any_more : (p : HeldLid → Bool) (xs : List HeldLid) (x : HeldLid) → list_any
 any_more p [] x = none_more (p x)
 any_more p (y ∷ xs) x = ap (λ b. p y || b) (any_more p xs x) ∙ one_more (p y) (p x) (list_any p xs)
 
--- the keys of some lines are those that were told
+-- the set has the keys of `lines`, and no others
 abbrev pub AreKeys : List HeldLid → BTreeSet (ℕ × (ℕ × ℕ)) → Type 0
 AreKeys lines told = (q : HeldLid) → contains key_cmp told (key_of q) ≡ list_any (λ x. is_same_line x q) lines
 
--- with a line more
+-- one line more adds its key
 pub keys_more : (lines : List HeldLid) (told new : BTreeSet (ℕ × (ℕ × ℕ))) (x : HeldLid) → AreKeys lines told → Updates key_cmp told new (key_of x) true
     → AreKeys (lines ++ x ∷ []) new
 keys_more lines told new x are u q =
@@ -116,7 +116,7 @@ line_left lines x told are e =
     once_more lines x ∙ ap (λ t. told_once lines ++ cond t [] (x ∷ [])) (sym (are x) ∙ old_line (contains key_cmp told (key_of x)) e)
     ∙ append-nil (told_once lines)
 
--- the lines that are told once are those that there are
+-- the lines without repetitions are the same lines
 pub once_has : (xs : List HeldLid) (x : HeldLid) → Contains xs x → Contains (told_once xs) x
 once_has [] x h = absurd (contains_none x h)
 once_has (y ∷ xs) x h =
@@ -136,7 +136,7 @@ once_from (y ∷ xs) x h =
       | inr later ↦ contains_later y x xs (once_from xs x (contains-from_filter (differs y) (told_once xs) x later).0)
     ]
 
--- behind a line of an end port no line of its tells the LID
+-- after a line of the only end port that holds the LID, no kept line is for the LID
 none_else : (x : HeldLid) (lid : ℕ) (ys : List HeldLid) → x.lid ≡ lid → is_sole x.port (holders (filter (differs x) ys) lid) ≡ true
     → holders (filter (differs x) ys) lid ≡ []
 none_else x lid [] is h = refl
@@ -174,7 +174,7 @@ unmoved x lid (y ∷ ys) apart =
           ])
     ] refl
 
--- where no other end port holds a LID, there is one owner at most
+-- if no other end port holds a LID, it has one owner at most
 pub sole_once : (xs : List HeldLid) (lid : ℕ) (port : EndPort) → is_sole port (holders (told_once xs) lid) ≡ true
     → (holders (told_once xs) lid ≡ []) ⊎ (holders (told_once xs) lid ≡ port ∷ [])
 sole_once [] lid port h = inl refl

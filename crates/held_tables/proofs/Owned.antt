@@ -1,4 +1,4 @@
--- Who holds each LID: by one line more, and what is told of a LID.
+-- Who holds each LID: what one line more changes, and what the table says of a LID.
 use Rattle.std.proofs.Common.{◌≡◌, ◌<◌, ℕ, Bool, List, [], ◌∷◌, ◌++◌, length, map, cond, nat_lt, replicate, refl, sym, ap, ◌∙◌, arith, inl, inr}
 use Rattle.std.specs.Prelude.{count_by, filter, slice_index_or, slice_set, ◌==◌}
 use Rattle.std.proofs.lemmas.Grind.{get_or-set_at}
@@ -61,7 +61,7 @@ owners_more lines owners new x h e = record { each = each }
               ∙ sym (line_more lines x lid)))
         ]
 
--- as many lines tell a LID as end ports hold it
+-- as many lines are for a LID as end ports are listed for it
 as_many : (lines : List HeldLid) (lid : ℕ) → count_by (λ (line : HeldLid). line.lid == lid) lines ≡ length (holders lines lid)
 as_many lines lid =
     let tells : HeldLid → Bool = λ line. line.lid == lid in
@@ -72,7 +72,7 @@ several_told [] = refl
 several_told (e ∷ []) = refl
 several_told (e ∷ x ∷ es) = sym (lt-ltb 1 (length (e ∷ x ∷ es)) (omega arith))
 
--- several hold a LID where more than one line tells it
+-- several end ports hold a LID exactly if more than one line is for it
 pub told_twice : (lines : List HeldLid) (owners : List Owner) (lid : ℕ) (owner : Owner) → AreOwners lines owners → lid < length owners
     → owner ≡ slice_index_or owners lid Several → is_several owner ≡ is_told_twice lines lid
 told_twice lines owners lid owner h less is =

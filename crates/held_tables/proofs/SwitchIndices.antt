@@ -25,7 +25,7 @@ no_wire_past cells g p past =
           absurd (omega (arith, past, within))
     ] refl
 
--- what a search among rising numbers finds is the index
+-- a search among rising numbers finds the index
 pub index_is : (numbers : List ℕ) (x : ℕ) (found : Option ℕ) → IsStrictlyIncreasing numbers → IsIndexIn numbers x found → found ≡ index_in numbers x
 index_is numbers x None rising none =
     elim (index_in numbers x) as (λ o. index_in numbers x ≡ o → None ≡ o) [

@@ -6,7 +6,7 @@ use Rattle.held_tables.specs.declared.far_end.Far.{Far}
 use Rattle.held_tables.specs.declared.far_end.Far.TheVariants.{Nothing, Switch, Port}
 use Rattle.held_tables.specs.Rows.{padded, wired_more}
 
--- a port behind the last has none
+-- a port after the last one has no wire
 blank_at : (n k : ℕ) → slice_index_or (replicate n Nothing) k Nothing ≡ Nothing
 blank_at zero k = refl
 blank_at (suc n) zero = refl
@@ -20,7 +20,7 @@ behind_at (x ∷ fars) n (suc k) = behind_at fars n k
 pub padded_at : (count : ℕ) (fars : List Far) (k : ℕ) → slice_index_or (padded count fars) k Nothing ≡ slice_index_or fars k Nothing
 padded_at count fars k = behind_at fars (count - length fars) k
 
--- the first ports have their last wire among so many
+-- `count` is the number of ports up to the last one with a wire, among the first `port`
 pub record AreWired (fars : List Far) (port count : ℕ) : Type 0 where
   pub within : count ≤ port
   pub others : take port fars ≡ take count fars ++ replicate (port - count) Nothing
@@ -58,7 +58,7 @@ pub all_wired : (fars : List Far) (port count : ℕ) → AreWired fars port coun
 all_wired fars port count h all =
     sym (take_all port fars (omega arith)) ∙ h.others ∙ ap (λ (n : ℕ). take count fars ++ replicate (n - count) Nothing) all
 
--- those up to the last wire say all
+-- the far ends up to the last wire determine all
 pub short_is : (fars short : List Far) (count : ℕ) → count ≤ length fars → fars ≡ take count fars ++ replicate (length fars - count) Nothing
     → short ≡ take count fars → padded (length fars) short ≡ fars
 short_is fars short count within others is =

@@ -1,4 +1,4 @@
--- The blocks with a number that switches hold, row by row.
+-- The held blocks with one number, a row for each switch.
 use Rattle.std.specs.Prelude.{◌≡◌, ◌<◌, ℕ, List, [], Option, length, slice_index_or, slice_set}
 use Rattle.std.specs.Option.{option_map_or}
 use Rattle.plan_file.specs.declared.held.HeldBlock.{HeldBlock}
@@ -10,7 +10,7 @@ pub record AreBlank (count : ℕ) (rows : List (List ℕ)) : Type 0 where
   pub as_many : length rows ≡ count
   pub entry : (index i : ℕ) → slice_index_or (slice_index_or rows index []) i 255 ≡ 255
 
--- `rows` has the blocks with this number, by the indices of the held switches
+-- `rows` has, for each held switch in order, the entries of its block `number`; 255 for entries that are not held
 pub record AreBlocks (held : HeldPlan) (number : ℕ) (rows : List (List ℕ)) : Type 0 where
   pub as_many : length rows ≡ length held.switches
   pub entry : (index i : ℕ) → index < length rows → slice_index_or (slice_index_or rows index []) i 255

@@ -1,4 +1,4 @@
--- For each block, where the next one with its number is.
+-- Chains of equal numbers: for each block, the index of the next block with its number.
 use Rattle.std.specs.Prelude.{◌≡◌, ◌≢◌, ◌<◌, ◌≤◌, ℕ, suc, List, length, slice_index_or}
 use Rattle.held_tables.specs.declared.chains.Chains.{Chains}
 

@@ -1,4 +1,4 @@
--- Who holds each LID, in one step.
+-- Who holds each LID, as a table that is looked up in one step.
 use Rattle.std.specs.Prelude.{◌≡◌, ◌↔◌, ◌<◌, ◌==◌, ℕ, Bool, true, false, List, [], ◌∷◌, Option, None, Some, count_by, length, nat_lt, slice_index_or, IsTrue}
 use Rattle.std.specs.List.{list_all}
 use Rattle.subnet_view.specs.declared.end_port.EndPort.{EndPort}
@@ -8,13 +8,13 @@ use Rattle.held_tables.specs.Tables.{holders, is_owner, is_same_end, owners_of}
 use Rattle.held_tables.specs.declared.owners.Owner.{Owner}
 use Rattle.held_tables.specs.declared.owners.Owner.TheVariants.{Nobody, Sole, Several}
 
--- who holds a LID that these end ports hold
+-- who holds a LID, by the list of end ports that hold it
 abbrev pub owner_among : List EndPort → Owner
 owner_among [] = Nobody
 owner_among (e ∷ []) = Sole e
 owner_among (e ∷ x ∷ es) = Several
 
--- the end port that alone holds the LID
+-- the only end port that holds the LID; None if none or several do
 abbrev pub sole_among : Owner → Option EndPort
 sole_among Nobody = None
 sole_among (Sole e) = Some e
@@ -26,7 +26,7 @@ is_several Nobody = false
 is_several (Sole e) = false
 is_several Several = true
 
--- who holds a LID if `e` holds it besides
+-- who holds a LID if `e` holds it as well
 abbrev pub owner_more : Owner → EndPort → Owner
 owner_more Nobody e = Sole e
 owner_more (Sole x) e = Several
@@ -36,13 +36,13 @@ owner_more Several e = Several
 abbrev pub is_sole : EndPort → List EndPort → Bool
 is_sole port owners = list_all (is_same_end port) owners
 
--- an owner of a LID is its only one exactly if all its owners are that end port
+-- if `port` owns a LID, then all its owners are `port` exactly if the list of owners is `port` alone
 abbrev pub SoleOwnersAreAlone : Type 0
 SoleOwnersAreAlone =
     (held : HeldPlan) (lid : ℕ) (port : EndPort) → IsTrue (is_owner (owners_of held lid) port)
     → IsTrue (is_sole port (owners_of held lid)) ↔ (owners_of held lid ≡ port ∷ [])
 
--- more than one of `lines` tells the LID; if the lines differ, more than one end port holds it
+-- more than one of `lines` is for the LID; if the lines differ, more than one end port holds it
 abbrev pub is_told_twice : List HeldLid → ℕ → Bool
 is_told_twice lines lid = nat_lt 1 (count_by (λ (line : HeldLid). line.lid == lid) lines)
 

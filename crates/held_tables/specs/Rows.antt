@@ -3,7 +3,7 @@ use Rattle.std.specs.Prelude.{ℕ, ◌+◌, ◌-◌, List, ◌++◌, length, rep
 use Rattle.held_tables.specs.declared.far_end.Far.{Far}
 use Rattle.held_tables.specs.declared.far_end.Far.TheVariants.{Nothing, Switch, Port}
 
--- the list filled up to `count` ports, without wires in the others
+-- `fars`, filled up to `count` ports; the ports added have no wire
 abbrev pub padded : ℕ → List Far → List Far
 padded count fars = fars ++ replicate (count - length fars) Nothing
 

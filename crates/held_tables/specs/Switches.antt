@@ -28,7 +28,7 @@ far_to guids (Some q) = far_at q (index_in guids q.0)
 abbrev pub far_of : Cells → ℕ → ℕ → Far
 far_of cells g p = far_to (switches cells) (across cells g p)
 
--- where the wires in the ports of a node lead, from 0 to 254; 255 is no port
+-- where the wires in ports 0 to 254 of a node lead; 255 is no port
 abbrev pub row_of : Cells → ℕ → List Far
 row_of cells g = map (far_of cells g) (range_with_len 0 255)
 
@@ -38,7 +38,7 @@ far_by cells n =
     option_map_or (λ g. slice_index_or (row_of cells g) (n % 256) Nothing) (slice_get (switches cells) (n / 256))
     Nothing
 
--- an end port as a sender: the index of its switch, if it is that of a usable switch, and where its wire leads
+-- an end port as a sender: the index of its node, if that is a usable switch, and where its wire leads
 abbrev pub sender_of : Cells → EndPort → Sender
 sender_of cells e = record { port = e; switch = index_in (switches cells) e.node; far = far_of cells e.node e.port }
 
@@ -48,7 +48,7 @@ switch_over Nothing = None
 switch_over (Switch index) = Some index
 switch_over (Port e) = None
 
--- the index of the first switch that a sender's packets reach: its own, or that to which its wire leads
+-- the index of the first switch that a sender's packets reach: its own switch, or else the one that its wire leads to
 abbrev pub first_by : Option ℕ → Far → Option ℕ
 first_by (Some index) far = Some index
 first_by None far = switch_over far

@@ -10,20 +10,20 @@ use Rattle.plan_file.specs.Held.{HeldPlan}
 abbrev pub is_same_end : EndPort → EndPort → Bool
 is_same_end e x = x.node == e.node && x.port == e.port
 
--- two lines tell one LID of one end port
+-- two lines agree on the LID and the end port
 abbrev pub is_same_line : HeldLid → HeldLid → Bool
 is_same_line x y = y.lid == x.lid && is_same_end x.port y.port
 
--- the lines without those that tell the same as an earlier one
+-- the lines, without those that repeat an earlier one
 abbrev pub told_once : List HeldLid → List HeldLid
 told_once [] = []
 told_once (x ∷ xs) = x ∷ filter (λ y. not (is_same_line x y)) (told_once xs)
 
--- the held LIDs in the order of the lines, each with every end port that holds it once
+-- the held LIDs in the order of the lines; each pair of a LID and an end port that holds it occurs once
 abbrev pub lines_of : HeldPlan → List HeldLid
 lines_of held = told_once held.lids
 
--- the end ports of the lines that tell `lid`
+-- the end ports of the lines for `lid`
 abbrev pub holders : List HeldLid → ℕ → List EndPort
 holders lines lid = map (λ x. x.port) (filter (λ x. x.lid == lid) lines)
 
@@ -50,7 +50,7 @@ number_of x = x.number
 abbrev pub is_block_of : ℕ → ℕ → HeldBlock → Bool
 is_block_of index number x = x.switch == index && x.number == number
 
--- the last block `number` of the switch at `index`; a text that is read has no two
+-- the last block `number` of the switch at `index`; an accepted text has at most one
 abbrev pub block_at : HeldPlan → ℕ → ℕ → Option HeldBlock
 block_at held index number = find (is_block_of index number) (reverse held.blocks)
 

@@ -8,8 +8,8 @@ use plan_file::{Held, HeldBlock};
 use smp_bytes::NO_ENTRY;
 use std::alloc::{AllocError, Global};
 
-/// Returns the blocks with this number, by the indices of the held switches; entries that are not held are 255. Takes a
-/// step for each switch and each of these blocks.
+/// Returns, for each held switch in order, the 64 entries of its block `number`; 255 for entries that are not held.
+/// Takes a step for each held switch and each held block with this number.
 pub fn block_rows(
     alloc: Global,
     held: &Held,
@@ -65,7 +65,7 @@ fn numbers(alloc: Global, held: &Held) -> Result<Vec<u16>, AllocError>
         .collect(alloc)
 }
 
-/// Returns a row of 64 entries that are none for each held switch.
+/// Returns a row of 64 entries, all 255, for each held switch.
 #[tactic(auto, using(crate::proofs::Gathered::no_rows, crate::proofs::Gathered::blank_more))]
 fn no_blocks(alloc: Global, held: &Held) -> Result<Vec<[u8; 64]>, AllocError>
     ensures { IfOk result (λ rows. AreBlank (length held.now.switches) rows.items) }

@@ -1,4 +1,4 @@
-//! For each block, where the next one with its number is.
+//! Chains of equal numbers: for each block, the index of the next block with its number.
 ghost use Rattle.std.specs.Prelude.{◌≡◌, ◌<◌, ◌+◌, IfOk, length, replicate, slice_index_or};
 ghost use Rattle.held_tables.specs.Chains.{AreChains, IsNext};
 

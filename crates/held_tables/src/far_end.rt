@@ -10,11 +10,11 @@ use subnet_view::{EndPort, Wires};
 /// Where the wire in a port leads.
 #[derive(Clone, Copy, Debug, PartialEq, Eq)]
 pub enum Far {
-    /// There is no wire.
+    /// The port has no wire.
     Nothing,
-    /// To the usable switch of an index, by rising GUID.
+    /// The wire leads to the usable switch at this index, by rising GUID.
     Switch(usize),
-    /// To a port of another node.
+    /// The wire leads to this port, of a node that is not a usable switch.
     Port(EndPort),
 }
 

@@ -1,5 +1,5 @@
-//! The forwarding tables that a subnet's switches hold, whoever wrote them, beside the facts of its switches, end ports
-//! and wires.
+//! The forwarding tables that a subnet's switches hold, whoever wrote them, together with the facts about its switches,
+//! end ports and wires.
 #![tactic(auto)]
 
 mod audited_switch;

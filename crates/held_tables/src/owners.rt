@@ -34,7 +34,7 @@ pub fn lid_owners(alloc: Global, lines: &[HeldLid]) -> Result<Vec<Owner>, AllocE
     Ok(owners)
 }
 
-/// Adds that the end port of `line` holds its LID.
+/// Records that the end port of `line` holds its LID.
 fn add_owner(owners: &mut Vec<Owner>, line: &HeldLid)
     ensures { owners.new.items ≡ slice_set owners.old.items line.now.lid
         (owner_more (slice_index_or owners.old.items line.now.lid Several) line.now.port) }
@@ -45,7 +45,7 @@ fn add_owner(owners: &mut Vec<Owner>, line: &HeldLid)
     }
 }
 
-/// Returns who holds a LID if `port` holds it besides `owner`.
+/// Returns who holds a LID if `port` holds it in addition to `owner`.
 fn owner_more(owner: Owner, port: EndPort) -> Owner
     ensures { result ≡ owner_more owner port }
 {
@@ -55,7 +55,7 @@ fn owner_more(owner: Owner, port: EndPort) -> Owner
     }
 }
 
-/// Returns the end ports that hold `lid` by `lines`. Takes a step or two if at most one does, and else a walk over all
+/// Returns the end ports that hold `lid` by `lines`. Takes a step or two if at most one does; otherwise walks all
 /// lines.
 pub fn owners_of(
     alloc: Global,
@@ -73,7 +73,7 @@ pub fn owners_of(
     }
 }
 
-/// Returns who holds `lid`, or `Several` if `owners` does not tell.
+/// Returns who holds `lid`, or `Several` if `lid` is beyond the end of `owners`.
 fn owner_at(owners: &[Owner], lid: Lid) -> Owner
     ensures { result ≡ slice_index_or owners.now lid Several }
 {
@@ -83,7 +83,7 @@ fn owner_at(owners: &[Owner], lid: Lid) -> Owner
     }
 }
 
-/// Returns the end port that alone holds `lid`. Takes one step.
+/// Returns the only end port that holds `lid`, or `None` if none or several do. Takes one step.
 pub fn sole_owner(owners: &[Owner], lid: Lid) -> Option<EndPort>
     ensures { result ≡ sole_among (slice_index_or owners.now lid Several) }
 {
@@ -113,8 +113,8 @@ fn all_owners_of(alloc: Global, lines: &[HeldLid], lid: Lid) -> Result<Vec<EndPo
         .collect(alloc)
 }
 
-/// Returns whether more than one of `lines` tells `lid`. Takes a step or two if the LID is below 49152, and else a walk
-/// over all lines.
+/// Returns whether more than one of `lines` is for `lid`. Takes a step or two if the LID is below 49152; otherwise
+/// walks all lines.
 pub fn is_told_twice(lines: &[HeldLid], owners: &[Owner], lid: Lid) -> bool
     requires { AreOwners lines.now owners.now }
     ensures { result ≡ is_told_twice lines.now lid }
@@ -135,15 +135,15 @@ fn is_several(owner: &Owner) -> bool
     }
 }
 
-/// Returns whether more than one of `lines` tells `lid`. Takes a walk over all lines.
+/// Returns whether more than one of `lines` is for `lid`. Walks all lines.
 fn is_told_twice_by(lines: &[HeldLid], lid: Lid) -> bool
     ensures { result ≡ is_told_twice lines.now lid }
 {
     1 < lines.iter().filter(|line| line.lid == lid).count()
 }
 
-/// Returns whether no end port but the line's holds the LID of `line` by `lines`. Takes a step or two if at most one
-/// holds it, and else a walk over all lines.
+/// Returns whether no end port other than the line's holds the LID of `line`, by `lines`. Takes a step or two if at
+/// most one end port holds it; otherwise walks all lines.
 pub fn is_sole_owner(lines: &[HeldLid], owners: &[Owner], line: &HeldLid) -> bool
     requires { AreOwners lines.now owners.now }
     ensures { result ≡ is_sole line.now.port (holders lines.now line.now.lid) }
@@ -155,7 +155,7 @@ pub fn is_sole_owner(lines: &[HeldLid], owners: &[Owner], line: &HeldLid) -> boo
     }
 }
 
-/// Returns whether no end port but the line's holds the LID of `line` by `lines`. Takes a walk over all lines.
+/// Returns whether no end port other than the line's holds the LID of `line`, by `lines`. Walks all lines.
 fn is_sole_of_all(lines: &[HeldLid], line: &HeldLid) -> bool
     ensures { result ≡ is_sole line.now.port (holders lines.now line.now.lid) }
 {

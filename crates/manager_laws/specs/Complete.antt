@@ -18,14 +18,14 @@ use Rattle.lft_blocks.specs.Arrival.{HoldsPlan}
 use Rattle.manager_laws.specs.Pings.{EachPingArrives}
 use Rattle.manager_laws.specs.Sweeping.{Sweeping, SweepEvent, CanBe, Begins, after_sweep_events}
 
--- the sweep has every answer: nothing is to be sent or waits, each request that was not answered was for SMInfo, which
--- tells no facts, and none had to go over a path that is too long
+-- the sweep has every answer: nothing is to be sent or waits, only requests for SMInfo, which has no facts, were not
+-- answered, and none needed a path that is too long
 pub record IsWhole (s : Sweep) : Type 0 where
   pub done : is_done s ≡ true
   pub answered : s.unanswered ≡ s.silent_managers
   pub near : s.too_far ≡ 0
 
--- what the reports tell together
+-- the facts of all reports together
 abbrev pub facts_of : List Report → Facts
 facts_of reports = view (flat_map sightings_of reports)
 

@@ -29,7 +29,8 @@ pub record Managing : Type 0 where
 -- Something happens on the fabric; the manager is told to begin a sweep, or to write its plan; it gives its first
 -- packet out; a packet that it gave out is sent from its seat, and may be sent again; a packet that was handed up at
 -- its seat is given to it, and may be given again; one of its requests times out; its floor is raised; facts of others
--- at a floor are merged with its own; it is told to poll a LID, or whom its last sweep saw, or to hand over.
+-- at a floor are merged with its own; it is told to poll a LID, or a manager that its last sweep saw; it is told to
+-- hand over.
 pub data ManagerEvent : Type 0 where
   Around : (event : Event) → ManagerEvent
   Begin : ManagerEvent

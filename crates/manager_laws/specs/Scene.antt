@@ -77,7 +77,8 @@ abbrev pub asks_manager : NodePort → Handed → Bool
 asks_manager seat h =
     is_same_port h.at seat && not (is_response h.packet.bytes) && number_in attribute_id h.packet.bytes == sm_info
 
--- the answer to a directed request goes back along its path, and any other goes to the LID where its request came from
+-- the answer to a directed request goes back along its path; any other answer goes to the LID that the request came
+-- from
 abbrev pub answer_to : Packet → ℕ → List ℕ → Packet
 answer_to request status payload =
     let answer = answer_packet request.bytes status payload in

@@ -22,7 +22,7 @@ use Rattle.fabric_sim.specs.Simulation.{Simulation, agent_at, port_of, flight_wi
 use Rattle.fabric_sim.specs.Delivery.{after_deliver}
 use Rattle.manager_laws.specs.Scene.{Event, Deliver}
 
--- the delivery of a packet makes an agent take a Set, which came to a port of it
+-- the delivery of a packet makes an agent take a Set that came to one of its ports
 pub record TakesSet (s : Simulation) (serial : ℕ) (at : NodePort) (a : Agent) (packet : List ℕ) : Type 0 where
   pub flight : Flight
   pub waits : flight_with s.flights serial ≡ Some flight
@@ -47,7 +47,7 @@ pub record Carries (plan : PlanValue) (a : Agent) (arrival : ℕ) (packet : List
       → (block : List ℕ) → block_at plan a.node.guid (number_in attribute_modifier packet) ≡ Some block
       → bytes_in attribute_data packet ≡ block
 
--- a packet asks for what a step of these phases sets, at the end of the path over which the step is sent from a seat
+-- the packet at `at` asks for what a step of these phases sets, and the step's path leads from the seat to `at`
 pub record IsOwnSet (f : Fabric) (seat : NodePort) (phases : List Phase) (at : NodePort) (packet : List ℕ) : Type 0
   where
     pub phase : Phase

@@ -52,7 +52,7 @@ abbrev pub sending : Sweeping → Option (List ℕ) → Sweeping
 sending w None = w
 sending w (Some packet) = record w { scene = sent_from w.scene w.seat (directed_packet packet) }
 
--- what a manager tells of itself is not a report
+-- what a manager says of itself is not a report
 abbrev pub reports_of : Answer → List Report
 reports_of (Facts report) = report ∷ []
 reports_of (Seen guid port info) = []
@@ -78,14 +78,14 @@ abbrev pub after_sweep_events : List SweepEvent → Sweeping → Sweeping
 after_sweep_events [] w = w
 after_sweep_events (event ∷ events) w = after_sweep_events events (after_sweep_event w event)
 
--- what is so of the scene after each event of a run
+-- `is_so` holds of the scene after each event of a run
 abbrev pub AlwaysSo : (Scene → Type 0) → List SweepEvent → Sweeping → Type 0
 AlwaysSo is_so [] w = Unit {0}
 AlwaysSo is_so (event ∷ events) w =
     is_so (after_sweep_event w event).scene × AlwaysSo is_so events (after_sweep_event w event)
 
 -- a fabric where nothing is going on and whose nodes have different GUIDs, and a sweep that has just begun at a seat,
--- with the number of its port; it keeps images or does not
+-- with the number of the seat's port; it may keep images
 pub record Begins (w : Sweeping) (at from : ℕ) : Type 0 where
   pub quiet : IsQuiet w.scene
   pub distinct : AreGuidsDistinct (fabric_of w.scene.fabric)

@@ -41,7 +41,7 @@ IsTrueOf f (Cap guid) (Count cap) =
     (id : ℕ) × (node : fabric.Node) × HasNode f guid id node × (is_switch node.kind ≡ true) × (node.cap ≡ cap)
 IsTrueOf f key value = ⊥
 
--- the fabric has what a sighting says; a reply never tells that a fact is disputed
+-- the fabric has what a sighting says; a reply never says that a fact is disputed
 abbrev pub IsTrueSighting : Fabric → Key × Cell Value → Type 0
 IsTrueSighting f (key, Known generation value) = IsTrueOf f key value
 IsTrueSighting f (key, Disputed generation) = ⊥

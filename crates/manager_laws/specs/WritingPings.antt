@@ -22,12 +22,12 @@ abbrev pub AreNoSweeps : List ManagerEvent → Managing → Type 0
 AreNoSweeps [] w = Unit {0}
 AreNoSweeps (event ∷ events) w = BeginsNoSweep w event × AreNoSweeps events (after_manager_event w event)
 
--- A manager that held no facts sweeps, and writes the plan of what it was told.
+-- A manager without facts sweeps, and writes the plan of what it learned.
 pub record BringsUp (w : Managing) (before between after : List ManagerEvent) : Type 0 where
   pub run : IsWritingRun w before between after
   -- the manager holds no facts when the sweep begins; its floor may have been raised
   pub knew_nothing : cells_of (after_manager_events before w).manager.store ≡ []
-  -- until the writing it learns from this sweep alone
+  -- until the writing it learns only from this sweep
   pub alone : AreNoSweeps between (after_manager_event (after_manager_events before w) Begin)
   -- the sweep has every answer, and nothing was out of its reach
   pub sweep : Sweep
@@ -36,8 +36,8 @@ pub record BringsUp (w : Managing) (before between after : List ManagerEvent) : 
   -- the plan is written in the end
   pub written : is_written (at_end w before between after).manager ≡ true
 
--- each ping from an end port of what the seat is joined to, for each LID of the plan, reaches its owner, if a manager
--- brings the subnet up
+-- if a manager brings the subnet up, each ping from an end port of what the seat is joined to, for each LID of the
+-- plan, reaches the LID's owner
 abbrev pub PingsArriveOnceWritten : Type 0
 PingsArriveOnceWritten =
     (w : Managing) (before between after : List ManagerEvent) → BringsUp w before between after

@@ -1,5 +1,5 @@
--- Once a plan is written, the fabric holds it wherever the sweep before reached, whatever else happened. InfiniBand
--- Architecture Specification, Volume 1: subnet management, initialization.
+-- Once a plan is written, the fabric holds it wherever the sweep before the writing reached, whatever else happened.
+-- InfiniBand Architecture Specification, Volume 1: subnet management, initialization.
 use Rattle.std.specs.Prelude.{◌≡◌, ◌≢◌, ◌⊎◌, ℕ, true, List, [], ◌∷◌, All, Contains, Some, None, IsSome}
 use Rattle.fabric_model.specs.declared.cable.NodePort.{NodePort}
 use Rattle.fabric_model.specs.Fabric as fabric
@@ -94,7 +94,7 @@ at_end w before between after = after_manager_events after (at_first_steps w bef
 -- A sweep begins, and some time later a writing.
 pub record IsWritingRun (w : Managing) (before between after : List ManagerEvent) : Type 0 where
   pub starts : Starts w
-  -- before the sweep, between it and the writing, and after that began, only events happen that there are
+  -- only events that can be happen before the sweep, between the sweep and the writing, and after the writing began
   pub before_can : All (CanBe w.seat) before
   pub between_can : All (CanBe w.seat) between
   pub after_can : All (CanBe w.seat) after

@@ -1,4 +1,4 @@
--- The goal in between has the plan's LIDs, so it moves the same LIDs.
+-- The goal in between has the plan's LIDs, so the same LIDs move.
 use Rattle.std.proofs.Common.{◌≡◌, ◌∙◌, ℕ, Bool, true, false, List, Option, None, Some, ap, sym}
 use Rattle.std.proofs.lemmas.Option.{same_Some}
 use Rattle.fact_store.specs.View.{Facts, cells_of}

@@ -1,4 +1,4 @@
--- What was written and said is the step, as it is of the facts, of the tables held, and of the plan.
+-- The text and the line that were written are those of the step from the facts, the held tables and the plan.
 use Rattle.std.proofs.Common.{◌≡◌, ◌∙◌, ◌==◌, ◌↔◌, ℕ, Bool, List, [], ◌∷◌, Option, None, Result, Ok, Err, IsTrue, length, ap, inl, inr, subst, sym}
 use Rattle.std.proofs.lemmas.Bool.{eqb-true}
 use Rattle.std.proofs.lemmas.List.{nil_from_length}

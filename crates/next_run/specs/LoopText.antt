@@ -1,4 +1,4 @@
--- What is said of credit loops in a step.
+-- The text about credit loops in a step.
 use Rattle.std.specs.Prelude.{ℕ, List, [], ◌∷◌, ◌++◌, codes, decimal}
 use Rattle.std.specs.List.{flat_map}
 use Rattle.subnet_view.specs.Reading.{Cells}
@@ -12,6 +12,6 @@ abbrev pub lids_line : List ℕ → List ℕ
 lids_line [] = []
 lids_line (lid ∷ later) = codes "lids" ++ flat_map lid_word (lid ∷ later) ++ codes "\n"
 
--- a credit loop as an audit says it, and for which LIDs its channels wait; or that there is none
+-- the line of a credit loop as in an audit, or that there is none, and a line of the LIDs for which its channels wait
 abbrev pub loop_text : Cells → List ℕ → List ℕ → List ℕ
 loop_text cells cycle lids = cycle_line cells cycle ++ lids_line lids

@@ -1,5 +1,5 @@
 -- What a step from held tables towards a plan does: it reads its inputs in order and writes the tables to write next,
--- or says why it cannot.
+-- or returns a fault.
 use Rattle.std.specs.Prelude.{◌≡◌, ◌⊎◌, ◌↔◌, ℕ, Bool, true, false, List, [], ◌∷◌, Option, None, Some, IsTrue, if◌then◌else◌}
 use Rattle.std.specs.Io.KnownBytes.{Appends}
 use Rattle.byte_io.specs.Source.{SourceState}
@@ -36,8 +36,8 @@ use Rattle.next_run.specs.declared.step_rule.StepChoice.{StepChoice}
 abbrev pub planned : ℕ → RuleValue → Facts → HeldPlan
 planned lmc rule facts = held_plan (plan_of rule lmc (cells_of facts))
 
--- how a step towards the plan chooses: by the order of the plan's switches if the held tables are right by that order,
--- else by settled entries
+-- how a step towards the plan chooses entries: by the order of the plan's switches if the held tables are right by that
+-- order, else by settled entries
 abbrev pub chosen_by : Cells → List ℕ → HeldPlan → StepRuleValue
 chosen_by cells positions held = if are_right cells (position_at positions) held then by_order positions else settled_first
 
@@ -48,14 +48,14 @@ step_rule rule facts held = chosen_by (cells_of facts) (positions_by rule (cells
 abbrev pub stepped : ℕ → RuleValue → Facts → HeldPlan → HeldPlan
 stepped lmc rule facts held = next_tables (cells_of facts) (step_rule rule facts held) held (planned lmc rule facts)
 
--- the text of tables to write next, below the LIDs of the plan
+-- the text of a step: the LIDs of the plan, and then the tables to write next
 abbrev pub text_of_step : ℕ → RuleValue → Facts → HeldPlan → List ℕ
 text_of_step lmc rule facts next = next_text (plan_of rule lmc (cells_of facts)).given next
 
 abbrev pub step_text : ℕ → RuleValue → Facts → HeldPlan → List ℕ
 step_text lmc rule facts held = text_of_step lmc rule facts (stepped lmc rule facts held)
 
--- how a step chooses, and the tables that it goes towards, if those are not the plan's
+-- how a step chooses entries, and the tables that it goes towards, if they are not the plan's
 pub record Choice : Type 0 where
   pub by : StepRuleValue
   pub goal : Option HeldPlan
@@ -63,8 +63,8 @@ pub record Choice : Type 0 where
 abbrev pub choice_of : StepChoice → Choice
 choice_of choice = record { by = value_of choice.by; goal = choice.goal }
 
--- the goal of a step by the order that the held tables tell: none unless `told`, nor if these are right by the order of
--- the plan's switches
+-- the goal of a step by the order that the held tables tell; None unless `told`, and None if the held tables are right
+-- by the order of the plan's switches
 abbrev pub IsGoalFrom : Bool → Bool → Cells → HeldPlan → HeldPlan → List ℕ → Option Goal → Type 0
 IsGoalFrom false right cells held plan positions goal = goal ≡ None
 IsGoalFrom true true cells held plan positions goal = goal ≡ None
@@ -75,7 +75,7 @@ IsGoalOf told rule facts held plan goal =
     IsGoalFrom told (are_right (cells_of facts) (position_at (positions_by rule (cells_of facts))) held) (cells_of facts)
     held plan (positions_by rule (cells_of facts)) goal
 
--- by the order that the held tables tell, towards tables between that order and the plan's, if there is such a goal
+-- if there is a goal, a step goes by the order that the held tables tell, towards the goal's tables
 abbrev pub choice_by : RuleValue → Facts → HeldPlan → Option Goal → Choice
 choice_by rule facts held None = record { by = step_rule rule facts held; goal = None }
 choice_by rule facts held (Some goal) = record { by = by_order goal.positions; goal = Some goal.tables }
@@ -86,7 +86,7 @@ pub record IsChoice (told : Bool) (rule : RuleValue) (facts : Facts) (held plan 
   pub goal_is : IsGoalOf told rule facts held plan goal
   pub is : choice ≡ choice_by rule facts held goal
 
--- the tables to write next, towards that goal or else the plan
+-- the tables to write next, towards the goal if there is one, else towards the plan
 abbrev pub next_towards : RuleValue → Facts → HeldPlan → HeldPlan → Option Goal → HeldPlan
 next_towards rule facts held plan None = next_tables (cells_of facts) (step_rule rule facts held) held plan
 next_towards rule facts held plan (Some goal) = next_tables (cells_of facts) (by_order goal.positions) held goal.tables
@@ -112,8 +112,8 @@ IsLoopInStep cells held next cycle lids = IsCycleInStep cells held next cycle ×
 abbrev pub IsSaid : {W : Type 0} → (W → Option (List ℕ)) → (W → Bool) → W → W → List ℕ → Type 0
 IsSaid written has_failed old new text = IsTrue (has_failed new) ⊎ Appends (written old) (written new) text
 
--- there is room for the plan, and no LID moves; `prints` holds of the step's text, `says` of the text of a shortest
--- credit loop or that there is none, and `passed` is whether there is none; `told` says whether the step may go by the
+-- There is room for the plan, and no LID moves. `prints` holds of the step's text, and `says` of the text of a shortest
+-- credit loop, or that there is none. `passed` says whether there is none. `told` says whether the step may go by the
 -- order that the held tables tell
 pub record IsStep (lmc : ℕ) (told : Bool) (rule : RuleValue) (facts : Facts) (held : HeldPlan) (prints says : List ℕ
     → Type 0) (passed : Bool) : Type 0 where
@@ -133,7 +133,7 @@ abbrev pub fault_of_step : ℕ → StepFault → Fault
 fault_of_step at (steps.Moves lid) = Text at (Moves lid)
 fault_of_step at steps.Memory = Memory
 
--- why there are no next tables: a LID of the held tables, the input `at`, moves to another end port in the plan; else
+-- why there are no next tables: the plan gives a LID of the held tables, the input `at`, to another end port; else
 -- memory was refused
 abbrev pub StopsBy : ℕ → Option ℕ → Fault → Type 0
 StopsBy at moved (Text input (Moves lid)) = (input ≡ at) × (moved ≡ Some lid)
@@ -143,8 +143,8 @@ StopsBy at moved fault = ⊥
 abbrev pub StopsNext : ℕ → HeldPlan → HeldPlan → Fault → Type 0
 StopsNext at held plan = StopsBy at (first_moved held plan)
 
--- why there is no step: the plan has no room, or a LID of the held tables, the input `at`, moves; else the output has
--- failed, or memory was refused
+-- why there is no step: the plan has no room, or it gives a LID of the held tables, the input `at`, to another end
+-- port; else the output has failed, or memory was refused
 abbrev pub StopsStep : ℕ → ℕ → RuleValue → Facts → HeldPlan → Bool → Fault → Type 0
 StopsStep at lmc rule facts held sink_failed (NoRoom why) = no_room lmc (cells_of facts) ≡ Some why
 StopsStep at lmc rule facts held sink_failed (Text input (Moves lid)) =
@@ -162,7 +162,7 @@ HasStepped state asked olds news prints says passed =
     WithInputs state (tables_reader state asked.floor) asked.rule olds news
     (λ rule told. IsStep asked.lmc asked.told rule told.store told.held prints says passed)
 
--- why a step over open inputs ends early: the inputs are not read, or the step is not written
+-- why a step over open inputs fails: the inputs are not read, or the step is not written
 abbrev pub IsStepFault : {S : Type 0} → (S → SourceState) → StepAsked → List S → List S
     → Bool → Fault → Type 0
 IsStepFault state asked olds news sink_failed fault =

@@ -1,4 +1,4 @@
-//! A step from held tables towards the plan of what files say.
+//! A step from held tables towards the plan of the subnet that files describe.
 ghost use Rattle.std.specs.Prelude.{◌≡◌, ◌⊎◌, ◌+◌, ◌≤◌, Err, IfErr, IfOk, IsTrue, None, OnErr, OnOk, false, length};
 ghost use Rattle.std.specs.Io.KnownBytes.{Appends};
 ghost use Rattle.fact_store.specs.View.{cells_of};
@@ -23,7 +23,7 @@ use sm_cli::{Fault, RuleAsked, TablesAndFiles, TextFault, read_inputs};
 use smp_bytes::Generation;
 use std::alloc::{AllocError, Global};
 
-/// What is asked of a step.
+/// The options of a step.
 #[derive(Clone, Copy, Debug, PartialEq, Eq)]
 pub struct StepAsked {
     /// Each adapter port has 2^LMC LIDs in the plan.
@@ -32,21 +32,21 @@ pub struct StepAsked {
     pub rule: RuleAsked,
     /// Facts of generations before this one are ignored.
     pub floor: Generation,
-    /// Whether a step from tables that are not right by the order of the plan's switches goes by the order that they
-    /// tell.
+    /// Whether the step may go by the order that the held tables tell, if they are not right by the order of the plan's
+    /// switches.
     pub told: bool,
 }
 
 /// Reads the inputs in order (`read_inputs`): the text that the rule takes, the text of the held tables, then the
-/// files. Writes to `sink` the tables to write next towards the plan of what the files say together. Writes to `told`,
-/// in a line like an audit's, whether channels can wait for each other by any mixture of both tables, and if so in
-/// another line for which LIDs. Returns whether none can.
+/// files. Writes to `sink` the tables to write next, towards the plan of what the files say together. Writes to `told`
+/// whether channels can wait for each other by any mixtures of both tables, in a line like an audit's; if they can,
+/// another line has the LIDs. Returns whether they cannot.
 ///
 /// # Errors
 ///
-/// Returns the first fault of the inputs; then that there is no room for the plan; then that the plan gives a LID to
-/// another end port than the one that holds it. If an input is refused or memory runs out, nothing is written. If a
-/// write fails, how much was written before is unspecified.
+/// Returns the first fault of the inputs; or else, that the plan has no room; or else, that the plan gives a LID to an
+/// end port while another one holds it. If an input is refused or memory runs out, nothing is written. If a write
+/// fails, how much was written before is unspecified.
 pub fn run_next<S: Source, W: Sink, E: Sink>(
     alloc: Global,
     inputs: &mut [S],
@@ -82,9 +82,9 @@ pub fn run_next<S: Source, W: Sink, E: Sink>(
     }
 }
 
-/// Writes the step from the held tables, whose text is the input number `input`, towards the plan of what a store
-/// holds; `by_told` says whether it may go by the order that they tell. Writes to `told` whether channels can wait for
-/// each other in it, and returns whether none can.
+/// Writes the step from the held tables towards the plan of the facts in `store`. `input` is the number of the held
+/// tables' text. `by_told` says whether the step may go by the order that the held tables tell. Writes to `told`
+/// whether channels can wait for each other in the step, and returns whether they cannot.
 fn step<W: Sink, E: Sink>(
     alloc: Global,
     input: usize,

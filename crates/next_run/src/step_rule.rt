@@ -1,4 +1,4 @@
-//! How a step chooses.
+//! How a step chooses entries.
 ghost use Rattle.std.specs.Prelude.{◌≡◌, IfOk, false, length};
 ghost use Rattle.std.specs.Option.{option_map};
 ghost use Rattle.fact_store.specs.View.{cells_of};
@@ -20,16 +20,16 @@ use std::alloc::{AllocError, Global};
 /// How a step chooses entries, and the tables that it goes towards.
 #[derive(Drop)]
 pub(crate) struct StepChoice {
-    /// How it chooses.
+    /// How the step chooses entries.
     pub by: StepRule,
-    /// The tables that it goes towards, if those are not the plan's.
+    /// The tables that the step goes towards, if they are not the plan's.
     pub goal: Option<Held>,
 }
 
 /// Returns how a step from the tables of `from` towards those of `plan` chooses entries. `plan` is the plan of the same
-/// facts by `rule`. The step goes by the order of the plan's switches if the tables are right by that order. If they
-/// are not, and `told`, it goes by the order that the tables tell, towards tables between that order and the plan's, if
-/// there are such tables. Else it goes by settled entries.
+/// facts by `rule`. The step goes by the order of the plan's switches if the tables of `from` are right by it. If they
+/// are not, and `told` is true, it goes by the order that they tell, towards tables between that order and the plan's,
+/// if they tell one. Else it goes by settled entries.
 pub(crate) fn step_choice(
     alloc: Global,
     told: bool,
@@ -64,7 +64,7 @@ pub(crate) fn step_choice(
     }
 }
 
-/// Returns the goal of a step by the order that the tables tell, if `told` and there is one.
+/// Returns the goal of a step by the order that the tables of `from` tell, if `told` is true and they tell one.
 fn goal_between(
     alloc: Global,
     told: bool,

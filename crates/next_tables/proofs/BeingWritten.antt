@@ -1,5 +1,5 @@
--- While top and blocks of a switch are written, in any order, its entry is the held one or the next one, or the held
--- one drops the packet.
+-- While the top and the blocks of a switch are written, in any order, its entry is the held one or the next one, or the
+-- held one drops the packet.
 use Rattle.std.proofs.Common.{◌≡◌, ℕ, ◌≤◌, ◌<◌, true, false, cond, ◌||◌, refl, sym, ap, ◌∙◌, subst, arith, inl, inr, ◌⊎◌}
 use Rattle.std.specs.Prelude.{Contains, max, nat_lt, ◌==◌}
 use Rattle.std.proofs.lemmas.Bool.{lt-ltb, ltb-true}

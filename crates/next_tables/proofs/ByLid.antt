@@ -24,7 +24,7 @@ use Rattle.next_tables.proofs.Listed.{listed}
 use Rattle.next_tables.proofs.Ordered.{ordered_is}
 use Rattle.next_tables.proofs.Settled.{ordered_settled_entries, settled_entries}
 
--- so many that are one
+-- a list of equal elements
 same_each : (x : ℕ) (gs : List ℕ) → map (λ (g : ℕ). x) gs ≡ replicate (length gs) x
 same_each x [] = refl
 same_each x (g ∷ gs) = ap (λ ys. x ∷ ys) (same_each x gs)
@@ -68,7 +68,8 @@ module _ (cells : Cells) (held plan : HeldPlan) (lid : ℕ) where
   owned_each planned [] some = refl
   owned_each planned (x ∷ xs) some = λ i. owned_is planned (entry_for plan lid x) some i ∷ owned_each planned xs some i
 
-  -- the same where the tables held have the plan's entries, and packets arrive by these from each switch
+  -- the next entries by settled ones if the held tables have the plan's entries, and packets arrive by these from each
+  -- switch
   pub settled : (entries held_entries : List ℕ) (planned owners : List EndPort) (port : EndPort) → planned ≡ owners_of plan lid → owners ≡ owners_of held lid
       → Some port ≡ keeper planned owners → held_entries ≡ map (entry_for held lid) gs → entries ≡ map (entry_for plan lid) gs → held_entries ≡ entries
       → ComeToOwner cells plan lid → entries ≡ column_of cells settled_first held plan lid
@@ -115,7 +116,8 @@ module _ (facts : Facts) (positions : List ℕ) (held plan : HeldPlan) (lid : �
       e ∙ (λ i. ordered_of positions port (hs_are i) (ps_are i)) ∙ ordered_is facts positions held plan (record { lid = lid; port = port })
       ∙ sym (ap (column_by_order (cells_of facts) held plan lid positions) first) ∙ ordered_by_owners (cells_of facts) held plan lid positions planned p
 
-  -- the same where the tables held have the plan's entries, and packets arrive by these from each switch
+  -- the next entries by an order if the held tables have the plan's entries, and packets arrive by these from each
+  -- switch
   pub ordered_settled : (entries held_entries : List ℕ) (planned later : List EndPort) (port : EndPort) → planned ≡ owners_of plan lid
       → planned ≡ port ∷ later → held_entries ≡ map (entry_for held lid) (switches (cells_of facts))
       → entries ≡ map (entry_for plan lid) (switches (cells_of facts)) → held_entries ≡ entries → ComeToOwner (cells_of facts) plan lid

@@ -1,4 +1,5 @@
--- Why a packet arrives at the port while switches go over from the held tables to the next ones: by what each may do with it when it comes there.
+-- Why a packet arrives at the port while switches go over from the held tables to the next ones: by what each switch
+-- may do with the packet when it gets there.
 use Rattle.std.proofs.Common.{◌≡◌, ℕ, zero, suc, ◌+◌, ◌<◌, ◌≤◌, List, length, Some, sym, ap, ◌∙◌, arith, inl, inr, ◌⊎◌}
 use Rattle.std.proofs.lemmas.Option.{same_Some}
 use Rattle.subnet_view.specs.declared.end_port.EndPort.{EndPort}
@@ -22,7 +23,7 @@ in_time port steps s c =
     let last = after (length steps) steps s in
     ended_there last (Taken port) (one_end steps s (end_of last) (Some (Taken port)) (ends_in_time steps s) c)
 
--- what a switch may do: as by the held tables or by the next ones, and anything where the held ones drop the packet
+-- what a switch may do: as by the held tables or by the next ones, and anything if it drops the packet by the held ones
 abbrev pub MayDo : List NextHop → List NextHop → ℕ → NextHop → Type 0
 MayDo held next i s = (s ≡ at held i) ⊎ ((s ≡ at next i) ⊎ ((g : ℕ) × (at held i ≡ dropped g)))
 

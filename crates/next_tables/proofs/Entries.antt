@@ -55,7 +55,7 @@ comes_false port steps s h c =
     let is : is_at port (end_of (after (length steps) steps s)) ≡ true = ap (is_at port) end ∙ same_itself port in
     cc
 
--- the same entry does the same, but for the cause
+-- with equal entries a switch does the same, except for the cause
 pub same_step : (cells : Cells) (a b : HeldPlan) (lid g : ℕ) → owners_of a lid ≡ owners_of b lid → entry_for a lid g ≡ entry_for b lid g
     → plain (step_at cells a lid g) ≡ plain (step_at cells b lid g)
 same_step cells a b lid g owners entry =
@@ -84,7 +84,7 @@ module _ (cells : Cells) (held plan next : HeldPlan) (line : HeldLid) (same : ow
   abbrev pub planned : ℕ → Type 0
   planned i = entry_for next lid (guid i) ≡ entry_for plan lid (guid i)
 
-  -- what the switches do by tables, by the agreed entries, and where it is mended
+  -- what the switches do by tables, by the agreed entries, and while mending
   abbrev pub by : HeldPlan → List NextHop
   by tables = map plain (next_hops_of cells tables lid)
 
@@ -232,7 +232,7 @@ module _ (cells : Cells) (held plan next : HeldPlan) (line : HeldLid) (same : ow
         )
       ] refl
 
-  -- a test fails where what it tests is not so
+  -- a test fails if what it tests is false
   not_true : (t : Bool) → (t ≡ true → ⊥) → t ≡ false
   not_true true h = absurd (h refl)
   not_true false h = refl

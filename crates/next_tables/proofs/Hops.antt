@@ -1,4 +1,4 @@
--- What switches do by entries.
+-- What switches do by their entries.
 use Rattle.std.proofs.Common.{◌≡◌, ℕ, zero, suc, ◌<◌, true, false, ◌+◌, ◌*◌, cond, List, [], ◌∷◌, length, Option, None, Some, refl, sym, ap, ◌∙◌, subst, arith, inl, inr}
 use Rattle.std.specs.Option.{option_map_or}
 use Rattle.std.specs.Prelude.{slice_get, slice_index_or, ◌==◌, ◌/◌, ◌%◌}
@@ -222,7 +222,7 @@ to_within cells tables lid g j h = by (entry_for tables lid g) h
               (over_switch (owners_of tables lid) g (cause_of cells tables lid g) (slice_index_or (row_of cells g) entry Nothing) j e)
         ]
 
--- and an end port takes the packet by the same entry, where the same ones own the LID
+-- an end port takes the packet by an entry, whatever the cause of a loss would be
 over_taken : (owners : List EndPort) (g : ℕ) (cause other : Cause) (far : Far) (port : EndPort) → over owners g cause far ≡ Ends (Taken port)
     → over owners g other far ≡ Ends (Taken port)
 over_taken owners g cause other Nothing port h = absurd (cc)

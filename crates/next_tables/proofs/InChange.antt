@@ -1,4 +1,5 @@
--- What becomes of packets in a fabric whose switches go over to other tables meanwhile: at a switch, and from an end port.
+-- What becomes of packets in a fabric whose switches go over to other tables meanwhile: at a switch, and from an end
+-- port.
 use Rattle.std.proofs.Common.{◌≡◌, ℕ, suc, ◌+◌, ◌*◌, ◌<◌, ◌≤◌, Bool, true, false, cond, ◌||◌, List, [], ◌∷◌, length, Option, None, Some, refl, sym, ap, ◌∙◌, subst, arith, inl, inr, ◌⊎◌}
 use Rattle.std.specs.Prelude.{nat_lt, map, slice_get, slice_index_or, ◌==◌}
 use Rattle.std.proofs.lemmas.Bool.{eqb-true, le-ltb}
@@ -94,7 +95,7 @@ module _ (part : Part) (facts : Facts) (held : HeldPlan) (f : Fabric) (seen : Is
     pub wire : now.across hop.out ≡ Some hop.into
     pub there : At j (arrived_at hop.into)
 
-  -- it is delivered, over so many wires at most
+  -- the packet is delivered, over at most `most` wires
   pub record Delivered (fabrics : ℕ → Fabric) (st : Standing) (e : EndPort) (most : ℕ) : Type 0 where
     pub hops : List Hop
     pub end : Standing
@@ -145,7 +146,7 @@ module _ (part : Part) (facts : Facts) (held : HeldPlan) (f : Fabric) (seen : Is
         → course now lid st ≡ entry_course node.ports st.at.node (entry_now now lid st.at.node)
     switch_now st node at_node kind = switch_enters now lid st node (node_now st.at.node node at_node) kind
 
-    -- an end port holds the LID where the tables held say so
+    -- an end port holds the LID exactly if the held tables say so
     owned_now : (q : NodePort) (node : Node) → IsEndPortIn part f q node → owns now q lid ≡ is_owner owners (record { node = node.guid; port = q.port })
     owned_now q node here = is.still.owners q node here ∙ seen.holds.lids q node lid here some
 

@@ -38,7 +38,7 @@ next_is port held plan agreed hops mending settled delivered mended entries a a_
     ∙ ap (comes_to port) (m ∙ ap (λ d. mending_of port d held plan) delivers) in
     e ∙ (λ i. chosen_by port (leads i) (delivers i) (mends i) held plan)
 
--- where nothing is to be mended, the entries hang on no walk that mends
+-- if nothing is to be mended, the entries do not depend on walks that mend
 same_chosen : (port : EndPort) (leads delivers mends others : NextHop → Bool) (xs : List (SwitchStep × SwitchStep))
     → list_all (λ x. leads x.1.hop || delivers x.0.hop) xs ≡ true
     → map (next_by port leads delivers mends) xs ≡ map (next_by port leads delivers others) xs

@@ -1,4 +1,4 @@
--- Why no packet is lost between tables and the next ones: by what the switches do alone.
+-- Why no packet is lost between the held tables and the next ones, by what the switches do.
 use Rattle.std.proofs.Common.{◌≡◌, ℕ, zero, suc, ◌<◌, true, false, cond, List, length, refl, sym, ap, ◌∙◌, arith, inl, inr, ◌⊎◌}
 use Rattle.std.specs.Prelude.{slice_index_or}
 use Rattle.std.proofs.lemmas.Bool.{cases_lt}
@@ -27,7 +27,7 @@ ComesBy port mixed s = (n : ℕ) × (after_by n mixed s ≡ Ends (Taken port))
 abbrev pub EndsBy : (ℕ → List NextHop) → NextHop → Type 0
 EndsBy mixed s = (e : End) × (n : ℕ) × (after_by n mixed s ≡ Ends e)
 
--- as the held tables have it where they send it on, and else as the plan
+-- the held hop if the switch forwards the packet, and else the plan's
 abbrev pub patch : List NextHop → List NextHop → ℕ → NextHop
 patch held plan i = cond (is_to (at held i)) (at held i) (at plan i)
 
@@ -117,7 +117,7 @@ module _ (port : EndPort) (count : ℕ) (held plan agreed mending next : List Ne
     (held_long : length held ≡ count) (agreed_long : length agreed ≡ count) (mending_long : length mending ≡ count)
     (agree : (i : ℕ) → i < count → Agreed held plan agreed i) (choose : (i : ℕ) → i < count → Choice port held plan agreed mending next planned i)
     (mend : (i : ℕ) → i < count → Mending port held plan mending i) where
-  -- where the plan's entry leads on, it is the next one
+  -- if the plan's entry leads on, it is the next entry
   pub led : (i : ℕ) → i < count → Comes port agreed (at plan i) → Led port plan agreed next planned i
   led i less h =
       elim (choose i less) [
@@ -208,7 +208,7 @@ module _ (port : EndPort) (count : ℕ) (held plan agreed mending next : List Ne
         | inr (inr (inr it)) ↦ inl it
       ]
 
-  -- the plan's entries stay where they lead on
+  -- the plan's entries stay if they lead on
   pub agreed_stays : (later : List NextHop) → ((i : ℕ) → i < count → planned i → at later i ≡ at plan i) → (n : ℕ) (s : NextHop)
       → after n agreed s ≡ Ends (Taken port) → after n later s ≡ Ends (Taken port)
   agreed_stays later stays n (Ends e) h = after_ended n later e ∙ sym (after_ended n agreed e) ∙ h
@@ -223,7 +223,7 @@ module _ (port : EndPort) (count : ℕ) (held plan agreed mending next : List Ne
         | inr q ↦ absurd (lost_not n q.0 port agreed (sym (ap (after n agreed) q.1) ∙ h))
       ]
 
-  -- where an emptied entry leads nowhere
+  -- if an entry of 255 leads nowhere
   module _ (drops : (i : ℕ) → i < count → Emptied port held plan agreed mending i → (e : End) × (at next i ≡ Ends e)) where
     -- after the step each switch delivers or drops
     pub delivers_or_drops : (i : ℕ) → i < count → is_to (at next i) ≡ true → Comes port next (at next i)
@@ -295,7 +295,7 @@ module _ (port : EndPort) (count : ℕ) (held plan agreed mending next : List Ne
         mended : (i : ℕ) → i < count → Patched port held plan agreed mending next i → at mending i ≡ patch held plan i
         mended i less it = elim (mend i less) [ inl q ↦ absurd (it.broken q.0) | inr q ↦ q.1 ]
 
-  -- where each switch delivers or drops, all that the plan delivers is mended
+  -- if each switch delivers or drops, all that the plan delivers is mended
   pub plan_mended : ((i : ℕ) → i < count → is_to (at held i) ≡ true → Comes port held (at held i)) → length plan ≡ count
       → (n : ℕ) (s : NextHop) → after n plan s ≡ Ends (Taken port) → Comes port mending s
   plan_mended ready long n (Ends e) h = (0, sym (after_ended n plan e) ∙ h)

@@ -1,4 +1,4 @@
--- The next tables are in their ranges, so their text is read as they are.
+-- The numbers of the next tables are in their ranges, so the text of these tables is read as what they are.
 use Rattle.std.proofs.Common.{◌≡◌, ℕ, zero, suc, ◌+◌, ◌*◌, ◌/◌, ◌%◌, ◌<◌, ◌≤◌, Bool, List, [], ◌∷◌, ◌++◌, length, get_or, Option, None, Some, refl, sym, ap, ◌∙◌, subst, arith, inl, inr, reverse}
 use Rattle.std.specs.Prelude.{Contains, map, slice_get, slice_index_or, nat_lt, ◌==◌, ◌||◌}
 use Rattle.std.specs.Option.{option_map_or}
@@ -49,7 +49,7 @@ all_reverse P [] h = tt
 all_reverse P (x ∷ xs) h =
     subst (AllByRecursion P) (sym (reverse-append (x ∷ []) xs)) (all_append P (reverse xs) (x ∷ []) (all_reverse P xs h.1) (h.0, tt))
 
--- what is found has it, where anything is found
+-- a property of what is found, if anything is
 abbrev IfFound : {X : Type 0} (P : X → Type 0) → Option X → Type 0
 IfFound P None = Unit {0}
 IfFound P (Some x) = P x

@@ -44,7 +44,7 @@ not_not : (a : Bool) → not (not a) ≡ a
 not_not true = refl
 not_not false = refl
 
--- all are so where none is not
+-- a test of all is one that fails for none
 all_is_none : {X : Type 0} (p s : X → Bool) (xs : List X) → not (list_any (λ x. p x && not (s x)) xs) ≡ list_all (λ x. not (p x) || s x) xs
 all_is_none p s [] = refl
 all_is_none p s (x ∷ xs) =

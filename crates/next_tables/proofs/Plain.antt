@@ -1,4 +1,4 @@
--- What switches do, where nothing is said of why a packet is lost: this depends on the entry alone.
+-- What switches do, apart from why they drop a packet: this depends only on the entry.
 use Rattle.std.proofs.Common.{◌≡◌, ℕ, zero, suc, Bool, true, false, cond, List, [], ◌∷◌, refl, ap, ◌∙◌, arith}
 use Rattle.std.specs.Prelude.{map, slice_index_or, ◌==◌}
 use Rattle.std.proofs.lemmas.List.{get_or_past}

@@ -1,4 +1,4 @@
--- A LID for which the tables held have the plan's entries, by which packets arrive from each switch.
+-- A LID for which the held tables have the plan's entries, by which packets arrive from each switch.
 use Rattle.std.proofs.Common.{◌≡◌, ◌<◌, ◌&&◌, ◌||◌, ℕ, zero, suc, Bool, true, false, cond, List, [], ◌∷◌, length, None, Some, refl, sym, ap, ◌∙◌, arith}
 use Rattle.std.proofs.Common.{inl, inr, not}
 use Rattle.std.specs.Prelude.{map, slice_index_or}
@@ -129,7 +129,7 @@ module _ (facts : Facts) (positions : List ℕ) (held plan : HeldPlan) (lid : �
   tries_at : (i : ℕ) → i < length gs → onward tries (To i) ≡ chosen i (may_change cells q held plan line i (switch_at cells i))
   tries_at i less = get_or-map-range_with_len (tried_at cells q held plan line) 0 (length gs) i i (To i) less (omega arith)
 
-  -- where the plan leads on, the held entry does so to the same switch
+  -- if the plan leads on, the held entry leads to the same switch
   to_there : (i j : ℕ) → i < length gs → step i ≡ To j → (t : Bool) → chosen i t ≡ To j
   to_there i j less e true = e
   to_there i j less e false = to_same cells plan held lid (switch_at cells i) j (sym (same_at i less)) e
@@ -138,7 +138,7 @@ module _ (facts : Facts) (positions : List ℕ) (held plan : HeldPlan) (lid : �
   either true = refl
   either false = refl
 
-  -- where it leads to the port, the switch may change to it
+  -- if the plan leads to the port, the switch may change to its entry
   may_end : (i : ℕ) → step i ≡ Ends (Taken port) → may_change cells q held plan line i (switch_at cells i) ≡ true
   may_end i e =
       let leads : leads_in cells held line (step i) ≡ true = ap (leads_in cells held line) e ∙ same_itself port in

@@ -1,4 +1,4 @@
--- The laws of steps, by those of tables that have the next entries.
+-- The laws of steps, from the laws of tables that have the next entries.
 use Rattle.std.proofs.Common.{ℕ, zero, suc, ◌∙◌}
 use Rattle.subnet_view.specs.Reading.{Cells}
 use Rattle.plan_file.specs.declared.held.HeldLid.{HeldLid}

@@ -73,7 +73,7 @@ module _ (cells : Cells) (held plan next : HeldPlan) (line : HeldLid) (same : ow
       (drops cells held plan next line same is)
       n s e (λ k. map plain (next_hops_of cells (mixed k) lid)) (mix cells held plan next line same is mixed are) h
 
-  -- where the plan's entry leads on, it is the next one
+  -- if the plan's entry leads on, it is the next entry
   pub planned_there : (i : ℕ) → i < count → Comes line.port A (at P i) → planned cells held plan next line same is i
   planned_there i less h =
       (led line.port count H P A M N (planned cells held plan next line same is)
@@ -125,7 +125,7 @@ module _ (cells : Cells) (held plan next : HeldPlan) (line : HeldLid) (same : ow
         | inr c ↦ inr c
       ]
 
--- where a packet comes, and does so but for causes
+-- a packet ends at the port whatever causes are
 as_plain : (steps : List NextHop) (port : EndPort) (n : ℕ) (s : NextHop) → after n steps s ≡ Ends (Taken port) → after n (map plain steps) (plain s)
     ≡ Ends (Taken port)
 as_plain steps port n s h = plain_after n steps s ∙ ap plain h

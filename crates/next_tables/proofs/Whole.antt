@@ -40,7 +40,7 @@ len_mapped p f (x ∷ xs) = rw (len_mapped p f xs) refl
 pub position_mapped : {X Y : Type 0} (p : Y → Bool) (f : X → Y) (xs : List X) → position p (map f xs) ≡ position (λ x. p (f x)) xs
 position_mapped p f xs = rw (len_mapped p f xs, length-map xs f) refl
 
--- where both entries are none, the next one is
+-- if both entries are 255, the next one is
 all_none : (a b c d : Bool) (x y : ℕ) → x ≡ 255 → y ≡ 255 → cond a y (cond b x (cond c (cond d x y) 255)) ≡ 255
 all_none true b c d x y h k = k
 all_none false true c d x y h k = h

@@ -22,14 +22,14 @@ block_in columns index b = map (λ i. entry_in columns index (64 * b + i)) (rang
 abbrev pub some_blocks : List (List ℕ) → ℕ → ℕ → List HeldBlock
 some_blocks columns index count = blocks_from index 0 (map (block_in columns index) (range_with_len 0 count))
 
--- the blocks of the switches, whose indices count from `index` on
+-- the blocks of `switches`, the first of which has the index `index`
 abbrev pub all_blocks : List (List ℕ) → ℕ → List HeldSwitch → List HeldBlock
 all_blocks columns index [] = []
 all_blocks columns index (s ∷ switches) =
     some_blocks columns index (block_count (Some s.top)) ++ all_blocks columns (suc index) switches
 
--- the plan's LIDs, and each usable switch with the greater of its tops and these entries, for each LID those of all
--- switches
+-- the plan's LIDs, and each usable switch with the greater of its tops and its entries in `columns`, which has the
+-- entries of all usable switches for each LID
 abbrev pub tables_with : Cells → HeldPlan → HeldPlan → List (List ℕ) → HeldPlan
 tables_with cells held plan columns = record {
   lids = plan.lids;

@@ -1,4 +1,5 @@
--- An order of switches, turns by it, and the next entry of each switch for a LID by it, towards a goal's tables.
+-- An order of switches, the turns that it allows, and each switch's next entry for a LID by the order, towards a goal's
+-- tables.
 use Rattle.std.specs.Prelude.{◌≡◌, ◌<◌, ◌⊎◌, ◌==◌, ◌&&◌, ◌||◌, ◌+◌, ◌-◌, ◌*◌, ◌/◌, ℕ, Bool, true, false, not, List, Some, length, map, nat_lt, slice_get, slice_index_or, if◌then◌else◌}
 use Rattle.std.specs.List.{list_all, range_with_len}
 use Rattle.subnet_view.specs.Reading.{Cells, switches}
@@ -122,14 +123,15 @@ abbrev pub next_by_order : Cells → (ℕ → ℕ) → HeldPlan → HeldPlan →
 next_by_order cells q held goal line i g =
     if comes_to line.port (tried cells q held goal line) (To i) then tried_entry cells q held goal line i g else 255
 
--- `next` has the next entries by the order for the LID of `line`, which the same end ports hold
+-- `next` has the next entries by the order for the LID of `line`, and the LID's owners stay
 pub record IsNextByOrder (cells : Cells) (q : ℕ → ℕ) (held goal : HeldPlan) (line : HeldLid) (next : HeldPlan) : Type 0
   where
     pub owners : owners_of next line.lid ≡ owners_of held line.lid
     pub entries : (i g : ℕ) → slice_get (switches cells) i ≡ Some g
         → entry_for next line.lid g ≡ next_by_order cells q held goal line i g
 
--- `next` may also have a tried entry that does not deliver: it does not matter to packets that arrive
+-- like `IsNextByOrder`, but `next` may also have a tried entry that does not deliver, which does not matter to packets
+-- that arrive
 pub record IsTriedByOrder (cells : Cells) (q : ℕ → ℕ) (held goal : HeldPlan) (line : HeldLid) (next : HeldPlan) : Type 0
   where
     pub owners : owners_of next line.lid ≡ owners_of held line.lid
@@ -137,7 +139,7 @@ pub record IsTriedByOrder (cells : Cells) (q : ℕ → ℕ) (held goal : HeldPla
         → (entry_for next line.lid g ≡ tried_entry cells q held goal line i g)
         ⊎ ((comes_to line.port (tried cells q held goal line) (To i) ≡ false) × (entry_for next line.lid g ≡ 255))
 
--- each next entry for `lid` is the held one, or 255, or the goal's if that turns well; which of them is open
+-- each entry of `next` for `lid` is the held one, or 255, or the goal's if that turns well; which one is open
 abbrev pub IsChoice : Cells → (ℕ → ℕ) → HeldPlan → HeldPlan → ℕ → HeldPlan → Type 0
 IsChoice cells q held goal lid next =
     (i g : ℕ) → slice_get (switches cells) i ≡ Some g

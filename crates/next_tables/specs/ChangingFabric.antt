@@ -27,20 +27,20 @@ use Rattle.next_tables.specs.NextTables.{IsKept, StepRuleValue, next_tables, set
 abbrev pub entry_now : Fabric → ℕ → ℕ → ℕ
 entry_now now lid number = counted lid (now.top number) (now.entry number lid)
 
--- `entry` is the held one or the next one; or any, if switch `g` drops the packet by the held tables
+-- `entry` is the held one or the next one; if switch `g` drops the packet by the held tables, it may be any
 abbrev pub IsLooseEntry : Cells → HeldPlan → HeldPlan → ℕ → ℕ → ℕ → Type 0
 IsLooseEntry cells held next lid g entry =
     (entry ≡ entry_for held lid g)
     ⊎ ((entry ≡ entry_for next lid g) ⊎ ((x : ℕ) × (cause : Cause) × (step_at cells held lid g ≡ Ends (Lost x cause))))
 
--- nodes and cables are as before, and the same end ports of the part hold the LID
+-- nodes and cables are as before, and the part's owners of the LID stay
 pub record StandsStill (part : Part) (lid : ℕ) (before now : Fabric) : Type 0 where
   pub nodes : now.nodes ≡ before.nodes
   pub cables : (p : NodePort) → now.across p ≡ before.across p
   pub owners : (port : NodePort) (node : Node) → IsEndPortIn part before port node
       → owns now port lid ≡ owns before port lid
 
--- in the midst of a change each switch of the part has a loose entry for the LID
+-- during a change each switch of the part has a loose entry for the LID
 pub record IsInChange (part : Part) (cells : Cells) (held next : HeldPlan) (lid : ℕ) (before now : Fabric) : Type 0
   where
     pub still : StandsStill part lid before now
@@ -52,8 +52,8 @@ abbrev pub ChangesMeanwhile : Part → Cells → HeldPlan → HeldPlan → ℕ �
 ChangesMeanwhile part cells held next lid before fabrics =
     (k : ℕ) → IsInChange part cells held next lid before (fabrics k)
 
--- while tables are written, a switch has its old top or that of the next tables, and the entry of either for the LID;
--- which is written first is open
+-- while tables are written, each switch has its old top or that of the next tables, and its old entry for the LID or
+-- that of the next tables; top and entry are written in any order
 pub record IsBeingWritten (part : Part) (next : HeldPlan) (lid : ℕ) (before now : Fabric) : Type 0 where
   pub still : StandsStill part lid before now
   pub tops : (port : NodePort) (node : Node) → IsEndPortIn part before port node → IsTrue (is_switch node.kind)
@@ -62,7 +62,7 @@ pub record IsBeingWritten (part : Part) (next : HeldPlan) (lid : ℕ) (before no
       → (now.entry port.node lid ≡ before.entry port.node lid)
       ⊎ (now.entry port.node lid ≡ entry_of next node.guid lid)
 
--- a packet goes from `s` to `end` over these wires in turn, and each node forwards it as in the fabric at that time
+-- a packet goes from `s` to `end` over these wires in turn, and each node forwards it by the fabric at that time
 abbrev pub GoesMeanwhile : (ℕ → Fabric) → ℕ → Standing → List Hop → Standing → Type 0
 GoesMeanwhile fabrics lid s [] end = s ≡ end
 GoesMeanwhile fabrics lid s (h ∷ hops) end =
@@ -86,9 +86,9 @@ pub record ArrivesMeanwhile (fabrics : ℕ → Fabric) (lid : ℕ) (source : Nod
   pub nowhere_else : (others : List Hop) (other : NodePort) → IsDeliveredMeanwhile fabrics lid source others other
       → other ≡ target
 
--- a packet that the held tables deliver at the end port that alone holds its LID, in these and in the plan, is
--- delivered there while the switches go over to the next tables, each at its own time, if the facts describe what is
--- joined to an end port, and that holds the held tables at first
+-- a packet that the held tables deliver is delivered while the switches go over to the next tables, each at its own
+-- time, if one end port alone holds its LID in the held tables and in the plan, the facts describe what is joined to an
+-- end port, and the end ports and switches there hold the tables at first
 abbrev pub PacketsArriveWhileTablesChange : Type 0
 PacketsArriveWhileTablesChange =
     (facts : Facts) (held plan : HeldPlan) (line : HeldLid) (before : Fabric) (origin : NodePort)
@@ -105,7 +105,7 @@ PacketsArriveWhileTablesChange =
     }) (Some (Taken line.port))
     → ArrivesMeanwhile fabrics line.lid source line.port (2 * length (switches (cells_of facts)) + 1)
 
--- a fabric that is being written is in the change
+-- a fabric whose tables are being written is in the change
 abbrev pub WrittenTablesAreInChange : Type 0
 WrittenTablesAreInChange =
     (facts : Facts) (rule : StepRuleValue) (held plan : HeldPlan) (lid : ℕ) (before now : Fabric) (origin : NodePort)

@@ -24,12 +24,12 @@ pub record IsMixed (cells : Cells) (held next : HeldPlan) (lid : ℕ) (mixed : H
   pub entries : (g : ℕ) → Contains (switches cells) g → (entry_for mixed lid g ≡ entry_for held lid g)
       ⊎ (entry_for mixed lid g ≡ entry_for next lid g)
 
--- the step that is n steps further, the k-th of them by `steps k`
+-- the step after n steps, the k-th of them by `steps k`
 abbrev pub after_by : ℕ → (ℕ → List NextHop) → NextHop → NextHop
 after_by zero steps s = s
 after_by (suc n) steps s = after_by n (λ k. steps (suc k)) (onward (steps 0) s)
 
--- forwarding brings a packet to `end` by tables that change; `tables k` are held when it has met k switches
+-- a packet ends at `end` by tables that change; `tables k` are held when it has met k switches
 abbrev pub IsBroughtBy : Cells → (ℕ → HeldPlan) → ℕ → EndPort → End → Type 0
 IsBroughtBy cells tables lid e end =
     (n : ℕ) × (after_by n (λ k. next_hops_of cells (tables k) lid)
@@ -44,8 +44,8 @@ pub record IsLoose (cells : Cells) (held next : HeldPlan) (lid : ℕ) (mixed : H
       ⊎ ((entry_for mixed lid g ≡ entry_for next lid g)
       ⊎ ((x : ℕ) × (cause : Cause) × (step_at cells held lid g ≡ Ends (Lost x cause))))
 
--- a packet that the held tables deliver at an end port is delivered there by whatever loose mixtures of the held and
--- the next tables
+-- a packet that the held tables deliver at an end port is delivered there by any loose mixtures of the held and the
+-- next tables
 abbrev pub NoneIsLost : Type 0
 NoneIsLost =
     (cells : Cells) (held plan next : HeldPlan) (line : HeldLid) → owners_of plan line.lid ≡ owners_of held line.lid
@@ -62,7 +62,7 @@ NextDeliverOrDrop =
     → (i g : ℕ) → slice_get (switches cells) i ≡ Some g
     → (entry_for next line.lid g ≡ 255) ⊎ IsEndOf (next_hops_of cells next line.lid) (To i) (Some (Taken line.port))
 
--- a packet that does not loop by the held tables loops by no mixtures of the held and the next tables
+-- a packet that does not loop by the held tables does not loop by any mixtures of the held and the next tables
 abbrev pub NoneGoesRound : Type 0
 NoneGoesRound =
     (cells : Cells) (held plan next : HeldPlan) (line : HeldLid) → owners_of plan line.lid ≡ owners_of held line.lid
@@ -75,7 +75,7 @@ pub record AreSteps (cells : Cells) (plan : HeldPlan) (line : HeldLid) (tables :
   pub owners : owners_of plan line.lid ≡ owners_of (tables 0) line.lid
   pub steps : (n : ℕ) → IsNext cells (tables n) plan line (tables (suc n))
 
--- a switch from which the plan's way meets n switches has the plan's entry after n steps, and from then on
+-- if the plan's way from a switch meets n switches, the switch has the plan's entry after n steps, and from then on
 abbrev pub EndInThePlan : Type 0
 EndInThePlan =
     (cells : Cells) (plan : HeldPlan) (line : HeldLid) (tables : ℕ → HeldPlan) → AreSteps cells plan line tables
@@ -83,7 +83,7 @@ EndInThePlan =
     ≡ Ends (Taken line.port) → n ≤ m
     → entry_for (tables m) line.lid g ≡ entry_for plan line.lid g
 
--- if a step changes nothing, each switch from which the plan has a way has the plan's entry
+-- if a step changes nothing, each switch from which the plan delivers has the plan's entry
 abbrev pub StillIsThePlan : Type 0
 StillIsThePlan =
     (cells : Cells) (held plan : HeldPlan) (line : HeldLid) → owners_of plan line.lid ≡ owners_of held line.lid
@@ -92,15 +92,14 @@ StillIsThePlan =
     ≡ Ends (Taken line.port)
     → entry_for held line.lid g ≡ entry_for plan line.lid g
 
--- after two steps each packet arrives that arrives by the plan
+-- each packet that arrives by the plan arrives after two steps
 abbrev pub HealInTwo : Type 0
 HealInTwo =
     (cells : Cells) (plan : HeldPlan) (line : HeldLid) (tables : ℕ → HeldPlan) → AreSteps cells plan line tables
     → (source : EndPort) → IsBrought cells plan line.lid source (Some (Taken line.port))
     → IsBrought cells (tables 2) line.lid source (Some (Taken line.port))
 
--- a packet takes `channel` and then `next` at some switch, by the edges `before`, and by the edges `now` when it
--- reaches the next switch
+-- a packet leaves some switch by `channel`, an edge of `before`, and the next switch by `next`, an edge of `now`
 abbrev pub TakesBy : List (Option Edge) → List (Option Edge) → ℕ → ℕ → Type 0
 TakesBy before now channel next = (switch : ℕ) × TakesAcross before now switch channel next
 
@@ -116,14 +115,15 @@ WaitsAcross cells before now lid a b = TakesBy (edges_of cells before lid) (edge
 abbrev pub WaitsInStep : Cells → HeldPlan → HeldPlan → ℕ → ℕ → ℕ → Type 0
 WaitsInStep cells held next lid a b = TakesInStep (edges_of cells held lid) (edges_of cells next lid) a b
 
--- what waits in any mixtures, whenever packets came there, waits by edges of the held or the next tables
+-- if a channel waits for another in any mixtures, it does so by edges of the held or the next tables
 abbrev pub MixturesWaitSo : Type 0
 MixturesWaitSo =
     (cells : Cells) (held next before now : HeldPlan) (lid : ℕ) → IsMixed cells held next lid before
     → IsMixed cells held next lid now
     → (a b : ℕ) → WaitsAcross cells before now lid a b → WaitsInStep cells held next lid a b
 
--- numbers rise over all that waits in the step, for every LID, whether or not a port holds it
+-- each channel has a number less than those of the channels that it waits for in the step, for every LID, whether or
+-- not a port holds it
 abbrev pub RiseInStep : Cells → HeldPlan → HeldPlan → List ℕ → Type 0
 RiseInStep cells held next numbers =
     (lid a b : ℕ) → 1 ≤ lid → WaitsInStep cells held next lid a b → slice_index_or numbers a 0

@@ -66,7 +66,7 @@ next_entry cells held plan line g =
     (if delivers cells held line g then entry_for held line.lid g else
     (if mends cells held plan line g then patch_entry cells held plan line.lid g else 255))
 
--- `next` has the next entries for the LID of `line`, which the same end ports hold
+-- `next` has the next entries for the LID of `line`, and the LID's owners stay
 pub record IsNext (cells : Cells) (held plan : HeldPlan) (line : HeldLid) (next : HeldPlan) : Type 0 where
   pub owners : owners_of next line.lid ≡ owners_of held line.lid
   pub entries : (g : ℕ) → Contains (switches cells) g → entry_for next line.lid g ≡ next_entry cells held plan line g

@@ -19,11 +19,11 @@ use Rattle.next_tables.specs.declared.step_rule.StepRule.TheVariants.{SettledFir
 use Rattle.next_tables.specs.ByOrder.{next_by_order, position_at}
 use Rattle.next_tables.specs.Next.{next_entry}
 
--- another end port than the line's holds the line's LID
+-- an end port other than the line's holds the line's LID
 abbrev pub moves : HeldPlan → HeldLid → Bool
 moves held line = not (is_sole line.port (owners_of held line.lid))
 
--- the first LID that the plan gives to an end port and the held tables to another
+-- the first LID that the plan gives to an end port and the held tables give to another
 abbrev pub first_moved : HeldPlan → HeldPlan → Option ℕ
 first_moved held plan = option_map (λ line. line.lid) (find (moves held) plan.lids)
 
@@ -33,7 +33,8 @@ kept_by e [] = None
 kept_by e (x ∷ []) = if is_same_end e x then Some e else None
 kept_by e (x ∷ y ∷ xs) = None
 
--- the end port that alone holds a LID in the plan and in the held tables; the lists are those that hold it in each
+-- the end port that is the only owner of a LID both in the plan and in the held tables; the lists are the LID's owners
+-- in each
 abbrev pub keeper : List EndPort → List EndPort → Option EndPort
 keeper [] held = None
 keeper (e ∷ []) held = kept_by e held
@@ -48,8 +49,8 @@ abbrev pub next_for : Cells → HeldPlan → HeldPlan → ℕ → List EndPort �
 next_for cells held plan lid planned None g = if_owned planned (entry_for plan lid g)
 next_for cells held plan lid planned (Some port) g = next_entry cells held plan (record { lid = lid; port = port }) g
 
--- how a step chooses entries: a switch takes the plan's once each switch on the plan's way has it; or by an order, with
--- the position of each switch, by rising GUID
+-- how a step chooses entries: a switch takes the plan's entry once each switch on the plan's way has it; or entries are
+-- chosen by an order, which is the position of each switch, by rising GUID
 pub data StepRuleValue : Type 0 where
   settled_first : StepRuleValue
   by_order : List ℕ → StepRuleValue
@@ -62,14 +63,14 @@ value_of (ByOrder positions) = by_order positions.items
 abbrev pub index_at : Cells → ℕ → ℕ
 index_at cells g = unwrap_or (index_in (switches cells) g) 0
 
--- the next entry by an order: towards the first owner of a LID of the plan, else 255
+-- the next entry by an order: towards the first owner of the LID in the plan, else 255
 abbrev pub ordered_for : Cells → (ℕ → ℕ) → HeldPlan → HeldPlan → ℕ → List EndPort → ℕ → ℕ → ℕ
 ordered_for cells q held plan lid [] i g = 255
 ordered_for cells q held plan lid (port ∷ ports) i g =
     next_by_order cells q held plan (record { lid = lid; port = port }) i g
 
--- the next entry of switch `g` for `lid`: by settled entries if one end port alone holds the LID in both tables, else
--- the plan's; or, by an order, the order's for each LID
+-- the next entry of switch `g` for `lid`. By settled entries it is `next_entry` if one end port alone holds the LID in
+-- both tables, else the plan's. By an order it is the order's, for each LID
 unfoldable pub next_at : Cells → StepRuleValue → HeldPlan → HeldPlan → ℕ → ℕ → ℕ
 next_at cells settled_first held plan lid g =
     next_for cells held plan lid (owners_of plan lid) (keeper (owners_of plan lid) (owners_of held lid)) g

@@ -1,4 +1,4 @@
--- The text of a step, which is read again.
+-- The text of a step can be read again.
 use Rattle.std.specs.Prelude.{◌≤◌, ℕ, List}
 use Rattle.fact_store.specs.View.{Facts, cells_of, AreInRange}
 use Rattle.lid_assign.specs.Lids.{IsNoRoom}
@@ -11,7 +11,7 @@ use Rattle.plan_file.specs.Reading.{held_of}
 use Rattle.plan_file.specs.TablesText.{next_text}
 use Rattle.next_tables.specs.NextTables.{StepRuleValue, next_tables}
 
--- the text of the next tables towards a plan is read as these tables
+-- the text of the next tables towards a plan is read as the next tables
 abbrev pub IsStepRead : Facts → StepRuleValue → HeldPlan → PlanValue → Type 0
 IsStepRead facts by held plan =
     let next = next_tables (cells_of facts) by held (held_plan plan) in

@@ -44,7 +44,7 @@ is_entered positions held goal i = list_any (enters_from positions i) (enumerate
 abbrev pub entered_of : List ℕ → List SwitchStep → List SwitchStep → List Bool
 entered_of positions held goal = map (is_entered positions held goal) (range_with_len 0 (length held))
 
--- no packet can go up after a channel down
+-- no packet can go up after a channel down if the switch at index i takes the hop
 abbrev pub turns_well_by : List ℕ → List Bool → List Bool → ℕ → NextHop → Bool
 turns_well_by positions going_up entered i (To j) =
     (not (is_up (position_at positions) i j) || not (flag entered i))

@@ -1,4 +1,4 @@
--- What the next tables bring for a LID that one end port alone holds in the held tables and in the plan.
+-- Laws of the next tables, for a LID that one end port alone holds in the held tables and in the plan.
 use Rattle.std.specs.Prelude.{◌≡◌, ◌≤◌, ℕ, zero, suc, Contains, Some, slice_get}
 use Rattle.subnet_view.specs.declared.end_port.EndPort.{EndPort}
 use Rattle.subnet_view.specs.Reading.{Cells, switches}
@@ -26,13 +26,13 @@ NextTablesAreSo =
     (cells : Cells) (rule : StepRuleValue) (held plan : HeldPlan)
     → AreNextTables cells rule held plan (next_tables cells rule held plan)
 
--- the next tables by settled entries follow the rule for a LID that one end port alone holds in both tables
+-- the next tables by settled entries have the next entries for a LID that one end port alone holds in both tables
 abbrev pub StepsFollowTheRule : Type 0
 StepsFollowTheRule = (cells : Cells) (held plan : HeldPlan) (line : HeldLid) → IsKept held plan line
     → IsNext cells held plan line (next_tables cells settled_first held plan)
 
--- a packet that the held tables deliver at the end port is delivered there by whatever loose mixtures of the held and
--- the next tables
+-- a packet that the held tables deliver at the end port is delivered there by any loose mixtures of the held and the
+-- next tables
 abbrev pub StepsLoseNone : Type 0
 StepsLoseNone =
     (cells : Cells) (held plan : HeldPlan) (line : HeldLid) → IsKept held plan line
@@ -40,7 +40,7 @@ StepsLoseNone =
     → (source : EndPort) → IsBrought cells held line.lid source (Some (Taken line.port))
     → IsBroughtBy cells mixed line.lid source (Taken line.port)
 
--- a packet that does not loop by the held tables loops by no mixtures of the held and the next tables
+-- a packet that does not loop by the held tables does not loop by any mixtures of the held and the next tables
 abbrev pub StepsSendNoneRound : Type 0
 StepsSendNoneRound =
     (cells : Cells) (held plan : HeldPlan) (line : HeldLid) → IsKept held plan line
@@ -53,7 +53,7 @@ abbrev pub stepped : Cells → HeldPlan → HeldPlan → ℕ → HeldPlan
 stepped cells plan held zero = held
 stepped cells plan held (suc n) = next_tables cells settled_first (stepped cells plan held n) plan
 
--- a switch from which the plan's way meets n switches has the plan's entry after n steps, and from then on
+-- if the plan's way from a switch meets n switches, the switch has the plan's entry after n steps, and from then on
 abbrev pub StepsEndInThePlan : Type 0
 StepsEndInThePlan =
     (cells : Cells) (held plan : HeldPlan) (line : HeldLid) → IsKept held plan line
@@ -61,7 +61,7 @@ StepsEndInThePlan =
     ≡ Ends (Taken line.port) → n ≤ m
     → entry_for (stepped cells plan held m) line.lid g ≡ entry_for plan line.lid g
 
--- after two steps each packet arrives that arrives by the plan
+-- each packet that arrives by the plan arrives after two steps
 abbrev pub StepsHealInTwo : Type 0
 StepsHealInTwo =
     (cells : Cells) (held plan : HeldPlan) (line : HeldLid) → IsKept held plan line

@@ -15,7 +15,7 @@ use Rattle.next_tables.specs.Next.{comes_to}
 abbrev pub Both : Type 0
 Both = SwitchStep × SwitchStep
 
--- the next hop if the entry is the same in both tables; a switch with different entries drops the packet
+-- the next hop if the entries in both tables are equal; a switch with different entries drops the packet
 abbrev pub agreed_by : Both → NextHop
 agreed_by x = if x.0.entry == x.1.entry then x.1.hop else Ends (Lost x.0.switch NoEntry)
 
@@ -40,7 +40,8 @@ mending_by port delivers x = if delivers x.0.hop then Ends (Taken port) else pat
 abbrev pub mending_of : EndPort → (NextHop → Bool) → List SwitchStep → List SwitchStep → List NextHop
 mending_of port delivers held plan = map (mending_by port delivers) (zip held plan)
 
--- the next entry, given by which hops a walk arrives at the port: of both tables, of the held ones, and while mending
+-- the next entry. `leads`, `delivers` and `mends` say by which hops a walk arrives at the port: by entries in both
+-- tables, by the held tables, and while mending
 abbrev pub next_by : EndPort → (NextHop → Bool) → (NextHop → Bool) → (NextHop → Bool) → Both → ℕ
 next_by port leads delivers mends x =
     if leads x.1.hop then x.1.entry else
@@ -55,7 +56,7 @@ chosen_by port leads delivers mends held plan = map (next_by port leads delivers
 abbrev pub is_whole : (NextHop → Bool) → (NextHop → Bool) → List SwitchStep → List SwitchStep → Bool
 is_whole leads delivers held plan = list_all (λ x. leads x.1.hop || delivers x.0.hop) (zip held plan)
 
--- the next entries of all switches
+-- a walk from the hop arrives at the port while mending
 abbrev pub mends_of : EndPort → (NextHop → Bool) → List SwitchStep → List SwitchStep → NextHop → Bool
 mends_of port delivers held plan = comes_to port (mending_of port delivers held plan)
 

@@ -11,9 +11,9 @@ use plan_file::{Held, HeldBlock, HeldSwitch};
 use smp_bytes::{Lid, NO_ENTRY};
 use std::alloc::{AllocError, Global};
 
-/// Returns tables with the plan's LIDs. For each usable switch they have the greater of its tops, and its entries in
-/// `columns` up to that top. `columns` has, for each LID, the entries of all usable switches, by rising GUID; an entry
-/// that it lacks is 255. Takes a step for each entry.
+/// Returns tables with the plan's LIDs. For each usable switch they have the greater of its tops in both tables, and
+/// its entries in `columns` up to that top. `columns` has, for each LID, the entries of all usable switches, by rising
+/// GUID; a missing entry is 255. Takes a step for each entry.
 pub fn tables_with(
     alloc: Global,
     held: &Network,
@@ -46,7 +46,7 @@ pub fn greater(lid: Lid, other: Lid) -> Lid
     Lid::new(lid.number().max(other.number()))
 }
 
-/// Returns the usable switches, by rising GUID, each with the greater of its tops.
+/// Returns the usable switches, by rising GUID, each with the greater of its tops in both tables.
 fn switches_with(
     alloc: Global,
     held: &Network,

@@ -183,7 +183,7 @@ fn is_nobodys(owners: &[EndPort]) -> bool
     owners.is_empty()
 }
 
-/// Returns `count` entries that are none.
+/// Returns `count` entries of 255.
 pub fn no_entries(alloc: Global, count: usize) -> Result<Vec<u8>, AllocError>
     ensures { IfOk result (λ entries. entries.items ≡ replicate count 255) }
 {
@@ -197,8 +197,8 @@ fn are_same(entries: &[u8], others: &[u8]) -> bool
     entries == others
 }
 
-/// Returns the end port that alone holds a LID both in the plan and in the held tables, if there is one. `planned` and
-/// `held` are the end ports that hold it in each.
+/// Returns the end port that is the only owner of a LID both in the plan and in the held tables, if there is one.
+/// `planned` and `held` are the LID's owners in each.
 fn keeper(planned: &[EndPort], held: &[EndPort]) -> Option<EndPort>
     ensures { result ≡ keeper planned.now held.now }
 {

@@ -7,28 +7,28 @@ ghost use Rattle.next_tables.specs.NextText.{NextTextsAreRead, StepTextsAreRead}
 ghost use Rattle.next_tables.specs.StepLaws.{StepsEndInThePlan, StepsHealInTwo};
 ghost use Rattle.next_tables.specs.StepLaws.{NextTablesAreSo, StepsFollowTheRule, StepsLoseNone, StepsSendNoneRound};
 
-/// A packet that the held tables deliver is delivered by whatever loose mixtures of the held and the next tables, even
-/// if they change while it travels.
+/// A packet that the held tables deliver is delivered by any loose mixtures of the held and the next tables, even if
+/// the mixture changes while the packet travels.
 pub fn none_is_lost()
     ensures law { NoneIsLost }
 {}
 
-/// A packet that the held tables deliver or drop loops for ever by no mixtures of the held and the next tables.
+/// A packet that the held tables deliver or drop does not loop by any mixtures of the held and the next tables.
 pub fn none_goes_round()
     ensures law { NoneGoesRound }
 {}
 
-/// A switch from which the plan's way meets n switches has the plan's entry after n steps, and from then on.
+/// If the plan's way from a switch meets n switches, the switch has the plan's entry after n steps, and from then on.
 pub fn end_in_the_plan()
     ensures law { EndInThePlan }
 {}
 
-/// Each switch from which the plan has a way has the plan's entry if a step changes nothing.
+/// If a step changes nothing, each switch from which the plan delivers has the plan's entry.
 pub fn still_is_the_plan()
     ensures law { StillIsThePlan }
 {}
 
-/// After two steps each packet arrives that arrives by the plan.
+/// Each packet that arrives by the plan arrives after two steps.
 pub fn heal_in_two()
     ensures law { HealInTwo }
 {}
@@ -39,13 +39,14 @@ pub fn next_deliver_or_drop()
     ensures law { NextDeliverOrDrop }
 {}
 
-/// Channels that wait for each other in any mixtures do so along an entry of either tables and then one of either.
+/// If a channel waits for another one in any mixtures, packets take both along two entries, each of the held or of the
+/// next tables.
 pub fn mixtures_wait_so()
     ensures law { MixturesWaitSo }
 {}
 
-/// Channels never wait in a cycle, whatever the mixtures, if numbers of channels rise over all that waits along an
-/// entry of either tables and then one of either.
+/// Channels never wait in a cycle, whatever the mixtures, if channels can be numbered so that the numbers rise whenever
+/// a packet takes two channels along two entries, each of the held or of the next tables.
 pub fn no_cycle_in_step()
     ensures law { NoCycleInStep }
 {}
@@ -56,47 +57,48 @@ pub fn next_tables_are_so()
     ensures law { NextTablesAreSo }
 {}
 
-/// What `next_tables` returns by settled entries follows the rule for a LID that one end port alone holds in the held
-/// tables and in the plan.
+/// The tables that `next_tables` returns by settled entries have the next entries for each LID, if one end port alone
+/// holds it in the held tables and in the plan.
 pub fn steps_follow_the_rule()
     ensures law { StepsFollowTheRule }
 {}
 
-/// A packet that the held tables deliver is delivered by whatever loose mixtures of these and of what `next_tables`
-/// returns by settled entries, if one end port alone holds its LID in the held tables and in the plan.
+/// A packet that the held tables deliver is delivered by any loose mixtures of the held tables and of what
+/// `next_tables` returns by settled entries, if one end port alone holds its LID in the held tables and in the plan.
 pub fn steps_lose_none()
     ensures law { StepsLoseNone }
 {}
 
-/// A packet that the held tables deliver or drop loops for ever by no mixtures of these and of what `next_tables`
-/// returns by settled entries, if one end port alone holds its LID in the held tables and in the plan.
+/// A packet that the held tables deliver or drop does not loop by any mixtures of the held tables and of what
+/// `next_tables` returns by settled entries, if one end port alone holds its LID in the held tables and in the plan.
 pub fn steps_send_none_round()
     ensures law { StepsSendNoneRound }
 {}
 
-/// Steps of `next_tables` by settled entries come to the plan: a switch from which the plan's way meets n switches has
-/// the plan's entry after n steps, and from then on, if one end port alone holds the LID in the held tables and in the
-/// plan.
+/// Steps of `next_tables` by settled entries end in the plan: if the plan's way from a switch meets n switches, the
+/// switch has the plan's entry after n steps, and from then on, if one end port alone holds the LID in the held tables
+/// and in the plan.
 pub fn steps_end_in_the_plan()
     ensures law { StepsEndInThePlan }
 {}
 
-/// After two steps of `next_tables` by settled entries each packet arrives that arrives by the plan, if one end port
+/// Each packet that arrives by the plan arrives after two steps of `next_tables` by settled entries, if one end port
 /// alone holds its LID in the held tables and in the plan.
 pub fn steps_heal_in_two()
     ensures law { StepsHealInTwo }
 {}
 
-/// A packet that the held tables deliver at the end port that alone holds its LID, in these and in the plan, is
-/// delivered there while the fabric's switches go over to what `next_tables` returns, each at its own time, if the
-/// facts describe what is joined to an end port, and that held the tables when the change began. The packet takes at
-/// most twice as many wires as there are usable switches, and one more.
+/// A packet that the held tables deliver is delivered at its LID's end port while the fabric's switches go over to what
+/// `next_tables` returns by settled entries, each at its own time, if one end port alone holds the LID in the held
+/// tables and in the plan, the facts describe what is joined to an end port, and the end ports and switches there held
+/// the tables when the change began. The packet takes at most twice as many wires as there are usable switches, and one
+/// more.
 pub fn packets_arrive_while_tables_change()
     ensures law { PacketsArriveWhileTablesChange }
 {}
 
-/// A fabric is in a change from the held to the next tables while tops and blocks of its switches are written, in any
-/// order: for a LID each switch has the held entry or the next one, or drops its packets by the held tables.
+/// While tops and blocks of a fabric's switches are written, in any order, the fabric is in a change from the held to
+/// the next tables: each switch has the held entry for a LID or the next one, or drops its packets by the held tables.
 pub fn written_tables_are_in_change()
     ensures law { WrittenTablesAreInChange }
 {}

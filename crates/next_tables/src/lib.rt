@@ -1,5 +1,5 @@
-//! The tables to write next, from those that switches hold towards a plan's: whatever entries of both are mixed on the
-//! way, no packet that arrived is lost.
+//! The tables to write next, from the tables that switches hold towards a plan's. However entries of both are mixed on
+//! the way, no packet that arrived is lost.
 #![tactic(auto)]
 
 mod assembly;

@@ -1,4 +1,4 @@
-//! The next entries of the switches for a LID that the same end port holds in the held tables and in the plan.
+//! The next entries of the switches for a LID that one end port alone holds, both in the held tables and in the plan.
 ghost use Rattle.std.specs.Prelude.{◌≡◌, ◌↔◌, IfOk, IsTrue};
 ghost use Rattle.audit.specs.WalkEnds.{HaveEnded};
 ghost use Rattle.next_tables.specs.SwitchSteps.{agreed_by, agreed_of, arrives_by, chosen_by, hops_of};
@@ -10,10 +10,10 @@ use audit::{Cause, End, NextHop, SwitchStep, is_at};
 use std::alloc::{AllocError, Global};
 use subnet_view::EndPort;
 
-/// Returns the next entries of the switches, from what each switch does by the held tables and by the plan. Takes some
-/// steps for each switch and walk, by the number of digits of the longest way's length. There is one walk; a second if
-/// the held tables and the plan differ; and a third if from some switch neither the plan leads on nor the held tables
-/// deliver.
+/// Returns the next entries of the switches, from what each switch does by the held tables and by the plan. Follows the
+/// walks from all switches once. Follows them a second time if the held tables and the plan differ, and once more if
+/// there is a switch from which neither the plan leads on nor the held tables deliver. Each time takes some steps for
+/// each switch, in proportion to the number of binary digits of the longest way's length.
 pub(crate) fn next_entries(
     alloc: Global,
     port: &EndPort,
@@ -34,7 +34,7 @@ pub(crate) fn next_entries(
 }
 
 /// Returns the next entries of the switches. `settled` has the ends of the walks by entries that are in both tables,
-/// `delivered` those of the walks by the held tables.
+/// `delivered` the ends of the walks by the held tables.
 fn entries_by(
     alloc: Global,
     port: &EndPort,
@@ -77,7 +77,8 @@ fn is_same_hop(hop: &NextHop, other: &NextHop) -> bool
     *hop == *other
 }
 
-/// Returns the next hop of each switch by the entry that is in both tables.
+/// Returns, for each switch, its next hop if its entries in both tables are equal; a switch with different entries
+/// drops the packet.
 fn agreed(
     alloc: Global,
     held: &[SwitchStep],
@@ -91,7 +92,7 @@ fn agreed(
         .collect(alloc)
 }
 
-/// Returns the next hop of a switch if its entry is the same in both tables; a switch with different entries drops the
+/// Returns the next hop of a switch if its entries in both tables are equal; a switch with different entries drops the
 /// packet.
 fn agreed_by(held: &SwitchStep, plan: &SwitchStep) -> NextHop
     ensures { result ≡ agreed_by (held.now, plan.now) }
@@ -143,7 +144,7 @@ fn mending(
 }
 
 /// Returns the next hop of a switch while mending: delivery at `port` if the held tables deliver from there, the held
-/// hop if the switch forwards the packet, and else the plan's hop.
+/// hop if the switch forwards the packet, otherwise the plan's hop.
 fn mending_by(
     port: &EndPort,
     delivered: &[NextHop],
@@ -159,14 +160,14 @@ fn mending_by(
     }
 }
 
-/// Returns the held hop if the switch forwards the packet, and else the plan's hop.
+/// Returns the held hop if the switch forwards the packet, otherwise the plan's hop.
 fn patch_by(held: &SwitchStep, plan: &SwitchStep) -> NextHop
     ensures { result ≡ patch_by (held.now, plan.now) }
 {
     if is_to(&held.hop) { held.hop } else { plan.hop }
 }
 
-/// Returns the held entry if the switch forwards the packet, and else the plan's entry.
+/// Returns the held entry if the switch forwards the packet, otherwise the plan's entry.
 fn patch_entry_by(held: &SwitchStep, plan: &SwitchStep) -> u8
     ensures { result ≡ patch_entry_by (held.now, plan.now) }
 {
@@ -198,7 +199,7 @@ fn chosen(
 }
 
 /// Returns the next entry of a switch: the plan's if it leads on, the held one if it delivers, the mending one if that
-/// arrives, and else 255.
+/// arrives, otherwise 255.
 fn next_by(
     port: &EndPort,
     settled: &[NextHop],

@@ -15,7 +15,7 @@ use audit::{NextHop, SwitchStep, is_at};
 use std::alloc::{AllocError, Global};
 use subnet_view::EndPort;
 
-/// What is known of each switch before any takes another entry.
+/// What is known of each switch before any switch changes its entry.
 #[derive(Drop)]
 struct SwitchFlags {
     /// For each switch, whether the held tables deliver the packet from there.
@@ -26,9 +26,9 @@ struct SwitchFlags {
     entered: Vec<bool>,
 }
 
-/// Returns the next entries of the switches towards an end port, from what each switch does by the held tables and by
-/// the goal's, and its position. Takes some steps for each switch and two walks, by the number of digits of the longest
-/// way's length.
+/// Returns the next entries of the switches towards `port`, from each switch's position and what it does by the held
+/// tables and by the goal's. Follows the walks from all switches twice. Each time takes some steps for each switch, in
+/// proportion to the number of binary digits of the longest way's length.
 pub(crate) fn ordered_entries(
     alloc: Global,
     port: &EndPort,
@@ -131,7 +131,8 @@ fn none_entered(alloc: Global, count: usize) -> Result<Vec<bool>, AllocError>
     vec![in alloc; false; count]
 }
 
-/// Notes that the packet comes down from the switch at `index`, if it does so by an entry that is not the goal's.
+/// Sets the flag of the switch to which the packet comes down from the switch at `index`, if it does so by an entry
+/// that is not the goal's.
 fn enter(
     entered: &mut [bool],
     positions: &[usize],
@@ -150,7 +151,7 @@ fn enter(
     }
 }
 
-/// Returns the step that each switch tries: the goal's if it may change to that, and else the held one.
+/// Returns the step that each switch tries: the goal's if it may change to that, otherwise the held one.
 fn tried(
     alloc: Global,
     port: &EndPort,
@@ -235,7 +236,7 @@ fn flag(flags: &[bool], index: usize) -> bool
     flags.get(index).copied().unwrap_or(false)
 }
 
-/// Returns, for each switch, the entry that it tries if the tried entries deliver the packet from there, and else 255.
+/// Returns, for each switch, the entry that it tries if the tried entries deliver the packet from there, otherwise 255.
 fn entries_by(alloc: Global, port: &EndPort, tried: &[SwitchStep]) -> Result<Vec<u8>, AllocError>
     ensures { IfOk result (λ entries. entries.items ≡ entries_by port.now tried.now) }
 {
@@ -244,7 +245,7 @@ fn entries_by(alloc: Global, port: &EndPort, tried: &[SwitchStep]) -> Result<Vec
     entries_where(alloc, port, &ends, tried)
 }
 
-/// Returns, for each switch, the entry of its step if the walk from there arrives at `port`, and else 255. `ends` has
+/// Returns, for each switch, the entry of its step if the walk from there arrives at `port`, otherwise 255. `ends` has
 /// the ends of the walks.
 fn entries_where(
     alloc: Global,
@@ -262,7 +263,7 @@ fn entries_where(
         .collect(alloc)
 }
 
-/// Returns the entry of `step` if the walk from the switch at `index` arrives at `port`, and else 255. `ends` has the
+/// Returns the entry of `step` if the walk from the switch at `index` arrives at `port`, otherwise 255. `ends` has the
 /// ends of the walks.
 fn entry_by(port: &EndPort, ends: &[NextHop], index: usize, step: &SwitchStep) -> u8
     ensures { result ≡ entry_by (arrives_by port.now ends.now) (index, step.now) }

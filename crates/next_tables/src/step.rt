@@ -13,14 +13,15 @@ use plan_file::{Held, HeldLid};
 use smp_bytes::Lid;
 use std::alloc::{AllocError, Global};
 
-/// Returns the tables to write next by `rule`, from the held ones towards a plan's, both with the same facts. They have
-/// the plan's LIDs, and for each usable switch the greater of its tops and the next entry for each LID up to it. Costs
-/// what an audit of both tables takes, and for each LID three walks from the switches, or two by an order.
+/// Returns the tables to write next by `rule`, from the held tables towards a plan's, both with the same facts. They
+/// have the plan's LIDs. For each usable switch they have the greater of its tops, and the next entry for each LID up
+/// to that top. Costs what an audit of both tables takes, and for each LID three walks from the switches, or two by an
+/// order.
 ///
 /// # Errors
 ///
-/// `Moves`, with the first LID that the plan gives to an end port and the held tables to another; `Memory` only if
-/// there is no such LID.
+/// Returns `Moves` with the first LID that the plan gives to an end port and the held tables give to another. Returns
+/// `Memory` only if there is no such LID.
 pub fn next_tables(
     alloc: Global,
     rule: &StepRule,
@@ -38,7 +39,7 @@ pub fn next_tables(
     }
 }
 
-/// Returns the first LID that the plan gives to an end port and the held tables to another.
+/// Returns the first LID that the plan gives to an end port and the held tables give to another.
 fn first_moved(held: &Network, plan: &Network) -> Option<Lid>
     ensures { result ≡ first_moved held.now.held plan.now.held }
 {
@@ -49,14 +50,14 @@ fn first_moved(held: &Network, plan: &Network) -> Option<Lid>
         .map(|line| line.lid)
 }
 
-/// Returns whether another end port than the line's holds the line's LID.
+/// Returns whether an end port other than the line's holds the line's LID.
 fn moves(held: &Network, line: &HeldLid) -> bool
     ensures { result ≡ moves held.now.held line.now }
 {
     !held.is_sole_owner(line)
 }
 
-/// Returns the tables to write next, given that no LID moves.
+/// Returns the tables to write next. The caller has checked that no LID moves.
 fn tables(
     alloc: Global,
     rule: &StepRule,

@@ -1,5 +1,5 @@
--- What telling the order of tables from files does: it reads all files and writes the order, or says which file it
--- refuses.
+-- What a run that tells the order of tables does: it reads all files and writes the order, or returns the fault of a
+-- file.
 use Rattle.std.specs.Prelude.{◌≡◌, ◌⊎◌, ℕ, Bool, List, [], Option, None, Some, is_some, length, map, reverse}
 use Rattle.std.specs.List.{range_with_len}
 use Rattle.byte_io.specs.Source.{SourceState}
@@ -19,8 +19,8 @@ abbrev pub told_switches : Cells → Option (List ℕ) → List ℕ
 told_switches cells None = []
 told_switches cells (Some taken) = map (switch_at cells) (reverse taken)
 
--- the order that the tables tell was written; if several switches may be taken, the one with the greatest GUID is;
--- `has_order` is whether an order is told
+-- the order that the tables tell was written. Of several switches that may be taken, the one with the greatest GUID is.
+-- `has_order` says whether they tell an order
 pub record IsTelling (facts : Facts) (held : HeldPlan) (prints : List ℕ → Type 0) (has_order : Bool) : Type 0 where
   pub order : Option (List ℕ)
   pub told : IsTold (cells_of facts) held (range_with_len 0 (length (switches (cells_of facts)))) order
@@ -41,7 +41,7 @@ pub record FailsToTell {S : Type 0} (state : S → SourceState) (floor : ℕ) (o
   pub read : AreTablesAndFiles state floor olds news read_are
   pub why : IsAnswerFault sink_failed fault
 
--- why a run over open inputs ends early: the inputs are not read, or the order is not written
+-- why a run over open inputs fails: the inputs are not read, or the order is not written
 abbrev pub IsOrderFault : {S : Type 0} → (S → SourceState) → ℕ → List S → List S → Bool → Fault → Type 0
 IsOrderFault state floor olds news sink_failed fault =
     AreNoTablesAndFiles state 0 olds news fault ⊎ FailsToTell state floor olds news sink_failed fault

@@ -1,5 +1,5 @@
-//! The order of the switches that tables tell, from files: reads the tables that switches hold, and the files that say
-//! which subnet this is.
+//! The order of the switches that tables tell, from files. Reads the tables that switches hold, and the files that
+//! describe the subnet.
 #![tactic(auto)]
 
 mod order_run;

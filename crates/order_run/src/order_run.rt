@@ -1,4 +1,4 @@
-//! The order that a text of tables tells in the subnet of files.
+//! The order of the switches that a text of tables tells, in the subnet that files describe.
 ghost use Rattle.std.specs.Prelude.{◌≡◌, ◌≤◌, ◌⊎◌, Err, IfErr, IfOk, IsTrue, OnErr, OnOk, false, length, map, reverse};
 ghost use Rattle.std.specs.List.{range_with_len};
 ghost use Rattle.std.specs.Io.KnownBytes.{Appends};
@@ -20,8 +20,8 @@ use std::alloc::{AllocError, Global};
 use told_order::told_order;
 
 /// Reads the tables from the first input, then the files in order. Writes the usable switches in an order by which
-/// these tables send no packet, for whatever LID, down and then up again: a line for each switch, its GUID with `0x`
-/// before it. Writes nothing if there is no such order. Returns whether there is one.
+/// these tables send no packet, for any LID, down and then up again: for each switch, a line with `0x` and its GUID.
+/// Writes nothing if there is no such order. Returns whether there is one.
 ///
 /// # Errors
 ///
@@ -70,8 +70,8 @@ fn answer<W: Sink>(alloc: Global, sink: &mut W, store: &Store, held: &Held) -> R
     Ok(order.is_some())
 }
 
-/// Returns the order that the network's tables tell, as indices of switches, the last switch first. If several switches
-/// may be taken, the one with the greatest GUID is.
+/// Returns the order that the network's tables tell, as indices of switches, the last switch first. Of several switches
+/// that may be taken, the one with the greatest GUID is taken.
 fn order_of(alloc: Global, network: &Network) -> Result<Option<Vec<usize>>, AllocError>
     ensures { IfOk result (λ order. IsTold (cells_of network.now.facts) network.now.held
         (range_with_len 0 (length (switches (cells_of network.now.facts)))) (option_map (λ taken. taken.items) order)) }

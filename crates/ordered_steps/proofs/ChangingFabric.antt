@@ -1,4 +1,4 @@
--- In a fabric whose switches go over to tables that are next by an order, packets that the held tables deliver arrive.
+-- In a fabric whose switches go over to next tables by an order, packets that the held tables deliver arrive.
 use Rattle.std.proofs.Common.{ℕ, zero, suc, ◌+◌, ◌-◌, ◌*◌, ◌<◌, ◌≤◌, List, length, sym, ap, subst, arith, inl, inr}
 use Rattle.std.proofs.lemmas.List.{length-map}
 use Rattle.fabric_model.specs.Fabric.{Fabric}

@@ -1,4 +1,4 @@
--- Steps by an order end in tables that are right by each order by which the goal is.
+-- Steps by an order end in tables that are right by each order by which the goal is right.
 use Rattle.std.proofs.Common.{◌≡◌, ℕ, zero, suc, ◌<◌, ◌≤◌, ◌*◌, Bool, true, false, cond, length, refl, sym, ap, ◌∙◌, arith, inl, inr}
 use Rattle.std.proofs.lemmas.List.FromFn.{get_or-map-range_with_len}
 use Rattle.subnet_view.specs.Reading.{Cells, switches}
@@ -25,7 +25,7 @@ module _ (cells : Cells) (q : ℕ → ℕ) (goal : HeldPlan) (line : HeldLid) (t
     (rule : (n : ℕ) → IsNextByOrder cells q (tables n) goal line (tables (suc n)))
     (taken : (i : ℕ) → i < length (switches cells) → step_at cells (tables 0) line.lid (switch_at cells i) ≡ Ends (Taken line.port)
     → DeliverFrom cells goal line i) where
-  -- the goal delivers where it brings the packet to the port at once
+  -- the goal delivers from a switch that sends the packet straight to the port by it
   at_once : (i : ℕ) → i < length (switches cells) → step_at cells goal line.lid (switch_at cells i) ≡ Ends (Taken line.port) → DeliverFrom cells goal line i
   at_once i less h = (1, at_mapped (step_at cells goal line.lid) (switches cells) i (To i) less ∙ h)
 
@@ -44,7 +44,7 @@ module _ (cells : Cells) (q : ℕ → ℕ) (goal : HeldPlan) (line : HeldLid) (t
             at_once i less (taken_same cells (tables (suc n)) goal line.lid g line.port (own ∙ sym (owned cells q goal line tables are n)) c.0 h)
       ]
 
-  -- what is tried delivers only from where the goal does
+  -- the tried entries deliver only from switches from which the goal does
   tried_so : (m n i : ℕ) → i < length (switches cells) → after n (tried cells q (tables m) goal line) (To i) ≡ Ends (Taken line.port)
       → DeliverFrom cells goal line i
   tried_so m zero i less h = absurd (cc)

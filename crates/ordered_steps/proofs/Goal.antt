@@ -98,7 +98,7 @@ module _ (cells : Cells) (q : ℕ → ℕ) (held goal next : HeldPlan) (line : H
       by false (inl k) = absurd (cc)
       by false (inr k) = k
 
--- the goal's entries are held all along its way, of so many switches
+-- the goal's entries are held all along its way, which meets n switches
 abbrev pub Settled : Cells → HeldPlan → HeldPlan → HeldLid → ℕ → ℕ → Type 0
 Settled cells held goal line zero i = ⊥
 Settled cells held goal line (suc n) i =
@@ -148,7 +148,7 @@ module _ (cells : Cells) (q : ℕ → ℕ) (held goal next : HeldPlan) (line : H
         | inr t ↦ (s.0, entry, inr (t.0, t.1, settled_stays n t.0 t.2))
       ])
 
-  -- where the goal's entry may be taken and leads on, it is
+  -- if the goal's entry may be taken and leads on, it is taken
   pub settles : (n i : ℕ) → i < length (switches cells) → may_change cells q held goal line i (switch_at cells i) ≡ true → By n i
       → Settled cells next goal line (suc n) i
   settles n i less may (inl e) =
@@ -277,7 +277,7 @@ module _ (cells : Cells) (q : ℕ → ℕ) (goal : HeldPlan) (line : HeldLid) (t
       subst (λ (x : ℕ). Settled cells (tables x) goal line n i) e
       (more k n (suc m) i (settled_stays cells q (tables m) goal (tables (suc m)) line (step_is m) n i s))
 
-  -- by the goal a packet goes on to where it is delivered
+  -- by the goal a packet goes to the port, or to a switch from which the goal delivers
   first_of_goal : (i : ℕ) → i < length (switches cells) → DeliverFrom cells goal line i
       → (step_at cells goal line.lid (switch_at cells i) ≡ Ends (Taken line.port))
       ⊎ ((j : ℕ) × (step_at cells goal line.lid (switch_at cells i) ≡ To j) × DeliverFrom cells goal line j)

@@ -1,4 +1,4 @@
--- Packets that arrive by the goal do so after the steps.
+-- Packets that arrive by the goal arrive after the steps.
 use Rattle.std.proofs.Common.{ℕ, ◌*◌, ◌≤◌, ◌<◌, length, sym, ap, ◌∙◌, arith}
 use Rattle.std.proofs.lemmas.List.{length-map}
 use Rattle.subnet_view.specs.Reading.{Cells, switches}

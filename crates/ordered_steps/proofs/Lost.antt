@@ -1,4 +1,4 @@
--- None that arrives is lost.
+-- No packet that arrives is lost.
 use Rattle.std.proofs.Common.{◌≡◌, ℕ, zero, suc, ◌<◌, ◌+◌, ◌*◌, Bool, true, false, cond, List, length, Some, refl, sym, ap, ◌∙◌, subst, arith, inl, inr, ◌⊎◌}
 use Rattle.std.specs.Prelude.{not, ◌||◌}
 use Rattle.std.proofs.lemmas.Bool.{and_parts}
@@ -168,7 +168,7 @@ module _ (cells : Cells) (q : ℕ → ℕ) (held goal next : HeldPlan) (line : H
       by s is_s zero h = absurd (cc)
       by s is_s (suc n) h = onwards s is_s n (sym (ap (after n H) (steps_at held i d.0 ∙ is_s)) ∙ h)
 
-  -- where the goal's entry is taken
+  -- if the goal's entry is taken
   goal_brings : (i : ℕ) → D i → may_change cells q held goal line i (switch_at cells i) ≡ true → Brought (step_at cells goal lid (switch_at cells i)) i
   goal_brings i d may =
       by (step_at cells goal lid (switch_at cells i)) refl (may_turn cells q held goal line i (switch_at cells i) may)

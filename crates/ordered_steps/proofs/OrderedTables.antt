@@ -1,4 +1,4 @@
--- What is computed by an order are next tables by the order.
+-- The tables that are computed by an order are next tables by that order.
 use Rattle.std.proofs.Common.{◌≡◌, ℕ, List, Some, refl, sym, ap, ◌∙◌}
 use Rattle.std.specs.Prelude.{slice_get, unwrap_or}
 use Rattle.fact_store.specs.View.{Facts, cells_of}

@@ -1,4 +1,4 @@
--- Every packet ends, and the next tables deliver or drop; and tables of all LIDs.
+-- Every packet ends, and the next tables deliver or drop it; and the tables of all LIDs.
 use Rattle.std.proofs.Common.{◌≡◌, ℕ, zero, suc, ◌<◌, ◌≤◌, ◌+◌, ◌*◌, Bool, true, false, cond, List, [], ◌∷◌, length, Option, None, Some, refl, sym, ap, ◌∙◌, subst, arith, inl, inr, ◌⊎◌}
 use Rattle.std.specs.Prelude.{◌==◌}
 use Rattle.std.proofs.lemmas.List.FromFn.{get_or-map-range_with_len, length-map-range_with_len}
@@ -149,7 +149,7 @@ module _ (cells : Cells) (q : ℕ → ℕ) (held goal next : HeldPlan) (line : H
   abbrev X : List NextHop
   X = next_hops_of cells next line.lid
 
-  -- where what is tried delivers, the next tables do as it does
+  -- if the tried entries deliver from a switch, the next tables do there what these do
   does : (i : ℕ) → i < length (switches cells) → Comes line.port U (To i) → (at U i ≡ Ends (Taken line.port) → at X i ≡ Ends (Taken line.port))
       × ((j : ℕ) → at U i ≡ To j → at X i ≡ To j)
   does i less c =

@@ -1,4 +1,4 @@
--- What is told of rightness is so.
+-- The test of rightness is exact.
 use Rattle.std.proofs.Common.{◌≡◌, ℕ, zero, suc, ◌+◌, ◌-◌, ◌<◌, ◌≤◌, Bool, true, false, cond, List, [], ◌∷◌, length, get_or, None, Some, refl, sym, ap, ◌∙◌, subst, arith, inl, inr, ◌&&◌}
 use Rattle.std.specs.Prelude.{not, map, slice_index_or, Option, Contains}
 use Rattle.std.specs.List.{list_all, range_with_len}
@@ -59,7 +59,7 @@ module _ (q : ℕ → ℕ) (edges : List (Option Edge)) where
       ap (λ o. option_map_or (λ (e : Edge). not (is_down q i e.to && leaves_up q edges e.to)) o true) h
       ∙ ap (λ o. not (is_down q i first.to && option_map_or (λ (e : Edge). is_up q first.to e.to) o false)) k
 
-  -- an index is well where no two edges are bad
+  -- an index passes if no two edges there make a bad turn
   well : (i : ℕ) → ((first second : Edge) → slice_index_or edges i None ≡ Some first → slice_index_or edges first.to None ≡ Some second
       → is_bad q i first.to second.to ≡ false) → goes_well q edges i ≡ true
   well i none =

@@ -61,7 +61,7 @@ module _ (cells : Cells) (q : ℕ → ℕ) (held goal : HeldPlan) (lid : ℕ) (h
       let entry = eqb-true (entry_for held lid (switch_at cells j)) (entry_for goal lid (switch_at cells j)) same in
       leads_same_at cells held goal lid j k l entry
 
-  -- a switch sends packets on by the held tables, or by the goal's where that turns well
+  -- a switch sends packets on by the held tables, or by the goal's if that turns well
   abbrev pub Goes : ℕ → ℕ → Type 0
   Goes i j = Leads cells held lid i j ⊎ (Leads cells goal lid i j × (turns_well cells q held goal lid i (To j) ≡ true))
 

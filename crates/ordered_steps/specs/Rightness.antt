@@ -1,4 +1,4 @@
--- Whether tables are right by an order, as it is computed.
+-- A test of whether tables are right by an order.
 use Rattle.std.specs.Prelude.{◌≡◌, ◌↔◌, ◌≤◌, ℕ, ◌&&◌, not, Bool, true, false, List, length, Option, None, slice_index_or}
 use Rattle.std.specs.List.{list_all, range_with_len}
 use Rattle.std.specs.Option.{option_map_or}
@@ -17,11 +17,11 @@ abbrev pub goes_well : (ℕ → ℕ) → List (Option Edge) → ℕ → Bool
 goes_well q edges i =
     option_map_or (λ e. not (is_down q i e.to && leaves_up q edges e.to)) (slice_index_or edges i None) true
 
--- packets for a LID go down and then up again at no switch
+-- packets for a LID never go down and then up again
 abbrev pub is_right_column : (ℕ → ℕ) → List (Option Edge) → Bool
 is_right_column q edges = list_all (goes_well q edges) (range_with_len 0 (length edges))
 
--- packets go down and then up again for no LID that any switch has an entry for
+-- packets never go down and then up again, for each LID up to the greatest top
 abbrev pub are_right : Cells → (ℕ → ℕ) → HeldPlan → Bool
 are_right cells q tables =
     list_all (λ lid. is_right_column q (edges_of cells tables lid)) (range_with_len 1 (greatest_top cells tables))

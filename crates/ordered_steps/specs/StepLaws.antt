@@ -22,7 +22,7 @@ use Rattle.next_tables.specs.Next.{step_at}
 use Rattle.next_tables.specs.NextTables.{IsKept, by_order, next_tables, ordered_for}
 use Rattle.next_tables.specs.ByOrder.{IsOrder, AreApart, IsWired, Leads, is_up, switch_at, TurnsWell, AreRight, IsChoice, IsNextByOrder, IsTriedByOrder, numbers_by, position_at}
 
--- no turn is bad, whatever mixture holds when a packet comes to a switch, and whatever holds when it leaves
+-- no turn is bad, whichever mixture is held when a packet comes to a switch, and whichever when it leaves
 abbrev pub NoBadTurn : Type 0
 NoBadTurn =
     (cells : Cells) (q : ℕ → ℕ) (held goal next : HeldPlan) (lid : ℕ) → AreRight cells q held lid
@@ -43,7 +43,8 @@ pub record IsStep (cells : Cells) (q : ℕ → ℕ) (held goal next : HeldPlan) 
   pub goal_right : (lid : ℕ) → 1 ≤ lid → AreRight cells q goal lid
   pub choice : (lid : ℕ) → 1 ≤ lid → IsChoice cells q held goal lid next
 
--- in a step the numbers of channels by the order rise over all that waits, whatever the mixtures
+-- in a step the channels' numbers by the order rise from each channel to the channels that it waits for, whatever the
+-- mixtures
 abbrev pub NumbersRiseByOrder : Type 0
 NumbersRiseByOrder =
     (cells : Cells) (q : ℕ → ℕ) (held goal next : HeldPlan) → IsStep cells q held goal next
@@ -77,8 +78,8 @@ pub record IsLineStep (cells : Cells) (q : ℕ → ℕ) (held goal : HeldPlan) (
     pub goal_right : AreRight cells q goal line.lid
     pub is_next : IsTriedByOrder cells q held goal line next
 
--- a packet that the held tables deliver at the end port is delivered there by whatever loose mixtures of the held and
--- the next tables, even if they change while it travels
+-- a packet that the held tables deliver at the end port is delivered there by any loose mixtures of the held and the
+-- next tables, even if the mixture changes while the packet travels
 abbrev pub NoneIsLostByOrder : Type 0
 NoneIsLostByOrder =
     (cells : Cells) (q : ℕ → ℕ) (held goal next : HeldPlan) (line : HeldLid) → IsLineStep cells q held goal line next
@@ -90,8 +91,8 @@ NoneIsLostByOrder =
 abbrev pub DeliverFrom : Cells → HeldPlan → HeldLid → ℕ → Type 0
 DeliverFrom cells tables line i = IsEndOf (next_hops_of cells tables line.lid) (To i) (Some (Taken line.port))
 
--- steps towards a goal, by an order in which no two switches that a wire joins have the same position; a switch that
--- forwards packets by the first tables to one from which the goal delivers is one from which the goal delivers
+-- steps towards a goal, by an order in which two switches that a wire joins never have equal positions. If a switch
+-- forwards packets by the first tables to one from which the goal delivers, the goal delivers from this switch too
 pub record AreStepsByOrder (cells : Cells) (q : ℕ → ℕ) (goal : HeldPlan) (line : HeldLid) (tables : ℕ → HeldPlan)
     : Type 0 where
   pub order : IsOrder cells q
@@ -103,8 +104,8 @@ pub record AreStepsByOrder (cells : Cells) (q : ℕ → ℕ) (goal : HeldPlan) (
       → DeliverFrom cells goal line i
   pub steps : (n : ℕ) → IsTriedByOrder cells q (tables n) goal line (tables (suc n))
 
--- how many steps a switch takes: more than the switch to which the goal forwards packets from it; and if that leads up,
--- more than each earlier switch that is wired to it
+-- `depth` says how many steps a switch takes: more than the next switch by the goal takes; and if the goal's entry
+-- leads up, more than each earlier switch takes that is wired to it
 pub record IsDepth (cells : Cells) (q : ℕ → ℕ) (goal : HeldPlan) (line : HeldLid) (depth : ℕ → ℕ) : Type 0 where
   pub first : (i : ℕ) → 1 ≤ depth i
   pub next : (i j : ℕ) → Leads cells goal line.lid i j → DeliverFrom cells goal line j → depth j < depth i
@@ -121,7 +122,7 @@ EndInTheGoal =
     → (i g m : ℕ) → slice_get (switches cells) i ≡ Some g → DeliverFrom cells goal line i → depth i ≤ m
     → (entry_for (tables m) line.lid g ≡ entry_for goal line.lid g) × DeliverFrom cells (tables m) line i
 
--- a switch from which the goal delivers takes at most twice as many steps as there are switches
+-- a switch from which the goal delivers has the goal's entry after twice as many steps as there are switches
 abbrev pub EndInTwiceAsMany : Type 0
 EndInTwiceAsMany =
     (cells : Cells) (q : ℕ → ℕ) (goal : HeldPlan) (line : HeldLid) (tables : ℕ → HeldPlan)
@@ -139,8 +140,9 @@ HealByOrder =
     → (m : ℕ) → 2 * length (switches cells) ≤ m
     → IsBrought cells (tables m) line.lid source (Some (Taken line.port))
 
--- if the first tables deliver only from switches from which the goal delivers, no other switch has an entry in the end:
--- the tables are then right by each order by which the goal is right, and steps may go on by that order
+-- if the goal delivers from each switch that sends packets straight to the end port by the first tables, no other
+-- switch has an entry in the end: the tables are then right by each order by which the goal is right, and steps may go
+-- on by that order
 abbrev pub EndRightByAny : Type 0
 EndRightByAny =
     (cells : Cells) (q : ℕ → ℕ) (goal : HeldPlan) (line : HeldLid) (tables : ℕ → HeldPlan)
@@ -151,7 +153,7 @@ EndRightByAny =
     → (other : ℕ → ℕ) → AreRight cells other goal line.lid
     → (m : ℕ) → 1 ≤ m → 2 * length (switches cells) ≤ m → AreRight cells other (tables m) line.lid
 
--- a packet for `lid`, from wherever it is sent, ends by whatever mixtures of the held and the next tables: none loops
+-- a packet for `lid`, wherever it is sent, ends by any mixtures of the held and the next tables: none loops for ever
 abbrev pub AllEndByOrder : Type 0
 AllEndByOrder =
     (cells : Cells) (q : ℕ → ℕ) (held goal next : HeldPlan) (lid : ℕ) → IsOrder cells q → AreRight cells q held lid
@@ -181,14 +183,15 @@ AllAreStep =
     → AreNextByOrder cells q held goal next
     → IsStep cells q held goal next × ((lid : ℕ) → 1 ≤ lid → AreRight cells q next lid)
 
--- the next tables follow the rule for a LID that one end port alone holds in both tables
+-- the next tables have the next entries by the order for a LID that one end port alone holds in both tables
 abbrev pub AllFollowTheRule : Type 0
 AllFollowTheRule =
     (cells : Cells) (q : ℕ → ℕ) (held goal next : HeldPlan) (line : HeldLid) → AreNextByOrder cells q held goal next
     → IsKept held goal line → IsNextByOrder cells q held goal line next
 
 -- a packet that the held tables deliver at the end port of a line is delivered there while the fabric's switches go
--- over to the next tables, each at its own time, over no more wires than by settled entries
+-- over to the next tables, each at its own time, over at most twice as many wires as there are usable switches, and one
+-- more
 abbrev pub PacketsArriveByOrder : Type 0
 PacketsArriveByOrder =
     (facts : Facts) (q : ℕ → ℕ) (held goal next : HeldPlan) (line : HeldLid) (before : Fabric) (origin : NodePort)

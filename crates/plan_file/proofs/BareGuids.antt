@@ -1,4 +1,4 @@
--- GUIDs without the prefix, and small numbers, as the words' numbers are read.
+-- GUIDs without the prefix `0x`, and small numbers, read like the numbers of words.
 use Rattle.std.proofs.Common.{◌≡◌, ℕ, ◌-◌, ◌<◌, ◌≤◌, ◌^◌, false, leb, List, ◌++◌, length, min, None, Some, refl, arith}
 use Rattle.std.specs.Prelude.{codes, option_map}
 use Rattle.text_words.specs.Number.{number_of}

@@ -1,4 +1,4 @@
--- TextLine after line: what the lines so far leave, with those to come, is what the text says.
+-- Line after line: the lines so far and the lines to come together are what the text says.
 use Rattle.std.proofs.Common.{◌≡◌, ℕ, ◌+◌, ◌<◌, ◌≤◌, List, [], ◌∷◌, length, None, Some, Ok, Err, sym, ap, ◌∙◌, arith}
 use Rattle.text_words.specs.Text.{lines}
 use Rattle.plan_file.specs.PlanTextFault.{PlanLineFault}

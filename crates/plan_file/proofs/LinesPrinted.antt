@@ -1,4 +1,4 @@
--- The lines of a plan's text pass, and say what they were printed from.
+-- The lines of a plan's text have no fault, and say what they were printed from.
 use Rattle.std.proofs.Common.{◌≡◌, ℕ, zero, suc, ◌+◌, ◌<◌, ◌≤◌, ◌^◌, true, false, ltb, List, [], ◌∷◌, ◌++◌, Option, None, Some, Ok, refl, sym, subst, arith, append_assoc}
 use Rattle.std.specs.Prelude.{codes, decimal}
 use Rattle.std.specs.List.{AllByRecursion}

@@ -1,4 +1,4 @@
--- What a list contains that is put together from others.
+-- The elements of a list that is put together from other lists.
 use Rattle.std.proofs.Common.{ℕ, ◌+◌, ◌<◌, List, [], ◌∷◌, sym, ◌∙◌, subst, arith, inl, inr, map, ◌≡◌}
 use Rattle.std.specs.Prelude.{Contains}
 use Rattle.std.specs.List.{flat_map, range_with_len}

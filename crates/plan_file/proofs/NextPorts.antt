@@ -1,4 +1,4 @@
--- A rule of routing has a port only where it has a cost, and the port is one of a wire between switches.
+-- A rule of routing has a port only if it has a cost, and the port is that of a wire between switches.
 use Rattle.std.proofs.Common.{◌≡◌, ℕ, true, false, List, [], ◌∷◌, Option, None, Some, refl, sym, ◌∙◌, ◌==◌}
 use Rattle.std.specs.Prelude.{Contains, option_map}
 use Rattle.std.proofs.lemmas.Bool.{eqb-false}

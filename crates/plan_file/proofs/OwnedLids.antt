@@ -1,4 +1,5 @@
--- The lines of a plan's LIDs, one for each LID: who owns a LID has a line for it, and a line tells who owns its LID.
+-- The lines of a plan's LIDs, one for each LID: the owner of a LID has a line for it, and each line has the owner of
+-- its LID.
 use Rattle.std.proofs.Common.{◌≡◌, ℕ, ◌+◌, ◌-◌, ◌<◌, ◌≤◌, ◌^◌, Some, sym, ap, ◌∙◌, subst, arith}
 use Rattle.std.specs.Prelude.{Contains, option_map}
 use Rattle.std.specs.List.{filter_map}

@@ -1,4 +1,4 @@
--- Whatever a text says is in its ranges.
+-- The numbers that a text says are in their ranges, whatever the text is.
 use Rattle.std.proofs.Common.{◌≡◌, cond, ℕ, ◌+◌, ◌/◌, ◌%◌, ◌^◌, ◌≤◌, List, [], ◌∷◌, ◌++◌, length, Option, None, Some, Result, Ok, Err, refl, arith}
 use Rattle.std.specs.Prelude.{codes, option_map, option_and_then, nat_le, nat_lt, ◌==◌}
 use Rattle.std.specs.List.{AllByRecursion}

@@ -18,7 +18,7 @@ use Rattle.plan_file.specs.TextLine.{line_of}
 abbrev pub start : LastLines
 start = record { lid = None; switch = None; block = 0 }
 
--- what a line leaves for the order of the lines to come
+-- the state after a line, on which the order of later lines depends
 abbrev pub last_lines_after : LastLines → Item → LastLines
 last_lines_after last_lines Nothing = last_lines
 last_lines_after last_lines (Lid range) = record last_lines { lid = Some range.first }
@@ -29,7 +29,7 @@ last_lines_after last_lines (Block number entries) = record last_lines { block =
 abbrev pub fault_at : {T : Type 0} → ℕ → PlanTextError → Result T PlanLineFault
 fault_at number what = Err (record { line = number; wrong = what })
 
--- the LID or the end port of `held` is greater, given that the LID is not less
+-- `held`, whose LID is not less than that of `last`, comes after it: its LID or its end port is greater
 abbrev pub is_behind : HeldLid → HeldLid → Bool
 is_behind last held =
     nat_lt last.lid held.lid || nat_lt last.port.node held.port.node

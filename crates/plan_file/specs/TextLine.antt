@@ -51,7 +51,7 @@ block_line words =
     option_and_then (λ x. option_and_then (λ n. option_map (λ e. record { number = n; entries = e }) (entries_of x.1))
     (small_of 767 x.0)) (both words)
 
--- the line that these words are
+-- the line with these words
 abbrev pub line_in : List (List ℕ) → Option TextLine
 line_in [] = Some Empty
 line_in (word ∷ rest) =

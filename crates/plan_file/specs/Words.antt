@@ -1,4 +1,4 @@
--- The numbers, ports and entries that words write.
+-- The numbers, ports and entries that words spell.
 use Rattle.std.specs.Prelude.{ℕ, List, ◌++◌, Option, None, Some, codes, option_map, option_and_then, nat_le, if◌then◌else◌}
 use Rattle.std.specs.Result.{result_ok}
 use Rattle.hex.specs.Hex.{decode_sized}

@@ -129,7 +129,7 @@ impl Held {
         &self.blocks
     }
 
-    /// Returns the tables with what another line says.
+    /// Returns the tables with the content of another line added.
     pub(crate) fn with(self, item: Item) -> Result<Self, AllocError>
         ensures { IfOk result (λ held. held ≡ held_with self item) }
     {

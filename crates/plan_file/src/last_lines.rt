@@ -13,7 +13,7 @@ use subnet_view::EndPort;
 /// The first number that is no LID of an end port.
 const LID_END: u32 = Lid::UNICAST_END as u32;
 
-/// What the lines so far leave for the order of the lines to come.
+/// What the order of later lines depends on, from the lines so far.
 #[derive(Clone, Copy)]
 pub(crate) struct LastLines {
     /// The first LID of the last line of an end port.
@@ -116,8 +116,8 @@ fn lid(number: usize, last: Option<HeldLid>, line: LidLine) -> Result<Item, Plan
     lid_after(number, last, HeldRange { first, lmc })
 }
 
-/// Returns what the line of a LID says, after the line of the LID `last`, if there is one, given that its numbers are
-/// in range.
+/// Returns what the line of a LID says, after the line of the LID `last`, if there is one. The caller has checked that
+/// its numbers are in range.
 fn lid_after(number: usize, last: Option<HeldLid>, range: HeldRange) -> Result<Item, PlanLineFault>
     ensures { result ≡ lid_after number last range }
 {
@@ -141,7 +141,8 @@ fn lid_behind(number: usize, last: HeldLid, range: HeldRange) -> Result<Item, Pl
     }
 }
 
-/// Returns whether `held` comes after `last`: its LID or its end port is greater, given that its LID is not less.
+/// Returns whether `held`, whose LID is not less than that of `last`, comes after it: its LID or its end port is
+/// greater.
 fn is_behind(last: HeldLid, held: HeldLid) -> bool
     ensures { result ≡ is_behind last held }
 {

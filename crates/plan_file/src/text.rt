@@ -10,9 +10,9 @@ use crate::last_lines::LastLines;
 use std::alloc::Global;
 use text_words::{LinesFault, split_line};
 
-/// Reads a plan's text. It has a line for each end port, by its first LID and with its LMC if that is told; and for
-/// each switch, by rising GUID, its line and the lines of its blocks, by rising number. Lines end with LF or CR LF,
-/// empty ones are skipped, and `#` begins a comment:
+/// Reads a plan's text. It has a line for each end port, by first LID, with the end port's LMC if that is given. For
+/// each switch, by rising GUID, it has the switch's line and the lines of its blocks, by rising number. Lines end with
+/// LF or CR LF, empty ones are skipped, and `#` begins a comment:
 ///
 /// ```text
 /// lid 1 0000000000000010/0
@@ -25,7 +25,7 @@ use text_words::{LinesFault, split_line};
 ///
 /// # Errors
 ///
-/// The first fault of its lines; `Memory` only if they have none.
+/// Returns the first fault of the lines. Returns `Memory` only if they have none.
 pub fn parse(alloc: Global, text: &[u8]) -> Result<Held, PlanTextFault>
     ensures judged { JudgesButFor is_memory result (option_map LinesFault.Line (first_fault text.now)) }
     ensures held { IfOk result (λ held. held ≡ held_of text.now) }

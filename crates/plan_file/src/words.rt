@@ -1,4 +1,4 @@
-//! The numbers, ports and entries that words write.
+//! The numbers, ports and entries that words spell.
 ghost use Rattle.std.specs.Prelude.{◌≡◌, ◌≤◌, ◌==◌, IfSome, option_map, position};
 ghost use Rattle.text_words.specs.Quoted.{until};
 ghost use Rattle.plan_file.specs.Words.{small_of, bare_guid_of, port_of, entries_of};

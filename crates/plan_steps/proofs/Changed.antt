@@ -1,4 +1,4 @@
--- Changes that are made: each is read again, and what is apart from all of them stays.
+-- Changes to bits: each changed field reads as it was set, and fields apart from all changes stay.
 use Rattle.std.proofs.Common.{◌≡◌, ℕ, ◌+◌, ◌/◌, ◌%◌, ◌^◌, ◌<◌, ◌≤◌, List, [], ◌∷◌, refl, sym, ap, ◌∙◌, ⊎_elim, subst, arith, Bool, true, ◌&&◌, get_or}
 use Rattle.std.specs.Prelude.{Contains}
 use Rattle.std.proofs.lemmas.Bool.{and_parts}

@@ -1,4 +1,4 @@
--- The manager's LID is that of the first end port of its, by node GUID, since end ports come in that order.
+-- The manager's LID is the LID of its first end port by node GUID, since end ports come in that order.
 use Rattle.std.proofs.Common.{◌≡◌, ◌<◌, ℕ, suc, List, [], ◌∷◌, inl, inr, refl, sym, ap, ◌∙◌, subst, Bool, true, false, cond, ◌==◌, map, arith}
 use Rattle.std.proofs.lemmas.Bool.{eqb-true, eq-eqb, ltb-true, and_parts, and_from}
 use Rattle.std.specs.Prelude.{Contains, Option, None, Some, nat_lt}

@@ -1,4 +1,4 @@
--- What a function gives of the numbers from 0 on, one number further.
+-- A function mapped over the numbers from 0 on, and then over one number more.
 use Rattle.std.proofs.Common.{◌≡◌, ◌+◌, ℕ, List, [], ◌∷◌, ◌++◌, refl, ap, sym, ◌∙◌, arith}
 use Rattle.std.proofs.lemmas.List.{append_assoc, append-nil}
 use Rattle.std.proofs.lemmas.List.Elements.{filter_map-append}
@@ -23,10 +23,10 @@ module _ {X : Type 0} (h : ℕ → Option X) (n : ℕ) (before found : List X) (
       ∙ ap (λ xs. before ++ (all ++ xs)) last
       ∙ ap (λ xs. before ++ xs) (sym (filter_map-append h (range_with_len 0 n) (n ∷ [])) ∙ ap (filter_map h) (sym (range_more n)))
 
-  -- what it gives of the number is put at the end
+  -- the result for the next number is appended
   pub given_some : (x : X) → h n ≡ Some x → found ++ x ∷ [] ≡ before ++ filter_map h (range_with_len 0 (n + 1))
   given_some x e = given_more (Some x) e
 
-  -- where it gives nothing, nothing is
+  -- if there is no result, nothing is appended
   pub given_none : h n ≡ None → found ≡ before ++ filter_map h (range_with_len 0 (n + 1))
   given_none e = sym (append-nil found) ∙ given_more None e

@@ -1,4 +1,4 @@
--- Sets say what the plan asks for, and carry all else as it was read.
+-- Sets say what the plan asks for, and carry everything else as it was read.
 use Rattle.std.proofs.Common.{◌≡◌, ℕ, ◌+◌, ◌/◌, ◌^◌, ◌<◌, ◌≤◌, List, [], ◌∷◌, refl, sym, ap, ◌∙◌, subst, arith, Bool, true, false, get_or, drop, ⊎_elim}
 use Rattle.std.specs.Prelude.{Contains, Option, Some, None, option_map, ◌==◌, ◌&&◌, if◌then◌else◌, min}
 use Rattle.std.specs.Option.{option_map_or}

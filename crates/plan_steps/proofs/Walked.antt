@@ -1,4 +1,4 @@
--- What a function gives of a list that is walked by an index, one item further.
+-- A function mapped over a list that is walked by an index, and then over one item more.
 use Rattle.std.proofs.Common.{◌≡◌, ◌<◌, ◌+◌, ℕ, List, [], ◌∷◌, ◌++◌, ap, sym, ◌∙◌, drop, length, get_or}
 use Rattle.std.proofs.lemmas.List.{append_assoc}
 use Rattle.std.specs.Prelude.{Option, Some, None}
@@ -10,11 +10,11 @@ module _ {X Y : Type 0} (h : X → Option Y) (xs : List X) (i : ℕ) (x : X) (fo
   here : found ++ cons_option (h x) (filter_map h (drop (i + 1) xs)) ≡ all
   here = sym (ap (λ ys. found ++ filter_map h ys) (next_item xs i x inside at)) ∙ so_far
 
-  -- what it gives of the item is put at the end
+  -- the result for the next item is appended
   pub walked_some : (y : Y) → h x ≡ Some y → (found ++ y ∷ []) ++ filter_map h (drop (i + 1) xs) ≡ all
   walked_some y e =
       append_assoc found (y ∷ []) (filter_map h (drop (i + 1) xs)) ∙ sym (ap (λ o. found ++ cons_option o (filter_map h (drop (i + 1) xs))) e) ∙ here
 
-  -- where it gives nothing, nothing is
+  -- if there is no result, nothing is appended
   pub walked_none : h x ≡ None → found ++ filter_map h (drop (i + 1) xs) ≡ all
   walked_none e = sym (ap (λ o. found ++ cons_option o (filter_map h (drop (i + 1) xs))) e) ∙ here

@@ -1,4 +1,4 @@
--- Sixty-four bytes that stay such as fields and bits are written.
+-- Sixty-four bytes stay sixty-four bytes while fields and bits are written.
 use Rattle.std.proofs.Common.{◌≡◌, ℕ, zero, suc, ◌+◌, ◌-◌, ◌/◌, ◌^◌, ◌<◌, ◌≤◌, List, ◌++◌, ⊎_elim, inl, inr, sym, ap, ◌∙◌, subst, arith, length, get_or, append-nil}
 use Rattle.std.specs.Prelude.{replicate}
 use Rattle.std.specs.Int.{byte_at}

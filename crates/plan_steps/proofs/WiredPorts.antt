@@ -1,4 +1,4 @@
--- The ports on wires come by node GUID and port, since the keys of facts do.
+-- The ports on wires come in the order of node GUID and port, since the keys of facts do.
 use Rattle.std.proofs.Common.{◌≡◌, ℕ, [], ◌∷◌, inl, inr, refl, sym, ap, ap₂, ◌∙◌, Bool, true, false, cond, ◌||◌, ◌&&◌, ◌==◌, arith}
 use Rattle.std.proofs.lemmas.Option.{cond_some}
 use Rattle.std.proofs.lemmas.Bool.{and_parts}

@@ -1,4 +1,4 @@
--- What a Set of PortInfo or SwitchInfo carries besides what its step sets: what was read, if that is kept.
+-- What a Set of PortInfo or SwitchInfo carries in addition to what its step sets: what was read, if that is kept.
 -- InfiniBand Architecture Specification, Volume 1: subnet management, PortInfo and SwitchInfo.
 use Rattle.std.specs.Prelude.{ℕ, min, List, [], ◌∷◌, Option, Some, None, option_and_then, option_map, ◌==◌, if◌then◌else◌, replicate}
 use Rattle.smp_bytes.specs.Field.{Bits, Field, bits_in, number_in, with_bits, with_number}
@@ -55,7 +55,7 @@ or_default otherwise number = if number == 0 then otherwise else number
 abbrev pub link_local_prefix : ℕ
 link_local_prefix = 0xFE80000000000000
 
--- what stands in bits that a Set is to leave as they are
+-- the value of bits that a Set is to leave unchanged
 abbrev pub no_change : ℕ
 no_change = 0
 
@@ -72,7 +72,7 @@ abbrev pub mtu_of : List ℕ → Option (List ℕ) → ℕ
 mtu_of own None = bits_in neighbor_mtu own
 mtu_of own (Some far) = or_default (bits_in neighbor_mtu own) (min (bits_in mtu_cap own) (bits_in mtu_cap far))
 
--- the bits of PortInfo in which a Set carries something else than what was read
+-- the bits of PortInfo in which a Set carries another value than was read
 abbrev pub port_changes : PortRead → List Change
 port_changes read =
     record { bits = link_width_enabled; number = no_change }
@@ -85,7 +85,7 @@ port_changes read =
     ∷ record { bits = subnet_timeout; number = or_default one_second (bits_in subnet_timeout read.own) }
     ∷ record { bits = client_reregister; number = 0 } ∷ []
 
--- the bits of SwitchInfo in which a Set carries something else than what was read: a 1 clears PortStateChange
+-- the bits of SwitchInfo in which a Set carries another value than was read: a 1 clears PortStateChange
 abbrev pub switch_changes : List ℕ → List Change
 switch_changes read =
     record { bits = life_time_value; number = or_default one_second (bits_in life_time_value read) }
@@ -108,18 +108,18 @@ port_read cells sweep guid port =
 abbrev pub all_bytes : Field
 all_bytes = record { at = 0; len = 64 }
 
--- 64 bytes that are those of `read`
+-- the 64 bytes of `read`
 abbrev pub copied : List ℕ → List ℕ
 copied read = with_number all_bytes (number_in all_bytes read) (replicate 64 0)
 
--- PortInfo as a Set carries it: as it was read, but for the changes and the GID prefix; zeros if none is kept
+-- PortInfo as a Set carries it: as it was read, except for the changes and the GID prefix; zeros if none is kept
 abbrev pub carried_port : Option PortRead → List ℕ
 carried_port None = replicate 64 0
 carried_port (Some read) =
     changed (port_changes read)
     (with_number gid_prefix (or_default link_local_prefix (number_in gid_prefix read.own)) (copied read.own))
 
--- SwitchInfo as a Set carries it: as it was read, but for the changes; zeros if none is kept
+-- SwitchInfo as a Set carries it: as it was read, except for the changes; zeros if none is kept
 abbrev pub carried_switch : Option (List ℕ) → List ℕ
 carried_switch None = replicate 64 0
 carried_switch (Some read) = changed (switch_changes read) (copied read)

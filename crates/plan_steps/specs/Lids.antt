@@ -24,13 +24,13 @@ abbrev pub is_own_port : Cells → ℕ → ℕ → EndPort → Bool
 is_own_port cells port_guid port e =
     e.port == port && option_map_or (λ guid. guid == port_guid) (port_guid_of cells e.node e.port) false
 
--- the LID of the manager at the port with this GUID and number: that of the first end port with both, 0 if there is
--- none
+-- the LID of the manager at the port with this GUID and number: the LID of the first end port with both, or 0 if there
+-- is none
 abbrev pub own_lid : Cells → List (EndPort × ℕ) → ℕ → ℕ → ℕ
 own_lid cells given port_guid port = option_map_or (λ x. x.1) (find (λ x. is_own_port cells port_guid port x.0) given) 0
 
--- PortInfo with a LID and an LMC, the manager's LID and the state that is asked for; all else is carried over from what
--- was read
+-- PortInfo with a LID and an LMC, the manager's LID and the state that is asked for; everything else is carried over
+-- from what was read
 abbrev pub port_data : Option PortRead → ℕ × ℕ → ℕ → PortState → List ℕ
 port_data read range master state =
     with_bits port_state (number_of_state state)
@@ -56,7 +56,7 @@ lid_steps cells sweep master given = filter_map (owner_step cells sweep master g
 abbrev pub IsOwnPort : Cells → ℕ → ℕ → EndPort → Type 0
 IsOwnPort cells port_guid port e = (e.port ≡ port) × (port_guid_of cells e.node e.port ≡ Some port_guid)
 
--- `lid` is that of the manager's end port, at the node of the least GUID
+-- `lid` is the LID of the manager's end port, at the node of the least GUID
 pub record IsOwnLid (cells : Cells) (given : List (EndPort × ℕ)) (port_guid port lid : ℕ) : Type 0 where
   pub end : EndPort
   pub held : Contains given (end, lid)
@@ -68,12 +68,12 @@ abbrev pub HasNoOwnPort : Cells → List (EndPort × ℕ) → ℕ → ℕ → Ty
 HasNoOwnPort cells given port_guid port =
     (e : EndPort) (n : ℕ) → Contains given (e, n) → IsOwnPort cells port_guid port e → ⊥
 
--- `lid` is that of the manager's end port, or 0 if there is none
+-- `lid` is the LID of the manager's end port, or 0 if there is none
 abbrev pub IsOwnLidOr0 : Cells → List (EndPort × ℕ) → ℕ → ℕ → ℕ → Type 0
 IsOwnLidOr0 cells given port_guid port lid =
     IsOwnLid cells given port_guid port lid ⊎ (HasNoOwnPort cells given port_guid port × (lid ≡ 0))
 
--- if there is room for the LIDs, the manager's LID is that of its end port, or 0
+-- if there is room for the LIDs, the manager's LID is the LID of its end port, or 0 if there is none
 abbrev pub OwnLidLaw : Type 0
 OwnLidLaw =
     (lmc : ℕ) (facts : Facts) → ¬ (IsNoRoom lmc (cells_of facts)) → (port_guid port : ℕ)

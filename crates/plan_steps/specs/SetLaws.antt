@@ -1,4 +1,4 @@
--- What Sets of PortInfo and SwitchInfo say and carry, in words.
+-- Laws of what Sets of PortInfo and SwitchInfo say and carry.
 use Rattle.std.specs.Prelude.{◌≡◌, ℕ, ◌<◌, ◌^◌, Bool, true, ◌&&◌, List, [], ◌∷◌, Contains, Option, Some, length, map}
 use Rattle.smp_bytes.specs.Field.{Bits, Field, are_apart, are_bits_apart, bits_in, number_in, with_bits}
 use Rattle.attr_codec.specs.PortInfo.{base_lid, gid_prefix, lmc, master_sm_lid, number_of_state, port_state, range_in}
@@ -52,28 +52,28 @@ are_outside (f ∷ fields) b = are_apart (record { at = b.at; len = 1 }) f && ar
 abbrev pub bits_of : List Change → List Bits
 bits_of changes = map (λ c. c.bits) changes
 
--- what a Set of PortInfo says otherwise than it was read: some fields, and some bits
+-- where a Set of PortInfo may differ from what was read: in these fields, and in these bits
 abbrev pub port_fields : List Field
 port_fields = base_lid ∷ master_sm_lid ∷ gid_prefix ∷ []
 
 abbrev pub port_bits : PortRead → List Bits
 port_bits read = port_state ∷ lmc ∷ bits_of (port_changes read)
 
--- what a Set of PortInfo has of what was read
+-- what a Set of PortInfo keeps of what was read, and what it changes
 pub record CarriesPort (read : PortRead) (payload : List ℕ) : Type 0 where
   pub others : (b : Bits) → are_outside port_fields b ≡ true → are_apart_from (port_bits read) b ≡ true
       → bits_in b payload ≡ bits_in b read.own
   pub changes : (c : Change) → Contains (port_changes read) c → bits_in c.bits payload ≡ c.number
   pub prefix : number_in gid_prefix payload ≡ or_default link_local_prefix (number_in gid_prefix read.own)
 
--- what a Set of SwitchInfo has of what was read
+-- what a Set of SwitchInfo keeps of what was read, and what it changes
 pub record CarriesSwitch (read payload : List ℕ) : Type 0 where
   pub others : (b : Bits) → are_outside (linear_fdb_top ∷ []) b ≡ true
       → are_apart_from (bits_of (switch_changes read)) b ≡ true
       → bits_in b payload ≡ bits_in b read
   pub changes : (c : Change) → Contains (switch_changes read) c → bits_in c.bits payload ≡ c.number
 
--- a Set leaves what was read as it is, but for what the plan asks for and for the changes
+-- a Set leaves what was read as it is, except for what the plan asks for and for the changes
 pub record SetsChangeNothingElse : Type 0 where
   pub port : (read : PortRead) (range : ℕ × ℕ) (master : ℕ) (state : PortState) → Are64Bytes read.own → range.1 < 8
       → CarriesPort read (port_data (Some read) range master state)
@@ -81,8 +81,8 @@ pub record SetsChangeNothingElse : Type 0 where
 
 -- two Sets of one port -------------------------------------------------------------------------------
 
--- the Set of a state at an end port says what the Set of its LID says, but for the state: so whichever comes last, no
--- LID and no LMC is taken back
+-- the Set of a state at an end port says what the Set of its LID says, except for the state: so whichever comes last,
+-- no LID and no LMC is taken back
 abbrev pub LidAndStateAgree : Type 0
 LidAndStateAgree =
     (cells : Cells) (sweep : Sweep) (given : Given) (master : ℕ) (state : PortState) (e : EndPort) (range : ℕ × ℕ)

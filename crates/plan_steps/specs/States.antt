@@ -31,7 +31,7 @@ wired_port cells (_, c) = None
 abbrev pub wired_ports : Cells → List (ℕ × ℕ)
 wired_ports cells = filter_map (wired_port cells) cells
 
--- a port is still to come to a state: it rises from Initialize over Armed to Active
+-- a port in the second state is to go on to the first: from Initialize to Armed or Active, and from Armed to Active
 abbrev pub is_due : PortState → PortState → Bool
 is_due Armed Initialize = true
 is_due Active Initialize = true
@@ -56,7 +56,7 @@ state_step cells sweep given master state at =
     (state_data (port_read cells sweep at.0 at.1) given master state at)
     else None
 
--- the steps that set `state` at each port on a wire that was reached and is to come to it, by node GUID and port
+-- the steps that set `state` at each port on a wire that was reached and is to go on to it, by node GUID and port
 abbrev pub state_steps : Cells → Sweep → Given → ℕ → PortState → List Step
 state_steps cells sweep given master state = filter_map (state_step cells sweep given master state) (wired_ports cells)
 

@@ -27,7 +27,7 @@ switch_steps sweep plan guid =
 abbrev pub block_steps : Sweep → PlanValue → List Step
 block_steps sweep plan = flat_map (switch_steps sweep plan) (switches_of plan)
 
--- SwitchInfo with the greatest LID that is forwarded; all else is carried over from what was read
+-- SwitchInfo with the greatest LID that is forwarded; everything else is carried over from what was read
 abbrev pub top_data : Option (List ℕ) → ℕ → List ℕ
 top_data read top = with_number linear_fdb_top top (carried_switch read)
 

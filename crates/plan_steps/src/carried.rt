@@ -1,4 +1,4 @@
-//! What a Set of PortInfo or SwitchInfo carries besides what its step sets.
+//! What a Set of PortInfo or SwitchInfo carries in addition to what its step sets.
 ghost use Rattle.std.specs.Prelude.{◌≡◌, ℕ, ◌<◌, Some};
 ghost use Rattle.fact_store.specs.View.{cells_of};
 ghost use Rattle.plan_steps.specs.Carried.{carried_port, carried_switch, far_image, mtu_of, or_default, port_read};
@@ -58,8 +58,8 @@ fn far_image(store: &Store, sweep: &Sweep, guid: Guid, port: PortNum) -> Option<
     sweep.port_image(far_node, far_port)
 }
 
-/// Returns PortInfo as a Set carries it: as it was read, with defaults for what no manager has set, the MTU of the wire,
-/// and "no change" where what is read must not be written back; zeros if nothing was kept.
+/// Returns PortInfo as a Set carries it: as it was read, with defaults for what no manager has set, the MTU of the
+/// wire, and "no change" where what is read must not be written back; zeros if nothing was kept.
 pub(crate) fn carried_port(read: Option<PortRead>) -> PortInfo
     ensures { result ≡ carried_port read }
 {
@@ -69,7 +69,7 @@ pub(crate) fn carried_port(read: Option<PortRead>) -> PortInfo
     }
 }
 
-/// Returns PortInfo that was read as a Set carries it, given what was read of the port across.
+/// Returns the PortInfo `own`, which was read of a port, as a Set carries it. `far` was read of the port across.
 fn carried_port_of(own: &[u8; 64], far: Option<PortInfo>) -> [u8; 64]
     ensures { result ≡ carried_port (Some (record { own = own.now; far = far })) }
 {
@@ -93,8 +93,8 @@ fn carried_port_of(own: &[u8; 64], far: Option<PortInfo>) -> [u8; 64]
     bytes
 }
 
-/// Returns the lesser of the MTUs that the two ends of a wire can take, if both say one, and otherwise the port's own as
-/// it was read.
+/// Returns the lesser of the MTUs that the two ends of a wire can take, if both say one. Otherwise returns the port's
+/// own MTU as it was read.
 fn mtu_of(own: &[u8; 64], far: Option<PortInfo>) -> u8
     ensures value { result ≡ mtu_of own.now far }
     ensures fits { result < 16 }
@@ -120,7 +120,7 @@ pub(crate) fn carried_switch(read: Option<SwitchInfo>) -> SwitchInfo
     }
 }
 
-/// Returns SwitchInfo that was read as a Set carries it.
+/// Returns the SwitchInfo `read`, which was read of a switch, as a Set carries it.
 fn carried_switch_of(read: &[u8; 64]) -> SwitchInfo
     ensures { result ≡ carried_switch (Some read.now) }
 {

@@ -1,17 +1,17 @@
-//! What the lists of steps are, in words.
+//! Laws of the steps of a plan.
 ghost use Rattle.plan_steps.specs.Bound.{PhaseBoundLaw};
 ghost use Rattle.plan_steps.specs.Lids.{OwnLidLaw};
 ghost use Rattle.plan_steps.specs.SetLaws.{LidAndStateAgree, SetsChangeNothingElse, SetsSayThePlan};
 ghost use Rattle.plan_steps.specs.States.{WiredPortsLaw};
 
-/// The manager's LID is that of the first end port, by node GUID, with its port GUID and number, or 0 without such a
-/// port, if there is room for the LIDs.
+/// If there is room for the LIDs, the manager's LID is the LID of the first end port, by node GUID, with the manager's
+/// port GUID and port number, or 0 if there is no such port.
 #[tactic(auto, using(crate::proofs::OwnLid::own_lid_law))]
 pub fn own_lid_is_of_the_first()
     ensures { OwnLidLaw }
 {}
 
-/// The list of ports on wires has each of them once, by node GUID and port, and nothing else.
+/// The list of ports on wires has each of these ports once, by node GUID and port, and nothing else.
 pub fn wired_ports_are_listed_in_order()
     ensures { WiredPortsLaw }
 {}
@@ -28,13 +28,13 @@ pub fn sets_say_the_plan()
     ensures { SetsSayThePlan }
 {}
 
-/// A Set leaves what was read as it is, but for what the plan asks for, "no change" in some bits, and defaults for what
-/// no manager has set.
+/// A Set leaves what was read as it is, except for what the plan asks for, "no change" in some bits, and defaults for
+/// what no manager has set.
 pub fn sets_change_nothing_else()
     ensures { SetsChangeNothingElse }
 {}
 
-/// The Set of a state at an end port says what the Set of its LID says, but for the state.
+/// The Set of a state at an end port says what the Set of its LID says, except for the state.
 pub fn lid_and_state_agree()
     ensures { LidAndStateAgree }
 {}

@@ -13,8 +13,8 @@ use std::alloc::{AllocError, Global};
 use subnet_view::EndPort;
 use sweep::Sweep;
 
-/// Returns the LID of the manager at the port `port` with the GUID `own_guid`: that of the first end port, by node
-/// GUID, with this port GUID and number, and 0 if there is none. Takes a search for each end port with the number.
+/// Returns the LID of the manager at the port `port` with the GUID `own_guid`: the LID of the first end port, by node
+/// GUID, with this port GUID and number, or 0 if there is none. Takes a search for each end port with the number.
 pub(crate) fn own_lid(store: &Store, lids: &LidMap, own_guid: Guid, port: PortNum) -> Lid
     ensures { result ≡ own_lid (cells_of store.now) lids.now.ports own_guid port }
 {
@@ -85,8 +85,8 @@ fn lid_step(
     )
 }
 
-/// Returns the PortInfo with a LID and an LMC, the manager's LID and the state that is asked for. Carries all else over
-/// from what was read.
+/// Returns the PortInfo with a LID and an LMC, the manager's LID and the state that is asked for. Carries over
+/// everything else from what was read.
 pub(crate) fn port_data(
     read: Option<PortRead>,
     lid: Lid,

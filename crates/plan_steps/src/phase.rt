@@ -15,7 +15,7 @@ use std::collections::VecDeque;
 use std::marker::Model;
 use sweep::Sweep;
 
-/// Steps that are sent together. Contracts see the list of them, and whether they count.
+/// Steps that are sent together. Contracts see the list of these steps, and whether they count.
 #[derive(Drop)]
 pub struct Phase {
     /// Whether the plan counts as written only if the steps were done.
@@ -38,7 +38,7 @@ impl Model for Phase {
 ///
 /// # Errors
 ///
-/// Only lack of memory.
+/// Returns an error only for lack of memory.
 pub fn phases(
     alloc: Global,
     plan: &Plan,

@@ -46,8 +46,8 @@ fn wired_port(store: &Store, sighting: &Sighting) -> Option<(Guid, PortNum)>
     }
 }
 
-/// Builds the step that sets `state` for each of `ports` that was reached and is still to come to that state, in their
-/// order. Takes some five searches for each, and some fifteen if images are kept.
+/// Builds the step that sets `state` for each of `ports`, in their order, that was reached and was seen in Initialize,
+/// or in Armed if `state` is Active. Takes some five searches for each port, and some fifteen if images are kept.
 #[tactic(auto, using(crate::proofs::Walked::walked_some, crate::proofs::Walked::walked_none))]
 pub(crate) fn state_steps(
     alloc: Global,
@@ -96,7 +96,7 @@ fn state_step(
     )
 }
 
-/// Returns whether the sweep saw the port in a state from which it is still to come to `state`.
+/// Returns whether the sweep saw the port in a state from which it is to go on to `state`.
 fn is_still_due(sweep: &Sweep, state: PortState, guid: Guid, port: PortNum) -> bool
     ensures { result ≡ option_map_or (is_due state) (seen_state sweep.now guid port) false }
 {
@@ -106,7 +106,8 @@ fn is_still_due(sweep: &Sweep, state: PortState, guid: Guid, port: PortNum) -> b
     }
 }
 
-/// Returns whether a port in the state `seen` is still to come to `state`.
+/// Returns whether a port in the state `seen` is to go on to `state`: from Initialize to Armed or Active, or from Armed
+/// to Active.
 fn is_due(state: PortState, seen: PortState) -> bool
     ensures { result ≡ is_due state seen }
 {

@@ -1,4 +1,4 @@
--- Lines that are printed one after the other: what comes first, and what is left then.
+-- Lines that are printed one after the other: the first, and those that are left.
 use Rattle.std.proofs.Common.{◌≡◌, ◌∙◌, [], ◌∷◌, ◌++◌, map, ℕ, suc, ◌+◌, ◌/◌, ◌<◌, ◌≤◌, List, Some, length, get_or, drop, add-one, refl, sym, ap, arith}
 use Rattle.std.specs.Prelude.{slice_get}
 use Rattle.std.specs.List.{flat_map}

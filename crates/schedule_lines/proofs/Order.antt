@@ -1,4 +1,4 @@
--- A sorted list whose ties stand as they stood is the list in order.
+-- A sorted list that keeps the order of items that tie is the list in order.
 use Rattle.std.proofs.Common.{◌≡◌, ◌∙◌, ℕ, suc, ◌<◌, ◌≤◌, List, [], ◌∷◌, length, get_or, Bool, true, false, cond, refl, sym, ap, subst, arith, not, ◌&&◌}
 use Rattle.std.specs.List.{filter}
 use Rattle.std.specs.List.Sorted.{IsSortedBy, IsStableBy, ties}
@@ -92,7 +92,7 @@ module _ {X : Type 0} (lt : X → X → Bool) (o : IsStrictWeakOrder lt) where
   rises_in_order [] = tt
   rises_in_order (x ∷ xs) = rises_put x (in_order lt xs) (rises_in_order xs)
 
-  -- of two, where one is less, not both tie with a third
+  -- two of which one is less do not both tie with a third
   both_tie : (z x y : X) → ties lt z x ≡ true → ties lt z y ≡ true → lt y x ≡ false
   both_tie z x y e f = o.chain y z x (second (lt z y) (lt y z) f) (first (lt z x) (lt x z) e)
     where

@@ -1,4 +1,4 @@
--- Texts that are printed one after the other, and how much of them where a run ends before its schedule does.
+-- Texts that are printed one after the other, and how much of them is printed if a run ends early.
 use Rattle.std.proofs.Common.{◌≡◌, ◌∙◌, ℕ, Bool, true, false, List, [], ◌++◌, append_assoc, Option, None, Some, Result, Ok, Err, refl, sym, ap, subst, IsTrue, ◌↔◌}
 use Rattle.std.specs.Prelude.{IsErr, OnOk}
 use Rattle.std.proofs.lemmas.List.{append-nil}

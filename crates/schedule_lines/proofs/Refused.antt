@@ -19,12 +19,12 @@ pub memory_is : (fault : ManagerFault) → is_memory fault ≡ true → fault �
 memory_is manager.Memory e = refl
 memory_is _ e = absurd (cc)
 
--- a refusal but for lack of memory is the fault that there is
+-- a refusal that is not lack of memory is the fault that there is
 pub but_for_memory : (fault : ManagerFault) (why : Option ManagerFault) → JudgesButFor is_memory (failed fault) why
     → is_memory fault ≡ false → why ≡ Some fault
 but_for_memory fault why judged e = judged ∙ ap (λ b. if b then None else Some fault) e
 
--- memory is wanting, or all that a call does is the line of its refusal
+-- memory was refused, or all that a call does is to print the line of its refusal
 pub Refuses : {S : Type 0} → ManagerFault → S → Outcome S → Type 0
 Refuses fault s run = (fault ≡ manager.Memory) ⊎ (run ≡ shows (manager_line fault) s)
 

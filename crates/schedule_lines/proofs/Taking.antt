@@ -1,4 +1,4 @@
--- Packets that are taken from a manager's queue: the first, and then the others.
+-- Packets taken from a manager's queue: the first, and then the others.
 use Rattle.std.proofs.Common.{◌≡◌, ◌∙◌, ◌<◌, List, [], ◌∷◌, None, Some, length, refl, sym, ap, arith}
 use Rattle.sm_manager.specs.declared.outgoing.Outgoing.{Outgoing}
 use Rattle.sm_manager.specs.Manager.{Manager, after_take_outgoing, taken_of}

@@ -1,4 +1,4 @@
--- One text behind another.
+-- One text after another.
 use Rattle.std.proofs.Common.{ℕ, Bool, List, ◌++◌, Option, Result, Ok, Err, ◌≡◌, subst}
 use Rattle.std.specs.Prelude.{IsErr}
 use Rattle.std.specs.Io.KnownBytes.{Appends}

@@ -26,11 +26,11 @@ stage_text Never = codes " never"
 stage_text (Running unanswered too_far) = codes " running" ++ counts_text unanswered too_far
 stage_text (Done unanswered too_far) = codes " done" ++ counts_text unanswered too_far
 
--- the name of a manager, if lines have one
+-- the name of a manager, if there is one
 abbrev pub name_of : Option (Bor (List ℕ)) → Option (List ℕ)
 name_of name = option_map (λ n. n.now) name
 
--- a word, and behind it a manager's name, if lines have one
+-- a word, and then a manager's name, if there is one
 abbrev pub head_text : List ℕ → Option (List ℕ) → List ℕ
 head_text word None = word
 head_text word (Some manager) = word ++ codes " " ++ manager
@@ -68,7 +68,7 @@ state_line manager state = head_text (codes "state") manager ++ end_word (state_
 abbrev pub trap_line : Option (List ℕ) → ℕ → List ℕ
 trap_line manager issuer = head_text (codes "trap") manager ++ count_text (codes " ") issuer ++ codes "\n"
 
--- the line of the trap that was repressed, empty if there is none
+-- the line of the trap that was repressed; empty if no trap was
 abbrev pub trap_text : Option (List ℕ) → Option Trap → List ℕ
 trap_text manager None = []
 trap_text manager (Some trap) = trap_line manager trap.issuer

@@ -4,13 +4,13 @@ use Rattle.std.specs.Io.KnownBytes.{Appends}
 use Rattle.schedule_lines.specs.declared.run_fault.RunFault.{RunFault}
 use Rattle.schedule_lines.specs.declared.run_fault.RunFault.TheVariants.{Write, Memory}
 
--- `text` stands behind what was written, and the output has not failed meanwhile
+-- `text` was appended to what was written, and the output has not failed meanwhile
 pub record Prints {W : Type 0} (written : W → Option (List ℕ)) (has_failed : W
     → Bool) (old new : W) (text : List ℕ) : Type 0 where
   pub grown : Appends (written old) (written new) text
   pub works : has_failed old ≡ false → has_failed new ≡ false
 
--- a beginning of `text` stands behind what was written, and the output has not failed meanwhile
+-- a beginning of `text` was appended to what was written, and the output has not failed meanwhile
 pub record PrintsSome {W : Type 0} (written : W → Option (List ℕ)) (has_failed : W
     → Bool) (old new : W) (text : List ℕ) : Type 0 where
   pub front : List ℕ

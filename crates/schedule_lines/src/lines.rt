@@ -40,7 +40,7 @@ pub fn write_progress<W: Sink>(
     sink.write(b"\n")
 }
 
-/// Prints `word`, and behind it the name of a manager if there is one.
+/// Prints `word`, and then the name of a manager if there is one.
 fn write_head<W: Sink>(sink: &mut W, word: &[u8], manager: Option<&str>) -> Result<(), WriteFault>
     ensures writes { Writes W.written W.has_failed result sink.old sink.new
         (head_text word.now (name_of manager.entry)) }

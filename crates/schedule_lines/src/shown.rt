@@ -14,7 +14,7 @@ use record_file::write_facts;
 use schedule_file::Shown;
 use sm_manager::{Manager, Trap};
 
-/// Prints something of a manager, with its name if there is one.
+/// Prints what `what` names of a manager, with the manager's name if there is one.
 #[tactic(auto, using(crate::proofs::Printing::wrote))]
 pub fn show_manager<W: Sink>(
     sink: &mut W,

@@ -1,4 +1,4 @@
--- A run of two texts that are sound: what it prints, and why it ends early.
+-- A run of two texts without a fault: what it prints, and why it fails.
 use Rattle.std.proofs.Common.{◌≡◌, ◌∙◌, ℕ, Bool, List, Option, inr, sym, ap, subst}
 use Rattle.topo_file.specs.Topology.{Layout}
 use Rattle.schedule_file.specs.Schedule.{Script}

@@ -40,7 +40,7 @@ abbrev pub schedule_fault : ℕ → List Node → List ℕ → Option Fault
 schedule_fault input nodes text =
     if is_utf8 text then fault_of_script input (schedule_of nodes text) else Some (Text input NotUtf8)
 
--- what is wrong with the topology at `input` or, if it is sound, with the text of the schedule behind it
+-- what is wrong with the topology at `input` or, if it is sound, with the text of the schedule after it
 abbrev pub fault_behind : ℕ → Result Layout TopoFault → List ℕ → Option Fault
 fault_behind input (Ok layout) schedule = schedule_fault (input + 1) layout.nodes schedule
 fault_behind input (Err fault) schedule = Some (Text input (Topology fault))
@@ -62,17 +62,17 @@ IsRefused first found (Text input fault) =
     ((input ≡ first) ⊎ (input ≡ first + 1)) × (is_of_text fault ≡ true → found ≡ Some (Text input fault))
 IsRefused first found fault = ⊥
 
--- lack of memory for a topology hides no fault of a line, except those of a link's peer and ports
+-- lack of memory for a topology hides no fault of a line, except faults of a link's peer and ports
 abbrev pub HidesLinksAlone : List ℕ → Fault → Type 0
 HidesLinksAlone topology (Text input (Topology topologies.Memory)) = first_line_fault topology ≡ None
 HidesLinksAlone topology _ = Unit {0}
 
--- lack of memory for a schedule hides no fault, except those below more than 64 managers
+-- lack of memory for a schedule hides no fault, except faults of lines below more than 64 managers
 abbrev pub HidesBelowManagers : List Node → List ℕ → Fault → Type 0
 HidesBelowManagers nodes schedule (Text input (Schedule schedules.Memory)) = IsSoundOrCrowded nodes (lines schedule)
 HidesBelowManagers nodes schedule _ = Unit {0}
 
--- the text of a schedule, behind the topology at `first`, is refused for its first fault, or memory was refused as it
+-- the text of a schedule, after the topology at `first`, is refused for its first fault, or memory was refused as it
 -- was judged
 pub record RefusesScript (first : ℕ) (nodes : List Node) (text : List ℕ) (fault : Fault) : Type 0 where
   pub refused : IsRefused first (schedule_fault (first + 1) nodes text) fault
@@ -170,8 +170,8 @@ texts_reader state = record {
   has_switch = λ setting. has_switch setting.topology.nodes;
 }
 
--- the inputs were read, the text that the rule takes and then topology and schedule, and `prints` holds of what their
--- run prints, by managers that plan under `lmc` and by the rule
+-- The inputs were read: the text that the rule takes, and then topology and schedule. `prints` holds of what their run
+-- prints, with managers that plan under `lmc` and by the rule
 pub record HasRun {S : Type 0} (state : S → SourceState) (lmc : ℕ) (asked : RuleAsked) (olds news : List S)
     (prints : List ℕ → Type 0) : Type 0 where
   pub rule : RuleValue
@@ -196,7 +196,7 @@ abbrev pub fault_of_run : RunFault → Fault
 fault_of_run runs.Write = Write
 fault_of_run runs.Memory = Memory
 
--- the run ended early; if memory was refused as it went on, `prints` holds of what it would have printed
+-- the run failed; if memory was refused as it went on, `prints` holds of what it would have printed
 abbrev pub StopsEarly : {S : Type 0} → (S → SourceState) → ℕ → RuleAsked → List S → List S
     → (List ℕ → Type 0) → Bool → Fault → Type 0
 StopsEarly state lmc asked olds news prints sink_failed Write =
@@ -205,7 +205,7 @@ StopsEarly state lmc asked olds news prints sink_failed Memory =
     HasRun state lmc asked olds news prints
 StopsEarly state lmc asked olds news prints sink_failed fault = ⊥
 
--- why a run over open inputs ends early
+-- why a run over open inputs fails
 abbrev pub IsRunFault : {S : Type 0} → (S → SourceState) → ℕ → RuleAsked → List S → List S
     → (List ℕ → Type 0) → Bool
     → Fault → Type 0

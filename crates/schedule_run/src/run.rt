@@ -24,9 +24,9 @@ use std::alloc::Global;
 /// is unspecified. If the fabric or a manager refuses a call, writes a line with the fault's name and goes on; only
 /// lack of memory ends the run. `docs/FORMATS.md` has the table of the commands.
 ///
-/// Takes the memory of the texts, of the fabric, and of what is in flight and known. A delivery costs one step for the
-/// packet of the least serial number (as in `drain`), otherwise a search, plus the manager's work if the packet comes
-/// to one.
+/// Takes memory for the texts, the fabric, the packets in flight, and the facts of managers. A delivery costs one step
+/// for the packet of the least serial number (as in `drain`), otherwise a search, plus the manager's work if the packet
+/// comes to one.
 pub fn run_schedule<S: Source, W: Sink>(
     alloc: Global,
     inputs: &mut [S],

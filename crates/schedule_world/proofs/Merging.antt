@@ -1,4 +1,4 @@
--- A manager that takes in what another knows.
+-- A manager that takes in the facts of another.
 use Rattle.std.proofs.Common.{◌≡◌, ◌∙◌, ℕ, zero, suc, ◌+◌, ◌-◌, ◌<◌, List, [], ◌∷◌, map, length, get_or, None, Some, refl, sym, ap, subst, arith}
 use Rattle.std.specs.Prelude.{option_map, slice_get}
 use Rattle.std.specs.List.{insert, remove}

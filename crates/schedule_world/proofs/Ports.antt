@@ -1,4 +1,4 @@
--- The GUID of a port where a manager may sit fits 64 bits.
+-- The GUID of a port at which a manager may sit fits 64 bits.
 use Rattle.std.proofs.Common.{◌≡◌, ℕ, ◌+◌, ◌<◌, ◌≤◌, ◌^◌, true, false, List, Some, subst, arith}
 use Rattle.std.specs.Prelude.{not, nat_le, slice_get}
 use Rattle.std.specs.Option.{option_map_or}

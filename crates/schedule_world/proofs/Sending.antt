@@ -1,4 +1,4 @@
--- Packets that are to go out: the first goes, and then the others.
+-- Packets to be sent: the first is sent, and then the others.
 use Rattle.std.proofs.Common.{◌≡◌, None, Some, ap}
 use Rattle.fabric_model.specs.declared.cable.NodePort.{NodePort}
 use Rattle.fabric_sim.specs.Changes.{after_inject}

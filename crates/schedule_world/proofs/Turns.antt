@@ -1,4 +1,4 @@
--- What comes first of several turns, and what is left then.
+-- Several turns: the first, and those that are left.
 use Rattle.std.proofs.Common.{◌≡◌, ◌∙◌, [], ◌∷◌, ℕ, zero, suc, ◌+◌, ◌-◌, ◌<◌, ◌≤◌, List, None, Some, length, get_or, drop, add-one, refl, sym, ap, arith}
 use Rattle.std.specs.Prelude.{slice_get}
 use Rattle.std.specs.Option.{option_map_or}

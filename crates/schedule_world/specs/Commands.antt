@@ -95,7 +95,7 @@ after_take w seat packet =
 unfoldable pub after_take_and_send : WorldValue → ℕ → Packet → Outcome WorldValue
 after_take_and_send w seat packet = and_then (after_take w seat packet) (λ now. after_send now seat)
 
--- the seat at a port, if a manager sits there by now
+-- the seat at a port, if a manager sits there already
 abbrev pub seat_at : WorldValue → NodePort → Option ℕ
 seat_at w p = if is_seat_at w.fabric p then position (λ s. is_same_port s.at p) w.managers else None
 
@@ -121,7 +121,8 @@ after_fate w Deliver serial = after_step w serial
 after_fate w Lose serial = after_fabric_call w (after_lose w.fabric serial)
 after_fate w Repeat serial = after_fabric_call w (after_repeat w.fabric serial)
 
--- `deliver`, `lose` or `repeat`: the packet that is meant meets its fate; there is no last one if none is in flight
+-- `deliver`, `lose` or `repeat`: the packet that is meant meets its fate; refused if the last one is meant and none is
+-- in flight
 unfoldable pub after_packet_line : WorldValue → Which → Fate → Outcome WorldValue
 after_packet_line w which fate =
     option_map_or (after_fate w fate) (serial_of w.fabric.flights which)
@@ -158,7 +159,7 @@ abbrev pub after_change : WorldValue → NodePort → NodePort → Result (Unit 
 after_change w p q (Ok done) = after_tell_ends w p q
 after_change w p q (Err fault) = quiet w
 
--- the same, for a cable with this other end
+-- the agents at `p` and at the cable's other end are told if the cable was cut
 abbrev pub after_parting : WorldValue → NodePort → Option NodePort → Result (Unit {0}) FabricFault → Outcome WorldValue
 after_parting w p other (Ok done) = option_map_or (after_tell_ends w p) other (quiet w)
 after_parting w p other (Err fault) = quiet w
@@ -183,7 +184,7 @@ after_traps_line w = after_fabric_call w (after_begin_traps w.fabric)
 abbrev pub after_resend : WorldValue → ℕ → Outcome WorldValue
 after_resend w id = after_fabric_call w (after_send_trap w.fabric id)
 
--- so many traps are sent again, from that of the node `id` on
+-- the traps that wait at `left` nodes are sent again, from the node `id` on
 abbrev pub after_resends : WorldValue → ℕ → ℕ → Outcome WorldValue
 after_resends w id zero = quiet w
 after_resends w id (suc left) = and_then (after_resend w id) (λ now. after_resends now (id + 1) left)
@@ -236,8 +237,8 @@ after_commands nodes w [] = quiet w
 after_commands nodes w (command ∷ later) =
     and_then (after_command nodes w command) (λ now. after_commands nodes now later)
 
--- the manager of a seat, and how it plans; it is live if the seat has an SM_Key; an adapter's port has its node's GUID
--- plus the port's number
+-- The manager of a seat, which plans by `planning`. It is live if the seat has an SM_Key. The GUID of an adapter's port
+-- is its node's GUID plus the port's number
 abbrev pub new_seated : Planning → List Node → Seat → SeatedValue
 new_seated planning nodes seat =
     let guid = option_map_or (λ node. node.guid + seat.at.port) (slice_get nodes seat.at.node) 0 in

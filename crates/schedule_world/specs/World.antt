@@ -93,8 +93,9 @@ after_send w seat = at_seat w seat (after_send_by w seat)
 
 -- calls --------------------------------------------------------------------------------------------
 
--- a call on a world does what an outcome says: there are as many managers as before, it leaves the outcome's world, and
--- prints its text; if it ends early, nothing is said of the world, and it prints a beginning, or the output has failed
+-- A call on a world does what `outcome` says: it leaves the outcome's world with as many managers as before, and prints
+-- the outcome's text. If it fails, the world may be anything else, and a beginning of the text was printed, or the
+-- output has failed
 pub record Does {W : Type 0} (written : W → Option (List ℕ)) (has_failed : W → Bool) (old new : World)
     (result : Result (Unit {0}) RunFault) (sink sink' : W) (outcome : Outcome WorldValue) : Type 0 where
   pub managers : length new.managers.items ≡ length old.managers.items

@@ -41,7 +41,7 @@ impl World<'_> {
         self.send(seat, sink)
     }
 
-    /// Lets a manager forget what is older than `floor`.
+    /// Makes a manager forget facts that are older than `floor`.
     pub(crate) fn raise_floor(&mut self, seat: usize, floor: Generation)
         requires { seat < length self.old.managers.items }
         ensures managers { length self.new.managers.items ≡ length self.old.managers.items }

@@ -1,4 +1,4 @@
-//! The commands about cables, and about traps that tell of them.
+//! The commands about cables, and about traps that report changes of cables.
 ghost use Rattle.std.specs.Prelude.{◌≡◌};
 ghost use Rattle.schedule_world.specs.Commands.{after_cut_line, after_plug_line, after_resend, after_resend_line};
 ghost use Rattle.schedule_world.specs.Commands.{after_tell, after_tell_ends, after_traps_line};
@@ -44,7 +44,7 @@ impl World<'_> {
         }
     }
 
-    /// Tells the agents at both ends of a cable that the state of a port has changed, a node at both ends once.
+    /// Tells the agents at both ends of a cable that the state of a port has changed. A node at both ends is told once.
     #[tactic(auto, unfolding(crate::specs::Commands::after_tell_ends))]
     fn tell_ends<W: Sink>(
         &mut self,
@@ -73,7 +73,7 @@ impl World<'_> {
         }
     }
 
-    /// Lets the agents of switches send traps from here on.
+    /// Lets the agents of switches send traps from now on.
     #[tactic(auto, unfolding(crate::specs::Commands::after_traps_line))]
     pub(crate) fn begin_traps<W: Sink>(
         &mut self,
@@ -89,7 +89,7 @@ impl World<'_> {
         }
     }
 
-    /// Sends each trap that waits again, in the order of the nodes.
+    /// Resends each waiting trap, in the order of the nodes.
     pub(crate) fn resend<W: Sink>(&mut self, sink: &mut W) -> Result<(), RunFault>
         ensures does { Does W.written W.has_failed self.old self.new result sink.old sink.new
             (after_resend_line (value_of self.old)) }
@@ -101,7 +101,7 @@ impl World<'_> {
         Ok(())
     }
 
-    /// Sends the trap that waits at a node again.
+    /// Resends the trap that waits at a node.
     fn resend_one<W: Sink>(&mut self, node: NodeId, sink: &mut W) -> Result<(), RunFault>
         ensures does { Does W.written W.has_failed self.old self.new result sink.old sink.new
             (after_resend (value_of self.old) node) }

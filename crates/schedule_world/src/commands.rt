@@ -19,7 +19,7 @@ use topo_file::Topology;
 ///
 /// # Errors
 ///
-/// `Memory`: a beginning of the text was printed. `Write`: the output failed.
+/// Returns `Memory` if memory ran out; a beginning of the text was printed. Returns `Write` if the output failed.
 pub fn run_commands<W: Sink>(
     alloc: Global,
     topology: &Topology,

@@ -33,7 +33,7 @@ impl World<'_> {
     }
 }
 
-/// Merges all that the manager `other` knows into the manager `seat`, which is out of the list meanwhile.
+/// Merges all that the manager `other` knows into the manager `seat`, which is taken out of the list meanwhile.
 fn merge_at(managers: &mut Vec<Seated>, seat: usize, other: usize) -> Result<(), ManagerFault>
     requires seat { seat < length managers.old.items }
     requires other { other < length managers.old.items }

@@ -104,7 +104,7 @@ impl World<'_> {
         self.send(seat, sink)
     }
 
-    /// Hands a packet to a manager, and prints the trap that the manager represses, if it is one.
+    /// Hands a packet to a manager, and prints the trap that the manager represses, if the packet is one.
     fn take_in<W: Sink>(
         &mut self,
         seat: usize,
@@ -123,7 +123,8 @@ impl World<'_> {
     }
 }
 
-/// Returns the serial number of the packet that a command is about. There is no last packet if none is in flight.
+/// Returns the serial number of the packet that a command is about. Returns `None` if the command is about the last
+/// packet and none is in flight.
 fn serial(fabric: &Fabric, which: Which) -> Option<u64>
     ensures { result ≡ serial_of fabric.now.flights which }
 {

@@ -12,7 +12,7 @@ use smp_bytes::Lid;
 use topo_file::Topology;
 
 impl World<'_> {
-    /// Prints something of a manager.
+    /// Prints what `what` names of a manager.
     pub(crate) fn show<W: Sink>(
         &self,
         seat: usize,

@@ -35,7 +35,7 @@ pub(crate) struct Seated<'s> {
 #[derive(Drop)]
 pub(crate) struct World<'s> {
     pub(crate) fabric: Fabric,
-    /// The managers, in the order of their seats. Before its line is run a manager does nothing, and its port is no
+    /// The managers, in the order of their seats. Until its line is run, a manager does nothing, and its port is not a
     /// seat of the fabric.
     pub(crate) managers: Vec<Seated<'s>>,
 }

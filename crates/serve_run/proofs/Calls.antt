@@ -1,4 +1,4 @@
--- Calls of a manager, whole: it leaves a manager, and tells why it was refused.
+-- Calls of a manager as a whole: the manager that a call leaves, and why it was refused.
 use Rattle.std.proofs.Common.{◌≡◌, ◌∙◌, Bool, true, false, List, [], ℕ, Option, None, Some, Result, Ok, Err, refl, sym, ap, subst}
 use Rattle.std.specs.List.{flat_map}
 use Rattle.std.specs.Prelude.{OnOk}
@@ -26,7 +26,7 @@ pub on_ok : (result : Result (Unit {0}) RunFault) (P : Type 0) → P → OnOk re
 on_ok (Ok u) P p = p
 on_ok (Err fault) P p = tt
 
--- a call that is refused leaves the manager, where memory was not wanting
+-- a call that is refused leaves the manager, unless memory was refused
 leaves_of : (m new : Manager) (c : Called) (given : ManagerFault) (result : Result (Unit {0}) RunFault) → RefusalLeaves m c → new ≡ m
     → (is_memory given ≡ false → c.fault ≡ Some given) → IsMemory result given → OnOk result (new ≡ c.manager)
 leaves_of m new c given result leaves same only memory =

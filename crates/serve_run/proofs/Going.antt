@@ -1,4 +1,4 @@
--- A server that goes on, piece by piece.
+-- Serving, piece by piece.
 use Rattle.std.proofs.Common.{◌≡◌, ◌∙◌, inl, inr, false, true, ℕ, ◌+◌, ◌-◌, ◌^◌, ◌≤◌, Bool, List, [], ◌++◌, Option, None, Some, Result, Ok, Err, IsTrue, ◌↔◌, length, length-append, refl, sym, ap, subst, arith, append-nil}
 use Rattle.std.specs.Io.KnownBytes.{Appends, Consumes}
 use Rattle.byte_io.proofs.Bytes.{Consumes-trans}
@@ -29,7 +29,7 @@ not_failed false u h = refl
 not_failed true u h = let e : IsErr (ok_of u) = h.1 refl in absurd (cc)
 
 module _ {S W : Type 0} (state : S → SourceState) (written : W → Option (List ℕ)) (has_failed : W → Bool) where
-  -- after so many readings some bytes were read, and their lines dealt with
+  -- after `count` reads some bytes were read, and their lines were handled
   pub record Going (old now : S) (m : Manager) (server : ServerValue) (sink sink' : W) (count : ℕ) : Type 0 where
     pub bytes : List ℕ
     pub read : Consumes (state old).left (state now).left bytes

@@ -1,4 +1,4 @@
--- What is kept of a line that is begun says what the line says.
+-- The bytes that are kept of a line that has begun say what the line says.
 use Rattle.std.proofs.Common.{◌≡◌, ◌∙◌, ℕ, ◌+◌, ◌<◌, ◌≤◌, Bool, true, false, cond, List, [], ◌∷◌, ◌++◌, length, length-append, append_assoc, refl, sym, ap, arith, leb-false}
 use Rattle.std.specs.Prelude.{◌==◌, map, nat_le}
 use Rattle.std.proofs.lemmas.Bool.{cond_both, leb-true}

@@ -98,7 +98,7 @@ after_line m Managers = shows (flat_map seen_line m.seen) m
 after_line m Empty = quiet m
 after_line m Wrong = shows (codes "syntax\n") m
 
--- all that is queued goes out, behind what was printed
+-- what was printed, and then all that is queued goes out
 abbrev pub given_out : Outcome Manager → Outcome Manager
 given_out o = record { now = emptied o.now; text = o.text ++ flat_map send_line o.now.outgoing }
 
@@ -111,6 +111,6 @@ abbrev pub served_all : Manager → List ServeLine → Outcome Manager
 served_all m [] = quiet m
 served_all m (line ∷ later) = and_then (served m line) (λ now. served_all now later)
 
--- what is printed if the manager `m` is told `bytes`
+-- what is printed if the manager `m` reads `bytes`
 abbrev pub served_by : Manager → List ℕ → List ℕ
 served_by m bytes = (served_all m (lines_told [] bytes)).text

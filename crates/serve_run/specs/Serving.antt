@@ -1,4 +1,4 @@
--- Serving a manager by what is read: how that ends.
+-- How serving a manager ends, by what is read.
 use Rattle.std.specs.Prelude.{◌≡◌, ◌⊎◌, ◌≤◌, ◌+◌, ◌^◌, ◌-◌, ℕ, Bool, true, false, List, [], length, Option, Result, Ok, Err, IsTrue}
 use Rattle.std.specs.Io.KnownBytes.{Consumes, IsAtEnd}
 use Rattle.byte_io.specs.Source.{SourceState}
@@ -39,7 +39,8 @@ pub record HasServedSome {S : Type 0} (state : S → SourceState) (old new : S) 
   pub read : Consumes (state old).left (state new).left bytes
   pub printed : prints (served_by m bytes)
 
--- the source has failed, or as many calls were made as can be counted, each of which gave a byte or was interrupted
+-- the source has failed, or 2^64 - 1 calls were made, each of which gave a byte or was interrupted; no more can be
+-- counted
 abbrev pub CannotBeRead : SourceState → SourceState → ℕ → Type 0
 CannotBeRead old new count =
     IsTrue new.has_failed ⊎ (2 ^ 64 - 1 + old.interruptions ≤ count + new.interruptions)
@@ -63,7 +64,7 @@ stopped fault = Err fault
 
 -- pieces -----------------------------------------------------------------------------------------
 
--- how one read ends: bytes that may be none, the end, or a fault
+-- how one read ends: with bytes, perhaps none; at the end; or with a fault
 pub record GoesOn {S W : Type 0} (state : S → SourceState) (written : W → Option (List ℕ)) (has_failed : W → Bool)
     (old new : S) (server server' : ServerValue) (sink sink' : W) : Type 0 where
   pub bytes : List ℕ

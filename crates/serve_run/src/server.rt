@@ -26,13 +26,14 @@ pub(crate) struct Server {
 
 /// Serves a manager by lines until they end. Answers each line, and flushes the answer, before it reads more.
 ///
-/// Writes `served_by` of all that was read; bytes behind the last line feed are not a line. Takes the memory of the
+/// Writes `served_by` of all that was read; bytes after the last line feed are not a line. Takes the memory of the
 /// manager, and 601 bytes for the line that has begun.
 ///
 /// # Errors
 ///
-/// `Read`: the lines cannot be read, and all that were read have been answered. `Memory`: a beginning of the answers
-/// was written. `Write`: how much was written is unspecified.
+/// Returns `Read` if no more lines can be read; all lines that were read have been answered. Returns `Memory` if memory
+/// ran out; a beginning of the answers was written. Returns `Write` if a write failed; how much was written is
+/// unspecified.
 pub fn serve<S: Source, W: Sink>(
     alloc: Global,
     manager: Manager,
@@ -121,7 +122,7 @@ impl Server {
     }
 }
 
-/// Appends `byte` to those of a line, unless they are already too many for a line.
+/// Appends `byte` to the bytes of a line, unless the line is already too long.
 fn keep(begun: &mut Vec<u8>, byte: u8) -> Result<(), AllocError>
     ensures { OnOk result (begun.new.items ≡ kept_with begun.old.items byte) }
 {

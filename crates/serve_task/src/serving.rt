@@ -26,15 +26,15 @@ pub struct Serving {
     /// The number of the port that it sits at.
     pub port: PortNum,
     pub priority: Priority,
-    /// The SM_Key that it tells.
+    /// Its SM_Key.
     pub sm_key: u64,
     /// The LMC of its plans: 2^LMC LIDs for each adapter port.
     pub lmc: Lmc,
     pub rule: RuleAsked,
 }
 
-/// Serves a manager that has no facts yet by lines, as `serve` does. The inputs are the text that its rule takes, if
-/// any, which is read first, and the lines.
+/// Serves a manager by lines, as `serve` does. The manager begins without facts. The inputs are the text that its rule
+/// takes, if any, which is read first, and the lines.
 ///
 /// Writes `served_by` of that manager and the lines; writes nothing if the rule's text is refused. Roots may be any
 /// GUIDs, since no switch is known yet.

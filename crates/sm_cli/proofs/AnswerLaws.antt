@@ -1,4 +1,4 @@
--- The answer of a run depends on the sightings that its files keep and on the greatest floor, and on nothing else.
+-- The answer of a run depends only on the sightings that its files keep and on the greatest floor.
 use Rattle.std.proofs.Common.{◌≡◌, ◌≤◌, ◌∙◌, ℕ, max, List, [], ◌∷◌, ap, arith, subst, inl, inr, sym}
 use Rattle.std.proofs.lemmas.List.Elements.{Contains-append_left, Contains-append_right, Contains-append_cases}
 use Rattle.std.specs.Prelude.{Contains}

@@ -1,4 +1,4 @@
--- A joined file stands for the files that it was made of, and the parts of a split one for the whole.
+-- A joined file stands for the files that it was made of, and the parts of a split file for the whole.
 use Rattle.std.proofs.Common.{◌≡◌, ℕ, max, List, [], ◌∷◌, ◌++◌, refl, ap, sym, ◌∙◌, append_assoc, arith}
 use Rattle.std.proofs.lemmas.List.Concat.{flat_map-append}
 use Rattle.std.specs.List.{flat_map}
@@ -15,7 +15,7 @@ use Rattle.sm_cli.specs.InputFiles.{facts_of, floor_among}
 use Rattle.sm_cli.specs.Run.{answer_to}
 use Rattle.sm_cli.specs.RunLaws.{JoinedFileStands, SplitFileStands, SplitStoreStands, StandFor}
 
--- the greatest floor, where one of two was given
+-- the greatest floor, if the greater of two floors was given
 floor_among-max : (a b : ℕ) (files : List (List ℕ)) → floor_among (max a b) files ≡ max a (floor_among b files)
 floor_among-max a b [] = refl
 floor_among-max a b (f ∷ files) =

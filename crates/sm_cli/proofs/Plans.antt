@@ -22,7 +22,7 @@ one_lacks (Some room) why e = cc
 pub has_room : (lmc : ℕ) (facts : Facts) → lid_fault (no_room lmc (cells_of facts)) ≡ None → no_room lmc (cells_of facts) ≡ None
 has_room lmc facts e = none_lacks (no_room lmc (cells_of facts)) e
 
--- and where there is none, there is no room, or memory was refused though there is
+-- if there is no plan, there is no room for it, or memory was refused although there is room
 pub plan_fault : (lmc : ℕ) (facts : Facts) (sink_failed : Bool) (why : LidFault) (fault : Fault)
     → lid_fault (no_room lmc (cells_of facts)) ≡ (if is_memory why then None else Some why) → fault ≡ fault_of_lids why
     → IsWritingFault lmc facts sink_failed fault

@@ -1,4 +1,4 @@
--- What the program says of a fault.
+-- The messages of faults.
 use Rattle.std.specs.Prelude.{ℕ, List, [], ◌++◌, Option, None, Some, codes, decimal, if◌then◌else◌}
 use Rattle.reply_facts.specs.declared.report_fault.ReportFault.{ReportFault}
 use Rattle.reply_facts.specs.ReportFault.{report_fault_name}
@@ -10,7 +10,7 @@ use Rattle.sm_cli.specs.declared.fault.Fault.TheVariants.{Open, File, Text, NoRo
 use Rattle.sm_cli.specs.declared.text_fault.TextFault.{TextFault}
 use Rattle.sm_cli.specs.TextFault.{is_of_text, said_of_text}
 
--- the name of a file, in front of what is said of it
+-- the name of a file, before what is said of it
 abbrev pub name_text : List ℕ → List ℕ
 name_text name = name ++ codes ": "
 
@@ -48,7 +48,7 @@ count_text endports = decimal endports ++ codes " end ports"
 abbrev pub no_room_text : Lack → List ℕ
 no_room_text why = codes "no room: " ++ count_text why.endports ++ codes ", room " ++ decimal why.room
 
--- what is said of a run that ends with the fault; `name` is that of the file that it concerns
+-- the message of a run that ends with the fault; `name` is the name of the file that it concerns
 abbrev pub fault_text : List ℕ → Fault → List ℕ
 fault_text name (Open input) = named_text name (codes "cannot open")
 fault_text name (File input fault) = file_fault_text name fault

@@ -68,7 +68,7 @@ pub record Refuses {S : Type 0} (state : S → SourceState) (old new : S) (fault
   pub read : (fault ≡ Read) ↔ IsTrue (state new).has_failed
   pub known : AnswersKnown state (Err fault) old new
 
--- the sources before `input` were read, and reading the one there ends with `fault`
+-- the sources before `input` were read, and reading the source at `input` ends with `fault`
 pub record RefusesFile {S : Type 0} (state : S → SourceState) (olds news : List S) (input : ℕ)
     (fault : FileFault) : Type 0 where
   pub files : List (List ℕ)
@@ -80,7 +80,7 @@ pub record RefusesFile {S : Type 0} (state : S → SourceState) (olds news : Lis
   pub there_after : slice_get news input ≡ Some new
   pub refuses : Refuses state old new fault
 
--- a file is refused; `fault` is that of `input`, if `before` inputs precede the files
+-- a file is refused: `fault` is at the input `input`, if `before` inputs precede the files
 pub record IsRefusedAt {S : Type 0} (state : S → SourceState) (before : ℕ) (olds news : List S)
     (input : ℕ) (fault : FileFault) : Type 0 where
   pub index : ℕ

@@ -1,4 +1,4 @@
--- Readers of the inputs of a run: of files, or of a text of tables and the files behind it.
+-- Readers of the inputs of a run: of files, or of a text of tables and the files after it.
 use Rattle.std.specs.Prelude.{ℕ}
 use Rattle.byte_io.specs.Source.{SourceState}
 use Rattle.fact_store.specs.View.{Facts, cells_of}

@@ -1,4 +1,4 @@
--- The text of tables that switches hold, which is read whole and then judged, and the files behind it.
+-- The text of tables that switches hold, which is read whole and then judged, and the files after it.
 use Rattle.std.specs.Prelude.{◌≡◌, ◌⊎◌, ◌+◌, ℕ, List, None, Some}
 use Rattle.byte_io.specs.Source.{SourceState}
 use Rattle.record_file.specs.Whole.{IsReadWhole, FailsToRead}
@@ -72,7 +72,7 @@ pub record StopsAtTables {S : Type 0} (state : S → SourceState) (at : ℕ) (ol
   pub why : AreNoTables state at were.first are.first fault
   pub untouched : are.others ≡ were.others
 
--- the tables were read, and a file behind them is refused
+-- the tables were read, and a file after them is refused
 pub record StopsAtFiles {S : Type 0} (state : S → SourceState) (at : ℕ) (olds news : List S) (fault : Fault) :
     Type 0 where
   pub were : Parts olds
@@ -81,7 +81,7 @@ pub record StopsAtFiles {S : Type 0} (state : S → SourceState) (at : ℕ) (old
   pub tables_read : AreTables state were.first are.first held
   pub why : IsRefusedFile state (at + 1) were.others are.others fault
 
--- why the tables in the input `at`, or the files behind them, are not read
+-- why the tables in the input `at`, or the files after them, are not read
 abbrev pub AreNoTablesAndFiles : {S : Type 0} → (S → SourceState) → ℕ → List S → List S → Fault → Type 0
 AreNoTablesAndFiles state at olds news fault =
     StopsAtTables state at olds news fault ⊎ StopsAtFiles state at olds news fault

@@ -1,5 +1,5 @@
--- The inputs of a run: the text of roots or of an order is read if the rule takes one, then the inputs behind it; the
--- roots are judged once the switches are known.
+-- The inputs of a run: the text of roots or of an order is read if the rule takes one, and then the inputs after it;
+-- the roots are judged once the switches are known.
 use Rattle.std.specs.Prelude.{◌≡◌, ◌⊎◌, ℕ, Bool, List, [], ◌∷◌, Option, None, Some, Ok, Err, find, not, option_map}
 use Rattle.byte_io.specs.Source.{SourceState}
 use Rattle.record_file.specs.Whole.{IsReadWhole, FailsToRead}
@@ -23,23 +23,24 @@ use Rattle.sm_cli.specs.declared.text_fault.TextFault.TheVariants as texts
 abbrev pub first_unusable : (ℕ → Bool) → List ℕ → Option ℕ
 first_unusable usable roots = find (λ root. not (usable root)) roots
 
--- why no plan can be made from the roots, if so: there is none, or `unusable` is the first that is not a usable switch
+-- why no plan can be made from the roots: there is no root, or `unusable` is the first that is not a usable switch;
+-- None if one can
 abbrev pub fault_of_first : List ℕ → Option ℕ → Option TextFault
 fault_of_first [] unusable = Some texts.NoRoot
 fault_of_first (root ∷ roots) unusable = option_map texts.NoSwitch unusable
 
--- why no plan can be made from the roots, if so: there is none, or one is not a usable switch
+-- why no plan can be made from the roots: there is no root, or one is not a usable switch; None if a plan can be made
 abbrev pub roots_fault : (ℕ → Bool) → List ℕ → Option TextFault
 roots_fault usable roots = fault_of_first roots (first_unusable usable roots)
 
--- why no plan can be made by an order, if so: only its roots can be at fault
+-- why no plan can be made by an order: only its roots can be at fault; None if a plan can be made
 abbrev pub order_fault : (ℕ → Bool) → OrderValue → Option TextFault
 order_fault usable (from_roots roots) = roots_fault usable roots
 order_fault usable (as_named switches) = None
 order_fault usable (balanced_as switches) = None
 order_fault usable least_loaded = None
 
--- why no plan can be made by the rule that was asked for, if so: only roots that a text names can be at fault
+-- why no plan can be made by the rule that was asked for: only roots that a text names can be at fault; None if one can
 abbrev pub rule_fault : (ℕ → Bool) → RuleAsked → RuleValue → Option TextFault
 rule_fault usable UpDown rule = None
 rule_fault usable Spread rule = None
@@ -87,7 +88,7 @@ pub record IsOrderRead {S : Type 0} (state : S → SourceState) (grows : List �
   pub read : IsOneRead olds news (λ old new. IsRoots state old new guids)
   pub is : rule ≡ spread_in (grows guids)
 
--- `rule` is the rule, and what it takes was read: a text if roots or an order are named, else nothing
+-- `rule` is the rule that was asked for; the text that it takes was read, if it takes one
 abbrev pub IsRuleRead : {S : Type 0} → (S → SourceState) → RuleAsked → List S → List S → RuleValue
     → Type 0
 IsRuleRead state UpDown olds news rule = (news ≡ olds) × (rule ≡ up_and_down)
@@ -112,8 +113,9 @@ IsRuleFault state BalanceInOrder olds news fault =
 
 -- inputs ----------------------------------------------------------------------------------------
 
--- how the inputs behind the text that a rule takes are read: to what they say, or to a fault if some number of inputs
--- precedes them; and which GUIDs, by what they say, are those of usable switches
+-- A reader of the inputs after the text that a rule takes. `reads` relates them to what they say, and `refuses` to a
+-- fault if some number of inputs precedes them. `has_switch` says, by what they say, which GUIDs are those of usable
+-- switches
 pub record Reader (S T : Type 0) : Type 1 where
   pub reads : List S → List S → T → Type 0
   pub refuses : ℕ → List S → List S → Fault → Type 0
@@ -146,7 +148,7 @@ module _ {S T : Type 0} (state : S → SourceState) (reader : Reader S T) (asked
     pub why : IsRuleFault state asked were.first are.first fault
     pub untouched : are.others ≡ were.others
 
-  -- the text that the rule takes was read, and an input behind it is refused
+  -- the text that the rule takes was read, and an input after it is refused
   pub record RefusesOthers (fault : Fault) : Type 0 where
     pub were : Parts olds
     pub are : Parts news

@@ -1,4 +1,4 @@
--- A run over files: it reads its inputs in order, and writes what the files say together, or says why it can't.
+-- A run over files: it reads its inputs in order, and writes what the files say together, or returns a fault.
 use Rattle.std.specs.Prelude.{◌≡◌, ◌⊎◌, ⊤, ℕ, Bool, List, [], Option, None, Some, IsTrue}
 use Rattle.byte_io.specs.Source.{SourceState}
 use Rattle.fact_store.specs.View.{Facts, cells_of, AreInRange}
@@ -27,7 +27,7 @@ abbrev pub order_by : RuleValue → Cells → List ℕ
 order_by up_and_down cells = []
 order_by (spread_in order) cells = order_of order cells
 
--- what is written of the facts, a plan or an order by `rule`
+-- what is written from the facts; a plan or an order is by `rule`
 abbrev pub answer_to : Output → RuleValue → Facts → List ℕ
 answer_to output.Facts rule facts = facts_text facts
 answer_to output.Join rule facts = store_bytes facts.floor (cells_of facts)
@@ -41,7 +41,8 @@ IsAnswered output.Join facts = AreInRange facts
 IsAnswered (output.Plan lmc asked) facts = no_room lmc (cells_of facts) ≡ None
 IsAnswered (output.Order asked) facts = ⊤
 
--- a plan is asked for, and `why` is why there is no room for it, if so; or an order, which needs no room
+-- a plan is asked for, and `why` says why it has no room, or is None if it has; or an order is asked for, which needs
+-- no room
 abbrev pub IsPlanned : Output → Facts → Option LacksRoom → Type 0
 IsPlanned output.Facts facts why = ⊥
 IsPlanned output.Join facts why = ⊥
@@ -68,7 +69,8 @@ IsAnswerFault what facts sink_failed Write = IsTrue sink_failed
 IsAnswerFault what facts sink_failed Memory = IsPlanned what facts None
 IsAnswerFault what facts sink_failed fault = ⊥
 
--- `prints` holds of what was asked for of the facts, a plan or an order by `rule`; and the facts can be answered
+-- `prints` holds of what was asked for from the facts, by `rule` if it is a plan or an order; and the facts can be
+-- answered
 pub record IsAnswer (output : Output) (rule : RuleValue) (facts : Facts) (prints : List ℕ → Type 0) : Type 0 where
   pub can_be : IsAnswered output facts
   pub answered : prints (answer_to output rule facts)
@@ -81,7 +83,7 @@ HasAnswered state request olds news prints =
     WithInputs state (files_reader state request.floor) (rule_for request.output) olds news
     (λ rule facts. IsAnswer request.output rule facts prints)
 
--- why a run over open inputs ends early: they are not read, or what they say is not answered
+-- why a run over open inputs fails: they are not read, or what they say is not answered
 abbrev pub IsFaultOf : {S : Type 0} → (S → SourceState) → Invocation → List S → List S → Bool
     → Fault → Type 0
 IsFaultOf state request olds news sink_failed fault =

@@ -20,7 +20,8 @@ use Rattle.sm_cli.specs.declared.asked.RuleAsked.{RuleAsked}
 use Rattle.sm_cli.specs.InputFiles.{facts_of, floor_among}
 use Rattle.sm_cli.specs.Run.{answer_to}
 
--- two lists of files keep the same sightings, in whatever order and however often, and have the same greatest floor
+-- two lists of files keep the same sightings, in any order and each any number of times, and have the same greatest
+-- floor
 pub record SayTheSame (floor : ℕ) (files others : List (List ℕ)) : Type 0 where
   pub sightings : HaveSameMembers (flat_map kept files) (flat_map kept others)
   pub floors : floor_among floor files ≡ floor_among floor others
@@ -31,7 +32,7 @@ SightingsDecideAnswer = (request : Invocation) (rule : RuleValue) (files others 
     → SayTheSame request.floor files others → answer_to request.output rule (facts_of request.floor files)
     ≡ answer_to request.output rule (facts_of request.floor others)
 
--- two lists have the same files, in whatever order and however often
+-- two lists have the same files, in any order and each any number of times
 pub record AreSameFiles (files others : List (List ℕ)) : Type 0 where
   pub there : (file : List ℕ) → Contains files file → Contains others file
   pub here : (file : List ℕ) → Contains others file → Contains files file

@@ -1,4 +1,4 @@
--- What is said of a text that is refused: the faulty line, if there is one, and a word.
+-- The message for a refused text: the faulty line, if there is one, and a word.
 use Rattle.std.specs.Prelude.{ℕ, Bool, true, false, List, [], ◌++◌, Option, None, Some, codes, decimal}
 use Rattle.topo_file.specs.declared.fault.TopoFault.TheVariants as topology
 use Rattle.topo_file.specs.TopoFault as topologies
@@ -50,17 +50,17 @@ is_of_text (Tables line.Memory) = false
 is_of_text (Roots line.Memory) = false
 is_of_text _ = true
 
--- the number of the line, in front of what is said of it
+-- the number of the line, before what is said of it
 abbrev pub line_text : Option ℕ → List ℕ
 line_text None = []
 line_text (Some line) = codes "line " ++ decimal line ++ codes ": "
 
--- the LID, in front of what is said of it
+-- the LID, before what is said of it
 abbrev pub lid_before : Option ℕ → List ℕ
 lid_before None = []
 lid_before (Some lid) = codes "lid " ++ decimal lid ++ codes " "
 
--- the GUID, behind what is said of it
+-- the GUID, after what is said of it
 abbrev pub guid_behind : Option ℕ → List ℕ
 guid_behind None = []
 guid_behind (Some guid) = codes " " ++ guid_text guid

@@ -1,10 +1,10 @@
-//! What is asked for in a run over files.
+//! What a run over files is asked for.
 ghost use Rattle.std.specs.Prelude.{◌≡◌};
 
 use attr_codec::Lmc;
 use smp_bytes::Generation;
 
-/// The rule of routing by which plans are asked for.
+/// The rule of routing that is asked for.
 #[derive(Clone, Copy, Debug, PartialEq, Eq)]
 pub enum RuleAsked {
     /// Up towards the root of each component, and then down, by the least ports.
@@ -24,7 +24,7 @@ pub enum RuleAsked {
 impl RuleAsked {
     ghost use Rattle.sm_cli.specs.Asked.{texts_for};
 
-    /// Returns the number of texts that the rule takes: 1 if a text names its roots or its order, and else 0.
+    /// Returns the number of texts that the rule takes: 1 if a text names its roots or its order, otherwise 0.
     pub fn texts(self) -> usize
         ensures { result ≡ texts_for self }
     {
@@ -35,7 +35,7 @@ impl RuleAsked {
     }
 }
 
-/// What a run writes of the files.
+/// What a run over files writes.
 #[derive(Clone, Copy, Debug, PartialEq, Eq)]
 pub enum Output {
     /// What the files say together, as text, one line a fact.
@@ -63,7 +63,7 @@ impl Output {
     }
 }
 
-/// What a run is to do with the files.
+/// What is asked of a run over files.
 #[derive(Clone, Copy, Debug, PartialEq, Eq)]
 pub struct Invocation {
     pub output: Output,

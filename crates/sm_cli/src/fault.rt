@@ -7,16 +7,16 @@ use lid_assign::{LidFault, NoRoom};
 use record_file::FileFault;
 use thiserror::Error;
 
-/// Why a run ended early. `input` is the index of a file among those that were named, from 0.
+/// Why a run failed. `input` is the index of a file among the files that were named, from 0.
 #[derive(Clone, Copy, Debug, PartialEq, Eq, Error)]
 pub enum Fault {
     /// The file cannot be opened.
     #[error("cannot open")]
     Open { input: usize },
-    /// The file has a fault, or memory was refused as it was taken in.
+    /// The file has a fault, or memory was refused while it was read.
     #[error("{fault}")]
     File { input: usize, fault: FileFault },
-    /// The text has a fault, or memory was refused as it was judged.
+    /// The text has a fault, or memory was refused while it was judged.
     #[error("{fault}")]
     Text { input: usize, fault: TextFault },
     /// The smallest forwarding table lacks room for the LIDs of all end ports and LID 0.

@@ -1,4 +1,4 @@
-//! What the program says of a fault: one line that begins with the program's name.
+//! The message of a fault: one line that begins with the program's name.
 ghost use Rattle.byte_io.specs.Writes.{Writes};
 ghost use Rattle.sm_cli.specs.FaultText.{name_text, number_text, cause_text, words_of, file_fault_text};
 ghost use Rattle.sm_cli.specs.FaultText.{text_fault_text, count_text, no_room_text, fault_text, program_line};
@@ -160,7 +160,7 @@ fn write_guid_if_any<W: Sink>(sink: &mut W, guid: Option<Guid>) -> Result<(), Wr
     }
 }
 
-/// Writes the name of a file, and the colon and space behind it.
+/// Writes the name of a file, and then a colon and a space.
 fn write_name<W: Sink>(sink: &mut W, name: &[u8]) -> Result<(), WriteFault>
     ensures writes { Writes W.written W.has_failed result sink.old sink.new (name_text name.now) }
 {

@@ -1,4 +1,4 @@
-//! The text of tables, which is read and then judged, and the files behind it.
+//! The text of tables, which is read and then judged, and the files after it.
 ghost use Rattle.std.specs.Prelude.{◌≡◌, ◌+◌, ◌≤◌, length, IfErr, IfOk};
 ghost use Rattle.sm_cli.specs.InputTables.{AreNoTables, AreNoTablesAndFiles, AreTables, AreTablesAndFiles};
 ghost use Rattle.sm_cli.specs.InputTables.{IsTables, IsTablesFault};
@@ -15,7 +15,7 @@ use smp_bytes::{Generation, Guid};
 use std::alloc::Global;
 use subnet_view::is_usable;
 
-/// What a text of tables and the files behind it say.
+/// What a text of tables and the files after it say.
 #[derive(Drop)]
 pub struct TablesAndFacts {
     /// The tables that switches hold, and the LIDs of end ports.
@@ -24,7 +24,7 @@ pub struct TablesAndFacts {
     pub store: Store,
 }
 
-/// The reader of a text of tables and the files behind it, which knows the switches of the files' facts.
+/// The reader of a text of tables and the files after it, which knows the switches of the files' facts.
 #[derive(Clone, Copy, Debug, PartialEq, Eq)]
 pub struct TablesAndFiles {
     /// The generation below which facts are ignored.
@@ -55,7 +55,7 @@ impl<S: Source> InputReader<S> for TablesAndFiles {
     }
 }
 
-/// Reads the text of tables, the first of `inputs`, and the files behind it, from `floor` on. `before` inputs precede
+/// Reads the text of tables, the first of `inputs`, and the files after it, from `floor` on. `before` inputs precede
 /// them.
 pub fn read_tables_and_files<S: Source>(
     alloc: Global,

@@ -1,4 +1,4 @@
-//! The inputs of a run: the text of roots or of the order that its rule takes, if any, and the inputs behind it.
+//! The inputs of a run: the text of roots or of an order that its rule takes, if any, and the inputs after it.
 ghost use Rattle.std.specs.Prelude.{◌≡◌, ◌+◌, ◌-◌, ◌≤◌, ℕ, length, IfErr, IfOk};
 ghost use Rattle.lft_blocks.specs.Rules.{value_of};
 ghost use Rattle.sm_cli.specs.Asked.{texts_for};
@@ -16,7 +16,7 @@ use roots_file::parse;
 use smp_bytes::Guid;
 use std::alloc::Global;
 
-/// A reader of the inputs behind the text that the rule takes.
+/// A reader of the inputs after the text that the rule takes.
 pub trait InputReader<S: Source> {
     ghost use Rattle.sm_cli.specs.Inputs.{Reader};
 
@@ -41,7 +41,7 @@ pub trait InputReader<S: Source> {
         ensures { result ≡ (reader self.now).has_switch told.now guid };
 }
 
-/// Returns the rule that is asked for, and what the inputs behind its text say. Reads the inputs in order, each to its
+/// Returns the rule that is asked for, and what the inputs after its text say. Reads the inputs in order, each to its
 /// end.
 ///
 /// # Errors
@@ -135,7 +135,7 @@ fn read_roots<S: Source>(alloc: Global, roots: &mut S) -> Result<Vec<Guid>, Faul
     }
 }
 
-/// Returns why no plan can be made by the rule: a text names roots for it but there is none, or one is not a usable
+/// Returns why no plan can be made by the rule: a text names roots for it, but there is no root or one is not a usable
 /// switch. Returns `None` if a plan can be made.
 fn rule_fault<S: Source, R: InputReader<S>>(
     asked: RuleAsked,
@@ -151,8 +151,8 @@ fn rule_fault<S: Source, R: InputReader<S>>(
     }
 }
 
-/// Returns why no plan can be made by the order: it grows from roots but there is none, or one is not a usable switch.
-/// Returns `None` if a plan can be made.
+/// Returns why no plan can be made by the order: it grows from roots, but there is no root or one is not a usable
+/// switch. Returns `None` if a plan can be made.
 fn order_fault<S: Source, R: InputReader<S>>(
     order: &SwitchOrder,
     reader: &R,
@@ -169,8 +169,8 @@ fn order_fault<S: Source, R: InputReader<S>>(
     }
 }
 
-/// Returns the fault of `roots`: there is none, or `unusable` is the first that is not a usable switch. Returns `None`
-/// if all are usable.
+/// Returns the fault of `roots`: there is no root, or `unusable` is the first that is not a usable switch. Returns
+/// `None` if all are usable.
 fn fault_of_first(roots: &[Guid], unusable: Option<Guid>) -> Option<TextFault>
     ensures { result ≡ fault_of_first roots.now unusable }
 {

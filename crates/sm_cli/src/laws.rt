@@ -2,13 +2,14 @@
 ghost use Rattle.sm_cli.specs.RunLaws.{FilesDecideAnswer, JoinedFileStands, SightingsDecideAnswer};
 ghost use Rattle.sm_cli.specs.RunLaws.{PrintedOrdersStand, SplitFileStands, SplitStoreStands};
 
-/// The answers for two lists of files are equal if the files keep the same sightings, in whatever order and however
-/// often, and have the same greatest floor.
+/// The answers for two lists of files are equal if the files keep the same sightings, in any order and each any number
+/// of times, and have the same greatest floor.
 pub fn sightings_decide_answer()
     ensures { SightingsDecideAnswer }
 {}
 
-/// The answers for two lists of files are equal if the lists have the same files, in whatever order and however often.
+/// The answers for two lists of files are equal if the lists have the same files, in any order and each any number of
+/// times.
 pub fn files_decide_answer()
     ensures { FilesDecideAnswer }
 {}
@@ -30,8 +31,8 @@ pub fn split_store_stands()
     ensures { SplitStoreStands }
 {}
 
-/// A printed order, given back as the order of a plan, is printed the same again and gives the same plan, byte for
-/// byte, if no switch has the GUID 0.
+/// A printed order, given back as the order of a plan, is printed with the same text again and gives the same plan,
+/// byte for byte, if no switch has the GUID 0.
 pub fn printed_orders_stand()
     ensures { PrintedOrdersStand }
 {}

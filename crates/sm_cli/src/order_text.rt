@@ -1,4 +1,4 @@
-//! An order of switches as text, one line a switch.
+//! An order of switches as text, with a line for each switch.
 ghost use Rattle.std.specs.Prelude.{IsTrue, OnOk};
 ghost use Rattle.std.specs.List.{flat_map};
 ghost use Rattle.byte_io.specs.Writes.{Writes};
@@ -8,7 +8,7 @@ ghost use Rattle.sm_cli.specs.OrderText.{order_line, order_text};
 use byte_io::{Sink, WriteFault, write_guid};
 use smp_bytes::Guid;
 
-/// Writes the GUID of each switch behind `0x`, one a line, and flushes.
+/// Writes a line for each switch, `0x` and its GUID, and flushes.
 pub fn write_order<W: Sink>(sink: &mut W, switches: &[Guid]) -> Result<(), WriteFault>
     ensures writes { Writes W.written W.has_failed result sink.old sink.new (order_text switches.now) }
     ensures flushed { OnOk result (IsTrue (W.is_flushed sink.new)) }

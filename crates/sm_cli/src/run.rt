@@ -24,9 +24,9 @@ use record_file::{write_facts, write_store};
 use smp_bytes::Guid;
 use std::alloc::Global;
 
-/// Reads the inputs in order, the text that the rule takes and then the files (`read_inputs`), and writes what is asked
-/// for of all that the files say. If an input is refused, or a plan has no room, writes nothing. If a write fails, how
-/// much was written is unspecified.
+/// Reads the inputs in order: the text that the rule takes, and then the files (`read_inputs`). Writes what is asked
+/// for, from all that the files say together. If an input is refused, or a plan has no room, writes nothing. If a write
+/// fails, how much was written is unspecified.
 pub fn run_files<S: Source, W: Sink>(
     alloc: Global,
     inputs: &mut [S],
@@ -51,7 +51,7 @@ pub fn run_files<S: Source, W: Sink>(
     }
 }
 
-/// Writes what is asked for of the facts in `store`, a plan or an order by `rule`, and flushes.
+/// Writes what `output` asks for from the facts in `store`, and flushes. A plan or an order is by `rule`.
 fn write_answer<W: Sink>(
     alloc: Global,
     sink: &mut W,

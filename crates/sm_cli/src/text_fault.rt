@@ -5,7 +5,7 @@ use smp_bytes::{Guid, Lid};
 use thiserror::Error;
 use topo_file::TopoFault;
 
-/// Why a text is refused: that of a topology, a schedule, tables, roots or an order.
+/// Why a text is refused: the text of a topology, a schedule, tables, roots or an order.
 #[derive(Clone, Copy, Debug, PartialEq, Eq, Error)]
 pub enum TextFault {
     /// The text is not UTF-8.

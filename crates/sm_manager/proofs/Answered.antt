@@ -1,4 +1,5 @@
--- Of the steps that count, those that were done, those that wait and those that are still to be sent are all, where none failed.
+-- If no step failed, the steps that count are those that were done, those that wait and those that are still to be
+-- sent.
 use Rattle.std.proofs.Common.{◌≡◌, ◌<◌, ◌+◌, ℕ, Bool, true, false, cond, List, [], ◌∷◌, length, refl, sym, ap, ◌∙◌, subst, arith}
 use Rattle.std.proofs.lemmas.Bool.{cond_both, eq-eqb, eqb-true, and_parts, and_from}
 use Rattle.std.specs.Prelude.{◌^◌, ◌==◌, ◌&&◌, ◌||◌, Contains, Option, Some, None, drop, is_none, nat_le, not}
@@ -402,7 +403,7 @@ module _ (m : Manager) (w : Writing) (writing : m.writing ≡ Some w) (first : C
 
 -- all calls ---------------------------------------------------------------------------------------------
 
--- where none failed, those that were done and those that are left are all; else they are fewer
+-- if no step failed, the steps that were done and those that are left are all; else they are fewer
 record Balanced (total d : ℕ) (m : Manager) : Type 0 where
   now : Writing
   is : m.writing ≡ Some now

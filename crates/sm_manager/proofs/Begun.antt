@@ -1,4 +1,4 @@
--- Where a writing may begin there are numbers for its first phase.
+-- If a writing may begin, there are numbers for its first phase.
 use Rattle.std.proofs.Common.{◌≡◌, ◌≤◌, ◌+◌, ◌-◌, ◌^◌, ℕ, Bool, true, false, cond, List, [], ◌∷◌, length, refl, sym, ap, ◌∙◌, arith}
 use Rattle.std.proofs.lemmas.Bool.Decides.{nat_tests}
 use Rattle.std.specs.Prelude.{Option, Some, None, min, not, nat_le, ◌==◌, if◌then◌else◌}
@@ -40,11 +40,11 @@ room_there lmc m h none = absurd (cc (sym none ∙ no_room_there (is_no_room lmc
     no_room_there true why h = absurd (cc)
     no_room_there false why h = refl
 
--- numbers are wanting where there are not so many, also where 64 bits do not hold how many
+-- numbers are lacking exactly if `n` + `most` is over 2^32, also if `most` does not fit 64 bits
 pub unless_so_many : (n most : ℕ) → unless_numbers (nat_le (n + min most (2 ^ 64 - 1)) (2 ^ 32)) ≡ number_fault (n + most)
 unless_so_many n most = grind (arith, nat_tests)
 
--- where nothing forbids a writing, it is refused as its plan is, or numbers are wanting
+-- if nothing forbids a writing, it is refused if its plan is, or if numbers are lacking
 pub fault_of_plan : (before m : Manager) (count : ℕ) (are_numbers : Bool) → before ≡ m → count ≡ min (most_steps (cells_of before.store)) (2 ^ 64 - 1)
     → are_numbers ≡ nat_le (before.counter + count) (2 ^ 32) → write_fault m ≡ None
     → or_else (plan_fault m.planning.lmc (cells_of m.store)) (unless_numbers are_numbers) ≡ writing_fault m

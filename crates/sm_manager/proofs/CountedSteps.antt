@@ -1,4 +1,4 @@
--- How many of the requests that wait, and of the steps that are still to be sent, count.
+-- How many of the waiting requests, and of the steps still to be sent, count.
 use Rattle.std.proofs.Common.{◌≡◌, ◌≤◌, ◌+◌, ℕ, suc, Bool, true, false, cond, List, [], ◌∷◌, ◌++◌, length, refl, sym, ap, ◌∙◌, subst, arith}
 use Rattle.std.proofs.lemmas.Bool.{cond_both, eq-eqb, eqb-true}
 use Rattle.std.proofs.lemmas.List.{length-append}
@@ -71,7 +71,7 @@ many_over counter ps p rising (i, within, is) =
     let left = ap (how_many counts) gone in
     omega (arith, less, same, left)
 
--- no step waits, so none that counts does
+-- if no step waits, no step that counts does
 pub counts_is_step : (p : Pending) → counts p ≡ true → is_step p ≡ true
 counts_is_step p e = by_purpose p.purpose e
   where
@@ -93,7 +93,7 @@ fewer_count (p ∷ ps) = by_tests (counts p) (is_step p) (counts_is_step p) (few
 
 -- phases -----------------------------------------------------------------------------------------------
 
--- those that count come first
+-- the phases that count come first
 abbrev pub CountFirst : List Phase → Type 0
 CountFirst [] = Unit {0}
 CountFirst (p ∷ phases) = (p.counts ≡ false → AllByRecursion (λ (q : Phase). q.counts ≡ false) phases) × CountFirst phases
@@ -130,7 +130,7 @@ pub first_counting : (phases : List Phase) → cond (next_phase phases).counts (
 first_counting [] = refl
 first_counting (p ∷ phases) = refl
 
--- where no step is left that counts, no phase is
+-- if no step that counts is left, no phase that counts is
 pub none_left : (phases : List Phase) → AllByRecursion (λ (q : Phase). q.counts ≡ false) phases → list_any (λ (p : Phase). p.counts) phases ≡ false
 none_left [] none = refl
 none_left (p ∷ phases) none = ap (λ b. b || list_any (λ (q : Phase). q.counts) phases) none.0 ∙ none_left phases none.1

@@ -1,4 +1,4 @@
--- What a message leaves that goes out.
+-- The manager after a message was sent.
 use Rattle.std.proofs.Common.{◌≡◌, ℕ, ◌+◌, ◌^◌, Bool, true, false, cond, nat_lt, List, [], ◌++◌, refl, sym, ap, ◌∙◌, arith}
 use Rattle.std.specs.Prelude.{Option, None, Some}
 use Rattle.std.proofs.lemmas.List.{append-nil}
@@ -22,7 +22,7 @@ nothing_more m =
     let counter : m.counter ≡ m.counter + 0 = omega arith in
     λ i. record m { counter = counter i; pending = sym (append-nil m.pending) i; outgoing = sym (append-nil m.outgoing) i }
 
--- so many numbers, its request and its packet
+-- a message takes as many numbers as it has requests, and adds its request and its packet
 pub message_sent : (m : Manager) (to : Option ℕ) (message : Option Message) → after_message m to message
     ≡ record m {
       counter = m.counter + message_count to message;
@@ -36,7 +36,7 @@ message_sent m (Some lid) (Some message) = refl
 pub message_counter : (m : Manager) (to : Option ℕ) (message : Option Message) → (after_message m to message).counter ≡ m.counter + message_count to message
 message_counter m to message = ap (λ (x : Manager). x.counter) (message_sent m to message)
 
--- numbers that are not wanting are not spent
+-- if numbers are not lacking, the call is not refused for them
 pub unspent : (m after : Manager) → number_fault after.counter ≡ None → after ≡ (unless_spent m after).manager
 unspent m after e = by (nat_lt (2 ^ 32) after.counter) refl
   where
@@ -44,7 +44,7 @@ unspent m after e = by (nat_lt (2 ^ 32) after.counter) refl
     by false f = refl
     by true f = let why = ap (λ t. cond t (Some fault.SequenceSpent) None) f in absurd (cc)
 
--- what goes out is refused where numbers are wanting
+-- what goes out is refused if numbers are lacking
 pub spent_fault : (m after : Manager) (counter : ℕ) → after.counter ≡ counter → (unless_spent m after).fault ≡ number_fault counter
 spent_fault m after counter same = by (nat_lt (2 ^ 32) after.counter) ∙ ap number_fault same
   where

@@ -1,4 +1,4 @@
--- The greatest generation of the facts that are held.
+-- The greatest generation of the facts in a store.
 use Rattle.std.proofs.Common.{◌≡◌, ◌↔◌, ℕ, ◌≤◌, List, [], ◌∷◌, map, refl, sym, ap, arith}
 use Rattle.std.specs.Prelude.{Option, Some, None, Contains, IsNone, IfSome, unwrap_or}
 use Rattle.fact_join.specs.declared.cell.Cell.{Cell}

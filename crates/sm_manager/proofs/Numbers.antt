@@ -1,4 +1,4 @@
--- Which request a packet can answer, and how many are steps as they come and go.
+-- Which request a packet can answer, and how many requests are steps as requests come and go.
 use Rattle.std.proofs.Common.{◌≡◌, ◌≢◌, ℕ, zero, suc, ◌+◌, ◌-◌, ◌≤◌, Bool, true, false, ◌&&◌, List, [], ◌∷◌, ◌++◌, length, refl, arith, ap, sym, ◌∙◌}
 use Rattle.std.specs.Prelude.{Some, filter, remove, slice_get, ◌==◌}
 use Rattle.std.proofs.lemmas.Bool.{cond-true, cond-false, ne_eqb}
@@ -68,7 +68,7 @@ module _ (test : Pending → Bool) where
       by true e rest = omega (arith, e, rest)
       by false e rest = omega (arith, e, rest)
 
--- with one less, so many are steps, and so many count
+-- with one request less, the counts of steps and of counting steps are still right
 pub counted_without : (ps after : List Pending) (i : ℕ) (p : Pending) (steps counting s k : ℕ) → AreCounted ps steps counting
     → slice_get ps i ≡ Some p → after ≡ remove ps i → s ≡ steps - one_if (is_step p) → k ≡ counting - one_if (counts p) → AreCounted after s k
 counted_without ps after i p steps counting s k counted at gone e f =
@@ -85,7 +85,7 @@ less_one n b e = ap (λ x. n - one_if x) (sym e)
 pub less_none : (n : ℕ) (b : Bool) → b ≡ false → n ≡ n - one_if b
 less_none n b e = omega arith ∙ ap (λ x. n - one_if x) (sym e)
 
--- and so with one more
+-- with one request more, the counts are still right
 pub counted_with : (ps after : List Pending) (p : Pending) (steps counting s k : ℕ) → AreCounted ps steps counting → after ≡ ps ++ p ∷ []
     → s ≡ steps + one_if (is_step p) → k ≡ counting + one_if (counts p) → AreCounted after s k
 counted_with ps after p steps counting s k counted more e f =
@@ -102,7 +102,7 @@ one_more n b e = ap (λ x. n + one_if x) (sym e)
 pub none_more : (n : ℕ) (b : Bool) → b ≡ false → n ≡ n + one_if b
 none_more n b e = omega arith ∙ ap (λ x. n + one_if x) (sym e)
 
--- what is no step counts for none
+-- a request that is not a step does not count
 pub counts_for_none : (why : Purpose) → is_for_step why ≡ false → counts_as why ≡ false
 counts_for_none Poll e = refl
 counts_for_none Control e = refl

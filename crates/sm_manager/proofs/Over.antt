@@ -1,4 +1,4 @@
--- A step is over: how many go out then, and whether there are numbers for them.
+-- The end of a step: how many steps are sent then, and whether there are numbers for them.
 use Rattle.std.proofs.Common.{◌≡◌, ℕ, zero, suc, ◌+◌, ◌≤◌, ◌^◌, Bool, true, false, cond, List, ◌++◌, length, refl}
 use Rattle.std.proofs.Common.{sym, ap, ◌∙◌, subst, arith}
 use Rattle.std.proofs.lemmas.Bool.{cond-true, cond-false, lt-ltb, le-ltb, ltb-false, ne_eqb}
@@ -74,7 +74,7 @@ over_manager m after e = by_test (is_spent after) e
     by_test true e = absurd (cc)
     by_test false e = refl
 
--- there are numbers for so many
+-- the numbers up to n fit if none is lacking
 pub numbers_there : (n : ℕ) → number_fault n ≡ None → n ≤ 2 ^ 32
 numbers_there n e = ltb-false _ _ (by_test (nat_lt (2 ^ 32) n) e)
   where
@@ -82,7 +82,7 @@ numbers_there n e = ltb-false _ _ (by_test (nat_lt (2 ^ 32) n) e)
     by_test true e = absurd (cc)
     by_test false e = refl
 
--- where the last that waits ends, the next phase goes out whole
+-- if the last step that waits ends, the whole next phase goes out
 pub whole_phase : (m : Manager) (i : ℕ) (p : Pending) (w : Writing) → AreNumbered m.counter m.pending
     → slice_get m.pending i ≡ Some p → is_step p ≡ true → m.writing ≡ Some w
     → no_step_waits (without_number p.number m.pending) ≡ true → count_after m ≡ length (next_phase w.later).steps

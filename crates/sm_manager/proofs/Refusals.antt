@@ -1,4 +1,4 @@
--- A packet or a timeout that is refused leaves the manager.
+-- A packet or a timeout that is refused leaves the manager as it was.
 use Rattle.std.proofs.Common.{◌≡◌, ℕ, List, refl}
 use Rattle.std.proofs.lemmas.Bool.{cond_both}
 use Rattle.std.specs.Prelude.{◌^◌, nat_le, Option, Some, None, Result, Ok, Err}

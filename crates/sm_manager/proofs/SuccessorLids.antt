@@ -1,4 +1,4 @@
--- Where there is room, each end port has a LID.
+-- If there is room, each end port has a LID.
 use Rattle.std.proofs.Common.{◌≡◌, ℕ, ◌+◌, Bool, true, false, cond, List, [], ◌∷◌, ◌++◌, refl, sym, ap, ◌∙◌, subst}
 use Rattle.std.proofs.lemmas.Option.{same_Some}
 use Rattle.std.specs.Prelude.{◌^◌, Contains, IsSome, None, Option, Some, if◌then◌else◌, is_none, nat_le, option_and_then}
@@ -52,7 +52,7 @@ end_port_has_lid lmc facts e fault is =
     let its : Contains (lids lmc cells).ports (e, x.1) = subst (λ (y : EndPort). Contains (lids lmc cells).ports (y, x.1)) same there in
     subst (λ o. IsSome o) (sym (lid-from_given (lids lmc cells) (ports_apart lmc facts (has_room lmc facts room)) e x.1 its)) refl
 
--- the port where the successor was seen is one
+-- the port where the successor was seen is an end port
 pub seen_is_end : (cells : Cells) (o : Option SeenManager) (e : EndPort) → option_and_then (port_seen cells) o ≡ Some e → is_end_port cells e.node e.port ≡ true
 seen_is_end cells None e h = absurd (cc)
 seen_is_end cells (Some s) e h = by_test (is_end_port cells s.guid s.port) refl h
@@ -78,7 +78,7 @@ with_lid lmc facts p later is = by_fault (plan_fault lmc (cells_of facts)) refl
     by_fault None e = given (lid_of (lids lmc (cells_of facts)) p) (end_port_has_lid lmc facts p e is)
     by_fault (Some why) e = refl
 
--- where the successor was seen at an end port, it is refused as the plan is, or numbers are wanting
+-- if the successor was seen at an end port, a handover is refused if the plan is, or if numbers are lacking
 pub judged_with_lid : (before m : Manager) (s : SeenManager) (p : EndPort) (are_numbers : Bool) → before ≡ m → successor m ≡ Some s
     → port_seen (cells_of m.store) s ≡ Some p → are_numbers ≡ nat_le (before.counter + 1) (2 ^ 32)
     → or_else (plan_fault m.planning.lmc (cells_of m.store)) (unless_numbers are_numbers) ≡ successor_fault m

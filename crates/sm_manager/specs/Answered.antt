@@ -64,8 +64,8 @@ abbrev pub counting_in : List Phase → ℕ
 counting_in [] = 0
 counting_in (p ∷ phases) = (if p.counts then length p.steps else 0) + counting_in phases
 
--- if a writing begins after any calls and no other one follows, it is written exactly if each of its steps that count
--- was answered as done
+-- if a writing begins after any calls and no other one follows, the plan is written exactly if each of its steps that
+-- count was answered as done
 abbrev pub WrittenIsEachStepDone : Type 0
 WrittenIsEachStepDone =
     (port_guid port priority : ℕ) (conduct : Conduct) (planning : Planning) (before after : List Call)

@@ -21,8 +21,8 @@ use Rattle.sm_manager.specs.Traps.{represses}
 use Rattle.sm_manager.specs.Plans.{writing_fault}
 use Rattle.sm_manager.specs.Writing.{after_write_steps}
 
--- what may change a manager; a merged store is given by its floor and by sightings that it is the view of at that
--- floor; a poll goes to a LID, or to whom the last sweep saw
+-- The calls that may change a manager. A merged store is given by its floor and by sightings; it is their view at that
+-- floor. A poll goes to a LID, or to a manager that the last sweep saw
 pub data Call : Type 0 where
   BeginSweep : Call
   WriteSteps : Call
@@ -34,7 +34,8 @@ pub data Call : Type 0 where
   Poll : (lid : Option ℕ) → Call
   Handover : Call
 
--- a refused call leaves the manager as it is, and so does one that is refused memory, which is like a life without it
+-- a refused call leaves the manager as it is. So does a call that is refused memory: to the manager it is as if the
+-- call had not been made
 abbrev pub after_call : Manager → Call → Manager
 after_call m BeginSweep = if is_none (begin_fault m) then after_begin_sweep m else m
 after_call m WriteSteps = if is_none (writing_fault m) then after_write_steps m else m
@@ -102,15 +103,15 @@ abbrev pub greatest_floor : List Call → ℕ
 greatest_floor [] = 1
 greatest_floor (call ∷ calls) = max (floor_in call) (greatest_floor calls)
 
--- a manager knows the view of all that it took in, at the greatest floor, whatever else was asked of it
+-- a manager's facts are the view of all that it took in, at the greatest floor, whatever else was asked of it
 abbrev pub KnowsWhatItTookIn : Type 0
 KnowsWhatItTookIn = (port_guid port priority : ℕ) (conduct : Conduct) (planning : Planning) (calls : List Call) →
     (after_calls calls (new_manager port_guid port priority conduct planning)).store
     ≡ view_at (greatest_floor calls) (taken_in calls (new_manager port_guid port priority conduct planning))
 
--- two managers know the same and plan the same if they took in the same, in whatever order and however often, and have
--- one greatest floor, one LMC and one rule of routing; and if that plan has room and is in force in what an end port is
--- joined to, each packet from each end port there for each of its LIDs arrives
+-- Two managers have equal facts and equal plans if they took in the same sightings, in any order and each any number of
+-- times, and have one greatest floor, one LMC and one rule of routing. If the plan has room and is in force in what an
+-- end port is joined to, each packet from an end port there for a LID of the plan arrives
 pub record KnowTheSame (one other : Manager) : Type 0 where
   pub facts : one.store ≡ other.store
   pub plan : plan_of one.planning.rule one.planning.lmc (cells_of one.store)

@@ -38,7 +38,7 @@ abbrev pub info_pending : ℕ → Purpose → ℕ → Pending
 info_pending number purpose modifier =
     record { number = number; purpose = purpose; attribute = sm_info; modifier = modifier; path = None }
 
--- a poll over a path, or by LIDs if there is none, that waits for its answer
+-- a poll that waits for its answer: over a path, or by LIDs if there is none
 abbrev pub poll_pending : ℕ → Option (List ℕ) → Pending
 poll_pending number path = record (info_pending number purpose.Poll 0) { path = path }
 
@@ -97,7 +97,7 @@ after_message m (Some lid) (Some message) = control_sent m lid (control_of_messa
 
 -- polls -----------------------------------------------------------------------------------------
 
--- the path leaves by the port `port`, and is no longer than a path may be; each path of a manager's sweeps is so
+-- the path leaves by `port` and has at most 63 hops, as does each path of a manager's sweeps
 abbrev pub is_way_out : ℕ → List ℕ → Bool
 is_way_out port [] = false
 is_way_out port (first ∷ path) = first == port && nat_lt (length path) max_hops
@@ -111,7 +111,7 @@ abbrev pub path_seen : Option Sweep → SeenManager → Option (List ℕ)
 path_seen None s = None
 path_seen (Some sweep) s = path_to sweep s.guid s.port
 
--- the one of the managers seen by the last sweep that is polled if no LID is told
+-- the manager seen by the last sweep that a poll without a LID goes to
 abbrev pub polled : Manager → Option SeenManager
 polled m = polled_of (info_of m.standing) m.seen
 
@@ -123,14 +123,14 @@ abbrev pub poll_path : Manager → Option ℕ → Option (List ℕ)
 poll_path m (Some lid) = None
 poll_path m None = polled_path m
 
--- a fault if there are neither a LID nor a path
+-- a fault if there is neither a LID nor a path
 abbrev pub unless_way : Option ℕ → Option (List ℕ) → Option ManagerFault
 unless_way (Some lid) path = None
 unless_way None (Some path) = None
 unless_way None None = Some fault.Nobody
 
--- why no poll is sent, except for lack of memory: to a LID, or over the path to whom the last sweep saw if no LID is
--- told
+-- why no poll is sent, except for lack of memory. A poll goes to the LID or, without one, over the path to a manager
+-- that the last sweep saw
 abbrev pub poll_fault : Manager → Option ℕ → Option ManagerFault
 poll_fault m lid =
     if is_in Standby m.standing then or_else (unless_way lid (polled_path m)) (number_fault (m.counter + 1))
@@ -146,7 +146,7 @@ after_poll m lid =
 abbrev pub handover_move : Manager → Transition
 handover_move m = stepped m.standing.conduct m.standing.state HandoverWanted
 
--- the one of the managers seen by the last sweep that is to take over
+-- the manager seen by the last sweep that is to take over
 abbrev pub successor : Manager → Option SeenManager
 successor m = successor_of (info_of m.standing) m.seen
 
@@ -166,15 +166,15 @@ abbrev pub unless_lid : Option ℕ → Option ManagerFault
 unless_lid None = Some fault.Nobody
 unless_lid (Some lid) = None
 
--- why a master hands nothing over, except for lack of memory: there is no successor, there is no plan, the plan gives
--- the successor's port no LID, or no number is left
+-- why a master does not hand over, except for lack of memory: there is no successor, the plan has no room, it gives the
+-- successor's port no LID, or no number is left
 abbrev pub successor_fault : Manager → Option ManagerFault
 successor_fault m =
     if is_none (successor m) then Some fault.Nobody
     else or_else (plan_fault m.planning.lmc (cells_of m.store))
     (or_else (unless_lid (successor_lid m)) (number_fault (m.counter + 1)))
 
--- why a manager hands nothing over: it is not master if the table of states has no message for a successor
+-- why a manager does not hand over: it is not master if the table of states has no message for a successor
 abbrev pub handover_fault : Manager → Option ManagerFault
 handover_fault m = if is_none (handover_move m).message then Some fault.NotMaster else successor_fault m
 

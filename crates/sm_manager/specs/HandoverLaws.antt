@@ -1,4 +1,4 @@
--- What a handover leaves behind.
+-- The law of handovers.
 use Rattle.std.specs.Prelude.{◌≡◌, ◌⊎◌, true, Some}
 use Rattle.sm_state.specs.declared.event.Event.TheVariants as event
 use Rattle.sm_state.specs.declared.standing.Standing.{Standing}
@@ -12,8 +12,8 @@ use Rattle.sm_manager.specs.Packets.{after_control_end, is_handover, is_relieved
 abbrev pub move_of : Standing → Pending → Transition
 move_of other control = stepped other.conduct other.state (event.Control control.modifier)
 
--- once a master knows how its handover was answered, it or the other manager is master, if nothing else moves either
--- of them meanwhile
+-- once a master knows how its handover was answered, it or the other manager is master, if nothing else moves either of
+-- them meanwhile
 abbrev pub HandoversLeaveAMaster : Type 0
 HandoversLeaveAMaster =
     (own other : Standing) (control : Pending) → own.state ≡ Master → is_handover control ≡ true

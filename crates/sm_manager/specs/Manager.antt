@@ -27,10 +27,10 @@ pub record Writing : Type 0 where
   pub later : List Phase
   pub has_failed : Bool
 
--- A manager: its standing among the managers of its subnet, the number of its port, how it plans, all facts that it
--- took in, the last sweep that it began, the managers that this sweep saw, in the order in which it saw them, the last
--- writing that it began, the number of its next request outside sweeps, the requests outside sweeps that wait for their
--- answers, by rising numbers, and the packets that it is about to send, first in, first out.
+-- A manager: its standing among the managers of its subnet, the number of its port, how it plans, and all facts that it
+-- took in; the last sweep that it began, and the managers that this sweep saw, in the order in which it saw them; the
+-- last writing that it began; the number of its next request outside sweeps, and the requests outside sweeps that wait
+-- for their answers, by rising numbers; and the packets that it is about to send, first in, first out.
 pub record Manager : Type 0 where
   pub standing : Standing
   pub port : ℕ

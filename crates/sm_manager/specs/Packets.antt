@@ -61,7 +61,7 @@ abbrev pub answered_by : Manager → Sweep → List ℕ → Result Answer SweepF
 answered_by m s packet (Ok answer) = done (with_answer m s packet answer)
 answered_by m s packet (Err why) = refused m (fault.Sweep why)
 
--- a reply to a sweep; if no sweep was ever begun, nobody asked
+-- a reply to a sweep; if no sweep was ever begun, it is refused as not asked for
 abbrev pub sweep_answered : Manager → List ℕ → Option Sweep → Called
 sweep_answered m packet None = refused m fault.Unasked
 sweep_answered m packet (Some s) = answered_by m s packet (judged s packet)
@@ -105,7 +105,7 @@ after_control_end is_relieved s =
 abbrev pub status_number : Option Status → Option ℕ
 status_number status = option_map (λ s. s.0) status
 
--- a request waits no more: `answer` is the status of its answer, or none if it timed out; if it was a step, the next
+-- a request no longer waits: `answer` is the status of its answer, or None if it timed out; if it was a step, the next
 -- phase may go out
 abbrev pub after_request : Manager → Pending → Option ℕ → Purpose → Called
 after_request m p answer Poll = done (record (without m p) { standing = after_poll_end (is_some answer) m.standing })
@@ -165,7 +165,8 @@ after_timeout m transaction =
     if nat_le (2 ^ 32) transaction then sweep_gave_up m transaction m.sweep
     else request_gave_up m (with_number transaction m.pending)
 
--- if there is no room for what a reply may bring up, the fault is the sweep's refusal, or lack of memory if it has none
+-- if there is no memory for what a reply may bring up, the fault is the sweep's refusal, or lack of memory if it has
+-- none
 abbrev pub IsFaultWithoutRoom : Result Answer SweepFault → ManagerFault → Type 0
 IsFaultWithoutRoom (Ok answer) given = given ≡ fault.Memory
 IsFaultWithoutRoom (Err why) given = given ≡ fault.Sweep why

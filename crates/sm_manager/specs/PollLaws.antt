@@ -10,7 +10,7 @@ pub record IsTakenForPoll (packet : List ℕ) (number : ℕ) (path : Option (Lis
   pub answers : answers packet (poll_pending number path) ≡ true
   pub no_sweep : is_for_sweep packet ≡ false
 
--- so is each answer to a poll, which went by LIDs or over a path
+-- each answer to a poll, by LIDs or over a path, is taken for the answer to that poll
 abbrev pub AnswersReachPolls : Type 0
 AnswersReachPolls =
     (number : ℕ) (path : Option (List ℕ)) (status : ℕ) (payload : List ℕ) → number < 2 ^ 32

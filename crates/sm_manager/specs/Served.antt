@@ -44,7 +44,7 @@ request_counted m = record m { standing = after_request_heard m.standing }
 abbrev pub is_control : Standing → List ℕ → Bool
 is_control s packet = number_in method packet == set && (is_live s.conduct || not (is_directed packet))
 
--- the LID to which a control is acknowledged: that of its sender, or none if it came over a directed route
+-- the LID to which a control is acknowledged: the sender's, or None if it came over a directed route
 abbrev pub acknowledged_at : List ℕ → Option ℕ → Option ℕ
 acknowledged_at packet from = if is_directed packet then None else from
 

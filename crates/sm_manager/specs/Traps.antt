@@ -1,4 +1,4 @@
--- Traps: what a manager by the live conduct answers, so that the agent does not send the trap again.
+-- Traps: how a manager by the live conduct answers them, so that the agent does not send them again.
 -- InfiniBand Architecture Specification, Volume 1: subnet management, traps; management methods (TrapRepress).
 use Rattle.std.specs.Prelude.{ℕ, Bool, ◌&&◌, not, List, [], ◌∷◌, ◌++◌, ◌==◌, Option}
 use Rattle.smp_bytes.specs.Field.{Field, bytes_in, number_in}
@@ -32,7 +32,7 @@ repress_out packet from =
 abbrev pub issuer_lid : Field
 issuer_lid = record { at = 70; len = 2 }
 
--- what a trap tells
+-- the content of a trap
 abbrev pub trap_in : List ℕ → Trap
 trap_in packet = record { issuer = number_in issuer_lid packet }
 

@@ -48,7 +48,7 @@ abbrev pub without_empty_phases : List Phase → List Phase
 without_empty_phases [] = []
 without_empty_phases (p ∷ phases) = if length p.steps == 0 then without_empty_phases phases else p ∷ phases
 
--- the first phase, or one without steps if there is none
+-- the first phase, or a phase without steps if none is left
 abbrev pub next_phase : List Phase → Phase
 next_phase [] = record { counts = false; steps = [] }
 next_phase (p ∷ phases) = p
@@ -124,7 +124,7 @@ abbrev pub noted : Bool → Bool → Option Writing → Option Writing
 noted counts was_done None = None
 noted counts was_done (Some w) = Some (record w { has_failed = w.has_failed || (counts && not was_done) })
 
--- a request waits no more
+-- a request no longer waits
 abbrev pub without : Manager → Pending → Manager
 without m p = record m { pending = without_number p.number m.pending }
 
@@ -133,12 +133,12 @@ abbrev pub is_done_by : Option ℕ → Bool
 is_done_by None = false
 is_done_by (Some status) = status == done
 
--- a step waits no more, and the next phase goes out if it was the last one
+-- a step no longer waits, and the next phase goes out if it was the last one
 abbrev pub after_step : Manager → Pending → Bool → Manager
 after_step m p was_done =
     went_on (record m { pending = without_number p.number m.pending; writing = noted (counts p) was_done m.writing })
 
--- the number of steps that go out if one that waits ends: the next phase, if it is the last of its own
+-- the number of steps that go out if a waiting step ends: those of the next phase, if it is the last of its own
 abbrev pub count_with : List Pending → Option Writing → ℕ
 count_with pending None = 0
 count_with pending (Some w) = if nat_lt 1 (how_many is_step pending) then 0 else length (next_phase w.later).steps

@@ -1,4 +1,4 @@
-//! What a manager does about other managers: what its sweep saw decides its state, and it polls and hands over.
+//! Dealings with other managers: the state after a sweep, polls, and handovers.
 ghost use Rattle.std.specs.Prelude.{◌≡◌, ◌<◌, ◌+◌, ◌≤◌, ◌^◌, ◌∷◌, ◌++◌, [], None, Some, true, IfOk, OnOk, OnErr};
 ghost use Rattle.std.specs.Prelude.{option_copied};
 ghost use Rattle.std.specs.VecDeque.{deque_capacity, deque_len};
@@ -43,14 +43,14 @@ pub(crate) fn end_sweep(standing: &mut Standing, seen: &[SeenManager])
 
 impl Manager {
     /// Sends a poll to the manager at `lid`. If `lid` is `None`, polls a manager that the last sweep saw: the first
-    /// master that this one hears or, if there is none, the greatest of those that outrank it, of equals the first.
-    /// The poll then goes over the path by which the sweep asked for its SMInfo. The answer, or its timeout, counts
-    /// when it comes. Walks what the sweep saw.
+    /// master that this one hears or, if there is none, the greatest manager that outranks it, the first of equals.
+    /// That poll goes over the path by which the sweep asked the manager for SMInfo. The answer or its timeout is
+    /// counted when it comes. Walks the managers that the sweep saw.
     ///
     /// # Errors
     ///
-    /// `NotStandby`; `Nobody` if `lid` is `None` and the sweep saw none of these; `SequenceSpent`; `Memory`, in this
-    /// order.
+    /// Returns the first of these that applies: `NotStandby`; `Nobody` if `lid` is `None` and the sweep saw no manager
+    /// to poll; `SequenceSpent`; `Memory`.
     pub fn poll(&mut self, lid: Option<Lid>) -> Result<(), ManagerFault>
         ensures judged { JudgesButFor is_memory result (poll_fault self.old lid) }
         ensures ok { OnOk result (self.new ≡ after_poll self.old lid) }
@@ -79,7 +79,7 @@ impl Manager {
         }
     }
 
-    /// Returns the path to the manager that is polled, of those that the last sweep saw.
+    /// Returns the path to the manager that a poll without a LID goes to.
     fn polled_path(&self) -> Option<&Path<63>>
         ensures { option_copied result ≡ polled_path self.now }
     {
@@ -102,15 +102,16 @@ impl Manager {
         }
     }
 
-    /// Tells the successor to take over: the greatest of the managers that the last sweep saw in Standby or Master and
-    /// that win over this one, of equals the first that was seen. Sends the control to the LID that the plan gives the
-    /// port where the successor was seen. The state moves by the table of states: it stays Master until the successor
-    /// acknowledges or, by the live conduct, answers that it took over. Plans LIDs, and walks what the sweep saw.
+    /// Tells the successor to take over: the greatest manager that the last sweep saw in Standby or Master and that
+    /// wins over this one, the first of equals. Sends a HANDOVER to the LID that the plan gives to the port where the
+    /// successor was seen. The manager stays Master until the successor acknowledges or, by the live conduct, answers
+    /// that it took over. Plans LIDs, and walks the managers that the sweep saw.
     ///
     /// # Errors
     ///
-    /// `NotMaster`; `Nobody` if there is no successor; `NoRoom`; `Nobody` if the successor's port is not known to be an
-    /// end port, so that the plan gives it no LID; `SequenceSpent`; `Memory`, in this order.
+    /// Returns the first of these that applies: `NotMaster`; `Nobody` if there is no successor; `NoRoom`; `Nobody` if
+    /// the successor's port is not known to be an end port, so that the plan gives it no LID; `SequenceSpent`;
+    /// `Memory`.
     pub fn handover(&mut self) -> Result<(), ManagerFault>
         ensures judged { JudgesButFor is_memory result (handover_fault self.old) }
         ensures ok { OnOk result (self.new ≡ after_handover self.old) }
@@ -152,8 +153,8 @@ impl Manager {
         where_numbered(self.planned_lid(port), self.requests.has_numbers(1))
     }
 
-    /// Returns why nothing can be sent to a port that is not a known end port: there is no plan, or it has no LID for
-    /// the port. Takes no memory.
+    /// Returns why nothing can be sent to a port that is not a known end port: the plan has no room, or it has no LID
+    /// for the port. Takes no memory.
     fn lidless_fault(&self) -> ManagerFault
         ensures { Some result
             ≡ or_else (plan_fault self.now.planning.lmc (cells_of self.now.store)) (Some ManagerFault.Nobody) }
@@ -201,7 +202,7 @@ fn port_seen(store: &Store, seen: &SeenManager) -> Option<EndPort>
     })
 }
 
-/// Returns whether a path leaves by `port`, and is no longer than a path may be.
+/// Returns whether a path leaves by `port` and has at most 63 hops.
 fn is_way_out(port: PortNum, path: &Path<63>) -> bool
     ensures { result ≡ is_way_out port path.now }
 {
@@ -231,7 +232,7 @@ fn send_poll(
     outgoing.push_back_reserved(Outgoing { packet, to: lid });
 }
 
-/// Queues `message` as a control to the LID `to`, if there are both. Takes no memory.
+/// Queues `message` as a control to the LID `to`, if both are given. Takes no memory.
 pub(crate) fn send_message(
     to: &Option<Lid>,
     message: &Option<Message>,

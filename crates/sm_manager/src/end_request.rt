@@ -97,7 +97,7 @@ fn is_handover(ended: &Pending) -> bool
     ended.modifier == Control::Handover.modifier()
 }
 
-/// Ends a control. A manager that is relieved moves as by an acknowledgement.
+/// Ends a control. If `is_relieved`, the manager moves as if it got an ACKNOWLEDGE.
 fn end_control(standing: &mut Standing, is_relieved: bool)
     ensures { standing.new ≡ after_control_end is_relieved standing.old }
 {

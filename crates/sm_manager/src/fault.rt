@@ -8,7 +8,7 @@ use thiserror::Error;
 /// Why a manager refuses a call. A refused call leaves it as it was.
 #[derive(Clone, Copy, Debug, PartialEq, Eq, Error)]
 pub enum ManagerFault {
-    /// The newest generation held is the greatest that there is.
+    /// The newest generation in the store is the greatest possible one.
     #[error("GenerationsSpent")]
     GenerationsSpent,
     /// A sweep was begun and is not done.
@@ -27,13 +27,13 @@ pub enum ManagerFault {
     /// seen.
     #[error("Nobody")]
     Nobody,
-    /// A request that is to go out needs a number of more than 32 bits.
+    /// A request needs a number of more than 32 bits.
     #[error("SequenceSpent")]
     SequenceSpent,
     /// There is no room for the LIDs of the plan.
     #[error("NoRoom")]
     NoRoom(NoRoom),
-    /// The sweep refuses the reply, for another reason than lack of memory.
+    /// The sweep refuses the reply, for a reason other than lack of memory.
     #[error("{0}")]
     Sweep(SweepFault),
     /// The packet answers no request, or the request that timed out does not wait.

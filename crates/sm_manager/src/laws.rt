@@ -1,35 +1,36 @@
-//! What is so of a manager's whole life.
+//! Laws of a manager's whole life.
 ghost use Rattle.sm_manager.specs.HandoverLaws.{HandoversLeaveAMaster};
 ghost use Rattle.sm_manager.specs.Answered.{WrittenIsEachStepDone};
 ghost use Rattle.sm_manager.specs.Calls.{KnowsWhatItTookIn, SameTakenInSamePlan};
 ghost use Rattle.sm_manager.specs.PollLaws.{AnswersReachPolls};
 
-/// After any calls, in whatever order, a manager knows the view of all sightings that it took in, at the greatest
-/// floor: the sightings of the reports that it accepted, and those behind the stores that it merged; the floors that
-/// were raised, and those of the merged stores.
+/// After any calls in any order, a manager's facts are the view of all sightings that it took in, at the greatest
+/// floor. These are the sightings of the reports that it accepted and of the stores that it merged. Floors are those
+/// that were raised and those of the merged stores.
 #[tactic(auto, using(crate::proofs::Lives::knows_what_it_took_in))]
 pub fn knows_what_it_took_in()
     ensures { KnowsWhatItTookIn }
 {}
 
-/// Two managers that took in the same sightings and have the same greatest floor hold equal facts and plan equal LIDs
-/// and forwarding blocks, whatever else happened to them; and if these facts describe exactly what an end port is
-/// joined to, and that part holds the plan, each packet from each end port there for each LID of the plan arrives at
-/// the end port that owns it.
+/// Two managers that took in the same sightings, have the same greatest floor, and plan by the same rule and LMC hold
+/// equal facts and plan equal LIDs and forwarding blocks, whatever else happened to them; and if these facts describe
+/// exactly what an end port is joined to, and that part holds the plan, each packet from an end port there for a LID of
+/// the plan arrives at the end port that owns the LID.
 #[tactic(auto, using(crate::proofs::Lives::same_taken_in_same_plan))]
 pub fn same_taken_in_same_plan()
     ensures { SameTakenInSamePlan }
 {}
 
-/// If a writing begins after any calls and no other one follows, the plan is written exactly if as many of its steps
-/// that count were answered as done as there are: those of its first three phases. An answer to a step ends it, so none
-/// is counted twice.
+/// If a writing begins after any calls and no other one follows, the plan is written exactly if as many steps of its
+/// first three phases were answered as done as these phases have. An answer to a step ends it, so no step is counted
+/// twice.
 pub fn written_is_each_step_done()
     ensures { WrittenIsEachStepDone }
 {}
 
-/// After a handover one of both managers is master, once its sender knows how it was answered, if nothing else moves
-/// either of them meanwhile. The sender stays master unless the answer has status 0, and whoever answers so took over.
+/// After a handover one of the two managers is master, once the sender knows how the handover was answered, if nothing
+/// else moves either of them meanwhile. The sender stays master unless the answer has status 0, and a manager that
+/// answers with status 0 took over.
 pub fn handovers_leave_a_master()
     ensures { HandoversLeaveAMaster }
 {}

@@ -94,13 +94,14 @@ impl Manager {
         }
     }
 
-    /// Begins a sweep, and queues its first request. Its generation is the one after the newest in the store, or the
-    /// floor if that is greater. Forgets the managers that the sweep before saw. Walks the store once. By the live
-    /// conduct the sweep keeps the 64 bytes that it reads of each port and each switch, which a writing then carries.
+    /// Begins a sweep, and queues its first request. The sweep's generation is the one after the newest in the store,
+    /// or the floor if that is greater. Forgets the managers that the previous sweep saw. Walks the store once. By the
+    /// live conduct the sweep keeps the 64 bytes that it reads of each port and each switch; a later writing carries
+    /// them.
     ///
     /// # Errors
     ///
-    /// `SweepRunning`, `GenerationsSpent` and `Memory`, in this order.
+    /// Returns the first of these that applies: `SweepRunning`, `GenerationsSpent`, `Memory`.
     pub fn begin_sweep(&mut self) -> Result<(), ManagerFault>
         ensures judged { JudgesButFor is_memory result (begin_fault self.old) }
         ensures ok { OnOk result (self.new ≡ after_begin_sweep self.old) }
@@ -131,8 +132,8 @@ impl Manager {
     }
 
     /// Forgets facts older than `floor`, and ignores them whenever they come again. A running sweep goes on: its
-    /// replies are accepted, but their facts are ignored if its generation is below `floor`; the generation of the next
-    /// sweep is not. Takes no memory. Walks the store if `floor` is greater than its floor.
+    /// replies are accepted, but their facts are ignored if its generation is below `floor`. The generation of the next
+    /// sweep is not below it. Takes no memory. Walks the store if `floor` is greater than its floor.
     pub fn raise_floor(&mut self, floor: Generation)
         ensures { self.new ≡ after_raise_floor self.old floor }
     {
@@ -143,7 +144,7 @@ impl Manager {
     ///
     /// # Errors
     ///
-    /// Only `Memory`.
+    /// Returns only `Memory`.
     pub fn merge_from(&mut self, other: &Store) -> Result<(), ManagerFault>
         ensures ok { OnOk result (self.new ≡ after_merge self.old other.now) }
         ensures err { OnErr result (self.new ≡ self.old) }
@@ -159,7 +160,7 @@ impl Manager {
     ///
     /// # Errors
     ///
-    /// `NoRoom`; `Memory` if there is room.
+    /// Returns `NoRoom` if the LIDs have no room. Returns `Memory` only if they have.
     pub fn plan(&self) -> Result<Plan, ManagerFault>
         ensures judged { JudgesButFor is_memory result (plan_fault self.now.planning.lmc (cells_of self.now.store)) }
         ensures plan { IfOk result (λ plan.
@@ -190,7 +191,7 @@ impl Manager {
         }
     }
 
-    /// Returns all facts that were taken in.
+    /// Returns all facts that the manager took in.
     pub fn store(&self) -> &Store
         ensures { result.now ≡ self.now.store }
     {
@@ -228,8 +229,8 @@ impl Manager {
         }
     }
 
-    /// Returns how many of the unanswered requests of the last sweep were for SMInfo, that is, the number of managers
-    /// that their ports report but that are silent. Returns `None` if no sweep was begun.
+    /// Returns how many of the last sweep's requests for SMInfo were not answered: each is for a manager that its port
+    /// reports but that is silent. Returns `None` if no sweep was begun.
     pub fn silent_managers(&self) -> Option<u64>
         ensures { result ≡ silent_in self.now.sweep }
     {

@@ -25,8 +25,8 @@ use std::alloc::{AllocError, Global};
 use std::collections::VecDeque;
 use std::marker::Model;
 
-/// The requests of a manager outside its sweeps that wait for their answers. Contracts see them, the number of the next
-/// request, and for how many more there is memory.
+/// The requests of a manager outside its sweeps that wait for their answers. Contracts see these requests, the number
+/// of the next request, and for how many more requests there is memory.
 #[derive(Drop)]
 pub(crate) struct ManagerRequests {
     table: RequestTable<Pending>,
@@ -247,8 +247,8 @@ fn poll_packet(number: u64, path: &Option<Path<63>>) -> Smp
     }
 }
 
-/// Reserves memory for `count` more requests and for `packets` more packets. Returns `SequenceSpent` if numbers for the
-/// requests are not left.
+/// Reserves memory for `count` more requests and for `packets` more packets. Returns `SequenceSpent` if too few numbers
+/// are left for the requests.
 pub(crate) fn make_room(
     count: usize,
     packets: usize,

@@ -16,22 +16,23 @@ use smp_bytes::{AttributeId, Lid, Method, Smp, SmpClass};
 use sweep::{REQUESTS_PER_REPLY, Sweep, SweepFault};
 
 impl Manager {
-    /// Handles a packet that came to the manager's port. `from` is the LID of its sender, which a packet by LIDs has.
+    /// Handles a packet that came to the manager's port. `from` is the LID of its sender; a packet that came by LIDs
+    /// has one.
     ///
     /// A reply to the sweep adds its facts, or notes another manager, and queues the next requests. If that ends the
     /// sweep, the state changes by what the sweep saw. An answer to a poll, a control or a step of a writing ends that
-    /// request; the last one of a phase queues the next phase. A request for SMInfo is answered, and a control is
-    /// obeyed if the table of states has a move for it. By the live conduct a trap by LIDs is repressed; what it tells
-    /// is returned.
+    /// request; the last answer of a phase queues the next phase. A request for SMInfo is answered, and a control is
+    /// obeyed if the table of states has a move for it. By the live conduct a trap by LIDs is repressed, and its
+    /// content is returned.
     ///
     /// The work does not grow with what is known, except for searches and, at the end of a sweep, for the managers that
     /// it saw.
     ///
     /// # Errors
     ///
-    /// `Sweep` with the fault of bytes that are not a packet; `Unasked` if the packet answers no request, is not a
-    /// request for SMInfo and is not repressed; `Sweep` if the sweep refuses the reply; `SequenceSpent` if no numbers
-    /// are left for what goes out; `Memory`.
+    /// Returns `Sweep` if the bytes are not a packet, with their fault; `Unasked` if the packet answers no request, is
+    /// not a request for SMInfo and is not repressed; `Sweep` if the sweep refuses the reply; `SequenceSpent` if no
+    /// numbers are left for what goes out; `Memory`.
     pub fn on_packet(
         &mut self,
         bytes: &[u8; 256],
@@ -125,8 +126,8 @@ fn refusal_of(fault: SweepFault) -> ManagerFault
     }
 }
 
-/// Returns why a reply is not taken if there is no room for what it may bring up: the sweep's refusal, or `Memory` if
-/// the sweep accepts it.
+/// Returns why a reply is refused if there is no memory for what it may bring up: the sweep's own refusal, or `Memory`
+/// if the sweep accepts it.
 fn fault_without_room(sweep: &Sweep, smp: &Smp) -> ManagerFault
     ensures { IsFaultWithoutRoom (judged sweep.now smp.now) result }
 {

@@ -14,8 +14,8 @@ impl Manager {
     ///
     /// # Errors
     ///
-    /// `Unasked` if no request with this TransactionID waits. `SequenceSpent` and `Memory` if the next phase would go
-    /// out.
+    /// Returns `Unasked` if no request with this TransactionID waits. Returns `SequenceSpent` and `Memory` only if the
+    /// next phase would go out.
     pub fn on_timeout(&mut self, transaction: u64) -> Result<(), ManagerFault>
         ensures judged { JudgesButFor is_memory result (after_timeout self.old transaction).fault }
         ensures ok { OnOk result (self.new ≡ (after_timeout self.old transaction).manager) }

@@ -111,7 +111,7 @@ fn answer(smp: &Smp, from: &Option<Lid>, status: Status, standing: &Standing) ->
     Outgoing { packet, to }
 }
 
-/// Returns the LID to which a control is acknowledged: that of its sender, or `None` if it came over a directed route.
+/// Returns the LID to which a control is acknowledged: the sender's, or `None` if it came over a directed route.
 fn acknowledged_at(smp: &Smp, from: Option<Lid>) -> Option<Lid>
     ensures { result ≡ acknowledged_at smp.now from }
 {

@@ -17,7 +17,7 @@ const TRAP_REPRESS: Method = Method(0x07);
 /// The offset of IssuerLID in a packet that carries a Notice (subnet management, Notice).
 const ISSUER_LID: usize = 70;
 
-/// What a trap tells that a manager represses.
+/// The content of a trap that a manager represses.
 #[derive(Clone, Copy, Debug, PartialEq, Eq)]
 pub struct Trap {
     /// The LID of the port that issued the notice.
@@ -25,7 +25,7 @@ pub struct Trap {
 }
 
 impl Trap {
-    /// Reads what a trap tells.
+    /// Reads the content of a trap.
     pub(crate) fn of(smp: &Smp) -> Trap
         ensures { result ≡ trap_in smp.now }
     {

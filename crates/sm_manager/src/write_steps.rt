@@ -25,8 +25,8 @@ impl Manager {
     ///
     /// # Errors
     ///
-    /// `NotMaster`, `SweepRunning`, `WritingRunning`, `NoRoom`, `SequenceSpent` if fewer numbers are left than a phase
-    /// could need, and `Memory`, in this order.
+    /// Returns the first of these that applies: `NotMaster`; `SweepRunning`; `WritingRunning`; `NoRoom`;
+    /// `SequenceSpent` if fewer numbers are left than a phase could need; `Memory`.
     pub fn write_steps(&mut self) -> Result<(), ManagerFault>
         ensures judged { JudgesButFor is_memory result (writing_fault self.old) }
         ensures ok { OnOk result (self.new ≡ after_write_steps self.old) }
@@ -40,7 +40,7 @@ impl Manager {
         Ok(())
     }
 
-    /// Returns the writing of the plan of what is known, of which no step was sent.
+    /// Returns a writing of the plan of what is known, with no step sent yet.
     fn planned(&self) -> Result<Writing, ManagerFault>
         ensures judged { JudgesButFor is_memory result (writing_fault self.now) }
         ensures writing { IfOk result (λ w. w
@@ -64,7 +64,7 @@ impl Manager {
     ///
     /// # Errors
     ///
-    /// `NotMaster`, `SweepRunning` if the sweep is not done, and `WritingRunning`, in this order.
+    /// Returns the first of these that applies: `NotMaster`; `SweepRunning` if the sweep is not done; `WritingRunning`.
     fn last_sweep(&self) -> Result<&Sweep, ManagerFault>
         ensures judged { Judges result (write_fault self.now) }
         ensures sweep { IfOk result (λ s. self.now.sweep ≡ Some s.now) }
@@ -108,7 +108,7 @@ impl Manager {
         Ok(())
     }
 
-    /// Returns the number of steps that go out when one that waits ends.
+    /// Returns the number of steps that go out when a waiting step ends.
     fn count_after(&self) -> usize
         ensures { result ≡ count_after self.now }
     {
@@ -122,8 +122,8 @@ impl Manager {
     }
 }
 
-/// Returns `found`, or `SequenceSpent` if no numbers are left. Another fault of `found` comes first, lack of memory
-/// last.
+/// Returns `found`, or `SequenceSpent` if no numbers are left. Other faults of `found` come before that, and lack of
+/// memory after it.
 pub(crate) fn where_numbered<T: Drop>(
     found: Result<T, ManagerFault>,
     are_numbers: bool,

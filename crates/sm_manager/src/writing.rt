@@ -29,7 +29,7 @@ impl Model for Writing {
 }
 
 impl Writing {
-    /// Creates the writing of `phases`, of which no step was sent yet.
+    /// Creates a writing of `phases`, with no step sent yet.
     pub(crate) fn new(phases: VecDeque<Phase>) -> Self
         ensures { result ≡ record { later = without_empty_phases phases.items; has_failed = false } }
     {
@@ -51,7 +51,7 @@ impl Writing {
         }
     }
 
-    /// Notes whether a step was done. `counts` says whether the plan is written only if it was.
+    /// Notes whether a step was done. `counts` says whether the plan is written only if the step was done.
     pub(crate) fn note(&mut self, counts: bool, was_done: bool)
         ensures later { self.new.later ≡ self.old.later }
         ensures failed { self.new.has_failed ≡ self.old.has_failed || (counts && not was_done) }

@@ -1,4 +1,4 @@
--- For which LIDs packets wait in a credit loop of a step, LID by LID up to the greatest top of both tables.
+-- The LIDs for which packets wait in a credit loop of a step, LID by LID up to the greatest top of both tables.
 use Rattle.std.proofs.Common.{length-append, ◌≡◌, ◌<◌, ◌≤◌, ◌+◌, ◌/◌, ℕ, zero, suc, true, false, List, [], ◌∷◌, ◌++◌, length, replicate, refl, sym, ap, ◌∙◌, subst, arith, max, inl, inr, ◌⊎◌, cond}
 use Rattle.std.specs.Prelude.{Option, None, Some, not, slice_index_or, slice_set, map, ◌==◌}
 use Rattle.std.proofs.lemmas.Bool.{and_parts, cases_eq, cases_lt, eq-eqb}
@@ -255,7 +255,7 @@ module _ (cells : Cells) (held next : HeldPlan) where
         (subst (λ (others : List ℕ). IsLeastUpTo count (slice_index_or cycle i 0) (slice_index_or others i 0) (slice_index_or lids i 0)) is (so.each i less));
   }
 
-  -- where each is known, they are the least
+  -- if each LID is known, they are the least
   pub known_lids : (count held_number next_number : ℕ) (held_rows next_rows : List (List ℕ)) (cycle after lids : List ℕ)
       → LidsUpTo count held_number next_number held_rows next_rows cycle after lids → after ≡ turned cycle → are_known lids ≡ true
       → AreLoopLids cells held next cycle lids

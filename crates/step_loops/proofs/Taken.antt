@@ -15,7 +15,7 @@ of_all before now a b t = (t.0, within before t.0 t.1.first t.1.leaves, t.1)
 of_any : (before now : List (Option Edge)) (a b : ℕ) → TakesAmong (length before) before now a b → TakesBy before now a b
 of_any before now a b t = (t.0, t.2)
 
--- what holds where there is a value
+-- a property of a value, if there is one
 pub on_ok : {T E : Type 0} (P Q : Type 0) (r : Result T E) → OnOk r P → (P → Q) → OnOk r Q
 on_ok P Q (Ok x) h f = f h
 on_ok P Q (Err e) h f = tt
@@ -56,7 +56,7 @@ all_kinds old one two three new held next h k m n = record {
     back a b (inr (inr (inr (inl t)))) = from_three a b ((m.follows a b).1 (inr (of_all next held a b t)))
     back a b (inr (inr (inr (inr t)))) = (n.follows a b).1 (inr (of_all next next a b t))
 
--- where both tables have the same edges, one kind is all
+-- if both tables have the same edges, one kind is all
 pub one_kind : (old new : List (List ℕ)) (held next : List (Option Edge)) → held ≡ next → IsWithColumn old held new → IsWithStep old held next new
 one_kind old new held next same h =
     subst (λ (column : List (Option Edge)). IsWithStep old held column new) same (record { as_many = h.as_many; follows = λ a b. (there a b, back a b) })

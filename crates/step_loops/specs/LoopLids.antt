@@ -13,7 +13,7 @@ pub record IsLeastLid (cells : Cells) (held next : HeldPlan) (a b lid : ℕ) : T
   pub waits : WaitsInStep cells held next lid a b
   pub least : (other : ℕ) → 1 ≤ other → WaitsInStep cells held next other a b → lid ≤ other
 
--- for each channel of a cycle, the next one, and for the last the first
+-- for each channel of a cycle, the next one; after the last comes the first
 abbrev pub turned : List ℕ → List ℕ
 turned [] = []
 turned (channel ∷ later) = later ++ channel ∷ []

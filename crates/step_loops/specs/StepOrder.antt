@@ -1,4 +1,4 @@
--- Channels that wait for each other in a step, by whatever mixtures, and their order.
+-- Channels that wait for each other in a step, in any mixtures, and their order.
 use Rattle.std.specs.Prelude.{◌≡◌, ◌↔◌, ◌⊎◌, ◌≤◌, ◌*◌, ℕ, List, [], ◌∷◌, Option, length}
 use Rattle.port_graph.specs.declared.edge.Edge.{Edge}
 use Rattle.subnet_view.specs.Reading.{Cells, switches}
@@ -23,12 +23,12 @@ pub record WaitsFor (cells : Cells) (held next : HeldPlan) (a b : ℕ) : Type 0 
   pub is_lid : 1 ≤ lid
   pub waits : WaitsInStep cells held next lid a b
 
--- `waits` has, for each channel, those that packets wait for that hold it
+-- `waits` has, for each channel, the channels that packets holding it wait for
 pub record AreWaits (cells : Cells) (held next : HeldPlan) (waits : List (List ℕ)) : Type 0 where
   pub as_many : length waits ≡ 256 * length (switches cells)
   pub follows : (a b : ℕ) → Follows waits a b ↔ WaitsFor cells held next a b
 
--- each channel of each switch has a number, less than those of the channels that it waits for
+-- each channel of each switch has a number, less than the numbers of the channels that it waits for
 pub record NumbersRise (cells : Cells) (held next : HeldPlan) (numbers : List ℕ) : Type 0 where
   pub as_many : length numbers ≡ 256 * length (switches cells)
   pub rise : RiseInStep cells held next numbers

@@ -57,10 +57,10 @@ pub(crate) fn columns_of(
     })
 }
 
-/// Adds that channels follow each other if packets for the LID of `columns` leave a switch by either table, and then
-/// the next switch by either. `before` are the columns of the LID before, which have been added; equal ones are not
-/// added again. Takes a step for each switch if they are equal, or if both tables have the same edges, and else four;
-/// and for each step a walk over the channels that follow the switch's own, if the next one is not known to.
+/// Records that two channels follow each other if packets for the LID of `columns` take the one by either table, and
+/// then the other by either table. `before` has the columns of the previous LID, which have been added; equal ones are
+/// not added again. Takes a step for each switch if they are equal or if both tables have the same edges, otherwise
+/// four. Each of these steps also walks the channels that follow the switch's own, if the next one is not known to.
 pub(crate) fn add_step(
     waits: &mut Waits,
     before: &Columns,
@@ -81,7 +81,7 @@ pub(crate) fn add_step(
     add_all(waits, &columns.held, &columns.next)
 }
 
-/// Adds that channels follow each other by the edges of two columns that differ.
+/// Records that channels follow each other by the edges of two columns that differ.
 fn add_all(
     waits: &mut Waits,
     held: &[Option<Edge>],

@@ -14,9 +14,9 @@ use smp_bytes::Lid;
 use std::alloc::{AllocError, Global};
 
 /// Returns, for each channel of a credit loop in a step, the least LID for which packets that hold it wait for the next
-/// channel, and for the last channel those that wait for the first. At each of the two switches the entry is one of
-/// either table. Takes, for each LID until each channel has one, a step for each switch by either table, and four for
-/// each channel that has no LID yet.
+/// channel; after the last channel comes the first. At each of the two switches the entry may be of either table. For
+/// each LID, until each channel has one, takes a step for each switch by either table, and four for each channel that
+/// has no LID yet.
 pub fn loop_lids(
     alloc: Global,
     held: &Network,
@@ -45,7 +45,7 @@ pub fn loop_lids(
     Ok(lids)
 }
 
-/// Returns, for each channel of `cycle`, the next one, and for the last the first.
+/// Returns, for each channel of `cycle`, the next one; after the last comes the first.
 fn turned(alloc: Global, cycle: &[usize]) -> Result<Vec<usize>, AllocError>
     ensures { IfOk result (λ after. after.items ≡ turned cycle.now) }
 {
@@ -57,7 +57,7 @@ fn turned(alloc: Global, cycle: &[usize]) -> Result<Vec<usize>, AllocError>
     Ok(after)
 }
 
-/// Returns `count` times 0, no LID.
+/// Returns `count` zeros; 0 is no LID.
 fn none_known(alloc: Global, count: usize) -> Result<Vec<Lid>, AllocError>
     ensures { IfOk result (λ lids. lids.items ≡ replicate count 0) }
 {
@@ -90,8 +90,8 @@ fn note_lid(
     }
 }
 
-/// Returns `known` if it is not 0. Otherwise returns `lid` if its packets hold `channel` and wait for `other`, and else
-/// 0.
+/// Returns `known` if it is not 0. Otherwise returns `lid` if its packets hold `channel` and wait for `other`, or 0 if
+/// they do not.
 fn noted(
     channel: usize,
     other: usize,

@@ -10,7 +10,7 @@ use next_tables::greater;
 use smp_bytes::Lid;
 use std::alloc::{AllocError, Global};
 
-/// Returns numbers of channels that rise along the way of every packet, by whatever mixtures of the held and the next
+/// Returns numbers of channels that rise along the way of every packet, by any mixtures of the held and the next
 /// tables. If there are no such numbers, returns a shortest credit loop of some mixtures. Channels are numbered as in
 /// `audit_channels::channel_order`. Costs what that takes for both tables, with four steps in place of one if they
 /// differ.
@@ -27,7 +27,8 @@ pub fn step_order(alloc: Global, held: &Network, next: &Network) -> Result<Chann
     Ok(found)
 }
 
-/// Returns, for each channel, those that packets take next by either table, LID by LID up to the greatest top of both.
+/// Returns, for each channel, the channels that packets take next by either table, LID by LID up to the greatest top of
+/// both.
 fn waits(alloc: Global, held: &Network, next: &Network) -> Result<Waits, AllocError>
     requires facts { next.now.facts ≡ held.now.facts }
     ensures { IfOk result (λ waits.

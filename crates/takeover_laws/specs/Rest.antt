@@ -1,4 +1,4 @@
--- After a cut: what a floor forgets, which LIDs stay, and what a manager brings up that takes the rest over.
+-- After a cut: what a floor forgets, which LIDs stay, and what a manager that takes the rest over brings up.
 use Rattle.std.specs.Prelude.{◌≡◌, ◌<◌, ℕ, true, max, List, [], Contains, Some}
 use Rattle.fabric_model.specs.declared.cable.NodePort.{NodePort}
 use Rattle.fabric_model.specs.Fabric as fabric
@@ -27,8 +27,8 @@ use Rattle.takeover_laws.specs.Takeover.{SweepsAlone, planning_at, plan_by_it}
 abbrev pub FloorsForget : Type 0
 FloorsForget = (facts : Facts) (floor : ℕ) → 1 < floor → newest_held facts < floor → cells_of (raised facts floor) ≡ []
 
--- a manager that is given a floor above 1 and above each generation that it holds has no facts then, and the generation
--- of its next sweep is the greater of its old floor and the given one
+-- if a manager is given a floor above 1 and above each generation that it holds, it has no facts then, and the
+-- generation of its next sweep is the greater of its old floor and the given one
 abbrev pub RaisedManagersKnowNothing : Type 0
 RaisedManagersKnowNothing = (w : Managing) (floor : ℕ) → 1 < floor → newest_held w.manager.store < floor
     → (cells_of (after_manager_event w (Raise floor)).manager.store ≡ [])
@@ -36,8 +36,8 @@ RaisedManagersKnowNothing = (w : Managing) (floor : ℕ) → 1 < floor → newes
 
 -- LIDs ---------------------------------------------------------------------------------------------------
 
--- the second view has some of the first one's end ports, which claim the LIDs that they have there, and room for all of
--- these LIDs
+-- the end ports of the second view are end ports of the first one and claim the LIDs that they have there, and the
+-- second view has room for all LIDs of the first
 pub record IsRestOf (lmc : ℕ) (x y : Cells) : Type 0 where
   pub had : (e : EndPort) → Contains (end_ports y) e → Contains (end_ports x) e
   pub claimed : (e : EndPort) (lid : ℕ) → Contains (end_ports y) e → lid_of (lids lmc x) e ≡ Some lid
@@ -53,7 +53,7 @@ LidsOutlast = (lmc : ℕ) (x y : Facts) → ¬ (IsNoRoom lmc (cells_of x)) → �
 
 -- a takeover of the rest ---------------------------------------------------------------------------------
 
--- earlier facts tell of each end port that is joined to a seat, and it holds the LID of their plan; they may tell of
+-- earlier facts have each end port that is joined to the seat, and it holds the LID of their plan; they may have
 -- others, which are gone
 pub record TakesRest (held : Facts) (w : Managing) (before between after : List ManagerEvent) : Type 0 where
   pub sweeps : SweepsAlone w before between after
@@ -66,8 +66,8 @@ pub record TakesRest (held : Facts) (w : Managing) (before between after : List 
       → range_of (plan_by_it (planning_at w before between) held).given (record { node = node.guid; port = port.port })
       ≡ Some (range_at (fabric_of w.scene.fabric) port)
 
--- the written plan gives each end port that is there the LID that it had, and once it is written pings arrive among
--- them
+-- the written plan gives each end port that is left the LID that it had, and once the plan is written, pings among
+-- these end ports arrive
 pub record IsServed (held : Facts) (w : Managing) (before between after : List ManagerEvent) : Type 0 where
   pub lids_stay : (e : EndPort) → Contains (end_ports (cells_of (at_writing w before between).manager.store)) e
       → lid_of (plan_at (at_writing w before between)).given e

@@ -1,4 +1,4 @@
--- A manager takes over a subnet that holds a plan: it sweeps while no LID changes, and comes to this plan.
+-- A manager takes over a subnet that holds a plan: it sweeps while no LID changes, and its plan is the held one.
 use Rattle.std.specs.Prelude.{◌≡◌, ◌≤◌, ℕ, true, List, [], ◌∷◌, Some}
 use Rattle.fabric_model.specs.Fabric.{Fabric}
 use Rattle.fabric_model.specs.FabricWalks.{IsJoinedTo}
@@ -38,11 +38,11 @@ planning_at w before between = (at_writing w before between).manager.planning
 abbrev pub plan_by_it : Planning → Facts → PlanValue
 plan_by_it planning facts = plan_of planning.rule planning.lmc (cells_of facts)
 
--- A manager that held no facts sweeps, and is about to write what it learnt by that.
+-- A manager without facts sweeps, and is about to write the plan of what it learned.
 pub record SweepsAlone (w : Managing) (before between after : List ManagerEvent) : Type 0 where
   -- from a moment at which nothing is on its way, a sweep begins, and later a writing
   pub run : IsWritingRun w before between after
-  -- the manager holds no facts when the sweep begins, and until the writing learns from this sweep alone
+  -- the manager holds no facts when the sweep begins, and until the writing it learns only from this sweep
   pub knew_nothing : cells_of (after_manager_events before w).manager.store ≡ []
   pub alone : AreNoSweeps between (after_manager_event (after_manager_events before w) Begin)
   -- the sweep has every answer, and nothing was out of its reach
@@ -57,8 +57,8 @@ pub record SweepsAlone (w : Managing) (before between after : List ManagerEvent)
 -- A manager sweeps alone on a subnet that holds a plan.
 pub record TakesOver (held : Facts) (w : Managing) (before between after : List ManagerEvent) : Type 0 where
   pub sweeps : SweepsAlone w before between after
-  -- the facts `held` describe exactly all that is joined to the seat, and that holds their plan by the manager's rule
-  -- and LMC
+  -- the facts `held` describe exactly all that is joined to the seat, and what is joined to the seat holds their plan
+  -- by the manager's rule and LMC
   pub has_room : ¬ (IsNoRoom (planning_at w before between).lmc (cells_of held))
   pub agrees : AgreesOn (IsJoinedTo (fabric_of w.scene.fabric) w.seat) (cells_of held) (fabric_of w.scene.fabric)
   pub holds : HoldsPlan (IsJoinedTo (fabric_of w.scene.fabric) w.seat) (plan_by_it (planning_at w before between) held)
@@ -108,8 +108,8 @@ InUseAlong rule facts plan seat [] w = IsInUse rule facts plan w.scene.fabric se
 InUseAlong rule facts plan seat (event ∷ events) w =
     IsInUse rule facts plan w.scene.fabric seat × InUseAlong rule facts plan seat events (after_manager_event w event)
 
--- a takeover while each Set carries the values of the held plan until the writing begins; from then on the run itself
--- asks for it
+-- a takeover during which each Set carries the values of the held plan until the writing begins; from then on the run
+-- itself (`IsWritingRun`) requires this
 pub record TakesOverQuietly (held : Facts) (w : Managing) (before between after : List ManagerEvent) : Type 0 where
   pub takes : TakesOver held w before between after
   pub carry_before : AllCarry (plan_by_it (planning_at w before between) held) before w
@@ -133,7 +133,7 @@ PingsArriveThroughout =
     → TakesOverQuietly held w before between after
     → IsInUseThroughout held w before between after
 
--- a new manager that takes over quietly, and that another manager, which is there, does not answer
+-- a new manager that takes over quietly, while another manager is there and does not answer
 pub record SomeManagerTakesOver : Type 0 where
   pub managing : Managing
   pub port_guid : ℕ

@@ -45,7 +45,7 @@ module _ (cells : Cells) (tables : HeldPlan) (preferred : List ℕ) (are : AreVe
       ]
 
   module _ (q : ℕ → ℕ) (right : (lid : ℕ) → 1 ≤ lid → AreRight cells q tables lid) (k : ℕ) (agreed : AgreesUpTo preferred q k) where
-    -- where one of the first k is taken, none behind it is left
+    -- if one of the first k is taken, none after it in the list is left
     taken_last : (left : List Bool) (x : ℕ) → ((i : ℕ) → is_left left i ≡ true → i < n) → (last : IsLast cells tables preferred left x)
         → last.index < k → (j : ℕ) → last.index < j → j < length preferred → is_left left (number_at preferred j) ≡ true → ⊥
     taken_last left x within last low j less j_in j_left =

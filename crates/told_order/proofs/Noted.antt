@@ -37,7 +37,7 @@ switch_same : (j k : ℕ) → Switch j ≡ Switch k → j ≡ k
 switch_same j k e = cc
 
 module _ (cells : Cells) (channel next : ℕ) (old new : List (List SwitchTurn)) where
-  -- where a channel leads to no switch there is no turn
+  -- if a channel leads to no switch, there is no turn
   pub no_turn : new ≡ old → ((k : ℕ) → far_by cells next ≡ Switch k → ⊥) → IsWithTurn cells channel next old new
   no_turn same none = record {
     as_many = ap length same;

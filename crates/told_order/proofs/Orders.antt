@@ -151,7 +151,7 @@ module _ (cells : Cells) (tables : HeldPlan) (preferred : List ℕ) where
       let own = lefts_less left x are.0.is_left in
       omega (arith, rest, own)
 
-  -- where none is left at the end, those that are taken are those that were left
+  -- if none is left at the end, each switch that was left is taken
   pub taken_each : (left : List Bool) (taken : List ℕ) (end : List Bool) → AreTaken cells tables preferred left taken end → ((i : ℕ) → is_left end i ≡ false)
       → (i : ℕ) → is_left left i ≡ true → Contains taken i
   taken_each left [] end are none i h = let no = none i in let at = ap (λ (l : List Bool). is_left l i) are in absurd (cc)

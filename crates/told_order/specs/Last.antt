@@ -1,4 +1,4 @@
--- Which switch may be the last of those left, by lists of turns.
+-- Which switch may be the last of the switches left, by lists of turns.
 use Rattle.std.specs.Prelude.{◌≡◌, ◌<◌, ◌+◌, ◌&&◌, ℕ, Bool, true, false, not, List, [], Option, None, Some, slice_get, slice_index_or}
 use Rattle.std.specs.List.{list_any}
 use Rattle.told_order.specs.declared.turns.SwitchTurn.{SwitchTurn}

@@ -14,14 +14,15 @@ ToldOrdersAreRight =
     → IsOrder cells (position_in taken) × AreApart cells (position_in taken)
     × ((lid : ℕ) → 1 ≤ lid → AreRight cells (position_in taken) tables lid)
 
--- an order is told if tables are right by some order
+-- tables that are right by some order tell an order, if each usable switch is in the list of preferences
 abbrev pub SomeOrderIsTold : Type 0
 SomeOrderIsTold =
     (cells : Cells) (tables : HeldPlan) (preferred : List ℕ) (q : ℕ → ℕ)
     → ((i : ℕ) → i < length (switches cells) → Contains preferred i)
     → ((lid : ℕ) → 1 ≤ lid → AreRight cells q tables lid) → IsTold cells tables preferred None → ⊥
 
--- as far as some order by which tables are right agrees with the preferences, the order that they tell does
+-- if tables are right by an order that agrees with the preferences on their first k switches, the order that the tables
+-- tell agrees with the preferences on these switches too
 abbrev pub ToldOrdersAgree : Type 0
 ToldOrdersAgree =
     (cells : Cells) (tables : HeldPlan) (preferred taken : List ℕ) (q : ℕ → ℕ) (k : ℕ)

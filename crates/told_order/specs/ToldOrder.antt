@@ -8,7 +8,7 @@ use Rattle.told_order.specs.Turns.{IsTurn}
 abbrev pub is_left : List Bool → ℕ → Bool
 is_left left i = slice_index_or left i false
 
--- switch j may be the last of those left: no packet comes to it from one of them and leaves it for one of them
+-- switch j may be the last of the switches left: no packet comes to it from one of them and leaves it for one of them
 abbrev pub MayBeLast : Cells → HeldPlan → List Bool → ℕ → Type 0
 MayBeLast cells tables left j =
     (i k : ℕ) → is_left left i ≡ true → is_left left k ≡ true → IsTurn cells tables i j k → ⊥
@@ -27,7 +27,8 @@ pub record IsLast (cells : Cells) (tables : HeldPlan) (preferred : List ℕ) (le
   pub stands : slice_get preferred index ≡ Some x
   pub none_behind : NoneFrom cells tables preferred left (index + 1)
 
--- switches are taken one after the other, each as the last of those left then; `end` says which are left in the end
+-- switches are taken one after the other, each as the last of the switches left then; `end` says which are left in the
+-- end
 abbrev pub AreTaken : Cells → HeldPlan → List ℕ → List Bool → List ℕ → List Bool → Type 0
 AreTaken cells tables preferred left [] end = left ≡ end
 AreTaken cells tables preferred left (x ∷ taken) end =
@@ -37,7 +38,7 @@ AreTaken cells tables preferred left (x ∷ taken) end =
 abbrev pub all_left : Cells → List Bool
 all_left cells = replicate (length (switches cells)) true
 
--- all switches are taken, the last one first; None if some are left of which none may be the last
+-- all switches are taken, the last one first; None if some are left but none of them may be the last
 abbrev pub IsTold : Cells → HeldPlan → List ℕ → Option (List ℕ) → Type 0
 IsTold cells tables preferred None =
     (taken : List ℕ) × (end : List Bool) × AreTaken cells tables preferred (all_left cells) taken end

@@ -15,7 +15,7 @@ pub record IsTurn (cells : Cells) (tables : HeldPlan) (i j k : ℕ) : Type 0 whe
   pub comes : Leads cells tables lid i j
   pub leaves : Leads cells tables lid j k
 
--- the lists of vectors
+-- the vectors as lists
 abbrev pub lists_of : List (Vec SwitchTurn Global) → List (List SwitchTurn)
 lists_of = map (λ row. row.items)
 

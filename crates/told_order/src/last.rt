@@ -1,4 +1,4 @@
-//! The switch that may be the last of those left.
+//! The switch that may be the last of the switches left.
 ghost use Rattle.std.specs.Prelude.{◌≡◌};
 ghost use Rattle.told_order.specs.Last.{IsNextBy, may_be_last, turns_in};
 ghost use Rattle.told_order.specs.ToldOrder.{is_left};
@@ -6,9 +6,9 @@ ghost use Rattle.told_order.specs.Turns.{lists_of};
 
 use crate::turns::SwitchTurn;
 
-/// Returns the switch that may be the last of those left, by the turns at each switch. If there are several, returns
-/// the one that stands last in `preferred`. Takes a step for each switch of that list, and one for each turn at those
-/// left, until it finds one.
+/// Returns the switch that may be the last of the switches left, by the turns at each switch. If there are several,
+/// returns the one that stands last in `preferred`. Takes a step for each switch in `preferred` and for each turn at a
+/// switch that is left, until it finds one.
 pub(crate) fn last_of(
     turns: &[Vec<SwitchTurn>],
     preferred: &[usize],
@@ -25,7 +25,8 @@ pub(crate) fn last_of(
     None
 }
 
-/// Returns whether the switch is left, and no packets from a switch that is left turn there to one that is left.
+/// Returns whether `switch` is left and no packet comes to it from a switch that is left and leaves it for one that is
+/// left.
 fn may_be_last(turns: &[Vec<SwitchTurn>], left: &[bool], switch: usize) -> bool
     ensures { result ≡ may_be_last (lists_of turns.now) left.now switch }
 {

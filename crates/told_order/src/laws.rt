@@ -17,8 +17,8 @@ pub fn some_order_is_told()
     ensures law { SomeOrderIsTold }
 {}
 
-/// If tables are right by an order that agrees with the preferences on their first switches, then the order that they
-/// tell does so too.
+/// If tables are right by an order that agrees with the preferences on their first switches, then the order that the
+/// tables tell agrees with the preferences on these switches too.
 pub fn told_orders_agree()
     ensures law { ToldOrdersAgree }
 {}

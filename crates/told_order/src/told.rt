@@ -10,10 +10,10 @@ use crate::turns::turns;
 use audit::Network;
 use std::alloc::{AllocError, Global};
 
-/// Returns the indices (by rising GUID) of all usable switches, in an order by which no packet, for whatever LID, goes
-/// down and then up again by the tables of `network`. The last switch comes first. Returns `None` if there is no such
-/// order. Each switch is the last one in `preferred` that may be taken then. Costs what `channel_waits` takes, and for
-/// each switch a step for each switch in `preferred` and each turn that is looked at.
+/// Returns the indices (by rising GUID) of all usable switches, in an order by which no packet, for any LID, goes down
+/// and then up again by the tables of `network`. The last switch comes first. Returns `None` if there is no such order.
+/// Each switch is the last one in `preferred` that may be taken then. Costs what `channel_waits` takes, and for each
+/// switch a step for each switch in `preferred` and each turn that is looked at.
 pub fn told_order(
     alloc: Global,
     network: &Network,

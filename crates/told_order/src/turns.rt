@@ -10,7 +10,8 @@ use audit_channels::{Waits, channel_waits};
 use held_tables::Far;
 use std::alloc::{AllocError, Global};
 
-/// A turn at a switch: packets for some LID come from one switch and leave for another.
+/// A turn at a switch: packets for some LID come from one switch and leave for another, or for the one that they came
+/// from.
 #[derive(Clone, Copy, Debug, PartialEq, Eq)]
 pub(crate) struct SwitchTurn {
     /// The index of the switch that they come from.
@@ -20,7 +21,7 @@ pub(crate) struct SwitchTurn {
 }
 
 /// Returns the turns that packets make at each usable switch, by rising GUID, by the tables of `network`. Costs what
-/// `channel_waits` takes, and a step for each channel and each that follows it.
+/// `channel_waits` takes, and a step for each channel and for each channel that follows it.
 pub(crate) fn turns(alloc: Global, network: &Network) -> Result<Vec<Vec<SwitchTurn>>, AllocError>
     ensures { IfOk result (λ turns.
         AreTurns (cells_of network.now.facts) network.now.held (lists_of turns.items)) }

@@ -78,7 +78,7 @@ module _ (edges : List (List Edge)) (before : ℕ → ℕ → Bool) where
 -- two lists of the same vertices --------------------------------------------------------------
 
 module _ (n : ℕ) (P Q : List ℕ) (p : AreVertices n P) (q : AreVertices n Q) where
-  -- index i, where they differ for the first time: each has there what the other one has later
+  -- index i, at which the lists differ for the first time: each has there what the other one has later
   record Differ (i : ℕ) : Type 0 where
     same : (j : ℕ) → j < i → number_at P j ≡ number_at Q j
     l : ℕ

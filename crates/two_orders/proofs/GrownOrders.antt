@@ -1,4 +1,4 @@
--- An order that could have grown stays the same within each component when one grows by it.
+-- If an order could have grown, the order that grows by it has the vertices of each component in the same order.
 use Rattle.std.proofs.Common.{◌≡◌, ◌∙◌, ◌+◌, ◌<◌, ℕ, zero, suc, Bool, true, List, [], length, refl, sym, ap, subst, arith, inl, inr}
 use Rattle.std.specs.Prelude.{Contains, map}
 use Rattle.std.proofs.lemmas.Bool.{cases_eq, cases_lt}

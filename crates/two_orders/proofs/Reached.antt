@@ -1,10 +1,10 @@
--- Each vertex has a label, where the second order grows over a tree of the first.
+-- Each vertex gets a label if the second order grows over a tree of the first.
 use Rattle.std.proofs.Common.{◌≡◌, ◌⊎◌, ◌∙◌, ◌<◌, ◌≤◌, ℕ, zero, suc, Option, Some, sym, ap, subst, arith, inl, inr}
 use Rattle.std.proofs.lemmas.Bool.{cases_lt}
 use Rattle.two_orders.specs.declared.labels.Sides.{Sides}
 use Rattle.two_orders.specs.Labels.{both_down, first_goes_up, second_goes_up}
 
--- a function applied so often
+-- a function applied k times
 abbrev pub iterated : (ℕ → ℕ) → ℕ → ℕ → ℕ
 iterated e z zero = z
 iterated e z (suc k) = e (iterated e z k)

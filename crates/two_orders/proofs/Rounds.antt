@@ -1,4 +1,4 @@
--- What each round of labels leaves: a vertex from which an edge leads on has a label.
+-- The result of each round of labels: a vertex from which an edge leads on has a label.
 use Rattle.std.proofs.Common.{◌≡◌, ◌⊎◌, ◌∙◌, ◌<◌, ◌≤◌, ◌&&◌, ◌||◌, ℕ, zero, suc, Bool, true, false, cond, not, List, [], ◌∷◌, length, Option, None, Some}
 use Rattle.std.proofs.Common.{refl, sym, ap, subst, arith, inl, inr}
 use Rattle.std.specs.Prelude.{Contains, slice_get, slice_index_or, slice_set}
@@ -108,7 +108,7 @@ module _ (edges : List (List Edge)) (orders : TwoOrders) (sides : Sides) where
   closed labels (y ∷ xs) v w x s below (inr rest) there to led final follows =
       closed (labelled edges orders sides labels y) xs v w x s (omega (arith, below, one_long labels y)) rest there to led final follows
 
--- labels after all four rounds, where only targets have one at first
+-- labels after all four rounds, if only targets have one at first
 module _ (edges : List (List Edge)) (orders : TwoOrders) (firsts : List (Option Sides))
     (targets : (i : ℕ) (s : Sides) → label_at firsts i ≡ Some s → s ≡ both_down) where
   abbrev pub label_of : ℕ → Option Sides

@@ -1,4 +1,4 @@
--- The edges of a tree lead to vertices, and each has one back.
+-- The edges of a tree lead to vertices, and each has an edge back.
 use Rattle.std.proofs.Common.{◌≡◌, ◌∙◌, ◌<◌, ℕ, Bool, true, false, List, length, refl, sym, ap, arith, subst, ◌==◌, ◌||◌}
 use Rattle.std.specs.Prelude.{Contains}
 use Rattle.std.proofs.lemmas.List.FromFn.{get_or-map-range_with_len, length-map-range_with_len}

@@ -1,4 +1,4 @@
--- By orders of which the second grows over the tree of the first each vertex gets a label.
+-- Each vertex gets a label by two orders, the second of which grows over the tree of the first.
 use Rattle.std.proofs.Common.{◌≡◌, ◌⊎◌, ◌∙◌, ◌<◌, ◌≤◌, ◌+◌, ◌-◌, ◌&&◌, ◌||◌, ◌==◌, ℕ, zero, suc, Bool, true, false, cond, not, List, [], ◌∷◌, length}
 use Rattle.std.proofs.Common.{Option, None, Some, refl, sym, ap, subst, arith, inl, inr}
 use Rattle.std.specs.Prelude.{Contains, map, nat_lt, reverse, slice_index_or}
@@ -136,7 +136,7 @@ module _ (edges : List (List Edge)) (lead : LeadToVertices edges) (symmetric : I
   q_same : (v w : ℕ) → v < n → w < n → q v ≡ q w → v ≡ w
   q_same v w v_in w_in same = sym (q_stands v v_in).1 ∙ ap (at_position Q) same ∙ (q_stands w w_in).1
 
-  -- where a vertex stands
+  -- the position of a vertex
   r_of : (k v : ℕ) → k < length R → at_position R k ≡ v → v < n → r v ≡ k
   r_of k v less is v_in = r_at v v_in ∙ ap (position_of R) (sym is) ∙ position_at R is_r.once k less
 

@@ -8,7 +8,7 @@ use Rattle.spread_labels.specs.LabelLaws.{IsSymmetric}
 use Rattle.two_orders.specs.Growth.{grown_by, number_at, positions_in}
 use Rattle.two_orders.specs.Trees.{tree}
 
--- each of n vertices is in the list, once, and nothing else is
+-- the list has each of n vertices once, and nothing else
 pub record AreVertices (n : ℕ) (vertices : List ℕ) : Type 0 where
   pub all : (s : ℕ) → s < n → Contains vertices s
   pub vertex : (i : ℕ) → i < length vertices → number_at vertices i < n
@@ -20,14 +20,15 @@ AgreesUpTo vertices position k =
     (i j : ℕ) → i < k → i < j → j < length vertices
     → position (number_at vertices i) < position (number_at vertices j)
 
--- as far as positions agree with an order that grows, the order that grows by them does
+-- if positions agree with an order that grew on its first k vertices, the order that grows by these positions does too
 abbrev pub AgreementStays : Type 0
 AgreementStays =
     (edges : List (List Edge)) → LeadToVertices edges → (plan told : List ℕ) (k : ℕ)
     → AgreesUpTo (grown_by edges plan) (number_at told) k
     → AgreesUpTo (grown_by edges plan) (number_at (positions_in (grown_by edges told) (length edges))) k
 
--- the order that grows by the same plan over the tree of these positions agrees on one vertex more
+-- if positions agree with the order that grows by `plan` on its first k vertices, the order that grows by `plan` over
+-- the tree of these positions agrees with it on one vertex more
 abbrev pub AgreementGrows : Type 0
 AgreementGrows =
     (edges : List (List Edge)) → LeadToVertices edges → (plan told : List ℕ) (k : ℕ)
@@ -40,14 +41,15 @@ GrowsAgain =
     (edges : List (List Edge)) → LeadToVertices edges → (positions : List ℕ)
     → grown_by edges (positions_in (grown_by edges positions) (length edges)) ≡ grown_by edges positions
 
--- different vertices have different positions, and from each one with a walk to an earlier one an edge leads to an
--- earlier one: so each vertex but the first of its component is beside an earlier one
+-- different vertices have different positions; and if a walk leads from a vertex to an earlier one, an edge leads from
+-- it to an earlier one: so each vertex but the first of its component is beside an earlier one
 pub record CouldGrow (edges : List (List Edge)) (position : ℕ → ℕ) : Type 0 where
   pub apart : (a b : ℕ) → a < length edges → b < length edges → position a ≡ position b → a ≡ b
   pub earlier : (a b k : ℕ) → a < length edges → b < length edges → Walk (heads edges) a b k → position b < position a
       → (e : Edge) × Contains (edges_at edges a) e × (position e.to < position a)
 
--- the order that grows by the positions of such an order has the vertices of each component in the same order
+-- if an order could have grown, the order that grows by its positions has the vertices of each component in the same
+-- order
 abbrev pub GrownOrdersStay : Type 0
 GrownOrdersStay =
     (edges : List (List Edge)) → LeadToVertices edges → IsSymmetric edges → (positions : List ℕ)

@@ -1,4 +1,4 @@
--- What labels bring.
+-- Laws of labels.
 use Rattle.std.specs.Prelude.{◌≡◌, ◌&&◌, ℕ, Bool, true, false, List, Contains, Option, None, Some, length}
 use Rattle.port_graph.specs.declared.edge.Edge.{Edge}
 use Rattle.port_graph.specs.Heads.{LeadToVertices, edges_at, heads}
@@ -20,7 +20,7 @@ pub record GoesOn (orders : TwoOrders) (labels : List (Option Sides)) (i j : ℕ
 abbrev pub turns_up : List ℕ → ℕ → ℕ → ℕ → Bool
 turns_up positions i j k = is_earlier positions i j && is_earlier positions k j
 
--- by neither order a walk that goes on by labels, whatever they are, goes down and then up
+-- a walk that goes on by labels, whatever they are, goes down and then up by neither order
 abbrev pub LabelsTurnWell : Type 0
 LabelsTurnWell =
     (orders : TwoOrders) (labels : List (Option Sides)) (i j k : ℕ) → GoesOn orders labels i j → GoesOn orders labels j k
@@ -44,7 +44,7 @@ pub record AreTargets (edges : List (List Edge)) (firsts : List (Option Sides)) 
   pub as_many : length firsts ≡ length edges
   pub down : (i : ℕ) (label : Sides) → label_at firsts i ≡ Some label → label ≡ both_down
 
--- by such orders each vertex from which a walk leads to a target gets a label
+-- each vertex from which a walk leads to a target gets a label, by two orders as in `grown_twice`
 abbrev pub AllGetLabels : Type 0
 AllGetLabels =
     (edges : List (List Edge)) → LeadToVertices edges → IsSymmetric edges → (told plan : List ℕ)

@@ -48,7 +48,7 @@ abbrev pub labelled : List (List Edge) → TwoOrders → Sides → List (Option 
 labelled edges orders sides labels i =
     if gets_label edges orders sides labels i then slice_set labels i (Some sides) else labels
 
--- so do the vertices of a list, one after the other
+-- the vertices of a list get the label in this way, one after the other
 abbrev pub all_labelled : List (List Edge) → TwoOrders → Sides → List (Option Sides) → List ℕ → List (Option Sides)
 all_labelled edges orders sides labels [] = labels
 all_labelled edges orders sides labels (i ∷ vertices) =
@@ -66,8 +66,8 @@ second_goes_up = record { first_up = false; second_up = true }
 abbrev pub both_up : Sides
 both_up = record { first_up = true; second_up = true }
 
--- first the vertices from which walks go down by both orders; then those from which they go down by the second; then
--- those from which they go down by the first; then all others
+-- the labels of all vertices: first of those from which walks go down by both orders; then of those from which they go
+-- down by the second; then of those from which they go down by the first; then of all others
 unfoldable pub labels_from : List (List Edge) → TwoOrders → List (Option Sides) → List (Option Sides)
 labels_from edges orders labels =
     all_labelled edges orders both_up

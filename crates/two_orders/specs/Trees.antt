@@ -10,15 +10,16 @@ use Rattle.two_orders.specs.Growth.{number_at}
 abbrev pub is_earlier : List ℕ → ℕ → ℕ → Bool
 is_earlier positions a b = nat_lt (number_at positions a) (number_at positions b)
 
--- the earliest among vertex v and its neighbors, those to which its edges lead
+-- the earliest among vertex v and its neighbors, the vertices that its edges lead to
 abbrev pub earliest_beside : List (List Edge) → List ℕ → ℕ → ℕ
 earliest_beside edges positions v = earliest (is_earlier positions) v (heads edges v)
 
--- so for each vertex
+-- for each vertex, the earliest among itself and its neighbors
 abbrev pub all_earliest : List (List Edge) → List ℕ → List ℕ
 all_earliest edges positions = map (earliest_beside edges positions) (range_with_len 0 (length edges))
 
--- an edge of v is in the tree if it leads to the earliest among v and its neighbors, or if v is that at its other end
+-- an edge of v is in the tree if it leads to the earliest among v and its neighbors, or if v is the earliest among the
+-- vertex at its other end and the neighbors of that
 abbrev pub is_in_tree : List ℕ → ℕ → Edge → Bool
 is_in_tree earliests v e = (number_at earliests v == e.to) || (number_at earliests e.to == v)
 

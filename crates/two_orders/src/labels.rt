@@ -57,7 +57,7 @@ fn to_sides(first_up: bool, second_up: bool) -> Sides
     }
 }
 
-/// Labels the vertices of a list, one after the other, from which an edge to `sides` leads on.
+/// Labels each vertex of a list in turn, if an edge to `sides` leads on from it.
 fn label_each(
     labels: &mut Vec<Option<Sides>>,
     edges: &Adjacency,

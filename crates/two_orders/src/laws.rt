@@ -12,7 +12,7 @@ pub fn labels_turn_well()
     ensures law { LabelsTurnWell }
 {}
 
-/// From each vertex that `label_all` gives a label an edge leads on by it.
+/// An edge leads on, by its label, from each vertex that gets a label by `label_all`.
 pub fn labelled_go_on()
     ensures law { LabelledGoOn }
 {}
@@ -24,7 +24,7 @@ pub fn all_get_labels()
 {}
 
 /// If positions agree with the order that grows by a plan on its first vertices, then the order that grows by these
-/// positions does so too.
+/// positions agrees with it on these vertices too.
 pub fn agreement_stays()
     ensures law { AgreementStays }
 {}
@@ -40,8 +40,8 @@ pub fn grows_again()
     ensures law { GrowsAgain }
 {}
 
-/// If each vertex but the first of its component is beside an earlier one, then the order that grows by these positions
-/// has the vertices of each component in the same order.
+/// If, by some positions, each vertex but the first of its component is beside an earlier one, then the order that
+/// grows by these positions does not change the order of the vertices within any component.
 pub fn grown_orders_stay()
     ensures law { GrownOrdersStay }
 {}

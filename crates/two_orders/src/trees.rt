@@ -8,7 +8,7 @@ use port_graph::{Adjacency, Edge};
 use std::alloc::{AllocError, Global};
 
 /// Returns the edges between each vertex and its earliest neighbor by `positions`. A vertex without an earlier neighbor
-/// has none of its own. Takes two steps for each edge.
+/// adds no edge. Takes two steps for each edge.
 pub fn tree(alloc: Global, edges: &Adjacency, positions: &[usize]) -> Result<Adjacency, AllocError>
     ensures { IfOk result (λ found. found ≡ tree edges.now positions.now) }
 {
@@ -53,7 +53,7 @@ fn earliest_beside(edges: &Adjacency, positions: &[usize], vertex: usize) -> usi
     found
 }
 
-/// Returns `other` if it is earlier than `found`, and else `found`.
+/// Returns `other` if it is earlier than `found`, otherwise `found`.
 fn earlier(positions: &[usize], found: usize, other: usize) -> usize
     ensures { result ≡ if is_earlier positions.now other found then other else found }
 {

@@ -49,7 +49,7 @@ loop-index-preserved c =
           (sym joined ∙ sym w.if-is_joined_to.ensures))
     ]
 
--- where all are seen to arrive, and where each does
+-- if all are seen to arrive, and if each does
 pub returns-then-all_arrive : goal.returns-then-all_arrive
 returns-then-all_arrive c =
     let cells = cells_of c.args.network.now.facts in

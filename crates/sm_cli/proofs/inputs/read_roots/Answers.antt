@@ -11,7 +11,7 @@ use Rattle.text_words.specs.declared.fault.LinesFault.TheVariants as wrong
 use Rattle.sm_cli.specs.Inputs.{IsFaultOfText}
 use Rattle.sm_cli.proofs.inputs.read_roots.Goals as goal
 
--- a text's first fault, or out of memory where it has none
+-- a text's first fault, or lack of memory if it has none
 faulty : (told : Result (List ℕ) RootsLineFault) (fault : RootsLineFault) → option_map wrong.Line (result_err told) ≡ Some (wrong.Line fault) → told ≡ Err fault
 faulty (Ok roots) fault e = absurd (cc)
 faulty (Err other) fault e = let same : other ≡ fault = cc in ap (λ f. Err f) same
