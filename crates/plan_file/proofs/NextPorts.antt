@@ -15,7 +15,7 @@ use Rattle.subnet_view.proofs.Graphs.{graph_law}
 use Rattle.updown_routes.proofs.LeastCosts.{no_cost_between}
 use Rattle.spread_labels.specs.declared.label.Mark.{Mark}
 use Rattle.spread_labels.specs.Labels.{candidates_by, marks}
-use Rattle.spread_routes.specs.LeafSwitches.{leaf_switches_of, most_adapters}
+use Rattle.spread_routes.specs.Adapters.{adapters_of}
 use Rattle.spread_routes.specs.Rule.{Spreading, by_positions, position, taken}
 use Rattle.lft_blocks.specs.Rules.{RuleValue, routing_by, spread_in, up_and_down}
 use Rattle.spread_routes.specs.Spread.{grading_of, keys_by, number_there, spread_by}
@@ -35,13 +35,13 @@ marked : (edges : List (List Edge)) (by : Spreading) (lid p q port : ℕ) (mark 
 marked edges by lid p q port None h = absurd (cc)
 marked edges by lid p q port (Some m) h = (m.cost, refl)
 
-spread_has_cost : (graph : List SwitchEdges) (leaf_switches : List ℕ) (most : ℕ) (order : OrderValue) (lid s t port : ℕ)
-    → (spread_by graph leaf_switches most order).next lid s t ≡ Some port → HasCost (spread_by graph leaf_switches most order) s t
+spread_has_cost : (graph : List SwitchEdges) (adapters : List ℕ) (order : OrderValue) (lid s t port : ℕ)
+    → (spread_by graph adapters order).next lid s t ≡ Some port → HasCost (spread_by graph adapters order) s t
 unfolding spread_by
-spread_has_cost graph leaf_switches most order lid s t port h =
-    let keys = keys_by graph leaf_switches order in
+spread_has_cost graph adapters order lid s t port h =
+    let keys = keys_by graph adapters order in
     let edges = by_positions graph keys in
-    let by : Spreading = record { keys = keys; number = number_there (grading_of graph leaf_switches most order) } in
+    let by : Spreading = record { keys = keys; number = number_there (grading_of graph adapters order) } in
     marked edges by lid (position graph keys s) (position graph keys t) port (marks edges (position graph keys t) (position graph keys s)) h
 
 pub next_has_cost : (rule : RuleValue) (facts : Facts) (lid s t port : ℕ) → IsSwitch (graph_of (cells_of facts)) s → IsSwitch (graph_of (cells_of facts)) t
@@ -54,7 +54,7 @@ next_has_cost up_and_down facts lid s t port is_s is_t h =
       | false ↦ λ j. absurd (none-some port (sym (no_cost_between graph good s t is_s j).1 ∙ h))
     ] refl
 next_has_cost (spread_in order) facts lid s t port is_s is_t h =
-    spread_has_cost (graph_of (cells_of facts)) (leaf_switches_of (cells_of facts)) (most_adapters (cells_of facts)) order lid s t port h
+    spread_has_cost (graph_of (cells_of facts)) (adapters_of (cells_of facts)) order lid s t port h
 
 first_edge : (graph : List SwitchEdges) (rule : Routing) (lid s t port : ℕ) (es : List Edge) → (s == t) ≡ false → rule.next lid s t ≡ Some port
     → FollowsRule rule lid t s es → Passes graph s es → (e : Edge) × Contains (edges_at graph s) e × (e.port ≡ port)

@@ -10,7 +10,7 @@ use crate::rank_positions::rank_positions;
 use fact_store::{Refused, Store};
 use lft_blocks::Rule;
 use smp_bytes::Guid;
-use spread_routes::{SwitchOrder, leaf_switches, switches_in_order};
+use spread_routes::{SwitchOrder, adapters_of, switches_in_order};
 use std::alloc::{AllocError, Global};
 use subnet_view::{SwitchGraph, Wires};
 use updown_routes::Graph;
@@ -44,8 +44,8 @@ fn by_spread(alloc: Global, wires: &Wires, order: &SwitchOrder) -> Result<Vec<us
         positions.items ≡ positions_by (spread_in (order_value_of order.now)) (cells_of wires.now)) }
 {
     let graph = SwitchGraph::of(alloc, wires)?;
-    let leaves = leaf_switches(alloc, wires, graph.switches())?;
-    let ordered = switches_in_order(alloc, &graph, &leaves, order)?;
+    let adapters = adapters_of(alloc, wires, graph.switches())?;
+    let ordered = switches_in_order(alloc, &graph, &adapters, order)?;
     Ok(positions_in(alloc, &ordered, graph.switches())?)
 }
 

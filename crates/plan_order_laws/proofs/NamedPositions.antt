@@ -18,7 +18,7 @@ by_keys graph keys good g is =
     ap (position_of (switches_by_keys graph keys)) (sym (switch_of_index graph good g is))
     ∙ same_number graph keys good (order_by_keys graph keys) a (below graph keys good) (omega (arith, index_within graph good g is, as_many graph good))
 
-pub named_position : (graph : List SwitchEdges) (leaves : List ℕ) (order : OrderValue) → IsGraph graph → (g : ℕ) → IsSwitch graph g
-    → position_of (switches_in_order graph leaves order) g ≡ position graph (keys_by graph leaves order) g
+pub named_position : (graph : List SwitchEdges) (adapters : List ℕ) (order : OrderValue) → IsGraph graph → (g : ℕ) → IsSwitch graph g
+    → position_of (switches_in_order graph adapters order) g ≡ position graph (keys_by graph adapters order) g
 unfolding switches_in_order
-named_position graph leaves order good g is = by_keys graph (keys_by graph leaves order) good g is
+named_position graph adapters order good g is = by_keys graph (keys_by graph adapters order) good g is

@@ -16,7 +16,7 @@ use Rattle.plan_file.specs.Printed.{held_plan}
 use Rattle.spread_labels.specs.declared.vertex_key.VertexKey.{VertexKey}
 use Rattle.spread_routes.specs.SwitchOrders.{OrderValue}
 use Rattle.plan_file.specs.Held.{HeldPlan, nothing_held}
-use Rattle.spread_routes.specs.LeafSwitches.{leaf_switches_of}
+use Rattle.spread_routes.specs.Adapters.{adapters_of}
 use Rattle.spread_routes.specs.Rule.{position, by_positions}
 use Rattle.spread_routes.specs.Spread.{keys_by, spread_by}
 use Rattle.spread_labels.specs.Ways.{channel_number}
@@ -116,7 +116,7 @@ rises_well n a b c h bad = grind arith
 
 -- the position of the switch at an index in the order that grows by the keys of the rule that spreads
 abbrev pub keys : Cells → OrderValue → List VertexKey
-keys cells order = keys_by (graph_of cells) (leaf_switches_of cells) order
+keys cells order = keys_by (graph_of cells) (adapters_of cells) order
 
 abbrev pub spread_position : Cells → OrderValue → ℕ → ℕ
 spread_position cells order i = position (graph_of cells) (keys cells order) (switch_at cells i)

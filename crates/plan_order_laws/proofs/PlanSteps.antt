@@ -7,7 +7,7 @@ use Rattle.subnet_view.specs.Reading.{Cells, switches}
 use Rattle.subnet_view.proofs.Graphs.{graph_law}
 use Rattle.subnet_view.proofs.GraphSwitches.{graph_guids}
 use Rattle.spread_labels.specs.Orders.{position_of}
-use Rattle.spread_routes.specs.LeafSwitches.{leaf_switches_of}
+use Rattle.spread_routes.specs.Adapters.{adapters_of}
 use Rattle.spread_routes.specs.SwitchOrders.{OrderValue}
 use Rattle.lft_blocks.specs.Plan.{plan_of}
 use Rattle.lft_blocks.specs.Rules.{order_of, spread_in, up_and_down}
@@ -58,7 +58,7 @@ module _ (facts : Facts) where
   by_keys : (order : OrderValue) (i : ℕ) → i < length (switches cells) → plan_position (spread_in order) cells i ≡ spread_position cells order i
   by_keys order i less =
       by_guid (position_of (order_of order cells)) i less
-      ∙ named_position (graph_of cells) (leaf_switches_of cells) order (graph_law facts) (switch_at cells i)
+      ∙ named_position (graph_of cells) (adapters_of cells) order (graph_law facts) (switch_at cells i)
       (subst (λ (xs : List ℕ). Contains xs (switch_at cells i)) (sym (graph_guids cells)) (member (switches cells) i less))
 
 pub plans_are_right : PlansAreRight

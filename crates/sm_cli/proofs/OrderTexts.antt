@@ -25,7 +25,7 @@ use Rattle.spread_labels.specs.declared.vertex_key.VertexKey.{VertexKey}
 use Rattle.spread_labels.specs.Orders.{at_position, position_of}
 use Rattle.spread_labels.proofs.ByPositions.{position_less}
 use Rattle.spread_labels.proofs.Growing.{contains_at}
-use Rattle.spread_routes.specs.LeafSwitches.{leaf_switches_of}
+use Rattle.spread_routes.specs.Adapters.{adapters_of}
 use Rattle.spread_routes.specs.Rule.{order_by_keys}
 use Rattle.spread_routes.specs.Spread.{keys_by, switches_in_order}
 use Rattle.spread_routes.specs.SwitchOrders.{OrderValue, switches_by_keys}
@@ -149,7 +149,7 @@ unfolding switches_in_order
 order_is_read order facts range none =
     let cells = cells_of facts in
     let graph = graph_of cells in
-    let keys = keys_by graph (leaf_switches_of cells) order in
+    let keys = keys_by graph (adapters_of cells) order in
     text_is_read (switches_by_keys graph keys) (stand_once graph keys (graph_law facts))
     (λ g h. let there : Contains (switches cells) g = subst (λ (gs : List ℕ). Contains gs g) (graph_guids cells) (are_switches graph keys (graph_law facts) g h) in
     (switch_small facts range g there, λ zero_is. none (subst (λ (y : ℕ). Contains (switches cells) y) zero_is there)))

@@ -71,11 +71,6 @@ pub map_same : {X Y : Type 0} (f g : X → Y) (xs : List X) → ((x : X) → Con
 map_same f g [] h = refl
 map_same f g (x ∷ xs) h = let one = h x (contains_here x xs) in let rest = map_same f g xs (λ y m. h y (contains_later x y xs m)) in λ i. one i ∷ rest i
 
-pub filter_same : {X : Type 0} (f g : X → Bool) (xs : List X) → ((x : X) → Contains xs x → f x ≡ g x) → filter f xs ≡ filter g xs
-filter_same f g [] h = refl
-filter_same f g (x ∷ xs) h =
-    let one = h x (contains_here x xs) in let rest = filter_same f g xs (λ y m. h y (contains_later x y xs m)) in λ i. cond (one i) (x ∷ rest i) (rest i)
-
 pub filter_map_same : {X Y : Type 0} (f g : X → Option Y) (xs : List X) → ((x : X) → Contains xs x → f x ≡ g x) → filter_map f xs ≡ filter_map g xs
 filter_map_same f g [] h = refl
 filter_map_same f g (x ∷ xs) h =

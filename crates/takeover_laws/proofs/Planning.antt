@@ -17,7 +17,7 @@ use Rattle.subnet_view.proofs.UsableSwitches.{switches_law}
 use Rattle.subnet_view.proofs.WireLaws.{wire_law}
 use Rattle.subnet_view.specs.SwitchEdges.{SwitchEdges}
 use Rattle.subnet_view.specs.Graph.{edge_at, edges_of, graph_of, guids_of}
-use Rattle.spread_routes.specs.LeafSwitches.{adapters_at, leaf_switches_of, is_leaf, has_adapter_at, most_adapters}
+use Rattle.spread_routes.specs.Adapters.{adapters_at, adapters_of, has_adapter_at}
 use Rattle.lft_blocks.specs.Rules.{RuleValue}
 use Rattle.lft_blocks.proofs.RulesRoute.{rules_stay}
 use Rattle.lid_assign.specs.Ranges.{range_at, meets}
@@ -26,10 +26,8 @@ use Rattle.lid_assign.proofs.Staying.{still_room, lids_same}
 use Rattle.lft_blocks.specs.Entries.{attachment_of, block_count}
 use Rattle.lft_blocks.specs.Plan.{tables_of, plan_of}
 use Rattle.takeover_laws.specs.Alike.{IsAlike, ClaimAlike, AlikeViewsPlanAlike, ClaimedPlansStay}
-use Rattle.takeover_laws.proofs.Alike.{map_same, filter_same, end_ports_same, switches_same, usable_same, across_same, room_same}
-use Rattle.spread_labels.specs.Levels.{greatest}
-use Rattle.spread_routes.specs.LeafNumbers.{leaf_numbers}
-use Rattle.lft_blocks.specs.LidNumbers.{lid_numbers, number_of, numbered}
+use Rattle.takeover_laws.proofs.Alike.{map_same, end_ports_same, switches_same, usable_same, across_same, room_same}
+use Rattle.lft_blocks.specs.LidNumbers.{lid_numbers, number_of, numbered, numbering_by}
 
 -- readings by which switches are usable, and by wires ----------------------------------------------
 
@@ -116,24 +114,18 @@ module _ (x y : Facts) (alike : IsAlike (cells_of x) (cells_of y)) where
   has_adapter_at_same : (g p : ℕ) → has_adapter_at (cells_of x) g p ≡ has_adapter_at (cells_of y) g p
   has_adapter_at_same g p = λ i. option_map_or (λ q. not (usable_as q.0 i)) (across_same x y alike g p i) false
 
-  leaf_switches_same : leaf_switches_of (cells_of x) ≡ leaf_switches_of (cells_of y)
-  leaf_switches_same =
-      filter_same (is_leaf (cells_of x)) (is_leaf (cells_of y)) (switches (cells_of x))
-      (λ g h. λ i. list_any (λ p. has_adapter_at_same g p i) (range_with_len 1 (count_there g h i)))
-      ∙ ap (filter (is_leaf (cells_of y))) (switches_same x y alike)
-
   adapters_same : (g : ℕ) → Contains (switches (cells_of x)) g → adapters_at (cells_of x) g ≡ adapters_at (cells_of y) g
   adapters_same g h = λ i. length (filter (λ p. has_adapter_at_same g p i) (range_with_len 1 (count_there g h i)))
 
-  most_same : most_adapters (cells_of x) ≡ most_adapters (cells_of y)
-  most_same =
-      ap (greatest 0) (map_same (adapters_at (cells_of x)) (adapters_at (cells_of y)) (switches (cells_of x)) adapters_same
-      ∙ ap (map (adapters_at (cells_of y))) (switches_same x y alike))
+  all_adapters_same : adapters_of (cells_of x) ≡ adapters_of (cells_of y)
+  all_adapters_same =
+      map_same (adapters_at (cells_of x)) (adapters_at (cells_of y)) (switches (cells_of x)) adapters_same
+      ∙ ap (map (adapters_at (cells_of y))) (switches_same x y alike)
 
   numbers_same : (lmc : ℕ) → lids lmc (cells_of x) ≡ lids lmc (cells_of y)
       → lid_numbers lmc (cells_of x) (lids lmc (cells_of x)) ≡ lid_numbers lmc (cells_of y) (lids lmc (cells_of y))
   numbers_same lmc given =
-      λ i. number_of (record { lmc = lmc; leaf_numbers = leaf_numbers (graph_same i) (leaf_switches_same i); most = most_same i }) (guids_of (graph_same i))
+      λ i. number_of (numbering_by lmc (graph_same i) (all_adapters_same i)) (guids_of (graph_same i))
       (λ lid. option_and_then (λ e. home_same e i) (owner_of (given i) lid))
 
   plan_same : (rule : RuleValue) (lmc : ℕ) → lids lmc (cells_of x) ≡ lids lmc (cells_of y) → plan_of rule lmc (cells_of x) ≡ plan_of rule lmc (cells_of y)
@@ -141,7 +133,7 @@ module _ (x y : Facts) (alike : IsAlike (cells_of x) (cells_of y)) where
       λ i. record {
         given = given i;
         tables = tables_of (λ lid. option_and_then (λ e. home_same e i) (owner_of (given i) lid))
-            (numbered (numbers_same lmc given i) (rules_stay rule x y graph_same leaf_switches_same most_same i)).next
+            (numbered (numbers_same lmc given i) (rules_stay rule x y graph_same all_adapters_same i)).next
             (block_count (top_of (given i))) (switches_same x y alike i);
       }
 
