@@ -3,3 +3,4 @@ pub mod EachEnd
 pub mod FirstLeast
 pub mod InOrder
 pub mod LeastPeak
+pub mod NoPackets

@@ -143,7 +143,7 @@ fn choose_lightest(
     }
 }
 
-/// Lets a position take a candidate. Adds its packets to its way.
+/// Lets a position take a candidate. Adds its packets, if it sends any, to its way.
 fn take(
     ways: &Adjacency,
     sent: &[usize],
@@ -161,10 +161,12 @@ fn take(
         ≡ record { choices = choices.new; loads = loads.new } }
 {
     choices[position] = choice;
-    change_way(ways, choices, loads, position, Change::Add(sent[position]));
+    if sent[position] > 0 {
+        change_way(ways, choices, loads, position, Change::Add(sent[position]));
+    }
 }
 
-/// Removes the packets of all positions from their ways.
+/// Removes the packets of all positions that send any from their ways.
 fn remove_packets(ways: &Adjacency, sent: &[usize], choices: &[u8], loads: &mut [usize])
     requires sent { length sent.now ≡ length ways.now }
     requires loads { length loads.old ≡ 256 * length ways.now }
@@ -172,12 +174,14 @@ fn remove_packets(ways: &Adjacency, sent: &[usize], choices: &[u8], loads: &mut 
         ≡ without_packets ways.now sent.now choices.now loads.old (numbers_from 0 (length ways.now)) }
 {
     for position in 0..ways.len() {
-        change_way(
-            ways,
-            choices,
-            loads,
-            position,
-            Change::Remove(sent[position]),
-        );
+        if sent[position] > 0 {
+            change_way(
+                ways,
+                choices,
+                loads,
+                position,
+                Change::Remove(sent[position]),
+            );
+        }
     }
 }
