@@ -70,12 +70,15 @@ fn choice_at(choices: &[u8], position: usize) -> usize
 }
 
 /// Returns the number of the candidate of a position whose way has the least peak, of equals the first. Takes a step
-/// for each edge of each candidate's way.
+/// for each edge of each candidate's way if there are several.
 pub(crate) fn lightest(ways: &Adjacency, choices: &[u8], loads: &[usize], position: usize) -> u8
     requires { length loads.now ≡ 256 * length ways.now }
     ensures { result ≡ lightest ways.now choices.now loads.now position }
 {
     let edges = ways.at(position);
+    if edges.len() < 2 {
+        return 0;
+    }
     let mut best = 0;
     let mut least = usize::MAX;
     for k in 0..edges.len().min(PORTS) {
