@@ -1,4 +1,5 @@
 pub mod EdgeByEdge
+pub mod EdgesTaken
 pub mod EachEnd
 pub mod FirstLeast
 pub mod InOrder
