@@ -234,16 +234,8 @@ fn choose_between(
     ensures long { OnOk result (All (λ own. length own.items ≡ length ways.now) choices.new) }
 {
     for end in first..last {
-        choose(
-            alloc,
-            round,
-            ways,
-            order,
-            sent,
-            end,
-            &mut choices[end],
-            loads,
-        )?;
+        let own = &mut choices[end];
+        choose(alloc, round, ways, order, sent, end, own, loads)?;
     }
     Ok(())
 }
