@@ -1,5 +1,5 @@
 -- Positions, one after the other.
-use Rattle.std.proofs.Common.{◌≡◌, ◌<◌, ◌≤◌, ◌+◌, ◌-◌, ◌++◌, ℕ, zero, suc, List, [], ◌∷◌, All, sym}
+use Rattle.std.proofs.Common.{◌≡◌, ◌<◌, ◌+◌, ◌-◌, ◌++◌, ℕ, suc, List, [], ◌∷◌, All, sym}
 use Rattle.std.proofs.Common.{ap, subst, ◌∙◌, arith, add-one, append-nil, append_assoc, true, false, Bool, cond, drop, get_or, length, map}
 use Rattle.std.proofs.lemmas.List.{drop_more, map-append, reverse-append}
 use Rattle.std.proofs.lemmas.List.Elements.{All-append, All-cons, All-filter, All-nil}
@@ -7,6 +7,7 @@ use Rattle.std.specs.Prelude.{filter, not, reverse}
 use Rattle.port_graph.specs.declared.edge.Edge.{Edge}
 use Rattle.spread_labels.specs.Orders.{numbers_from}
 use Rattle.spread_labels.proofs.Earlier.{filter_more, numbers_more}
+use Rattle.spread_labels.proofs.LeafVertices.{all_below}
 use Rattle.balanced_choices.specs.BalancedChoices.{Chosen, choose_each, is_below, near_first, with_choice}
 
 -- the numbers that are left begin with the next
@@ -15,14 +16,7 @@ numbers_left n p h =
     let left : n - p ≡ suc (n - (p + 1)) = omega arith in
     ap (numbers_from p) left ∙ ap (λ k. p ∷ numbers_from k (n - (p + 1))) (sym (add-one p))
 
--- one number more that passes a test or not
-pub filter_next : (test : ℕ → Bool) (n : ℕ) → filter test (numbers_from 0 (n + 1)) ≡ filter test (numbers_from 0 n) ++ cond (test n) (n ∷ []) []
-filter_next test n =
-    let is : 0 + n ≡ n = omega arith in
-    ap (filter test) (ap (numbers_from 0) (add-one n) ∙ numbers_more 0 n ∙ ap (λ x. numbers_from 0 n ++ x ∷ []) is)
-    ∙ filter_more test (numbers_from 0 n) n
-
--- and from the last on
+-- one number more from the last on that passes a test or not
 pub filter_back : (test : ℕ → Bool) (n i : ℕ) → i < n
     → filter test (reverse (numbers_from (n - (i + 1)) (i + 1)))
     ≡ filter test (reverse (numbers_from (n - i) i)) ++ cond (test (n - 1 - i)) ((n - 1 - i) ∷ []) []
@@ -41,11 +35,6 @@ passing old xs p b is = append_assoc old xs (p ∷ []) ∙ ap (λ t. old ++ (xs 
 pub failing : (old xs : List ℕ) (p : ℕ) (b : Bool) → b ≡ false → old ++ xs ≡ old ++ (xs ++ cond b (p ∷ []) [])
 failing old xs p b is = ap (λ l. old ++ l) (sym (append-nil xs)) ∙ ap (λ t. old ++ (xs ++ cond t (p ∷ []) [])) (sym is)
 
--- all are positions
-numbers_below : (n k m : ℕ) → k + m ≤ n → All (λ p. p < n) (numbers_from k m)
-numbers_below n k zero h = All-nil (λ p. p < n)
-numbers_below n k (suc m) h = All-cons (λ p. p < n) k (numbers_from (suc k) m) (omega arith) (numbers_below n (suc k) m (omega arith))
-
 all_reversed : (P : ℕ → Type 0) (xs : List ℕ) → All P xs → All P (reverse xs)
 all_reversed P [] all = all
 all_reversed P (x ∷ xs) all =
@@ -54,11 +43,12 @@ all_reversed P (x ∷ xs) all =
     subst (All P) (sym (reverse-append (x ∷ []) xs))
     (All-append P (reverse xs) (x ∷ []) (all_reversed P xs rest) (All-cons P x [] first (All-nil P)))
 
+-- all are positions
 pub near_first_positions : (ways : List (List Edge)) → All (λ p. p < length ways) (near_first ways)
 near_first_positions ways =
     let n = length ways in
     let P : ℕ → Type 0 = λ p. p < n in
-    let all = numbers_below n 0 n (omega arith) in
+    let all = all_below n 0 n (omega arith) in
     let above : ℕ → Bool = λ p. not (is_below ways p) in
     All-append P (filter above (reverse (numbers_from 0 n))) (filter (is_below ways) (numbers_from 0 n))
     (All-filter above P (reverse (numbers_from 0 n)) (all_reversed P (numbers_from 0 n) all))

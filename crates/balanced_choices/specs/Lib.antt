@@ -1,3 +1,4 @@
 pub mod Loads
+pub mod EdgesTaken
 pub mod LeastPeakLaw
 pub mod BalancedChoices

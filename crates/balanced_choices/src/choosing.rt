@@ -4,11 +4,13 @@ ghost use Rattle.std.specs.Prelude.{All, IfOk, OnOk, filter, length, not, revers
 ghost use Rattle.port_graph.specs.Heads.{edges_at};
 ghost use Rattle.spread_labels.specs.Labels.{leads_up};
 ghost use Rattle.spread_labels.specs.Orders.{numbers_from};
+ghost use Rattle.balanced_choices.specs.EdgesTaken.{edges_taken, without_by};
 ghost use Rattle.balanced_choices.specs.Loads.{lightest};
 ghost use Rattle.balanced_choices.specs.BalancedChoices.{Chosen, choices_in, choose_each, first_choices, in_turn};
-ghost use Rattle.balanced_choices.specs.BalancedChoices.{is_below, near_first, with_choice, without_packets};
+ghost use Rattle.balanced_choices.specs.BalancedChoices.{is_below, near_first, with_choice};
 
 use crate::loads::PORTS;
+use crate::taken::{edge_taken, edges_taken};
 use crate::ways::{Change, change_way, lightest};
 use port_graph::{Adjacency, Edge};
 use std::alloc::{AllocError, Global};
@@ -60,6 +62,7 @@ fn is_below(ways: &Adjacency, position: usize) -> bool
 
 /// Makes the choices for an end: in round 0 the first ones, later new ones, with which its packets take other ways.
 pub(crate) fn choose(
+    alloc: Global,
     round: usize,
     ways: &Adjacency,
     order: &[usize],
@@ -67,22 +70,24 @@ pub(crate) fn choose(
     end: usize,
     choices: &mut [u8],
     loads: &mut [usize],
-)
+) -> Result<(), AllocError>
     requires positions { All (λ p. p < length ways.now) order.now }
     requires sent { length sent.now ≡ length ways.now }
     requires end { end + length ways.now < 2 ^ 64 }
     requires choices { length choices.old ≡ length ways.now }
     requires loads { length loads.old ≡ 256 * length ways.now }
-    ensures { let before : Chosen = record { choices = choices.old; loads = loads.old } in
+    ensures { OnOk result (let before : Chosen = record { choices = choices.old; loads = loads.old } in
         choices_in round ways.now sent.now order.now end before
-        ≡ record { choices = choices.new; loads = loads.new } }
+        ≡ record { choices = choices.new; loads = loads.new }) }
 {
+    let mut taken = edges_taken(alloc, ways, choices)?;
     if round == 0 {
-        choose_in_turn(ways, order, sent, end, choices, loads);
+        choose_in_turn(ways, order, sent, end, choices, &mut taken, loads);
     } else {
-        remove_packets(ways, sent, choices, loads);
-        choose_lightest(ways, order, sent, choices, loads);
+        remove_packets(&taken, sent, loads);
+        choose_lightest(ways, order, sent, choices, &mut taken, loads);
     }
+    Ok(())
 }
 
 /// Makes the first choices for an end: the candidates in turn.
@@ -92,12 +97,14 @@ fn choose_in_turn(
     sent: &[usize],
     end: usize,
     choices: &mut [u8],
+    taken: &mut [Option<Edge>],
     loads: &mut [usize],
 )
     requires positions { All (λ p. p < length ways.now) order.now }
     requires sent { length sent.now ≡ length ways.now }
     requires end { end + length ways.now < 2 ^ 64 }
     requires choices { length choices.old ≡ length ways.now }
+    requires taken { taken.old ≡ edges_taken ways.now choices.old }
     requires loads { length loads.old ≡ 256 * length ways.now }
     ensures { let before : Chosen = record { choices = choices.old; loads = loads.old } in
         first_choices ways.now sent.now order.now end before
@@ -105,7 +112,7 @@ fn choose_in_turn(
 {
     for position in order {
         let choice = in_turn(ways.at(*position).len().min(PORTS), end + *position);
-        take(ways, sent, *position, choice, choices, loads);
+        take(ways, sent, *position, choice, choices, taken, loads);
     }
 }
 
@@ -127,57 +134,60 @@ fn choose_lightest(
     order: &[usize],
     sent: &[usize],
     choices: &mut [u8],
+    taken: &mut [Option<Edge>],
     loads: &mut [usize],
 )
     requires positions { All (λ p. p < length ways.now) order.now }
     requires sent { length sent.now ≡ length ways.now }
     requires choices { length choices.old ≡ length ways.now }
+    requires taken { taken.old ≡ edges_taken ways.now choices.old }
     requires loads { length loads.old ≡ 256 * length ways.now }
     ensures { let before : Chosen = record { choices = choices.old; loads = loads.old } in
         choose_each (λ now p. lightest ways.now now.choices now.loads p) ways.now sent.now before order.now
         ≡ record { choices = choices.new; loads = loads.new } }
 {
     for position in order {
-        let choice = lightest(ways, choices, loads, *position);
-        take(ways, sent, *position, choice, choices, loads);
+        let choice = lightest(ways, taken, loads, *position);
+        take(ways, sent, *position, choice, choices, taken, loads);
     }
 }
 
-/// Lets a position take a candidate. Adds its packets to its way.
+/// Lets a position take a candidate. Adds its packets, if it sends any, to its way.
 fn take(
     ways: &Adjacency,
     sent: &[usize],
     position: usize,
     choice: u8,
     choices: &mut [u8],
+    taken: &mut [Option<Edge>],
     loads: &mut [usize],
 )
     requires position { position < length ways.now }
     requires sent { length sent.now ≡ length ways.now }
     requires choices { length choices.old ≡ length ways.now }
+    requires taken { taken.old ≡ edges_taken ways.now choices.old }
     requires loads { length loads.old ≡ 256 * length ways.now }
-    ensures { let before : Chosen = record { choices = choices.old; loads = loads.old } in
+    ensures choice { let before : Chosen = record { choices = choices.old; loads = loads.old } in
         with_choice ways.now sent.now before position choice
         ≡ record { choices = choices.new; loads = loads.new } }
+    ensures taken { taken.new ≡ edges_taken ways.now choices.new }
 {
     choices[position] = choice;
-    change_way(ways, choices, loads, position, Change::Add(sent[position]));
+    taken[position] = edge_taken(ways, choices, position);
+    if sent[position] > 0 {
+        change_way(taken, loads, position, Change::Add(sent[position]));
+    }
 }
 
-/// Removes the packets of all positions from their ways.
-fn remove_packets(ways: &Adjacency, sent: &[usize], choices: &[u8], loads: &mut [usize])
-    requires sent { length sent.now ≡ length ways.now }
-    requires loads { length loads.old ≡ 256 * length ways.now }
-    ensures { loads.new
-        ≡ without_packets ways.now sent.now choices.now loads.old (numbers_from 0 (length ways.now)) }
+/// Removes the packets of all positions that send any from their ways.
+fn remove_packets(taken: &[Option<Edge>], sent: &[usize], loads: &mut [usize])
+    requires sent { length sent.now ≡ length taken.now }
+    requires loads { length loads.old ≡ 256 * length taken.now }
+    ensures { loads.new ≡ without_by sent.now taken.now loads.old (numbers_from 0 (length taken.now)) }
 {
-    for position in 0..ways.len() {
-        change_way(
-            ways,
-            choices,
-            loads,
-            position,
-            Change::Remove(sent[position]),
-        );
+    for position in 0..taken.len() {
+        if sent[position] > 0 {
+            change_way(taken, loads, position, Change::Remove(sent[position]));
+        }
     }
 }

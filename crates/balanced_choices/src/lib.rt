@@ -7,6 +7,7 @@ mod evenness;
 pub mod laws;
 mod loads;
 mod rounds;
+mod taken;
 mod ways;
 
 pub use evenness::are_even;

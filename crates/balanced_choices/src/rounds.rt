@@ -194,7 +194,7 @@ fn choose_some(
         let ways = ways_towards(alloc, graph, &sets, k)?;
         let order = near_first(alloc, &ways)?;
         let next = end + destination.ends;
-        choose_between(round, &ways, &order, sent, end, next, choices, loads);
+        choose_between(alloc, round, &ways, &order, sent, end, next, choices, loads)?;
         end = next;
     }
     Ok(end)
@@ -212,6 +212,7 @@ fn positions_of(alloc: Global, destinations: &[Destination]) -> Result<Vec<usize
 
 /// Makes the choices for the ends from number `first` up to, but not including, `last`.
 fn choose_between(
+    alloc: Global,
     round: usize,
     ways: &Adjacency,
     order: &[usize],
@@ -220,21 +221,23 @@ fn choose_between(
     last: usize,
     choices: &mut [Vec<u8>],
     loads: &mut [usize],
-)
+) -> Result<(), AllocError>
     requires positions { All (λ p. p < length ways.now) order.now }
     requires sent { length sent.now ≡ length ways.now }
     requires ends { (first ≤ last) × (last ≤ length choices.old) }
     requires choices { All (λ own. length own.items ≡ length ways.now) choices.old }
     requires loads { length loads.old ≡ 256 * length ways.now }
-    ensures balance { let before : Balance
+    ensures balance { OnOk result (let before : Balance
         = record { choices = map (λ own. own.items) choices.old; loads = loads.old } in
         with_ends round ways.now sent.now order.now before (numbers_from first (last - first))
-        ≡ record { choices = map (λ own. own.items) choices.new; loads = loads.new } }
-    ensures long { All (λ own. length own.items ≡ length ways.now) choices.new }
+        ≡ record { choices = map (λ own. own.items) choices.new; loads = loads.new }) }
+    ensures long { OnOk result (All (λ own. length own.items ≡ length ways.now) choices.new) }
 {
     for end in first..last {
-        choose(round, ways, order, sent, end, &mut choices[end], loads);
+        let own = &mut choices[end];
+        choose(alloc, round, ways, order, sent, end, own, loads)?;
     }
+    Ok(())
 }
 
 /// Returns the candidates of each position towards target `k` of the sets.

@@ -19,6 +19,8 @@ loop-position-preserved c =
     let turned : min (length (edges_at ways p)) 256 ≡ min 256 (length (edges_at ways p)) = omega arith in
     let count : c.min.result ≡ length (candidates_at ways p) =
     c.min.ensures ∙ ap (λ es. min (length es) 256) c.at.ensures ∙ turned ∙ sym (length-take 256 (edges_at ways p)) in
-    let is : c.in_turn-choice.result ≡ choice now p = c.in_turn-choice.ensures ∙ ap (λ n. in_turn n (c.args.end + p)) count in
-    ap (λ new. choose_each choice ways sent new (drop (i + 1) order)) (sym c.take.ensures ∙ ap (with_choice ways sent now p) is)
-    ∙ choose_next choice ways sent now order i c.loop-position-test.true ∙ c.loop-position.invariant
+    let is : c.in_turn-choice.result ≡ choice now p = c.in_turn-choice.ensures ∙ ap (λ n. in_turn n (c.args.end + p)) count in (
+      ap (λ new. choose_each choice ways sent new (drop (i + 1) order)) (sym c.take.ensures.choice ∙ ap (with_choice ways sent now p) is)
+          ∙ choose_next choice ways sent now order i c.loop-position-test.true ∙ c.loop-position.invariant.0,
+      c.take.ensures.taken,
+    )

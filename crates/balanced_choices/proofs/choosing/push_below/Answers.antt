@@ -2,7 +2,8 @@ use Rattle.std.proofs.Common.{◌++◌, ℕ, List, [], ◌∷◌, sym, ap, ◌�
 use Rattle.std.specs.Prelude.{filter}
 use Rattle.spread_labels.specs.Orders.{numbers_from}
 use Rattle.balanced_choices.specs.BalancedChoices.{is_below}
-use Rattle.balanced_choices.proofs.InOrder.{failing, filter_next, passing}
+use Rattle.spread_labels.proofs.Earlier.{filter_grown}
+use Rattle.balanced_choices.proofs.InOrder.{failing, passing}
 use Rattle.balanced_choices.proofs.choosing.push_below.Goals as goal
 use Rattle.balanced_choices.proofs.choosing.push_below.Goals.{then-is_below+in_ok-push, else-is_below}
 
@@ -12,7 +13,7 @@ loop-position-preserved c =
     let p = c.loop-position.position in
     let old : List ℕ = c.args.order.now.items in
     let found : List ℕ = filter test (numbers_from 0 p) in
-    let next = ap (λ xs. old ++ xs) (sym (filter_next test p)) in
+    let next = ap (λ xs. old ++ xs) (sym (filter_grown test p)) in
     elim c.if-is_below.branch [
       | then-is_below+in_ok-push w ↦
           ap (λ v. v.items) w.order-is ∙ w.in_ok-push.ensures.items ∙ ap (λ xs. xs ++ p ∷ []) c.loop-position.invariant

@@ -1,14 +1,23 @@
-use Rattle.std.proofs.Common.{◌+◌, ◌-◌, sym, ap, ◌∙◌, arith, length}
+use Rattle.std.proofs.Common.{◌+◌, ◌-◌, List, ℕ, sym, ap, ◌∙◌, arith, get_or, length}
 use Rattle.spread_labels.specs.Orders.{numbers_from}
-use Rattle.balanced_choices.specs.BalancedChoices.{without_packets}
+use Rattle.balanced_choices.specs.EdgesTaken.{way_by, without_by}
 use Rattle.balanced_choices.proofs.InOrder.{numbers_left}
+use Rattle.balanced_choices.proofs.NoPackets.{none_removed}
 use Rattle.balanced_choices.proofs.choosing.remove_packets.Goals as goal
+use Rattle.balanced_choices.proofs.choosing.remove_packets.Goals.{then-sent-position-gt0, else-sent-position-gt0}
 
 pub loop-position-preserved : goal.loop-position-preserved
 loop-position-preserved c =
-    let without = without_packets c.args.ways.now c.args.sent.now c.args.choices.now in
-    let n = length c.args.ways.now in
+    let without = without_by c.args.sent.now c.args.taken.now in
+    let n = length c.args.taken.now in
     let p = c.loop-position.position in
-    let left = numbers_left n p (omega (arith, c.loop-position-test.true, c.len-position-end.ensures)) in
-    ap (λ loads. without loads (numbers_from (p + 1) (n - (p + 1)))) c.change_way.ensures
-    ∙ sym (ap (without c.loop-position.loads) left) ∙ c.loop-position.invariant
+    let loads = c.loop-position.loads in
+    let left = numbers_left n p (omega (arith, c.loop-position-test.true)) in
+    let rest : List ℕ → List ℕ = λ ls. without ls (numbers_from (p + 1) (n - (p + 1))) in
+    let next = sym (ap (without loads) left) ∙ c.loop-position.invariant in
+    elim c.if-sent-position-gt0.branch [
+      | then-sent-position-gt0 w ↦ ap rest (w.loads-is ∙ w.change_way.ensures) ∙ next
+      | else-sent-position-gt0 w ↦
+          let none = none_removed (get_or c.args.sent.now p 0) loads (way_by c.args.taken.now p) (omega (arith, w.if-sent-position-gt0.false)) in
+          ap rest (w.loads-is ∙ sym none) ∙ next
+    ]

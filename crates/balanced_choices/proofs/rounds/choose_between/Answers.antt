@@ -33,7 +33,7 @@ loop-end-preserved c =
     let it : slice_index_or all end [] ≡ c.deref_mut.result.now =
     get_or-map (λ w. w.items) rows end c.index-choices-end.result [] below ∙ sym c.deref_mut.ensures.value in
     let chosen : choices_in round ways sent order end (record { choices = slice_index_or all end []; loads = c.loop-end.loads }) ≡ after =
-    ap (λ xs. choices_in round ways sent order end (record { choices = xs; loads = c.loop-end.loads })) it ∙ c.choose.ensures in
+    ap (λ xs. choices_in round ways sent order end (record { choices = xs; loads = c.loop-end.loads })) it ∙ c.in_ok-choose.ensures in
     let became : with_end round ways sent order now end ≡ record { choices = slice_set all end new; loads = c.choose.new.loads } =
     ap (λ x. record { choices = slice_set all end x.choices; loads = x.loads }) chosen in
     let rows_then : map (λ w. w.items) (slice_set rows end next) ≡ slice_set all end new =

@@ -78,11 +78,11 @@ loop-k-preserved c =
     let now : Balance = record { choices = map (λ w. w.items) c.loop-k.choices; loads = c.loop-k.loads } in
     let after : Balance = record { choices = map (λ w. w.items) c.choose_between.new.choices; loads = c.choose_between.new.loads } in
     let became : with_ends round (towards graph d.position) sent (near_first (towards graph d.position)) now (numbers_from end d.ends) ≡ after =
-    sym (λ i. with_ends round (ways i) sent (order i) now (numbers_from end (count i))) ∙ c.choose_between.ensures.balance in
+    sym (λ i. with_ends round (ways i) sent (order i) now (numbers_from end (count i))) ∙ c.in_ok-choose_between.ensures.balance in
     let rest = drop (k + 1) ds in
     let long : length c.in_ok-ways.ways ≡ length graph = ap length c.in_ok-ways.ensures ∙ numbers_long f 0 (length graph) in (
       ap (λ b. with_all round graph sent b (end + d.ends) rest) (sym became)
           ∙ sym (ap (with_all round graph sent now end) (drop_more ds k none c.loop-k-test.true)) ∙ c.loop-k.invariant.0,
       sym (ends_next end ds k none c.loop-k-test.true) ∙ c.loop-k.invariant.1,
-      (λ i x h. c.choose_between.ensures.long i x h ∙ long),
+      (λ i x h. c.in_ok-choose_between.ensures.long i x h ∙ long),
     )

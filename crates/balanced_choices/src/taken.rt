@@ -1,0 +1,42 @@
+//! The edges that positions take, by their choices.
+ghost use Rattle.std.specs.Prelude.{◌≡◌, IfOk, slice_index};
+ghost use Rattle.balanced_choices.specs.EdgesTaken.{edges_taken};
+ghost use Rattle.balanced_choices.specs.Loads.{edge_taken};
+
+use port_graph::{Adjacency, Edge};
+use std::alloc::{AllocError, Global};
+
+/// Finds the edge that is taken at each position, if there is one.
+pub(crate) fn edges_taken(
+    alloc: Global,
+    ways: &Adjacency,
+    choices: &[u8],
+) -> Result<Vec<Option<Edge>>, AllocError>
+    ensures { IfOk result (λ taken. taken.items ≡ edges_taken ways.now choices.now) }
+{
+    let mut taken = Vec::with_capacity(alloc, ways.len())?;
+    for position in 0..ways.len() {
+        taken.push(edge_taken(ways, choices, position))?;
+    }
+    Ok(taken)
+}
+
+/// Returns the edge that is taken at a position, if there is one.
+pub(crate) fn edge_taken(ways: &Adjacency, choices: &[u8], position: usize) -> Option<Edge>
+    ensures { result ≡ edge_taken ways.now choices.now position }
+{
+    match ways.at(position).get(choice_at(choices, position)) {
+        Some(edge) => Some(*edge),
+        None => None,
+    }
+}
+
+/// Returns the choice of a position, 0 past the last.
+fn choice_at(choices: &[u8], position: usize) -> usize
+    ensures { result ≡ slice_index choices.now position }
+{
+    match choices.get(position) {
+        Some(choice) => usize::from(*choice),
+        None => 0,
+    }
+}
