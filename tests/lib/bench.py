@@ -56,7 +56,7 @@ class Bench:
         self.held = self.wrong = 0
         self.said = self.printed = ""
         self.fabric = self.path = self.console = None
-        self.figures = []
+        self.figures, self.seats = [], 0
 
     def check(self, holds: object, what: str) -> None:
         print(f"{'ok   ' if holds else 'WRONG'} {what}", flush=True)

@@ -5,10 +5,12 @@ A test ends with 1 at the first thing that is not as it should be, and says what
 from __future__ import annotations
 
 import collections
+import os
 import pathlib
 import subprocess
 import sys
 from collections.abc import Iterable
+from typing import Any
 
 from paths import ROOT
 
@@ -80,7 +82,7 @@ class Runs:
     def put(self, name: str, data: bytes) -> None:
         (self.folder / name).write_bytes(data)
 
-    def run(self, words: Iterable, **streams) -> Ended:
+    def run(self, words: Iterable[str | os.PathLike[str]], **streams: Any) -> Ended:
         self.count += 1
         streams = {"stdin": subprocess.DEVNULL, "stdout": subprocess.PIPE, "stderr": subprocess.PIPE} | streams
         # Help shows the program under argv[0].

@@ -1,12 +1,15 @@
 """What `tests/test-files` tries of from-dumps, and of topologies for ibsim, in its room. tests/dumps/ has what
 ibnetdiscover, OpenSM and dump_fts wrote of two fabrics of ibsim: the triangle, also with LMC 1, and a tree of two lower
 switches below two higher ones."""
+from __future__ import annotations
+
 import shutil
 
 import paths
 import record_files
 import sample_fabrics
 from built_program import plan_lines
+from tool_room import Room
 
 # For each fabric, as `record --tables` read it: the LID of each end port, and the ports of each switch for all LIDs
 # from the least on.
@@ -32,7 +35,7 @@ FABRICS = {"triangle": sample_fabrics.triangle(), "tree": sample_fabrics.two_lev
 DOWN = {"triangle": 4, "tree": 4}
 
 
-def wanted(name, cap=1024, generation=1):
+def wanted(name: str, cap: int = 1024, generation: int = 1) -> tuple[str, str]:
     """Returns the facts and the tables of fabric `name` at the time of its dumps."""
     fabric, lids = FABRICS[name.partition("-")[0]], LIDS[name]
     facts = fabric.facts().replace(" 1024 @1", f" {cap} @1")
@@ -45,13 +48,13 @@ def wanted(name, cap=1024, generation=1):
     return facts.replace("@1\n", f"@{generation}\n"), "\n".join(plan_lines(ends, tables, lmc)) + "\n"
 
 
-def turned(room, words, facts, status=0):
+def turned(room: Room, words: str, facts: str, status: int = 0) -> None:
     """Checks that from-dumps writes the store file of `facts`."""
     printed = room.run(f"from-dumps {words}", status).encode(errors="surrogateescape")
     room.check(printed == record_files.store_of(facts), f"from-dumps {words}: the facts")
 
 
-def from_dumps(room):
+def from_dumps(room: Room) -> None:
     """Checks what from-dumps makes of each form of dump, of parts of dumps, and of LMCs."""
     shutil.copytree(paths.ROOT / "tests/dumps", room.path, dirs_exist_ok=True)
     for name in FABRICS:
@@ -73,7 +76,7 @@ def from_dumps(room):
     faults(room)
 
 
-def lmcs(room):
+def lmcs(room: Room) -> None:
     """Checks the ways to tell an LMC: by ibnetdiscover, by the names of dump_fts, or by an option."""
     facts, tables = wanted("triangle-lmc")
     dumps = "triangle-lmc.lst triangle-lmc.fdbs --cap 1024 --tables held"
@@ -87,7 +90,7 @@ def lmcs(room):
     room.check(room.text("held") == tables, "the LMC that ibnetdiscover tells")
 
 
-def parts(room):
+def parts(room: Room) -> None:
     """Checks tables of a single switch, a port that is down, and an unknown GUID."""
     facts, tables = wanted("triangle")
     turned(room, "triangle.lst triangle.ibroute --cap 1024 --tables held", facts, 1)
@@ -109,7 +112,7 @@ def parts(room):
     turned(room, "half.lst --cap 1024", facts)
 
 
-def forms(room):
+def forms(room: Room) -> None:
     """Checks other forms that the dumping tools write, and node names that look like something else."""
     facts, _ = wanted("triangle")
     text = room.text("triangle.ibnetdiscover")
@@ -131,7 +134,7 @@ def forms(room):
     )
 
 
-def faults(room):
+def faults(room: Room) -> None:
     """Checks that nothing is written if lines are not understood or dumps contradict each other."""
     one, two = f"{0x10:016x}", f"{0x20:016x}"
     for source, old, new, why in (
@@ -187,7 +190,7 @@ def faults(room):
     room.check(room.text("held") == "before", "tables are as they were")
 
 
-def contradictions(room):
+def contradictions(room: Room) -> None:
     """Checks dumps that were taken at two times."""
     moved = room.text("triangle.lst").replace("{S3} LID:0005", "{S3} LID:0006")
     room.put(moved_lst=moved, other_fts=room.text("triangle.fts").replace("0x0001 002", "0x0001 001", 1))
@@ -238,7 +241,7 @@ Switch\t4 "S-0000000000000030"\t\t# "0000000000000030" base port 0 lid 5 lmc 0
 """
 
 
-def netlists(room):
+def netlists(room: Room) -> None:
     """Checks facts written as a netlist of ibsim."""
     facts = room.text("t.facts").replace(" 1024 @1", " 512 @1")
     for end, lid in (("10/0", 3), ("20/0", 4), ("30/0", 5), ("100/1", 1), ("200/1", 2)):

@@ -1,16 +1,21 @@
 """What `tests/test-files` tries of the tools at the edges of their numbers, in its room."""
+from __future__ import annotations
+
 import os
 import re
 
 import sample_fabrics
 from built_program import plan_lines
 from tool_checks import FAKE, dumped
+from tool_room import Room
 
 GREATEST = 49151
 SWITCHES = (0x10, 0), (0x20, 0), (0x30, 0)
 
 
-def triangle_plan(first, second, lmc=0):
+def triangle_plan(
+    first: int, second: int, lmc: int = 0
+) -> tuple[dict[int, tuple[int, int]], dict[int, dict[int, int]], str]:
     """Returns tables of the triangle. `first` and `second` are the LIDs of the adapters' ports, or begin their
     ranges."""
     lids = {lid: end for lid, end in enumerate(SWITCHES, 1)} | {first: (0x100, 1), second: (0x200, 1)}
@@ -23,7 +28,7 @@ def triangle_plan(first, second, lmc=0):
     return lids, tables, "\n".join(plan_lines(lids, tables, lmc)) + "\n"
 
 
-def greatest_lid(room):
+def greatest_lid(room: Room) -> None:
     """Checks plans, dumps and differences up to the greatest LID, in tables of 768 blocks, and none above it."""
     room.put(wide_facts=room.text("t.facts").replace(" 1024 @1", " 49152 @1"), far_plan=triangle_plan(4, GREATEST)[2])
     room.put(over_plan=triangle_plan(4, GREATEST + 1)[2])
@@ -43,7 +48,7 @@ def greatest_lid(room):
     room.refused("opensm-files tables wide.facts over.dump", "has no range of LIDs in its head")
 
 
-def several_blocks(room):
+def several_blocks(room: Room) -> None:
     """Checks that the blocks to write are those that differ: the first, one in between, and the last."""
     lids, tables, _ = triangle_plan(4, GREATEST)
     for entries, blocks in (
@@ -62,7 +67,7 @@ def several_blocks(room):
     room.check(printed[-1] == "6 entries differ on 3 switches, blocks to write: 3", "the second of two blocks")
 
 
-def table_sizes(room):
+def table_sizes(room: Room) -> None:
     """Checks table sizes in a topology: from one to 49,152 entries."""
     for size, status, told in ((1, 0, 1), (49152, 0, 49152), (49153, 1, 1024), (0, 1, 1024)):
         room.put(size_facts=room.text("t.facts").replace("cap 0000000000000020 1024", f"cap 0000000000000020 {size}"))
@@ -72,7 +77,7 @@ def table_sizes(room):
         room.check(("the size of its table is not known" in room.said) == bool(status), "what is otherwise is said")
 
 
-def largest_picture(room):
+def largest_picture(room: Room) -> None:
     """Checks that a picture has at most 300 nodes."""
     for hosts, status in ((200, 0), (201, 3)):
         room.put(many_facts=sample_fabrics.random_fabric(100, 3, hosts).facts())
@@ -80,7 +85,7 @@ def largest_picture(room):
         room.check(len(re.findall(r"shape=(?:box|ellipse)", text)) == (0 if status else 300), f"{100 + hosts} nodes")
 
 
-def ranges_planned(room):
+def ranges_planned(room: Room) -> None:
     """Checks that a plan without a cable has the LMC of the tables. Switches have none."""
     for lmc in 0, 1, 3:
         plan = triangle_plan(8, 16, lmc)[2]
@@ -91,7 +96,7 @@ def ranges_planned(room):
         room.check(len(calls) == 2 and all(f" --lmc {lmc} " in it for it in calls), f"plans are made under LMC {lmc}")
 
 
-def parts_of_dumps(room):
+def parts_of_dumps(room: Room) -> None:
     """Checks a dump of each switch in two parts: its top is the greater one, in either order."""
     text, _ = dumped(sample_fabrics.triangle(), sample_fabrics.triangle().shortest(), "fts", lmc=1)
     room.put(whole_dump=text)
@@ -107,7 +112,7 @@ def parts_of_dumps(room):
         room.check(room.run(f"opensm-files tables t.facts {names}", 0) == whole, f"two parts of a dump, {names}")
 
 
-def means(room):
+def means(room: Room) -> None:
     """Checks means whose decimals end in a digit behind a zero, or in zeros: 49 adapters at a switch, and one at
     another."""
     fabric = sample_fabrics.Fabric()
@@ -120,19 +125,19 @@ def means(room):
     room.check(room.run("balance mean.facts mean.plan", 0) == told, "means with two digits behind the point")
 
 
-def written_through(room):
+def written_through(room: Room) -> None:
     """Checks that tools sync a file to disk before they rename it: none is empty after a power cut."""
     fsync, rename = os.fsync, os.rename
 
-    def note(*words):
+    def note(*words: object) -> None:
         with open(room.path / "noted", "a") as file:
             print(*words, file=file)
 
-    def noted_fsync(number):
+    def noted_fsync(number: int) -> None:
         note("sync", os.path.basename(os.readlink(f"/proc/self/fd/{number}")), os.fstat(number).st_size)
         fsync(number)
 
-    def noted_rename(old, new):
+    def noted_rename(old: str | os.PathLike[str], new: str | os.PathLike[str]) -> None:
         note("name", os.path.basename(old), os.path.getsize(old))
         rename(old, new)
 
@@ -148,7 +153,7 @@ def written_through(room):
     room.check(all(["sync", it] in lines[: lines.index(["name", it])] for it in named), "each is on the disk before")
 
 
-def edges(room):
+def edges(room: Room) -> None:
     """Checks the tools at their limits."""
     for part in (
         greatest_lid,

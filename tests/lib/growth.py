@@ -1,17 +1,21 @@
 """How the cost of commands grows, for `tests/at-scale`: each at a size and at twice the size, by counted instructions.
 `valgrind` counts them if the machine has it, else `perf`. If it has neither, processor time is taken, the least of some
 runs, and twice as much is allowed; the bounds on instructions are left out then."""
+from __future__ import annotations
+
 import collections
 import concurrent.futures
 import itertools
 import os
+import pathlib
 import re
 import subprocess
+from collections.abc import Callable, Iterable, Sequence
 
 import paths
 import record_files as make
 from built_program import ENTRIES
-from noted_costs import ALLOCATIONS, INSTRUCTIONS
+from noted_costs import ALLOCATIONS, INSTRUCTIONS, Noted
 from scale import Fabric, Tree, chain, check
 
 # What twice the size may cost: two times as much for linear cost, four times for quadratic, and a third more for
@@ -26,6 +30,8 @@ LEAST = 20000
 SPREAD = "--routing", "spread"
 # The GUID of a switch without wires.
 LONE = 0x8000
+# What stands behind `ibsm` on a command line.
+Words = tuple[str, ...]
 
 
 # Counting --------------------------------------------------------------------------------------------
@@ -34,7 +40,7 @@ LONE = 0x8000
 NOWHERE = dict.fromkeys(("stdin", "stdout", "stderr"), subprocess.DEVNULL)
 
 
-def ran(command, folder):
+def ran(command: Sequence[str | os.PathLike[str]], folder: pathlib.Path) -> int:
     """Runs a command without output, and returns its exit status."""
     return subprocess.run(command, cwd=folder, **NOWHERE).returncode
 
@@ -44,10 +50,10 @@ class Perf:
 
     name, is_exact = "perf", True
 
-    def __init__(self, program, folder):
+    def __init__(self, program: pathlib.Path, folder: pathlib.Path) -> None:
         self.program, self.folder = program, folder
 
-    def cost(self, words, log):
+    def cost(self, words: Iterable[str], log: pathlib.Path) -> tuple[int, int | None]:
         status = ran(["perf", "stat", "-x,", "-e", "instructions:u", "-o", log, self.program, *words], self.folder)
         found = re.search(r"^(\d+),", log.read_text(), re.M) if log.exists() else None
         return status, int(found[1]) if found else None
@@ -59,11 +65,11 @@ class Valgrind:
 
     name, is_exact = "valgrind", True
 
-    def __init__(self, program, folder):
+    def __init__(self, program: pathlib.Path, folder: pathlib.Path) -> None:
         self.program, self.folder = folder / "stripped", folder
         subprocess.run(["strip", "-o", self.program, program], check=True)
 
-    def cost(self, words, log):
+    def cost(self, words: Iterable[str], log: pathlib.Path) -> tuple[int, int | None]:
         tool = [
             "valgrind", "--tool=cachegrind", "--cache-sim=no", "--cachegrind-out-file=/dev/null", f"--log-file={log}"
         ]
@@ -77,10 +83,10 @@ class Clock:
 
     name, is_exact = "processor time", False
 
-    def __init__(self, program, folder):
+    def __init__(self, program: pathlib.Path, folder: pathlib.Path) -> None:
         self.program, self.folder = program, folder
 
-    def cost(self, words, log):
+    def cost(self, words: Iterable[str], log: pathlib.Path) -> tuple[int, int]:
         del log
         costs = []
         for _ in range(TIMES):
@@ -94,7 +100,7 @@ class Clock:
 class Costs:
     """What runs cost beyond starting the program. Each run is made once."""
 
-    def __init__(self, program, folder):
+    def __init__(self, program: pathlib.Path, folder: pathlib.Path) -> None:
         self.program, self.folder, self.numbers, self.known, self.files = program, folder, itertools.count(1), {}, set()
         for kind in Valgrind, Perf, Clock:
             try:
@@ -105,10 +111,10 @@ class Costs:
             if status == 0 and self.start is not None:
                 return
 
-    def log(self):
+    def log(self) -> pathlib.Path:
         return self.folder / f"cost{next(self.numbers)}"
 
-    def put(self, name, make_data):
+    def put(self, name: str, make_data: Callable[[], str | bytes]) -> str:
         """Writes a file of this name, once, and returns the name."""
         if name not in self.files:
             self.files.add(name)
@@ -116,24 +122,24 @@ class Costs:
             (self.folder / name).write_bytes(data.encode() if isinstance(data, str) else data)
         return name
 
-    def measure(self, words, wanted):
+    def measure(self, words: Words, wanted: int) -> int:
         status, cost = self.counter.cost(words, self.log())
         check(status == wanted and cost is not None, f"{' '.join(words)}: exit status {status}, cost {cost}")
         return max(1, (cost or 0) - self.start)
 
-    def take(self, runs, ends=None):
+    def take(self, runs: Iterable[Words], ends: dict[Words, int] | None = None) -> None:
         """Measures each of `runs`, in parallel if the counter does not depend on time; `ends` has the exit statuses
         other than 0."""
         runs = [words for words in dict.fromkeys(runs) if words not in self.known]
         with concurrent.futures.ThreadPoolExecutor(os.cpu_count() if self.counter.is_exact else 1) as pool:
             self.known.update(zip(runs, pool.map(self.measure, runs, [(ends or {}).get(it, 0) for it in runs])))
 
-    def allocations(self, runs):
+    def allocations(self, runs: Iterable[Words]) -> list[int]:
         """Returns how often each run allocates memory: repeated work mostly shows as repeated allocation."""
         library, source = self.folder / "count.so", paths.ROOT / "tests/refuse/refuse.c"
         subprocess.run(["cc", "-O2", "-shared", "-fPIC", "-o", library, source, "-ldl"], check=True)
 
-        def count(words):
+        def count(words: Words) -> int:
             told = self.log()
             env = {"LD_PRELOAD": library, "REFUSE": "alloc", "REFUSE_AT": "0", "REFUSE_COUNT": told}
             subprocess.run([self.program, *words], cwd=self.folder, env=env, **NOWHERE)
@@ -142,7 +148,7 @@ class Costs:
         with concurrent.futures.ThreadPoolExecutor(os.cpu_count()) as pool:
             return list(pool.map(count, runs))
 
-    def at_most(self, cost, other, times, what, spare=0):
+    def at_most(self, cost: int, other: int, times: float, what: str, spare: int = 0) -> None:
         """Checks that a cost is at most `times` another. Processor time gets slack, and `spare` besides."""
         if not self.counter.is_exact:
             times, other = SLACK * times, max(other, LEAST) + spare
@@ -152,33 +158,33 @@ class Costs:
 # What is measured ------------------------------------------------------------------------------------
 
 
-def replies(costs, count):
+def replies(costs: Costs, count: int) -> str:
     """Makes replies of `count` adapters, each about itself."""
     return costs.put(f"replies{count}", lambda: make.reports(
         *(make.node_info(make.START, make.ADAPTER, 1, 16 * it, 16 * it + 1, 1) for it in range(1, count + 1))
     ))
 
 
-def claims(costs, count, first=1, floor=1):
+def claims(costs: Costs, count: int, first: int = 1, floor: int = 1) -> str:
     """Returns a store file of `count` claims, of every other GUID from `first` on, under a floor."""
     return costs.put(f"claims{count}from{first}above{floor}", lambda: make.store(
         *(make.cell(make.CLAIM, guid, 1, b"\0\1", 3) for guid in range(first, first + 2 * count, 2)), floor=floor
     ))
 
 
-def tree_of(switches, hosts):
+def tree_of(switches: int, hosts: int) -> Tree:
     """Returns a tree: a switch above `switches` others, and `hosts` adapters at each of these."""
     return Tree([0] * switches, [0] + [hosts] * switches)
 
 
-def known(costs, switches, hosts):
+def known(costs: Costs, switches: int, hosts: int) -> str:
     """Returns a store file of the facts of a tree."""
     return costs.put(f"tree{switches}by{hosts}", lambda: make.store(*tree_of(switches, hosts).cells()))
 
 
-def strangers(costs, count):
+def strangers(costs: Costs, count: int) -> str:
     """Makes links from `count` nodes to as many others that nothing else describes: the first leads to the last."""
-    def made():
+    def made() -> bytes:
         return make.store_of(
             "".join(f"link {it:016x}/1 {2 * count + 1 - it:016x}/2 @1\n" for it in range(1, count + 1))
         )
@@ -186,14 +192,14 @@ def strangers(costs, count):
     return costs.put(f"strangers{count}", made)
 
 
-def planned(costs, switches, hosts, lmc=0):
+def planned(costs: Costs, switches: int, hosts: int, lmc: int = 0) -> str:
     """Returns a file with the plan of a tree."""
     return costs.put(f"plan{switches}by{hosts}lmc{lmc}", lambda: tree_of(switches, hosts).plan(lmc))
 
 
-def mesh(costs, switches):
+def mesh(costs: Costs, switches: int) -> str:
     """Makes a mesh: `switches` switches, each with an adapter and two wires up to a few others."""
-    def made():
+    def made() -> bytes:
         fabric = Fabric(switches // 10, switches, 40, switches)
         path = costs.folder / f"replies_of_mesh{switches}"
         fabric.reports(path)
@@ -202,9 +208,9 @@ def mesh(costs, switches):
     return costs.put(f"mesh{switches}", made)
 
 
-def holed(costs, switches, hosts, without=1):
+def holed(costs: Costs, switches: int, hosts: int, without: int = 1) -> str:
     """Makes the tables of a tree. The last `without` switches lead nowhere."""
-    def made():
+    def made() -> bytes:
         parts = tree_of(switches, hosts).plan().split(b"switch ")
         return b"switch ".join(
             [
@@ -216,9 +222,9 @@ def holed(costs, switches, hosts, without=1):
     return costs.put(f"holes{without}of{switches}by{hosts}", made)
 
 
-def claimed(costs, hosts):
+def claimed(costs: Costs, hosts: int) -> str:
     """Makes the facts of a tree whose adapters' ports claim LIDs from 16,384 on."""
-    def made():
+    def made() -> bytes:
         tree = tree_of(8, hosts)
         claims = [
             make.cell(make.CLAIM, guid, port, (16384 + at).to_bytes(2, "big"))
@@ -231,9 +237,9 @@ def claimed(costs, hosts):
     return costs.put(f"claimed{hosts}", made)
 
 
-def apart(costs, switches, hosts):
+def apart(costs: Costs, switches: int, hosts: int) -> str:
     """Makes the facts of a tree, and of a switch without wires."""
-    def made():
+    def made() -> bytes:
         more = (
             (make.NODE, bytes([make.SWITCH, 1])),
             (make.PORT_GUID, LONE.to_bytes(8, "big")),
@@ -245,16 +251,16 @@ def apart(costs, switches, hosts):
     return costs.put(f"apart{switches}by{hosts}", made)
 
 
-def printed(costs, *words):
+def printed(costs: Costs, *words: str) -> str:
     """Makes the file of what the program prints."""
     return costs.put(
         "".join(words), lambda: subprocess.run([costs.program, *words], cwd=costs.folder, capture_output=True).stdout
     )
 
 
-def swept(costs, adapters):
+def swept(costs: Costs, adapters: int) -> str:
     """Makes a sweep that reaches adapters at fifty switches in turn, and then all of them again."""
-    def made():
+    def made() -> bytes:
         fabric = Fabric(2, 50, 130, adapters)
         path = costs.folder / f"replies_of_adapters{adapters}"
         fabric.reports(path)
@@ -264,37 +270,37 @@ def swept(costs, adapters):
     return costs.put(f"swept{adapters}", made)
 
 
-def row(costs, switches, hosts=0):
+def row(costs: Costs, switches: int, hosts: int = 0) -> str:
     """Makes a row of switches, for long ways, with adapters at each."""
     return costs.put(f"row{switches}by{hosts}", lambda: make.store(*chain(switches, hosts).cells()))
 
 
-def row_planned(costs, switches, hosts):
+def row_planned(costs: Costs, switches: int, hosts: int) -> str:
     """Returns a file with the plan of switches in a row."""
     return costs.put(f"row_plan{switches}by{hosts}", lambda: chain(switches, hosts).plan())
 
 
-def roots(costs, count):
+def roots(costs: Costs, count: int) -> str:
     """Makes a text of the first `count` switches of a mesh."""
     return costs.put(f"roots{count}", lambda: "".join(f"0x{0x1000 + it:x}\n" for it in range(count)))
 
 
-def order(costs, count):
+def order(costs: Costs, count: int) -> str:
     """Makes a text of all switches of a mesh, the last one first."""
     return costs.put(f"order{count}", lambda: "".join(f"0x{0x1000 + it:x}\n" for it in reversed(range(count))))
 
 
-def remarks(costs, count):
+def remarks(costs: Costs, count: int) -> str:
     """Makes a text of `count` comment lines of 64 bytes."""
     return costs.put(f"remarks{count}", lambda: ("#" * 63 + "\n") * count)
 
 
-def remarked(costs, count):
+def remarked(costs: Costs, count: int) -> str:
     """Makes the tables of a small tree behind `count` comment lines."""
     return costs.put(f"remarked{count}", lambda: ("#" * 63 + "\n").encode() * count + tree_of(8, 10).plan())
 
 
-def scheduled(costs, hosts, line, times):
+def scheduled(costs: Costs, hosts: int, line: str, times: int) -> tuple[str, str, str]:
     """Makes a run in a tree of four switches with `hosts` adapters each: manager A, which writes, standby B, and then
     `line` repeated `times` times."""
     tree = tree_of(4, hosts)
@@ -382,7 +388,7 @@ STEADY = (
 )
 
 
-def check_all(program, folder, noted):
+def check_all(program: pathlib.Path, folder: pathlib.Path, noted: Noted) -> tuple[str, int]:
     """Checks all costs. Returns what counted them and how many runs it measured. `noted` gets the cost of each command
     at the larger size."""
     costs = Costs(program, folder)
@@ -400,7 +406,7 @@ def check_all(program, folder, noted):
     return costs.counter.name, len(costs.known)
 
 
-def check_apart(costs):
+def check_apart(costs: Costs) -> None:
     """Checks that one more switch without wires adds no more than its own table to the cost of a plan."""
     for options in (), SPREAD:
         one, two = ("plan", *options, known(costs, 40, 25)), ("plan", *options, apart(costs, 40, 25))
@@ -408,7 +414,7 @@ def check_apart(costs):
         costs.at_most(costs.known[two], costs.known[one], 1.1, f"a plan by {options}, with a switch apart")
 
 
-def check_steady(costs):
+def check_steady(costs: Costs) -> None:
     """Checks that what a line of a schedule costs does not grow with the fabric."""
     few, many, hosts = (250, 500, 25) if costs.counter.is_exact else (1000, 8000, 25)
     steady = [

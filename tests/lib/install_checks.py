@@ -1,11 +1,17 @@
 """What `tests/test-files` tries of an installed copy: it is laid out over scripts in place of programs, in its room."""
+from __future__ import annotations
+
 import os
+import pathlib
 import re
 import shutil
 import subprocess
+from collections.abc import Iterable
+from typing import Any
 
 import completions
 import paths
+from tool_room import Room
 
 PROGRAM = """#!/bin/sh
 case $1 in --version) echo 'ibsm 0.1.0' ;; *) echo "program $*"; exit 3 ;; esac
@@ -18,14 +24,14 @@ echo '  -q, --quiet            neither'
 TOOLS_IN_C = "ibsm-record", "ibsm-send", "ibsm-seat"
 
 
-def run(words, **how):
+def run(words: Iterable[object], **how: Any) -> subprocess.CompletedProcess[str]:
     """Runs a command without input, and returns how it ended, with its output."""
     return subprocess.run(
         [str(word) for word in words], capture_output=True, text=True, stdin=subprocess.DEVNULL, **how
     )
 
 
-def installed(room, program):
+def installed(room: Room, program: pathlib.Path) -> None:
     """Lays out the tree, installs it, runs it, completes commands, and uninstalls it."""
     made = room.path / "made"
     made.mkdir()
@@ -53,7 +59,7 @@ def installed(room, program):
     taken_off(room, to, told)
 
 
-def runs(room, to, tools):
+def runs(room: Room, to: pathlib.Path, tools: list[str]) -> None:
     """Checks that each tool runs from anywhere under its installed name, and that the version tells how the program was
     built."""
     for tool in tools[1:]:
@@ -83,7 +89,7 @@ def runs(room, to, tools):
     room.check(run([link, "--version"]).stdout.startswith("ibsm 0.1.0\ncommit "), "by a link too")
 
 
-def pages(room, to, tools):
+def pages(room: Room, to: pathlib.Path, tools: list[str]) -> list[str]:
     """Checks that each tool has a page that `man` accepts and that lists every option."""
     for tool in tools:
         page = to / f"share/man/man1/{tool}.1"
@@ -101,7 +107,7 @@ def pages(room, to, tools):
     return (to / "lib/ibsm/installed").read_text().splitlines()
 
 
-def completed(room, to, program):
+def completed(room: Room, to: pathlib.Path, program: pathlib.Path) -> None:
     """Checks what bash completes, and that the options are those of the program."""
     script = to / "share/bash-completion/completions/ibsm"
     for words, wanted in (
@@ -127,7 +133,7 @@ def completed(room, to, program):
             room.check(there == set(options.split()), f"options of {command}: {sorted(there)}")
 
 
-def taken_off(room, to, told):
+def taken_off(room: Room, to: pathlib.Path, told: list[str]) -> None:
     """Checks that uninstalling removes what was installed and nothing else, and that changed files are not
     installed."""
     (to / "bin/other").write_text("")

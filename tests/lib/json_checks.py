@@ -1,5 +1,9 @@
 """What `tests/test-files` tries of json, in its room: each line of each text, and texts that are cut or of no form."""
+from __future__ import annotations
+
 import json
+
+from tool_room import Room
 
 ONE, TWO, THREE, HOST, OTHER = (f"{guid:016x}" for guid in (0x10, 0x20, 0x30, 0x100, 0x200))
 FACTS = f"""floor 3
@@ -233,7 +237,7 @@ ibsm_audit_credit_loop_channels 3
 """
 
 
-def as_json(room):
+def as_json(room: Room) -> None:
     """Checks each form of text as JSON, verdicts, gauges, names, and what is refused."""
     for form, text, wanted in TEXTS:
         room.put(it=text)
@@ -248,7 +252,7 @@ def as_json(room):
     of_the_tools(room)
 
 
-def verdicts(room):
+def verdicts(room: Room) -> None:
     """Checks that `passes` agrees with the exit status of `ibsm audit`."""
     empty = SOUND.replace("25", "0").replace("21", "0").replace("pairs 4 arrive 4", "pairs 0 arrive 0")
     for text, line, is_sound in (
@@ -270,7 +274,7 @@ def verdicts(room):
         room.check(json.loads(room.run("json it", 0))["passes"] == is_sound, f"passes, with `{line.strip()}`")
 
 
-def gauges(room):
+def gauges(room: Room) -> None:
     """Checks an audit's counts as Prometheus reads them."""
     room.put(it=UNSOUND, sound=SOUND)
     printed = room.run("json it --prometheus", 0)
@@ -286,7 +290,7 @@ def gauges(room):
         room.check(f"\nibsm_audit_{line}\n" in printed, f"of a sound audit: {line}")
 
 
-def faults(room):
+def faults(room: Room) -> None:
     """Checks that cut texts, and texts of no form or of another one, print nothing."""
     for text, words, why in (
         (SOUND.replace("credit loop none\n", ""), "it", "it: it is no whole text of audit: is it cut?"),
@@ -325,7 +329,7 @@ def faults(room):
         room.run(f"json {words}", 2)
 
 
-def named(room):
+def named(room: Room) -> None:
     """Checks that names behind GUIDs become a member of their own, whatever they contain."""
     room.put(map=f'0x{ONE} "the [1] \xfc"\n0x{HOST} "node {TWO}"\n', facts=FACTS)
     room.put(it=room.run("names map", 0, stdin="facts"))
@@ -333,7 +337,7 @@ def named(room):
     room.check(json.loads(room.run("json it", 0)) == FACTS_VALUE | {"names": names}, "names behind GUIDs")
 
 
-def of_the_tools(room):
+def of_the_tools(room: Room) -> None:
     """Checks that texts printed by the tools are taken."""
     for words, status, wanted in (
         ("compare t.facts cut.facts --names all.names", 1, "compare"),

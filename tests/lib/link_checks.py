@@ -1,6 +1,12 @@
 """What `tests/test-files` tries of widths and speeds of links, in its room: of recordings that are made here."""
+from __future__ import annotations
+
+from collections.abc import Iterable
+
 import record_files
 import sample_fabrics
+from sample_fabrics import Fabric, Port
+from tool_room import Room
 
 # By name: the bits of widths, and the bits of speeds with whether they are in the extended field.
 WIDTHS = {"1x": 1, "2x": 16, "4x": 2, "8x": 4, "12x": 8}
@@ -8,7 +14,7 @@ SPEEDS = {"SDR": (1, 0), "DDR": (2, 0), "QDR": (4, 0), "FDR": (1, 1), "EDR": (2,
 RATES = {"SDR": 2.5, "DDR": 5, "QDR": 10, "FDR": 14, "EDR": 25, "HDR": 50, "NDR": 100}
 
 
-def info(state, active=None, supported=()):
+def info(state: int, active: tuple[str, str] | None = None, supported: Iterable[tuple[str, str]] = ()) -> bytes:
     """Returns the PortInfo of a port in a state, with its active width and speed and the supported ones."""
     value = bytearray(64)
     value[32] = state
@@ -23,7 +29,9 @@ def info(state, active=None, supported=()):
     return bytes(value)
 
 
-def recording(fabric, said, generation=1):
+def recording(
+    fabric: Fabric, said: dict[Port | None, bytes | None], generation: int = 1
+) -> bytes:
     """Returns a recording of a fabric's links. `said` has the PortInfo of each port, and under None that of all
     others."""
     records = []
@@ -43,7 +51,7 @@ def recording(fabric, said, generation=1):
     return record_files.reports(*records)
 
 
-def links(room):
+def links(room: Room) -> None:
     """Checks widths and speeds of links, what compare says of them, and odd links."""
     fabric = sample_fabrics.triangle()
     can = [("1x", "SDR"), ("4x", "QDR"), ("4x", "EDR")]
@@ -92,7 +100,7 @@ def links(room):
     every_rate(room, fabric)
 
 
-def odd_links(room, fabric, edr):
+def odd_links(room: Room, fabric: Fabric, edr: bytes) -> None:
     """Checks links that are gone, down, or told by one end or by none, and files that are no recordings."""
     end, far = ("S1", 1), fabric.peers["S1", 1]
     for said, status, last in (
@@ -122,7 +130,7 @@ def odd_links(room, fabric, edr):
     room.check(room.run("links -", 0, stdin="golden") == room.run("links golden", 0), "from standard input")
 
 
-def every_rate(room, fabric):
+def every_rate(room: Room, fabric: Fabric) -> None:
     """Checks each width with each speed."""
     for width in WIDTHS:
         for speed, gigabits in RATES.items():

@@ -1,9 +1,11 @@
 """Agents of a fabric, written for the tests of `serve`: what each answers to a directed request, and what it holds
 then."""
+from __future__ import annotations
+
 import random
 import struct
 
-from sample_fabrics import ROOM
+from sample_fabrics import ROOM, Fabric, Port
 
 NODE_INFO, SWITCH_INFO, PORT_INFO, TABLE = 0x11, 0x12, 0x15, 0x19
 GET, SET, ANSWER = 1, 2, 0x81
@@ -12,7 +14,7 @@ DOWN, INITIALIZE, ACTIVE = 1, 2, 4
 BLOCK = 64
 
 
-def field(packet, at, size):
+def field(packet: bytes, at: int, size: int) -> int:
     """Returns the number in `size` bytes of a packet, from `at` on."""
     return int.from_bytes(packet[at : at + size], "big")
 
@@ -23,7 +25,7 @@ class Agents:
     `images` is a source of random numbers, by which all else that ports and switches tell has values; without one it is
     0. `read` has each attribute as it was first told, and `sets` each that was set, by node, attribute and modifier."""
 
-    def __init__(self, fabric, seat, images: random.Random | None = None):
+    def __init__(self, fabric: Fabric, seat: Port, images: random.Random | None = None) -> None:
         self.fabric, self.seat, self.images = fabric, seat, images
         self.read, self.sets = {}, []
         self.lids, self.tops, self.tables = {}, {}, {}
@@ -33,7 +35,7 @@ class Agents:
                 wired = (name, port) in fabric.peers
                 self.states[name, port] = ACTIVE if port == 0 else INITIALIZE if wired else DOWN
 
-    def answer(self, packet):
+    def answer(self, packet: bytes) -> bytes | None:
         """Returns the answer to a directed request from the seat, as it arrives back there, or None if it is lost."""
         if packet[1] != DIRECTED or packet[3] not in (GET, SET):
             return None
@@ -56,7 +58,7 @@ class Agents:
         head[3], head[4], head[6] = ANSWER, 0x80, 0
         return bytes(head) + data + packet[128:192] + bytes(back)
 
-    def note(self, name, came_by, packet, data):
+    def note(self, name: str, came_by: int, packet: bytes, data: bytes) -> None:
         """Notes what was told first, and what was set."""
         attribute, modifier = field(packet, 16, 2), field(packet, 20, 4)
         if attribute == PORT_INFO and not self.fabric.is_switch(name):
@@ -65,7 +67,7 @@ class Agents:
         if packet[3] == SET:
             self.sets.append((name, attribute, modifier, packet[64:128]))
 
-    def blank(self, name, attribute, modifier):
+    def blank(self, name: str, attribute: int, modifier: int) -> bytearray:
         """Returns an attribute before anything is known of it: zeros, or the values of an image that is kept."""
         known = self.read.get((name, attribute, modifier))
         if self.images is None or attribute not in (SWITCH_INFO, PORT_INFO):
@@ -83,7 +85,7 @@ class Agents:
             data[41] &= self.images.choice((0xF0, 0xFF, 0xFF))
         return data
 
-    def told(self, name, came_by, packet):
+    def told(self, name: str, came_by: int, packet: bytes) -> bytes | None:
         """Returns the 64 bytes of the attribute."""
         attribute, modifier, is_set = field(packet, 16, 2), field(packet, 20, 4), packet[3] == SET
         guid, ports = self.fabric.guid(name), self.fabric.ports(name)
@@ -122,7 +124,7 @@ class Agents:
             return None
         return bytes(data)
 
-    def held(self):
+    def held(self) -> str:
         """Returns what the agents hold, in the form of a plan."""
         lines = []
         for (name, port), (lid, lmc) in sorted(self.lids.items(), key=lambda it: it[1]):

@@ -1,33 +1,38 @@
 """What `tests/test` tries of `send` and of rounds that go by it, over ibsim, on its bench."""
+from __future__ import annotations
+
 import contextlib
 import json
 import os
+import pathlib
 import re
 import subprocess
 import sys
+from typing import Any
 
 import paths
 import record_files
 import sample_fabrics
+from bench import Bench
 
 # The bytes of PortInfo that a Set of LIDs changes: the LID, the manager's LID, and the byte that holds the LMC.
 CHANGED = {16, 17, 18, 19, 34}
 PORT_INFO = record_files.PORT_INFO
 
 
-def send(bench, *words, **how):
+def send(bench: Bench, *words: object, **how: Any) -> int:
     """Runs send in the simulated fabric, and returns its exit status."""
     return bench.run(bench.room / "out/send", *words, simulated=True, **how)
 
 
-def one_round(bench, *words):
+def one_round(bench: Bench, *words: object) -> tuple[int, dict[str, Any]]:
     """Runs a round in the folder that OpenSM reads. Returns its exit status and what status.json says."""
     programs = ["--ibsm", bench.program, "--record", bench.room / "out/record", "--send", bench.room / "out/send"]
     status = bench.run(sys.executable, paths.TOOLS / "round", "d", *programs, *words, simulated=True)
     return status, json.loads((bench.path / "d/status.json").read_text())
 
 
-def port_infos(path):
+def port_infos(path: pathlib.Path) -> dict[tuple[bytes, bytes], bytes]:
     """Returns each PortInfo in a recording, by node and port."""
     data, found = path.read_bytes(), {}
     for at in range(8, len(data), 272):
@@ -37,7 +42,7 @@ def port_infos(path):
     return found
 
 
-def from_nothing(bench):
+def from_nothing(bench: Bench) -> None:
     """Checks that `send` writes a plan into a subnet without LIDs and tables, and changes nothing in ports but their
     LIDs."""
     bench.record("-q", "-g", 1, "-T", "none", "none.reports")
@@ -61,7 +66,7 @@ def from_nothing(bench):
     )
 
 
-def widths(bench):
+def widths(bench: Bench) -> None:
     """Checks what ibsim's ports say of their links."""
     status = bench.run(sys.executable, paths.TOOLS / "links", "sent.reports")
     count = len(bench.fabric.peers) // 2
@@ -73,7 +78,7 @@ def widths(bench):
     bench.check(status == 0 and bench.printed == "equal\n", "compare: the same links")
 
 
-def first_round(bench):
+def first_round(bench: Bench) -> None:
     """Checks that rounds bring a subnet without LIDs and tables to a plan, and that the second one has nothing to
     do."""
     for _ in range(2):
@@ -96,7 +101,7 @@ def first_round(bench):
     bench.tell(f'Error "{name}"[{port}] 0')
 
 
-def refusals(bench):
+def refusals(bench: Bench) -> None:
     """Checks what `send` refuses to write."""
     plan = (bench.path / "none.plan").read_text()
     texts = {
@@ -135,7 +140,7 @@ def refusals(bench):
     bench.check(send(bench, "swapped", "--holes") == 3 and "(--move-lids)" in bench.said, "a LID that moves is refused")
 
 
-def seen_on_a_terminal(bench):
+def seen_on_a_terminal(bench: Bench) -> None:
     """Checks that a terminal shows the progress of `record` after two seconds, in a line that is gone at the end."""
     for bend, is_seen in (("slow", True), (None, False)):
         ours, its = os.openpty()
@@ -160,7 +165,7 @@ def seen_on_a_terminal(bench):
         bench.check(process.wait() == 0 and is_right, f"on a terminal, {bend or 'at once'}: {len(lines)} lines")
 
 
-def healed(bench):
+def healed(bench: Bench) -> None:
     """Checks that --watch heals the loss of a cable without help, and also its return."""
     send(bench, "-q", "min.plan")
     programs = ["--ibsm", bench.program, "--record", bench.room / "out/record", "--send", bench.room / "out/send"]
@@ -200,14 +205,14 @@ def healed(bench):
         process.communicate()
 
 
-def next_round(process):
+def next_round(process: subprocess.Popen[str]) -> str:
     """Returns the line of the next round, without the lines of its steps."""
     while re.match(r"\S+ step \d+: ", line := process.stdout.readline()):
         pass
     return line
 
 
-def interrupted(bench):
+def interrupted(bench: Bench) -> None:
     """Checks going from the plan to minhop's tables: `send`, if ended half-way, leaves each block old or new, and can
     go on from there."""
     plan, minhop = ((bench.path / name).read_text().splitlines() for name in ("min.plan", "min.held"))
@@ -235,7 +240,7 @@ def interrupted(bench):
     bench.check(bench.same("min.held", "half"), "to the tables that were wanted")
 
 
-def to_a_plan(bench):
+def to_a_plan(bench: Bench) -> None:
     """Checks going from OpenSM's minhop to a plan by Sets while OpenSM runs, and what both do at once."""
     with bench.opensm("minhop") as opensm:
         bench.record("-q", "-g", 1, "-T", "min.held", "min.reports")
@@ -273,7 +278,7 @@ def to_a_plan(bench):
         bench.check(status == 0, f"by Sets one does: {told['verdict']}")
 
 
-def silent_cable(bench):
+def silent_cable(bench: Bench) -> None:
     """Checks a cable that loses some or all packets, and a silent adapter: with --silent a round goes on without
     them."""
     send(bench, "-q", "min.plan")

@@ -1,7 +1,11 @@
 """The made-up fabrics that `tests/measure` measures with: k-ary fat trees and random fabrics, their recordings and
 topologies."""
+from __future__ import annotations
+
 import itertools
+import pathlib
 import random
+from collections.abc import Iterator
 
 import paths  # noqa: F401
 import record_files as make
@@ -22,33 +26,33 @@ MOST_NODES = 1024
 class Fabric:
     """Switches, whose GUIDs follow no order, adapters of one port, and the cables between their ports."""
 
-    def __init__(self, switches, dice):
+    def __init__(self, switches: int, dice: random.Random) -> None:
         guids = [0x10 + 0x10 * i for i in range(switches)]
         dice.shuffle(guids)
         self.switches, self.adapters, self.cables = guids, [], []
         self.used = dict.fromkeys(guids, 0)
 
-    def cable(self, one, other):
+    def cable(self, one: int, other: int) -> None:
         ends = []
         for guid in (one, other):
             self.used[guid] += 1
             ends.append((guid, self.used[guid]))
         self.cables.append(tuple(ends))
 
-    def adapter(self, switch):
+    def adapter(self, switch: int) -> None:
         guid = 0x1000000 + 0x10 * len(self.adapters)
         self.adapters.append(guid)
         self.used[guid] = 0
         self.cable(switch, guid)
 
-    def ports(self, guid):
+    def ports(self, guid: int) -> int:
         """Returns the number of the node's ports. A switch has one to spare."""
         return self.used[guid] + (guid < 0x1000000)
 
-    def far_ends(self):
+    def far_ends(self) -> dict[tuple[int, int], tuple[int, int]]:
         return {a: b for a, b in self.cables} | {b: a for a, b in self.cables}
 
-    def recording(self):
+    def recording(self) -> Iterator[bytes]:
         """Yields the replies of all nodes, breadth first from the first adapter. A switch replies once for each of its
         cables."""
         far, start = self.far_ends(), self.adapters[0]
@@ -73,12 +77,12 @@ class Fabric:
                     seen.add(other)
                     found.append((other, back))
 
-    def node_info(self, context, guid, port):
+    def node_info(self, context: make.Context, guid: int, port: int) -> bytes:
         if guid < 0x1000000:
             return make.node_info(context, make.SWITCH, self.ports(guid), guid, guid, port)
         return make.node_info(context, make.ADAPTER, 1, guid, guid + port, port)
 
-    def topology(self):
+    def topology(self) -> Iterator[str]:
         far = self.far_ends()
         for guid in self.switches:
             yield f'Switch {self.ports(guid)} "{guid:x}" guid 0x{guid:x} cap {ROOM}\n'
@@ -89,7 +93,7 @@ class Fabric:
             yield f'Hca 1 "{guid:x}" guid 0x{guid:x}\n'
 
 
-def tree(dice, arity, adapters):
+def tree(dice: random.Random, arity: int, adapters: int) -> Fabric:
     """Makes a fat tree of three levels: `arity` pods, each of half as many edge switches and as many above them, and a
     core."""
     half = arity // 2
@@ -106,7 +110,7 @@ def tree(dice, arity, adapters):
     return fabric
 
 
-def tangle(dice, switches, degree, adapters):
+def tangle(dice: random.Random, switches: int, degree: int, adapters: int) -> Fabric:
     """Makes a random tree, and random wires between switches up to a mean degree."""
     fabric = Fabric(switches, dice)
     for number in range(1, switches):
@@ -118,13 +122,13 @@ def tangle(dice, switches, degree, adapters):
     return fabric
 
 
-def fabric(name):
+def fabric(name: str) -> Fabric:
     """Returns the fabric of a name, by its row in SETS."""
     kind, sizes, seed = SETS[name]
     return (tree if kind == "tree" else tangle)(random.Random(seed), *sizes)
 
 
-def put(name, folder):
+def put(name: str, folder: pathlib.Path) -> None:
     """Writes a set's recording, and its topology if the set has few enough nodes, unless the recording exists."""
     recording, topology = folder / f"{name}.reports", folder / f"{name}.topology"
     if recording.exists():

@@ -1,12 +1,15 @@
 """Inputs past each size at which a program could stop for want of room in what it counts by, for `tests/at-scale`. What
 is printed is compared as a whole: with what is known of a tree, with the same by another way, or with what has to come
 of it."""
+from __future__ import annotations
+
 import itertools
+import pathlib
 
 import paths  # noqa: F401
 import record_files as make
 import sample_audits as audits
-from noted_costs import MEMORY
+from noted_costs import MEMORY, Noted
 from scale import Fabric, Run, Tree, chain, check, levels
 
 # More than 2^16 lines, cells or commands, than 2^20 cells, and than 2^22 bytes of a text.
@@ -17,18 +20,18 @@ SPREAD = "--routing", "spread"
 class Room:
     """A folder to run the program in."""
 
-    def __init__(self, program, folder, noted):
+    def __init__(self, program: pathlib.Path, folder: pathlib.Path, noted: Noted) -> None:
         self.program, self.folder, self.noted, self.numbers = program, folder, noted, itertools.count(1)
 
-    def put(self, name, data):
+    def put(self, name: str, data: str | bytes) -> None:
         (self.folder / name).write_bytes(data.encode() if isinstance(data, str) else data)
 
-    def run(self, *words, status=0):
+    def run(self, *words: str, status: int = 0) -> bytes:
         run = Run(self.program, list(words), self.folder, f"printed{next(self.numbers)}", status)
         self.noted.find(MEMORY, run.what, run.memory / 10**6)
         return run.printed()
 
-    def prints(self, wanted, *words, status=0):
+    def prints(self, wanted: str | bytes, *words: str, status: int = 0) -> bytes:
         """Checks that a run prints `wanted` and nothing else."""
         printed = self.run(*words, status=status)
         wanted = wanted.encode() if isinstance(wanted, str) else wanted
@@ -39,7 +42,7 @@ class Room:
         return printed
 
 
-def check_tree(room):
+def check_tree(room: Room) -> None:
     """Checks 34,272 adapters at 157 switches: over 200,000 facts, a plan of over 10 MB, an audit whose sums are over
     2^32, and steps to the plan."""
     tree = levels(12, 12, 238)
@@ -66,7 +69,7 @@ def check_tree(room):
     check_floors(room, tree)
 
 
-def check_floors(room, tree):
+def check_floors(room: Room, tree: Tree) -> None:
     """Checks stores of different floors, each of over 65,536 cells, and a floor under which half of them are
     forgotten."""
     cells = tree.cells(lambda index: 3 + index % 2)
@@ -81,7 +84,7 @@ def check_floors(room, tree):
         room.prints(make.store(*newer, floor=4), "join", *words)
 
 
-def check_ranges(room):
+def check_ranges(room: Room) -> None:
     """Checks 5,000 adapters under an LMC over 0, and the text of their tables."""
     tree = levels(5, 5, 200)
     room.put("ranges", make.store(*tree.cells()))
@@ -94,14 +97,14 @@ def check_ranges(room):
     room.prints(tree.plan(), "next", "long.plan", "ranges")
 
 
-def check_cells(room):
+def check_cells(room: Room) -> None:
     """Checks a store file of over a million cells."""
     whole = make.store(*(make.cell(make.CLAIM, guid, 1, b"\0\1") for guid in range(CELLS)))
     room.put("million", whole)
     room.prints(whole, "join", "million")
 
 
-def check_switches(room):
+def check_switches(room: Room) -> None:
     """Checks 1,100 switches by each rule, from 70 roots and in a given order: each plan passes, and all plans give the
     same LIDs."""
     fabric = Fabric(20, 1080, 112, 1080)
@@ -121,7 +124,7 @@ def check_switches(room):
     check(len(lids) == 1, "LIDs differ by the rule")
 
 
-def check_managers(room):
+def check_managers(room: Room) -> None:
     """Checks 66 managers at one switch, each of which sees the others."""
     tree = chain(1, 66)
     room.put("crowd", tree.topology())
@@ -136,7 +139,7 @@ def check_managers(room):
     room.prints(text.encode() + b"refused Nobody\n" + tree.plan(), "run", "crowd", "sweeps")
 
 
-def check_writing(room):
+def check_writing(room: Room) -> None:
     """Checks a writing on 2,009 end ports, with two LIDs for each port of an adapter."""
     tree = Tree([0] * 8, [0] + [250] * 8, 2)
     room.put("wide", tree.topology())
@@ -148,7 +151,7 @@ def check_writing(room):
         room.prints(2 * tree.plan(lmc), "run", "--lmc", str(lmc), "wide", "written")
 
 
-def check_rooted_run(room):
+def check_rooted_run(room: Room) -> None:
     """Checks that a manager that plans from 70 roots plans what `plan` does from the manager's facts."""
     fabric = Fabric(20, 80, 30, 200)
     room.put("hundred", fabric.topology())
@@ -160,7 +163,7 @@ def check_rooted_run(room):
     room.prints(lid + plan, "plan", *SPREAD, "--roots", "roots", "known")
 
 
-def polled(times):
+def polled(times: int) -> str:
     """Returns a schedule in which a standby polls a master `times` times, and once more: each poll is a line of 64
     bytes."""
     lines = [
@@ -175,7 +178,7 @@ def polled(times):
     return "\n".join([*lines, "drain 100000", "flight", "state B", "poll B 2", "flight", ""])
 
 
-def check_lines(room):
+def check_lines(room: Room) -> None:
     """Checks a topology and a schedule of over 65,536 lines and over 4 MiB: a standby's polls, each of which is
     answered."""
     topology = 'Switch 4 "S" guid 0x10\n[1] "H1"[1]\n[2] "H2"[1]\nHca 1 "H1" guid 0x100\nHca 1 "H2" guid 0x200\n'
@@ -189,12 +192,12 @@ def check_lines(room):
     room.prints(text.format(serial + 2 * (LINES - 1000)), "run", "long", "many")
 
 
-def padded(text, count):
+def padded(text: str, count: int) -> bytes:
     """Returns `count` lines, each the same comment."""
     return (text.ljust(PADDED - 1, "-") + "\n").encode() * count
 
 
-def check_all(program, folder, noted):
+def check_all(program: pathlib.Path, folder: pathlib.Path, noted: Noted) -> None:
     """Checks inputs past each size at which a program could stop."""
     room = Room(program, folder, noted)
     for part in (

@@ -1,10 +1,14 @@
 """What `tests/test-files` tries of pages of `tools/report`, in its room, and in a browser if there is one."""
+from __future__ import annotations
+
 import html.parser
+import pathlib
 import re
 import shutil
 import subprocess
 
 import sample_fabrics
+from tool_room import Room
 
 # Stands in for `ibsm`: takes audits and plans from files beside it.
 FAKE = """#!/bin/sh
@@ -28,26 +32,26 @@ VOID = {"meta", "br", "line", "rect"}
 class Balanced(html.parser.HTMLParser):
     """A page whose elements close in order."""
 
-    def __init__(self, text):
+    def __init__(self, text: str) -> None:
         super().__init__()
         self.open, self.fault, self.seen = [], None, []
         self.feed(text)
         self.close()
 
-    def handle_starttag(self, tag, attributes):
+    def handle_starttag(self, tag: str, attributes: list[tuple[str, str | None]]) -> None:
         self.seen.append((tag, dict(attributes)))
         if tag not in VOID:
             self.open.append(tag)
 
-    def handle_startendtag(self, tag, attributes):
+    def handle_startendtag(self, tag: str, attributes: list[tuple[str, str | None]]) -> None:
         self.seen.append((tag, dict(attributes)))
 
-    def handle_endtag(self, tag):
+    def handle_endtag(self, tag: str) -> None:
         if not self.open or self.open.pop() != tag:
             self.fault = self.fault or f"</{tag}> at {self.getpos()}"
 
 
-def in_a_browser(room, path):
+def in_a_browser(room: Room, path: pathlib.Path) -> None:
     """Checks the page's script in a browser: its count of the busiest channels is that of the table."""
     browser = next((name for name in ("chromium", "chromium-browser", "google-chrome") if shutil.which(name)), None)
     if not browser:
@@ -63,7 +67,7 @@ def in_a_browser(room, path):
     )
 
 
-def checked(room, name):
+def checked(room: Room, name: str) -> str:
     """Checks that a page needs no other file, and returns its text."""
     text = room.text(name)
     page = Balanced(text)
@@ -73,7 +77,7 @@ def checked(room, name):
     return text
 
 
-def pages(room):
+def pages(room: Room) -> None:
     """Checks pages of the triangle, with a script in place of the program, pages of many switches, and what is
     refused."""
     room.put(fake=FAKE, fake_plan=room.text("t.plan"))
@@ -87,7 +91,7 @@ def pages(room):
     refused(room)
 
 
-def sound(room, words):
+def sound(room: Room, words: str) -> None:
     """Checks the page of tables that pass the audit of a proved program."""
     room.put(audit_text=SOUND, audit_ends="passes\n", version_text="commit 1\nproved\n")
     room.run(words, 0)
@@ -115,7 +119,7 @@ def sound(room, words):
     room.check(room.run(words.replace("-o t.html", "-o -"), 0) == text, "on standard output")
 
 
-def not_sound(room, words):
+def not_sound(room: Room, words: str) -> None:
     """Checks the page of tables by which packets are lost, with what changed since other facts."""
     lost = SOUND.replace("arrive 25", "arrive 24").replace("no-entry 0", "no-entry 1").replace(
         "load max 1", "load max 2"
@@ -141,7 +145,7 @@ def not_sound(room, words):
     )
 
 
-def with_a_credit_loop(room, words):
+def with_a_credit_loop(room: Room, words: str) -> None:
     """Checks that a credit loop is told, and what is told of a program that does not say whether it is proved."""
     loop = SOUND.replace("loop none", "loop on one lane 0000000000000010/1 0000000000000020/1")
     room.put(audit_text=loop, audit_ends="no\n", version_text="")
@@ -157,7 +161,7 @@ def with_a_credit_loop(room, words):
     (room.path / "built").unlink()
 
 
-def names_as_text(room, words):
+def names_as_text(room: Room, words: str) -> None:
     """Checks that a name with marks of HTML is written as text."""
     evil = room.text("all.names").replace('"S1"', '"<b>&S1</script>"')
     room.put(evil_names=evil, audit_text=SOUND, audit_ends="passes\n")
@@ -165,7 +169,7 @@ def names_as_text(room, words):
     room.check("<b>" not in checked(room, "t.html"), "a name is text")
 
 
-def refused(room):
+def refused(room: Room) -> None:
     """Checks files and words for which there is no page."""
     for words, why, status in (
         ("none t.plan -o x.html", "none: no nodes", 3),
@@ -181,7 +185,7 @@ def refused(room):
     room.check(not (room.path / "x.html").exists(), "what is refused leaves no page")
 
 
-def large(room):
+def large(room: Room) -> None:
     """Checks that up to 300 switches are drawn, in less than 2 MB, and of more only the surroundings of the busiest
     channel."""
     for count, is_part in ((300, False), (301, True)):

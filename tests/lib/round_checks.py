@@ -1,10 +1,13 @@
 """What `tests/test-files` tries of whole rounds, over scripts that stand in for a subnet, in its room."""
+from __future__ import annotations
+
 import contextlib
 import datetime
 import fcntl
 import functools
 import json
 import os
+import pathlib
 import random
 import re
 import shutil
@@ -12,11 +15,14 @@ import signal
 import subprocess
 import sys
 import time
+from collections.abc import Callable, Iterator
+from typing import Any
 
 import paths
 import record_files
 import sample_fabrics
 import tool_checks
+from tool_room import Room
 
 # These scripts stand in for a subnet. The folder fab has what it says and holds; a recording is the text of its facts.
 FAKE_RECORD = """#!/bin/sh
@@ -78,10 +84,12 @@ while :; do sleep 0.02; done
 """
 # What an audit of the triangle prints if each packet arrives.
 ALL_ARRIVE = "pairs 25 arrive 25\n"
+# `put_in_fab` and `check_round` of a room.
+Fab, Ends = Callable[..., None], Callable[..., dict[str, Any]]
 
 
 @contextlib.contextmanager
-def fake_opensm(room, *words):
+def fake_opensm(room: Room, *words: str) -> Iterator[int]:
     """Runs a process named opensm that writes what it is told at HUP, and yields its id."""
     process = subprocess.Popen(
         [room.path / "opensm", *words],
@@ -102,7 +110,7 @@ def fake_opensm(room, *words):
         process.wait()
 
 
-def rounds(room, program):
+def rounds(room: Room, program: pathlib.Path) -> None:
     """Checks rounds of a subnet that scripts stand in for: how each ends, and what it has written by then."""
     for name, script in (("record", FAKE_RECORD), ("ibsm", FAKE_IBSM), ("opensm", FAKE_OPENSM), ("send", FAKE_SEND)):
         (room.path / name).write_text(script)
@@ -148,13 +156,13 @@ def rounds(room, program):
             over_cuts(room, program, name, "--told-order", 5)
 
 
-def put_in_fab(room, **texts):
+def put_in_fab(room: Room, **texts: str) -> None:
     """Writes files of the folder that has what the scripts say."""
     for name, text in texts.items():
         (room.path / "fab" / name).write_text(text)
 
 
-def check_round(room, words, status, step, verdict, settle=0):
+def check_round(room: Room, words: str, status: int, step: str, verdict: str, settle: float = 0) -> dict[str, Any]:
     """Checks how a round ends, by its output and in status.json, and returns the latter."""
     printed = room.run(
         f"round rd --ibsm ./ibsm --record ./record --send ./send --log fab/log --settle {settle} {words}", status
@@ -178,7 +186,7 @@ def check_round(room, words, status, step, verdict, settle=0):
     return told
 
 
-def looked_only(room, ends):
+def looked_only(room: Room, ends: Ends) -> None:
     """Checks what is counted by a round that only looks."""
     told = ends("--look", 0, "compare", "looked only: 2 entries differ on 2 switches, blocks to write: 2")
     room.check(
@@ -201,7 +209,7 @@ def looked_only(room, ends):
     )
 
 
-def stopped_before_writing(room, fab, ends):
+def stopped_before_writing(room: Room, fab: Fab, ends: Ends) -> None:
     """Checks rounds that end before anything is written."""
     facts, plan = room.text("t.facts"), room.text("t.plan")
     fab(status="1")
@@ -222,7 +230,7 @@ def stopped_before_writing(room, fab, ends):
     room.check(not (room.path / "rd/plan.lfts").exists(), "none of these writes")
 
 
-def written_for_opensm(room, ends):
+def written_for_opensm(room: Room, ends: Ends) -> None:
     """Checks a round that writes OpenSM's files, and what record and ibsm are asked for."""
     ends(
         "--routing spread --lmc 0 --ca mlx5_0 --port 1",
@@ -238,7 +246,7 @@ def written_for_opensm(room, ends):
     room.check(room.text("rd/first.held") == room.text("round.plan"), "what was held at first is kept")
 
 
-def by_opensm(room, fab, ends):
+def by_opensm(room: Room, fab: Fab, ends: Ends) -> None:
     """Checks rounds that have a running OpenSM write the tables, and those that find none."""
     facts, plan = room.text("t.facts"), room.text("t.plan")
     with fake_opensm(room) as process:
@@ -274,7 +282,7 @@ def by_opensm(room, fab, ends):
     ends("--opensm 99999999", 3, "manager", "there is no process 99999999: has OpenSM ended?")
 
 
-def waited_for(room):
+def waited_for(room: Room) -> None:
     """Checks that a terminal shows which step is waited for."""
     room.put(slow=FAKE_RECORD.replace("cp fab/facts", "sleep 3; cp fab/facts"))
     (room.path / "slow").chmod(0o755)
@@ -282,7 +290,7 @@ def waited_for(room):
     room.check(re.fullmatch(r"(\r\x1b\[Kround: record, \d+ s)+\r\x1b\[K", said), f"which step is waited for: {said!r}")
 
 
-def not_begun(room):
+def not_begun(room: Room) -> None:
     """Checks rounds that do not begin: the folder is in use, a program is missing, or the command line is wrong."""
     with open(room.path / "rd/lock", "w") as lock:
         fcntl.flock(lock, fcntl.LOCK_EX)
@@ -295,7 +303,7 @@ def not_begun(room):
         room.run(f"round {words}", 2)
 
 
-def by_steps(room, fab, ends, process):
+def by_steps(room: Room, fab: Fab, ends: Ends, process: int) -> None:
     """Checks rounds whose plan is two steps away."""
     facts, plan, held = (room.text(name) for name in ("t.facts", "t.plan", "round.plan"))
     fab(held=held, obeys="", stepped="", log="ready\n", **{"step.1": room.text("hole.plan")})
@@ -343,7 +351,7 @@ def by_steps(room, fab, ends, process):
         (room.path / "fab" / name).unlink()
 
 
-def directly(room, fab, ends):
+def directly(room: Room, fab: Fab, ends: Ends) -> None:
     """Checks rounds that send tables themselves and leave OpenSM its files."""
     plan, held = room.text("t.plan"), room.text("round.plan")
     fab(held=held, sent="", log="ready\n", **{"step.1": room.text("hole.plan")})
@@ -375,13 +383,13 @@ def directly(room, fab, ends):
         (room.path / "fab" / name).unlink()
 
 
-def by_a_kept_order(room, fab, ends):
+def by_a_kept_order(room: Room, fab: Fab, ends: Ends) -> None:
     """Checks rounds that keep the order of switches by which they plan."""
     held = room.text("round.plan")
     words, holds = "--direct --keep-order --routing balance", "the subnet holds the plan"
     asked = "order-of rd/now.held rd/now.reports\n"
 
-    def goes_by(name, first, what):
+    def goes_by(name: str, first: str, what: str) -> None:
         """Checks that a round goes by the order in a file, and notes it as the last one at its end."""
         fab(held=held, ordered="", planned="", stepped="")
         told = ends(words, 0, "audit", holds)
@@ -428,14 +436,14 @@ CUT_FABRICS = {
 }
 
 
-def over_cuts(room, program, name, flag="--keep-order", rounds=9):
+def over_cuts(room: Room, program: pathlib.Path, name: str, flag: str = "--keep-order", rounds: int = 9) -> None:
     """Checks with the built program that rounds which keep an order, or go by told ones, go through after each of some
     cuts and repairs."""
     fabric, chance, down = CUT_FABRICS[name], random.Random(7), set()
     between = [(end, far) for end, far in fabric.peers.items() if end < far]
     cables = [cable for cable in between if all(fabric.is_switch(name) for name, _ in cable)]
 
-    def facts():
+    def facts() -> bytes:
         """Returns a store file of the facts in which the cut cables' ports are down."""
         ends = {f"{fabric.guid(name):016x}/{port}" for cable in down for name, port in cable}
         lines = [line.split(" ") for line in fabric.facts().splitlines()]
@@ -466,7 +474,7 @@ def over_cuts(room, program, name, flag="--keep-order", rounds=9):
         )
 
 
-def changes_told(room, fab, ends):
+def changes_told(room: Room, fab: Fab, ends: Ends) -> None:
     """Checks what is told of changes, of the number of lost pairs and for how long, and of how busy channels are."""
     facts, plan, held = (room.text(name) for name in ("t.facts", "t.plan", "round.plan"))
     more = facts.replace(
@@ -514,7 +522,7 @@ def changes_told(room, fab, ends):
     )
 
 
-def loads_told(room, fab, ends):
+def loads_told(room: Room, fab: Fab, ends: Ends) -> None:
     """Checks which loads of channels a round accepts."""
     facts, held = room.text("t.facts"), room.text("round.plan")
     for most, pairs, words, status in (
@@ -538,7 +546,7 @@ def loads_told(room, fab, ends):
     fab(audit="pairs 25 arrive 25\n")
 
 
-def silence(room, fab, ends):
+def silence(room: Room, fab: Fab, ends: Ends) -> None:
     """Checks that silent nodes are left out, and that a known adapter stays."""
     facts, plan = room.text("t.facts"), room.text("t.plan")
     claimed = facts.replace("claim 0000000000000200/1 0", "claim 0000000000000200/1 5")
@@ -566,7 +574,7 @@ def silence(room, fab, ends):
     )
 
 
-def silent_switches(room, fab, ends):
+def silent_switches(room: Room, fab: Fab, ends: Ends) -> None:
     """Checks that nothing is kept of a silent cable between switches, and that a switch without a known table size is
     left out, and so is the adapter that has a wire to it alone."""
     facts, plan = room.text("t.facts"), room.text("t.plan")
@@ -594,7 +602,7 @@ def silent_switches(room, fab, ends):
     )
 
 
-def lids_of_the_silent(room, fab, ends):
+def lids_of_the_silent(room: Room, fab: Fab, ends: Ends) -> None:
     """Checks that no port gets the LID of a silent one."""
     facts, plan = room.text("t.facts"), room.text("t.plan")
     fab(facts=facts.replace("claim 0000000000000030/0 0", "claim 0000000000000030/0 5"), held=plan, status="0")
@@ -619,7 +627,7 @@ def lids_of_the_silent(room, fab, ends):
     (room.path / "fab/step.1").unlink()
 
 
-def other_files(room, fab, ends):
+def other_files(room: Room, fab: Fab, ends: Ends) -> None:
     """Checks that an OpenSM that reads other files is reported before anything is asked."""
     fab(held=room.text("t.plan"), log="", facts=room.text("t.facts"))
     for words, is_other in (
@@ -637,7 +645,7 @@ def other_files(room, fab, ends):
         fab(log="")
 
 
-def by_a_file(room, fab):
+def by_a_file(room: Room, fab: Fab) -> None:
     """Checks options in a file. Those of the command line take precedence."""
     room.put(round_conf="# where\ndir rd\nrouting spread  # a rule\nlmc=0\nlook\n\n", bad_conf="dir rd\nsing\n")
     fab(planned="")
@@ -651,7 +659,7 @@ def by_a_file(room, fab):
     room.refused(f"round --config nothing {words}", "nothing", 4)
 
 
-def started(room, *words):
+def started(room: Room, *words: str) -> subprocess.Popen[str]:
     """Starts rounds that go on, and returns the process, whose lines can be read."""
     words = [
         sys.executable, paths.TOOLS / "round", "rd", "--ibsm", "./ibsm", "--record", "./record", "--send", "./send",
@@ -660,7 +668,7 @@ def started(room, *words):
     return subprocess.Popen(words, cwd=room.path, stdout=subprocess.PIPE, text=True, stdin=subprocess.DEVNULL)
 
 
-def healed(room, fab):
+def healed(room: Room, fab: Fab) -> None:
     """Checks that --watch writes a step with a credit loop only while packets are lost."""
     held, loop = room.text("round.plan"), "credit loop on one lane 0000000000000010/1\nlids 5\n"
     for arrive, step, end in (
@@ -677,7 +685,7 @@ def healed(room, fab):
     fab(loop="credit loop none\n")
 
 
-def watched_by_log(room, fab):
+def watched_by_log(room: Room, fab: Fab) -> None:
     """Checks that a round starts only once OpenSM's log, if given, tells of a sweep."""
     fab(log="SUBNET UP\n")
     process = started(room, "--look", "--watch", "0.05", "--log", "fab/log")
@@ -696,7 +704,7 @@ def watched_by_log(room, fab):
     )
 
 
-def watched(room):
+def watched(room: Room) -> None:
     """Checks that rounds go on until a signal, with one line each."""
     words = [
         sys.executable,

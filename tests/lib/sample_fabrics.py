@@ -9,6 +9,8 @@ ADAPTER, SWITCH = "ca", "switch"
 # The number of entries in a forwarding table: LIDs 0 to 0xBFFF.
 ROOM = 49152
 Port = tuple[str, int]
+# By the name of a switch, its port for each LID.
+Tables = dict[str, list[int]]
 
 
 class Fabric:
@@ -103,7 +105,7 @@ class Fabric:
         kinds = ("node", "portguid", "link", "port", "claim", "cap")
         return "".join(f"{kind} {text} @1\n" for kind in kinds for _, _, text in sorted(found[kind]))
 
-    def shortest(self) -> dict[str, list[int]]:
+    def shortest(self) -> Tables:
         """Returns tables by which each packet takes a shortest route. In rings these make a credit loop."""
         tables = {name: [255] * (len(self.ends()) // 64 + 1) * 64 for name in self.nodes if self.is_switch(name)}
         for lid, (name, port) in enumerate(self.ends(), 1):
@@ -124,7 +126,7 @@ class Fabric:
         ends = ((port, self.peers.get((name, port), ("", 0))[0]) for port in range(1, self.ports(name) + 1))
         return [(port, far) for port, far in ends if far and self.is_switch(far)]
 
-    def some_shortest(self, chance: random.Random) -> dict[str, list[int]]:
+    def some_shortest(self, chance: random.Random) -> Tables:
         """Returns tables of shortest ways. If several ports lead nearer, `chance` chooses one."""
         exits = {name: self.exits(name) for name in self.nodes if self.is_switch(name)}
         tables = {name: [255] * (len(self.ends()) // 64 + 1) * 64 for name in exits}
@@ -141,7 +143,7 @@ class Fabric:
                 tables[switch][lid] = chance.choice([port for port, far in exits[switch] if steps[far] < steps[switch]])
         return tables
 
-    def plan(self, tables: dict[str, list[int]]) -> str:
+    def plan(self, tables: Tables) -> str:
         """Returns what the fabric holds with these tables, in the form of a plan."""
         ends = self.ends()
         lines = [f"lid {lid} {self.guid(name):016x}/{port}" for lid, (name, port) in enumerate(ends, 1)]

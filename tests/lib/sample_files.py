@@ -3,14 +3,18 @@
 A row is what stands behind `ibsm` on the command line, and how the run ends by docs/FORMATS.md; a word in capitals is a
 file, which `files` makes. Or it is the bytes of a file that is called FILE, and how `facts` of it ends.
 """
+from __future__ import annotations
+
+from collections.abc import Iterator
+
 import paths  # noqa: F401
 import record_files as make
-from built_program import prints, refused, says
+from built_program import Ended, prints, refused, says
 
 MOST = 2**32 - 1
 
 
-def changed(data, offset, byte):
+def changed(data: bytes, offset: int, byte: int) -> bytes:
     """Returns the file with `byte` at `offset`."""
     return data[:offset] + bytes([byte]) + data[offset + 1 :]
 
@@ -38,7 +42,7 @@ claim 0000000000000300/1 0 @2
 """
 
 
-def swept():
+def swept() -> list[bytes]:
     """Returns the 27 replies of a first sweep of the sample fabric: switches 0x10, 0x20 and 0x30 of four ports in a
     triangle, and adapters 0x100, the manager's, and 0x200 at the second and the third."""
     found = [ADAPTER]
@@ -54,7 +58,7 @@ def swept():
     return found + [make.port_info(guid, 1, make.INITIALIZE) for guid in (0x100, 0x200)]
 
 
-def files(facts):
+def files(facts: str) -> dict[str, bytes]:
     """Returns the files that rows name. `facts` are those of the sample fabric."""
     records = swept()
     doubled = make.reports(ADAPTER, ADAPTER)
@@ -115,7 +119,7 @@ def files(facts):
 # Rows ------------------------------------------------------------------------------------------------
 
 
-def taken(held, facts):
+def taken(held: dict[str, bytes], facts: str) -> Iterator[tuple[str, Ended]]:
     """Yields files that are taken, in any order, and their facts together. `held` has the files."""
     floor_2 = "floor 2\n"
     for files_named, text in (
@@ -168,7 +172,7 @@ def taken(held, facts):
     yield "facts --floor 3 JOINED FABRIC", prints("floor 3\n")
 
 
-def first_faults():
+def first_faults() -> Iterator[tuple[str, Ended]]:
     """Yields files of which one is refused: the first such is named, and nothing is printed."""
     for files_named, ends in (
         ("EMPTY ADAPTER", refused("EMPTY: bad magic")),
@@ -201,7 +205,7 @@ def first_faults():
             yield f"{command} {files_named}", ends
 
 
-def schedules():
+def schedules() -> list[tuple[str, Ended]]:
     """Returns runs of two texts, which are opened, read and judged in this order: both are read before one is
     judged."""
     return [
@@ -225,7 +229,7 @@ def schedules():
 # Damaged files ---------------------------------------------------------------------------------------
 
 
-def cut(data, head, size, lines):
+def cut(data: bytes, head: int, size: int, lines: list[str]) -> Iterator[tuple[bytes, Ended]]:
     """Yields each beginning of a file with a head and records of fixed size, and how a run over it ends. Each record
     tells `lines`."""
     for length in range(len(data) + 1):
@@ -241,14 +245,14 @@ def cut(data, head, size, lines):
         yield data[:length], ends
 
 
-def cuts(held):
+def cuts(held: dict[str, bytes]) -> Iterator[tuple[bytes, Ended]]:
     """Yields files cut short at each length, and how a run that reads them ends."""
     yield from cut(held["DOUBLED"], 8, 272, [ADAPTER_FACTS, ADAPTER_FACTS])
     yield from cut(held["OLDER"], 8, 32, [ADAPTER_NODE, ADAPTER_PORT])
     yield from cut(held["STORE"], 16, 32, [ADAPTER_NODE, ADAPTER_PORT])
 
 
-def damages(held):
+def damages(held: dict[str, bytes]) -> Iterator[tuple[bytes, Ended]]:
     """Yields a store file with another byte."""
     bad_cell, bad_floor = refused("FILE: bad cell 0"), refused("FILE: bad floor")
     for offset, byte, ends in (
@@ -279,7 +283,7 @@ def damages(held):
     yield changed(held["OLDER"], 7, ord("2")), bad_floor
 
 
-def overwritten(file):
+def overwritten(file: bytes) -> Iterator[tuple[bytes, Ended]]:
     """Yields the adapter's file with ff at each offset."""
     names = {90: "NodeType", 91: "Port", 124: "Port", 24: "BaseVersion", 25: "Class", 26: "ClassVersion", 27: "Method"}
     names |= {28: "Status", 29: "Status", 30: "HopPointer", 31: "HopCount", 40: "Attribute", 41: "Attribute"}
@@ -300,14 +304,24 @@ def overwritten(file):
 # What reports tell -----------------------------------------------------------------------------------
 
 
-def reply(context=make.via(0x100, 1), kind=make.SWITCH, ports=4, local=3, offset=None, byte=0, **other):
+def reply(
+    context: make.Context = make.via(0x100, 1),
+    kind: int = make.SWITCH,
+    ports: int = 4,
+    local: int = 3,
+    offset: int | None = None,
+    byte: int = 0,
+    **other: int,
+) -> bytes:
     """Returns a reply with NodeInfo of switch 0x20, over its port 3 from port 1 of the adapter, with another byte of
     the packet."""
     record = make.node_info(context, kind, ports, 0x20, 0x20, local, **other)
     return record if offset is None else changed(record, 16 + offset, byte)
 
 
-def node_facts(word="switch", ports=4, port_guid=0, local=3, via="0000000000000100/1"):
+def node_facts(
+    word: str = "switch", ports: int = 4, port_guid: int = 0, local: int = 3, via: str = "0000000000000100/1"
+) -> str:
     """Returns the facts that NodeInfo of the switch 0x20 tells."""
     end = f"0000000000000020/{local}"
     links = [f"link {end} {via} @1", f"link {via} {end} @1"]
@@ -317,19 +331,19 @@ def node_facts(word="switch", ports=4, port_guid=0, local=3, via="00000000000001
     return "".join(f"{line}\n" for line in lines)
 
 
-def port_facts(port, state, lid=0):
+def port_facts(port: int, state: str, lid: int = 0) -> str:
     """Returns the facts that PortInfo of a port of switch 0x10 tells."""
     return f"port 0000000000000010/{port} {state} @1\nclaim 0000000000000010/{port} {lid} @1\n"
 
 
-def told():
+def told() -> Iterator[tuple[bytes, str]]:
     """Yields a report, and what it tells or why it is refused."""
     yield from told_of_packets()
     yield from told_of_contexts()
     yield from told_of_attributes()
 
 
-def told_of_packets():
+def told_of_packets() -> Iterator[tuple[bytes, str]]:
     """Yields a report with other fields of its packet, and what it tells or why it is refused."""
     yield from (
         (reply(), node_facts()),
@@ -353,7 +367,7 @@ def told_of_packets():
     )
 
 
-def told_of_contexts():
+def told_of_contexts() -> Iterator[tuple[bytes, str]]:
     """Yields a report whose context fits neither the attribute nor the hops, or that no form allows, and why it is
     refused."""
     start, about, via = make.START, make.about(0x20), make.via
@@ -370,7 +384,7 @@ def told_of_contexts():
     )
 
 
-def told_of_attributes():
+def told_of_attributes() -> Iterator[tuple[bytes, str]]:
     """Yields a report with another modifier or other fields of its attribute, and what it tells or why it is
     refused."""
     via, port = make.via, make.port_info(0x10, 0, 0)
@@ -403,7 +417,7 @@ def told_of_attributes():
     )
 
 
-def cells():
+def cells() -> Iterator[tuple[bytes, Ended]]:
     """Yields a cell by kind, port and value, and its line, or None if it is malformed."""
     end = bytes.fromhex("0123456789abcdef")
     for kind, port, value, line in (

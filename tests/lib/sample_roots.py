@@ -1,7 +1,13 @@
 """Plans and runs by the rule that spreads, texts of roots and of orders for them, and how these end. Faults and plans
 were worked out from docs/FORMATS.md and docs/MODEL.md, apart from the program."""
-from built_program import prints, refused, says
+from __future__ import annotations
 
+from collections.abc import Callable, Iterable, Iterator
+
+from built_program import Ended, prints, refused, says
+
+# The GUIDs of switches and of adapters, and the wires.
+Subnet = tuple[tuple[int, ...], tuple[int, ...], str]
 THREE = (0x10, 0x20, 0x30)
 TREE = (
     (0x10, 0x20, 0x30, 0x40, 0x50), (0x100, 0x110, 0x120, 0x200, 0x210, 0x300),
@@ -21,7 +27,7 @@ RING_LIDS = "1 10/0 2 20/0 3 30/0 4 40/0 5 50/0 6 100/1 7 200/1"
 SWEPT = 'manager M "100"[1] 1\nsweep M\ndrain 1000\nplan M\n'
 
 
-def topology(switches, adapters, wires):
+def topology(switches: Iterable[int], adapters: Iterable[int], wires: str) -> str:
     """Returns the text of a fabric of switches of four ports and adapters of one. Nodes are named by their GUIDs."""
     links = {}
     for cable in wires.split():
@@ -31,7 +37,7 @@ def topology(switches, adapters, wires):
     return "".join(f'{kind} "{guid:x}" guid 0x{guid:x}\n' + "".join(links.get(f"{guid:x}", [])) for guid, kind in nodes)
 
 
-def spread(plan):
+def spread(plan: Callable[..., Ended]) -> Iterator[tuple[str, tuple[int, ...], tuple[int, ...], str, Ended]]:
     """Yields subnets whose packets are spread over the wires without roots: title, switches, adapters, wires, plan."""
     yield "the triangle", THREE, (0x100, 0x200), "10/1-20/1 10/2-30/1 20/2-30/2 20/3-100/1 30/3-200/1", plan(
         "1 10/0 2 20/0 3 30/0 4 100/1 5 200/1", "10 0 1 2 1 2", "20 1 0 2 3 2", "30 1 2 0 2 3",
@@ -73,7 +79,7 @@ def spread(plan):
     )
 
 
-def plans(plan):
+def plans(plan: Callable[..., Ended]) -> Iterator[tuple[str, Subnet, tuple[str, ...], Ended]]:
     """Yields titles, subnets, texts of their roots, and their plans."""
     # From both upper switches the order grows as from the middle, where it begins without roots too.
     middle = (
@@ -102,7 +108,7 @@ def plans(plan):
     yield "two rings with a root of one", RINGS, ("40",), plan(RINGS_LIDS, *rings)
 
 
-def plans_as_named(plan):
+def plans_as_named(plan: Callable[..., Ended]) -> Iterator[tuple[str, Subnet, tuple[str, ...], Ended]]:
     """Yields titles, subnets, texts of an order, and their plans."""
     # From below, and then by one upper switch: the other one is reached from it through that single leaf switch.
     below = (
@@ -188,7 +194,7 @@ FAULTS = (
 FAULTS_OF_ORDERS = tuple((text, said) for text, said in FAULTS if said.startswith("line "))
 
 
-def faulty_files():
+def faulty_files() -> Iterator[tuple[str, str, Ended]]:
     """Yields command lines in which several files have faults, with the text of roots and how they end. `SPREAD` is a
     store file of the tree, `CROWDED` one that leaves room for 10 LIDs in it, `EMPTY` an empty file. There is no file
     `NONE`."""
@@ -217,7 +223,7 @@ def faulty_files():
     yield f"{spread} ROOTS SPREAD CROWDED", "", refused("no room: 11 end ports, room 11")
 
 
-def runs(plan):
+def runs(plan: Callable[..., Ended]) -> Iterator[tuple[str, Subnet, str, str, Ended]]:
     """Yields titles, subnets, texts of their roots, further options, and the plan of a manager at adapter 100."""
     for title, of, texts, ends in plans(plan):
         if of is TREE:
@@ -236,7 +242,7 @@ def runs(plan):
         yield "a ring from one switch of it", RINGS, text, "", plan(RING_LIDS, *ring)
 
 
-def runs_as_named(plan):
+def runs_as_named(plan: Callable[..., Ended]) -> Iterator[tuple[str, Subnet, str, Ended]]:
     """Yields titles, subnets, texts of an order, and the plan of a manager at adapter 100."""
     for title, of, texts, ends in plans_as_named(plan):
         if of is TREE:
@@ -255,7 +261,7 @@ TWINS = (
 )
 
 
-def run_orders():
+def run_orders() -> Iterator[tuple[str, str, Ended]]:
     """Yields command lines of runs, with the text of roots and how they end. `FABRIC_OF_TREE` is the topology of the
     tree. The other files are those of `sample_files.py`: `TOPOLOGY` has only an adapter, `FAULTY` and `BYTES` are
     refused as either text, `EMPTY` as neither. There is no file `NONE`."""
@@ -291,7 +297,7 @@ def run_orders():
     yield f"{spread} ROOTS EMPTY EMPTY", "20", prints("")
 
 
-def long_text(count):
+def long_text(count: int) -> Iterator[tuple[str, Ended]]:
     """Yields two texts and how they end: `count` roots, none of which is a switch, and those with the first
     repeated."""
     lines = [f"0x{number:x}" for number in range(0x10000, 0x10000 + count)]

@@ -1,5 +1,9 @@
 """Texts of topologies and of schedules, what is wrong with some of them, and others that are taken. Worked out by hand
 from docs/FORMATS.md."""
+from __future__ import annotations
+
+from collections.abc import Iterator
+
 import sample_fabrics
 
 # Topologies, each with a fault in its first line.
@@ -89,7 +93,7 @@ LINES = (
 )
 
 
-def runs():
+def runs() -> Iterator[tuple[str, str, str | None, str | None]]:
     """Yields a topology and a schedule, the fault with its line, and what the run prints."""
     for text, fault in TOPOLOGY_FAULTS:
         yield text, "tables", f"TOPO: {fault}", None

@@ -46,7 +46,7 @@ def check(holds: object, text: str) -> None:
 
 
 def started(
-    command: Sequence, folder: str | pathlib.Path, stdout: str | pathlib.Path, stderr: str | pathlib.Path
+    command: Sequence[str | os.PathLike[str]], folder: pathlib.Path, stdout: pathlib.Path, stderr: pathlib.Path
 ) -> tuple[int, float, int]:
     """Runs a command, and returns its exit status, its processor time and its peak memory."""
     if not starters:

@@ -1,4 +1,6 @@
 """What `tests/test` tries of `seat` over ibsim: `ibsm serve` as manager of the subnet, beside itself and OpenSM."""
+from __future__ import annotations
+
 import contextlib
 import json
 import os
@@ -9,10 +11,14 @@ import signal
 import subprocess
 import sys
 import time
+from collections.abc import Callable, Iterator
+from typing import Any
 
 import live_checks
 import paths
 import sample_fabrics
+from bench import Bench
+from sample_fabrics import Port
 
 SECONDS = 90
 # What a bring-up of the largest fabric may take.
@@ -25,7 +31,7 @@ NUMBER = slice(8, 16)
 LINK_CHANGED = b"\0\x80"
 
 
-def until(holds, seconds=SECONDS):
+def until(holds: Callable[[], object], seconds: float = SECONDS) -> float | None:
     """Waits until `holds` is true, and returns the seconds that this took, or None."""
     began = time.monotonic()
     while time.monotonic() < began + seconds:
@@ -38,45 +44,52 @@ def until(holds, seconds=SECONDS):
 class Seat:
     """A process at an adapter of the fabric, and its output."""
 
-    def __init__(self, process, log, status):
+    def __init__(self, process: subprocess.Popen[bytes], log: pathlib.Path, status: pathlib.Path) -> None:
         self.process, self.log, self.status_file = process, log, status
 
-    def said(self):
+    def said(self) -> str:
         return self.log.read_text(errors="replace")
 
-    def count(self, words):
+    def count(self, words: str) -> int:
         return self.said().count(words)
 
-    def status(self):
+    def status(self) -> dict[str, Any]:
         return json.loads(self.status_file.read_text())
 
-    def state(self):
+    def state(self) -> str | None:
         """Returns its state, or None before it told any."""
         return self.status()["state"] if self.status_file.exists() else None
 
-    def children(self):
+    def children(self) -> list[int]:
         number = self.process.pid
         return [int(it) for it in pathlib.Path(f"/proc/{number}/task/{number}/children").read_text().split()]
 
-    def settles(self, seconds=SECONDS):
+    def settles(self, seconds: float = SECONDS) -> bool:
         """Returns whether its last sweep found what it wrote last."""
 
-        def holds():
+        def holds() -> bool | None:
             now = self.status() if self.status_file.exists() else None
             return now and now["writing"]["settled"]
 
         return until(holds, seconds) is not None
 
-    def end(self, number=signal.SIGTERM):
+    def end(self, number: int = signal.SIGTERM) -> int:
         self.process.send_signal(number)
         return self.process.wait(10)
 
 
 @contextlib.contextmanager
-def seated(bench, host, *words, program=None, packets=None, bend=None):
+def seated(
+    bench: Bench,
+    host: str,
+    *words: object,
+    program: pathlib.Path | None = None,
+    packets: str | None = None,
+    bend: str | None = None,
+) -> Iterator[Seat]:
     """Runs a seat at an adapter, ended by its id. `packets` names a file that keeps its packets; `bend` says how to
     bend them."""
-    bench.seats = getattr(bench, "seats", 0) + 1
+    bench.seats += 1
     log, status = (bench.path / f"seat{bench.seats}.{kind}" for kind in ("log", "json"))
     environment = bench.environment() | {"SIM_HOST": host}
     if packets or bend:
@@ -99,7 +112,9 @@ def seated(bench, host, *words, program=None, packets=None, bend=None):
 
 
 @contextlib.contextmanager
-def opensm(bench, host, priority, *words):
+def opensm(
+    bench: Bench, host: str, priority: int, *words: str
+) -> Iterator[tuple[subprocess.Popen[bytes], Callable[[], str]]]:
     """Runs OpenSM at another adapter, and yields it with its log."""
     (bench.path / "opensm.conf").write_text(OPENSM)
     log = bench.path / f"opensm-{host}.log"
@@ -118,7 +133,7 @@ def opensm(bench, host, priority, *words):
             process.wait()
 
 
-def held(bench, name, host="H1"):
+def held(bench: Bench, name: str, host: str = "H1") -> str:
     """Returns what the subnet holds. Checks that it is the plan of a recording and passes the audit."""
     status = bench.record("-q", "-g", 1, "-T", name, f"{name}.reports", seat=host)
     if status != 0:
@@ -130,24 +145,24 @@ def held(bench, name, host="H1"):
     return (bench.path / name).read_text()
 
 
-def lids(text):
+def lids(text: str) -> list[str]:
     """Returns the lines of LIDs in the text of a plan."""
     return [line for line in text.splitlines() if line.startswith("lid ")]
 
 
-def manager(bench, host="H1"):
+def manager(bench: Bench, host: str = "H1") -> tuple[int, int, int] | str:
     """Returns GUID, priority and state of the master, as `sminfo` tells them."""
     bench.run("sminfo", simulated=True, seat=host)
     found = re.search(r"sm guid (0x\w+), .*priority (\d+) state (\d)", bench.printed)
     return (int(found[1], 16), int(found[2]), int(found[3])) if found else bench.printed + bench.said
 
 
-def port_guid(bench, host):
+def port_guid(bench: Bench, host: str) -> int:
     """Returns the GUID of the port of an adapter."""
     return bench.fabric.guid(host) + 1
 
 
-def dry_run(bench):
+def dry_run(bench: Bench) -> None:
     """Checks that --dry-run prints what would be written, and writes nothing."""
     words = [bench.room / "out/seat", "-q", "--ibsm", bench.program, "--dry-run"]
     bench.check(bench.run(*words, simulated=True) == 0, f"--dry-run: status 0 {bench.said}")
@@ -162,7 +177,7 @@ def dry_run(bench):
     )
 
 
-def wrong_usage(bench):
+def wrong_usage(bench: Bench) -> None:
     """Checks command lines that must not start."""
     seat = bench.room / "out/seat"
     bench.check(bench.run(seat, "more") == 2 and bench.run(seat, "-p", 16) == 2, "wrong usage: status 2")
@@ -194,7 +209,7 @@ def wrong_usage(bench):
     )
 
 
-def brought_up(bench):
+def brought_up(bench: Bench) -> None:
     """Checks that a subnet without a manager is brought up, and what other tools see of it."""
     with seated(bench, "H1", "-p", 5) as seat:
         bench.check(seat.settles(), f"SUBNET UP: {seat.said().splitlines()[-2:]}")
@@ -226,7 +241,7 @@ def brought_up(bench):
         bench.check(seat.end() == 0 and "ended by signal 15" in seat.said(), "SIGTERM: status 0")
 
 
-def by_options(bench):
+def by_options(bench: Bench) -> None:
     """Checks the options that are passed to the program: LMC, rule and roots."""
     root = next(node for node in bench.fabric.nodes if bench.fabric.is_switch(node))
     (bench.path / "roots").write_text(f"{bench.fabric.guid(root):x}\n")
@@ -241,7 +256,7 @@ def by_options(bench):
     )
 
 
-def ways(bench):
+def ways(bench: Bench) -> None:
     """Checks that `ibtracert` finds a route between any two adapters, and that `ibroute` dumps the plan."""
     plan = (bench.path / "up.plan").read_text()
     lid_of = {guid: lid for lid, guid in re.findall(r"^lid (\d+) (\w+)/", plan, re.M)}
@@ -261,7 +276,7 @@ def ways(bench):
     bench.check(same == plan.count("switch ") > 0, f"ibroute dumps the plan at {same} switches")
 
 
-def seen_by_others(bench):
+def seen_by_others(bench: Bench) -> None:
     """Checks that what ibnetdiscover, iblinkinfo and smpquery tell is what was written."""
     bench.run("ibnetdiscover", simulated=True)
     (bench.path / "up.net").write_text(bench.printed)
@@ -289,7 +304,7 @@ def seen_by_others(bench):
     )
 
 
-def some_ways(bench, name, count=200):
+def some_ways(bench: Bench, name: str, count: int = 200) -> None:
     """Checks that `ibtracert` finds a route between each of `count` pairs of adapters, chosen at random, by the LIDs
     in the file `name`."""
     chance = random.Random(count)
@@ -303,7 +318,7 @@ def some_ways(bench, name, count=200):
     bench.check(arrive == count, f"ibtracert: {arrive} of {count} pairs of adapters")
 
 
-def between(bench, name):
+def between(bench: Bench, name: str) -> pathlib.Path:
     """Returns a program that runs `ibsm`, and keeps its input and output in NAME.told and NAME.printed."""
     script = bench.path / name
     script.write_text(f'#!/bin/sh\ntee -a {name}.told | {bench.program} "$@" | tee -a {name}.printed\n')
@@ -311,18 +326,18 @@ def between(bench, name):
     return script
 
 
-def lines_of(path, word):
+def lines_of(path: pathlib.Path, word: str) -> list[list[str]]:
     """Returns the words behind the first one of each line that begins with `word`, in a file that may be missing."""
     lines = path.read_text().splitlines() if path.exists() else []
     return [line.split()[1:] for line in lines if line.startswith(word + " ")]
 
 
-def packets_of(path, word):
+def packets_of(path: pathlib.Path, word: str) -> list[bytes]:
     """Returns the packets in the lines that begin with `word`."""
     return [bytes.fromhex(words[0]) for words in lines_of(path, word)]
 
 
-def between_switches(bench):
+def between_switches(bench: Bench) -> tuple[Port, Port]:
     """Returns the two ends of a cable between switches."""
     for end, peer in bench.fabric.peers.items():
         if bench.fabric.is_switch(end[0]) and bench.fabric.is_switch(peer[0]):
@@ -330,12 +345,12 @@ def between_switches(bench):
     raise ValueError("there is none")
 
 
-def without_number(packet):
+def without_number(packet: bytes) -> bytes:
     """Returns a packet without its TransactionID."""
     return packet[: NUMBER.start] + packet[NUMBER.stop :]
 
 
-def faithful(bench):
+def faithful(bench: Bench) -> None:
     """Checks from both sides that what was printed went out and what came was told, but for numbers of requests."""
     script = between(bench, "all")
     with seated(bench, "H1", "-p", 5, program=script, packets="all.packets") as seat:
@@ -366,7 +381,7 @@ def faithful(bench):
     )
 
 
-def what_ports_hold(bench, name):
+def what_ports_hold(bench: Bench, name: str) -> tuple[set[str], set[int]]:
     """Returns the GidPrefixes of end ports, and the HOQLives of other ports of switches that are Active."""
     held(bench, name)
     infos = live_checks.port_infos(bench.path / f"{name}.reports").values()
@@ -374,7 +389,7 @@ def what_ports_hold(bench, name):
     return prefixes, {info[42] & 31 for info in infos if info[16:18] == b"\0\0" and info[32] & 15 == 4}
 
 
-def repeated(bench, name):
+def repeated(bench: Bench, name: str) -> None:
     """Checks that a lost request is sent again as a copy, up to twice, and that a request given up is told once."""
     sent = [bytes.fromhex(words[0]) for words in lines_of(bench.path / f"{name}.packets", "out")]
     copies = {}
@@ -395,7 +410,7 @@ def repeated(bench, name):
     bench.check(not answered & set(told), "and none of these had an answer")
 
 
-def repressed(bench):
+def repressed(bench: Bench) -> None:
     """Checks that each trap of a link was answered by TrapRepress, with its number, attribute, modifier and data."""
     came, sent = (packets_of(bench.path / "traps.packets", word) for word in ("in", "out"))
     traps = [packet for packet in came if packet[1] == 1 and packet[3] == 5 and packet[68:70] == LINK_CHANGED]
@@ -404,7 +419,7 @@ def repressed(bench):
     bench.check(said == told != [], f"traps: {len(traps)}, each repressed")
 
 
-def bent(bench):
+def bent(bench: Bench) -> None:
     """Checks that hop pointer 1 in an answer over no hops becomes 0, and that a refused answer is given up."""
     with seated(bench, "H1", "-p", 5, bend="pointer") as seat:
         bench.check(
@@ -423,7 +438,7 @@ def bent(bench):
         )
 
 
-def images(bench):
+def images(bench: Bench) -> None:
     """Checks that after Sets ports hold what was read of them, or a value if they had none."""
     with seated(bench, "H1", "-p", 5) as seat:
         bench.check(seat.settles() and seat.status()["packets"]["sets"] > 20, "SUBNET UP")
@@ -431,7 +446,7 @@ def images(bench):
     bench.check(told == ({"fe80" + "0" * 12}, {16}), f"carried: GidPrefix, HOQLife {told}")
 
 
-def cable(bench):
+def cable(bench: Bench) -> None:
     """Checks that the subnet follows traps alone when a cable between switches is cut and plugged in again."""
     with seated(bench, "H1", "-p", 5, "-s", 0, packets="traps.packets") as seat:
         bench.check(seat.settles(), "SUBNET UP")
@@ -454,7 +469,7 @@ def cable(bench):
     repressed(bench)
 
 
-def losses(bench):
+def losses(bench: Bench) -> None:
     """Checks that if packets are lost at a port, unanswered requests are sent again, and no gap is written: a fifth of
     those between two switches, then a tenth and three tenths of all."""
     seat_port = bench.fabric.peers["H1", 1]
@@ -487,7 +502,7 @@ def losses(bench):
     bench.tell(f'Error "{near[0]}"[{near[1]}] 0')
 
 
-def two_seats(bench):
+def two_seats(bench: Bench) -> None:
     """Checks two seats: one is master; it is killed, and the other takes over with its tables; a seat of higher
     priority then gets them."""
     timing = ["-s", 3, "-m", 200, "-r", 1]
@@ -521,7 +536,7 @@ def two_seats(bench):
             bench.check(held(bench, "greater") == before, "tables are as they were")
 
 
-def killed_while_it_writes(bench):
+def killed_while_it_writes(bench: Bench) -> None:
     """Checks that if the master is killed with part of its plan written, the other one finishes the plan."""
     timing = ["-m", 200, "-r", 1]
     with contextlib.ExitStack() as stack:
@@ -541,7 +556,7 @@ def killed_while_it_writes(bench):
     bench.tell(f'ReLink "{name}"[{port}]')
 
 
-def without_a_master(bench):
+def without_a_master(bench: Bench) -> None:
     """Checks that two seats that both stand by find that nobody is master: a lesser master's process is killed while a
     greater seat stands by, so the new process stands by too."""
     with contextlib.ExitStack() as stack:
@@ -566,7 +581,7 @@ def without_a_master(bench):
         bench.check(held(bench, "found") == before, "tables are as they were")
 
 
-def equal_priorities(bench):
+def equal_priorities(bench: Bench) -> None:
     """Checks two seats of one priority: the one of lesser port GUID is master, whichever comes first, and the other
     takes over."""
     timing = ["-p", 5, "-s", 2, "-m", 200, "-r", 1]
@@ -586,7 +601,7 @@ def equal_priorities(bench):
             bench.check(held(bench, "again", lesser) == before, "tables are as they were")
 
 
-def announced_again(bench):
+def announced_again(bench: Bench) -> None:
     """Checks that a greater seat that stood by twice announced itself twice, and got the subnet both times."""
     timing = ["-s", 0, "-m", 200, "-r", 1]
     with seated(bench, "H2", "-p", 3, *timing) as lesser:
@@ -603,7 +618,7 @@ def announced_again(bench):
                 bench.check(took is not None and lesser.settles(), f"it is killed: taken back: {took or -1:.1f} s")
 
 
-def with_keys(bench):
+def with_keys(bench: Bench) -> None:
     """Checks that seats of one SM_Key elect a master, and that a seat of another key ignores them."""
     timing = ["-s", 3, "-m", 200, "-r", 1]
     with contextlib.ExitStack() as stack:
@@ -625,7 +640,7 @@ def with_keys(bench):
         bench.check(took is not None, f"the master is killed: the one of its key takes over: {took or -1:.1f} s")
 
 
-def beside_opensm(bench):
+def beside_opensm(bench: Bench) -> None:
     """Checks a seat beside OpenSM, first of higher and then of lower priority: the master is killed, and the other
     takes over."""
     timing = ["-s", 0, "-m", 300, "-r", 1]
@@ -656,7 +671,7 @@ def beside_opensm(bench):
             bench.check(lids((bench.path / "theirs").read_text()) == lids(before), "LIDs stay")
 
 
-def handovers(bench):
+def handovers(bench: Bench) -> None:
     """Checks that a seat and OpenSM hand the subnet over to each other, and that one of them is master then."""
     timing = ["-s", 3, "-m", 300, "-r", 1]
     with opensm(bench, "H2", 3, "-R", "updn") as (process, log):
@@ -687,7 +702,7 @@ def handovers(bench):
             bench.check(lids(held(bench, "back")) == lids(before), "LIDs stay")
 
 
-def both_at_once(bench, ours, theirs):
+def both_at_once(bench: Bench, ours: int, theirs: int) -> None:
     """Checks that one is master and the other stands by if a seat and OpenSM are started at the same moment."""
     with contextlib.ExitStack() as stack:
         _, log = stack.enter_context(opensm(bench, "H2", theirs, "-R", "updn"))
@@ -701,17 +716,17 @@ def both_at_once(bench, ours, theirs):
         bench.check(seat.status()["state"] == ("master" if wins else "standby"), "as the seat sees it")
 
 
-def above_at_once(bench):
+def above_at_once(bench: Bench) -> None:
     """Checks a seat of greater priority than OpenSM's."""
     both_at_once(bench, 5, 3)
 
 
-def below_at_once(bench):
+def below_at_once(bench: Bench) -> None:
     """Checks a seat of lesser priority than OpenSM's."""
     both_at_once(bench, 3, 5)
 
 
-def seat_up(bench, is_last):
+def seat_up(bench: Bench, is_last: bool) -> float:
     """Returns the seconds from a seat's start to its SUBNET UP, and, the last time, checks what is then held."""
     began = time.monotonic()
     with seated(bench, "H1", "-p", 5) as seat:
@@ -727,7 +742,7 @@ def seat_up(bench, is_last):
     return took
 
 
-def opensm_up(bench):
+def opensm_up(bench: Bench) -> float:
     """Returns the seconds from OpenSM's start to its SUBNET UP."""
     began = time.monotonic()
     with opensm(bench, "H1", 8, "-R", "updn") as (_, log):
@@ -737,7 +752,7 @@ def opensm_up(bench):
     return took
 
 
-def side_by_side(bench, name, make, times):
+def side_by_side(bench: Bench, name: str, make: Callable[[], sample_fabrics.Fabric], times: int) -> None:
     """Checks that a seat brings a subnet up in no more time than OpenSM, in turn, the shortest of several each."""
     print(f"== {name}", flush=True)
     fabric, ours, theirs = make(), [], []
@@ -759,7 +774,7 @@ class Soak:
     TIMING = ("-s", 3, "-m", 200, "-r", 1)
     NO_FABRIC = 4  # the exit status of a seat that cannot go on
 
-    def __init__(self, bench, stack, chance):
+    def __init__(self, bench: Bench, stack: contextlib.ExitStack, chance: random.Random) -> None:
         self.bench, self.stack, self.chance = bench, stack, chance
         adapters = [node for node in bench.fabric.nodes if not bench.fabric.is_switch(node)]
         self.hosts, self.seats, self.done = {adapters[0]: 5, adapters[-1]: 3}, {}, []
@@ -770,24 +785,24 @@ class Soak:
         for host in self.hosts:
             self.start(host)
 
-    def start(self, host):
+    def start(self, host: str) -> None:
         words = ["-p", self.hosts[host], *self.TIMING]
         self.seats[host] = self.stack.enter_context(seated(self.bench, host, *words))
 
-    def move(self, one, other, end, command):
+    def move(self, one: list[Port], other: list[Port], end: Port, command: str) -> None:
         one.remove(end)
         other.append(end)
         self.bench.console.write(f'{command} "{end[0]}"[{end[1]}]\n')
         self.bench.console.flush()
         self.done.append(f"{command} {end[0]}/{end[1]}")
 
-    def kill(self, host):
+    def kill(self, host: str) -> None:
         self.seats[host].end(signal.SIGKILL)
         self.done.append(f"kill {host}")
         time.sleep(self.chance.choice((0, 1, 4)))
         self.start(host)
 
-    def drop_killed(self):
+    def drop_killed(self) -> None:
         """Has ibsim disconnect clients that were killed. By itself it may keep one for good."""
         log = self.bench.path / "ibsim.log"
         seen = log.stat().st_size
@@ -798,20 +813,20 @@ class Soak:
                 self.bench.tell(f"X {client}")
                 self.dropped += 1
 
-    def restart_ended(self):
+    def restart_ended(self) -> None:
         """Starts each seat again that ended since its processes ended soon, each time, as its unit does."""
         for host, seat in self.seats.items():
             if seat.process.poll() == self.NO_FABRIC and "ends soon, each time" in seat.said():
                 self.done.append(f"start {host} again")
                 self.start(host)
 
-    def kill_child(self, host):
+    def kill_child(self, host: str) -> None:
         children = self.seats[host].children()
         self.done.append(f"kill the child of {host}")
         if children:
             os.kill(children[0], signal.SIGKILL)
 
-    def event(self):
+    def event(self) -> None:
         """Does one thing at random."""
         self.restart_ended()
         kind, host = self.chance.random(), self.chance.choice(sorted(self.hosts))
@@ -825,11 +840,11 @@ class Soak:
         else:
             self.move(self.whole, self.cut, self.chance.choice(self.whole), "Unlink")
 
-    def mend(self):
+    def mend(self) -> None:
         while self.cut:
             self.move(self.cut, self.whole, self.cut[0], "ReLink")
 
-    def is_settled(self, since):
+    def is_settled(self, since: float) -> bool:
         """Returns whether one is master and has swept, with nothing to write, since a time, and the other stands by."""
         told = [seat.status() if seat.status_file.exists() else None for seat in self.seats.values()]
         if None in told or sorted(it["state"] for it in told) != ["master", "standby"]:
@@ -837,7 +852,7 @@ class Soak:
         master = next(it for it in told if it["state"] == "master")
         return master["writing"]["settled"] and (master["sweep"]["began"] or 0) > since
 
-    def end(self):
+    def end(self) -> bool:
         """Plugs all cables in, and checks that the seats settle and what is held then. Returns whether they do."""
         self.mend()
         self.restart_ended()
@@ -852,7 +867,7 @@ class Soak:
         return took is not None
 
 
-def soak(bench, seconds, seed):
+def soak(bench: Bench, seconds: int, seed: int) -> None:
     """Checks two seats for some time, and each half minute what is held."""
     name = f"soak of a torus of 16 switches, {seconds} s, by seat"
     print(f"== {name}: SEED={seed}", flush=True)

@@ -1,7 +1,11 @@
 """The code of crates/*/src without what is only proved or tested (comments, contracts, ghost items, attributes, tests),
 and the groups, statements and functions around each word: for `tests/limits`."""
+from __future__ import annotations
+
 import bisect
+import pathlib
 import re
+from collections.abc import Iterator
 
 from paths import ROOT
 
@@ -15,7 +19,7 @@ WORDS = re.compile(
 OPENS, CLOSES = "([{", ")]}"
 
 
-def past_group(text, at):
+def past_group(text: str, at: int) -> int:
     """Returns the index behind the group that opens at `at`."""
     depth = 0
     while True:
@@ -25,7 +29,7 @@ def past_group(text, at):
             return at
 
 
-def past_ghost(text, at):
+def past_ghost(text: str, at: int) -> int:
     """Returns the index behind a ghost item or ghost field, which ends with the first semicolon or comma outside of all
     groups."""
     while text[at] not in ";,":
@@ -33,7 +37,7 @@ def past_ghost(text, at):
     return at + 1
 
 
-def words_of(text):
+def words_of(text: str) -> list[tuple[str, int]]:
     """Returns the words of code in a text, each with the index where it begins."""
     found, at = [], 0
     while at < len(text):
@@ -56,7 +60,7 @@ class Function:
     """A function of the code: its name with that of its type, its head, what it returns, and the first and last word of
     its body."""
 
-    def __init__(self, name, head, first, last):
+    def __init__(self, name: str, head: str, first: int, last: int) -> None:
         self.name, self.head, self.first, self.last = name, head, first, last
         self.gives = head.rpartition("->")[2].partition(" where ")[0] if "->" in head else ""
 
@@ -64,7 +68,7 @@ class Function:
 class Code:
     """A source file, word by word, and the group around each word."""
 
-    def __init__(self, path, text):
+    def __init__(self, path: pathlib.Path, text: str) -> None:
         self.path = path
         placed = words_of(text)
         self.words, self.begins = [it for it, _ in placed], [at for _, at in placed]
@@ -72,7 +76,7 @@ class Code:
         self.parent, self.partner = self.groups()
         self.functions = list(self.found_functions())
 
-    def groups(self):
+    def groups(self) -> tuple[list[int | None], dict[int, int]]:
         parent, partner, open_ones = [], {}, []
         for at, word in enumerate(self.words):
             if word in CLOSES:
@@ -83,10 +87,10 @@ class Code:
                 open_ones.append(at)
         return parent, partner
 
-    def line(self, at):
+    def line(self, at: int) -> int:
         return bisect.bisect(self.lines, self.begins[at]) + 1
 
-    def said(self, first, last):
+    def said(self, first: int, last: int) -> str:
         """Returns the words from `first` to `last` as written, with any gap as one space."""
         out = []
         for at in range(first, last + 1):
@@ -98,7 +102,7 @@ class Code:
             re.sub(r",? ([)\]])", r"\1", re.sub(r"([(\[]) ", r"\1", "".join(out))).replace(" .", ".").replace(" ?", "?")
         )
 
-    def begin(self, at):
+    def begin(self, at: int) -> int:
         """Returns the first word of the statement or arm around the word, within the braces around it."""
         while True:
             before = at - 1
@@ -117,7 +121,7 @@ class Code:
                 return at
             at = before
 
-    def end(self, at):
+    def end(self, at: int) -> int:
         """Returns the last word of that statement or arm."""
         while at + 1 < len(self.words):
             word = self.words[at]
@@ -129,10 +133,10 @@ class Code:
             at += 1
         return at
 
-    def is_block(self, at):
+    def is_block(self, at: int | None) -> bool:
         return at is None or self.words[at] == "{"
 
-    def heads(self, at, first):
+    def heads(self, at: int, first: int) -> list[str]:
         """Returns what stands before each brace around a word, from the outermost in, within a function's body."""
         found = []
         while True:
@@ -146,7 +150,7 @@ class Code:
                 found.append(self.said(begin, around - 1))
             at = begin if begin < around else around
 
-    def found_functions(self):
+    def found_functions(self) -> Iterator[Function]:
         for at, word in enumerate(self.words):
             if word != "fn" or not self.words[at + 1].isidentifier():
                 continue
@@ -158,7 +162,7 @@ class Code:
                     self.owner(at) + self.words[at + 1], self.said(at, brace - 1), brace, self.partner[brace]
                 )
 
-    def owner(self, at):
+    def owner(self, at: int) -> str:
         """Returns the type whose method stands here, with `::`, or an empty text."""
         around = self.parent[at]
         if around is None or self.words[around] != "{":
@@ -173,7 +177,7 @@ class Code:
         return f"{named.strip().rpartition('::')[2]}::"
 
 
-def codes():
+def codes() -> Iterator[Code]:
     """Yields each source file below crates/, without tests."""
     for path in sorted(CRATES.glob("*/src/**/*.rt")):
         if not {"tests", "tests.rt"} & set(path.parts):

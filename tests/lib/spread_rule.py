@@ -14,6 +14,7 @@ from collections.abc import Iterable, Sequence
 NO_WAY = 255
 Edge = tuple[int, int]
 Graph = dict[int, list[Edge]]
+Key = tuple[int, ...]
 
 
 def distances(graph: Graph, starts: Iterable[int]) -> dict[int, int]:
@@ -38,7 +39,7 @@ def class_of(far: dict[int, int], leaves: Iterable[int], roots: Iterable[int]) -
     return 4 * sum(to_leaves) // len(to_leaves) if to_leaves else 0
 
 
-def keys_of(graph: Graph, leaves: Sequence[int], roots: Sequence[int]) -> dict[int, tuple]:
+def keys_of(graph: Graph, leaves: Sequence[int], roots: Sequence[int]) -> dict[int, Key]:
     """Returns the key of each switch: class, distance from the first of the component, and GUID."""
     far = {switch: distances(graph, [switch]) for switch in graph}
     classes = {switch: class_of(far[switch], leaves, roots) for switch in graph}
@@ -49,13 +50,13 @@ def keys_of(graph: Graph, leaves: Sequence[int], roots: Sequence[int]) -> dict[i
     return keys
 
 
-def keys_as_named(graph: Graph, named: Sequence[int]) -> dict[int, tuple]:
+def keys_as_named(graph: Graph, named: Sequence[int]) -> dict[int, Key]:
     """Returns the key of each switch: its index in `named`, with others behind, and GUID."""
     numbers = {switch: number for number, switch in enumerate(named)}
     return {switch: (numbers.get(switch, len(named)), switch) for switch in graph}
 
 
-def positions_of(graph: Graph, keys: dict[int, tuple]) -> dict[int, int]:
+def positions_of(graph: Graph, keys: dict[int, Key]) -> dict[int, int]:
     """Returns the position of each switch in the order that grows by `keys`."""
     positions, left, beside = {}, sorted(graph, key=keys.get, reverse=True), []
     while left:
