@@ -10,7 +10,7 @@ import subprocess
 import sys
 import time
 from collections.abc import Callable, Iterable, Iterator
-from typing import TextIO
+from typing import Any, TextIO
 
 import paths
 import sample_fabrics
@@ -34,7 +34,7 @@ def text(path: pathlib.Path) -> str:
 
 
 @contextlib.contextmanager
-def running(words: Iterable[object], **how: object) -> Iterator[subprocess.Popen]:
+def running(words: Iterable[object], **how: Any) -> Iterator[subprocess.Popen]:
     """Runs a process, and ends it by its id."""
     process = subprocess.Popen([str(word) for word in words], **how)
     try:
@@ -104,7 +104,7 @@ class Bench:
         words = re.search(r"\d+ requests in [\d.]+ s", self.said)
         self.figures.append(f"{self.path.name}, {what}: {words[0] if words else self.said}")
 
-    def record(self, *words: object, **how: object) -> int:
+    def record(self, *words: object, **how: Any) -> int:
         return self.run(self.room / "out/record", *words, simulated=True, **how)
 
     def files(self, *words: object) -> int:

@@ -29,9 +29,7 @@ def info(state: int, active: tuple[str, str] | None = None, supported: Iterable[
     return bytes(value)
 
 
-def recording(
-    fabric: Fabric, said: dict[Port | None, bytes | None], generation: int = 1
-) -> bytes:
+def recording(fabric: Fabric, said: dict[Port | None, bytes | None], generation: int = 1) -> bytes:
     """Returns a recording of a fabric's links. `said` has the PortInfo of each port, and under None that of all
     others."""
     records = []

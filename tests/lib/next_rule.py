@@ -300,7 +300,9 @@ def labels_to(subnet: Subnet, orders: tuple[Order, Order], targets: set[int]) ->
     return found
 
 
-def leads_on(orders: tuple[Order, Order], labels: dict, label: tuple[bool, bool], one: int, other: int) -> bool:
+def leads_on(
+    orders: tuple[Order, Order], labels: dict[int, tuple[bool, bool]], label: tuple[bool, bool], one: int, other: int
+) -> bool:
     """Returns whether a channel leads up by those orders by which the label says so, down by the others, and to a
     switch whose label goes up by no more."""
     if one == other or other not in labels:

@@ -135,7 +135,7 @@ class Masks:
         told = [sum(self.alone[i][k] for i in numbers) for k in (0, 1)]
         return [told[k] - (self.both[numbers][k] if len(numbers) == 2 else 0) for k in (0, 1)]
 
-    def masks(self, is_all: int) -> collections.Counter:
+    def masks(self, is_all: int) -> collections.Counter[int]:
         """Counts the pairs of each set of cables."""
         pairs, routes, found = self.pairs, self.pairs.routes, collections.Counter()
         senders = [end for end in pairs.count if (is_all or end[1]) and pairs.switch_of(end) is not None]

@@ -3,6 +3,7 @@ do."""
 from __future__ import annotations
 
 from collections.abc import Callable, Iterator
+from typing import Any
 
 from ibsm_texts import ENTRIES, NONE, End, Facts, Plan, name_of
 
@@ -62,7 +63,13 @@ def facts_apart(old: Facts, new: Facts) -> Iterator[str]:
     told = {end for cable in before ^ after for end in cable}
     shared = set(old.nodes) & set(new.nodes)
 
-    def values(word: str, one: dict, other: dict, spell: Callable, about: Callable = name_of) -> Iterator[str]:
+    def values(
+        word: str,
+        one: dict[Any, Any],
+        other: dict[Any, Any],
+        spell: Callable[[Any], str],
+        about: Callable[[Any], str] = name_of,
+    ) -> Iterator[str]:
         for key in sorted(set(one) & set(other)):
             if (key[0] if isinstance(key, tuple) else key) in shared and one[key] != other[key]:
                 yield f"{word} {about(key)} {spell(one[key])} > {spell(other[key])}"

@@ -31,7 +31,7 @@ def by_names(guids: Iterable[int], names: Names) -> dict[int, str]:
 def in_order(guids: Iterable[int], group_of: dict[int, str], names: Names) -> Groups:
     """Returns the groups in order of name. Their members are in order of name, with numbers by value, and then of
     GUID."""
-    def by_numbers(name: str) -> list[tuple]:
+    def by_numbers(name: str) -> list[tuple[int, int, str]]:
         return [(0, int(part), "") if part.isdigit() else (1, 0, part) for part in re.split(r"(\d+)", name)]
 
     found = collections.defaultdict(list)

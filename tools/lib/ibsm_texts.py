@@ -11,7 +11,7 @@ import pathlib
 import re
 import sys
 from collections.abc import Callable, Iterable, Iterator
-from typing import BinaryIO, TextIO
+from typing import Any, BinaryIO, TextIO
 
 import progress
 import version
@@ -110,7 +110,7 @@ def end_in(word: str) -> End | None:
 _input = []
 
 
-def opened(path: str | os.PathLike, **how) -> TextIO:
+def opened(path: str | os.PathLike, **how: Any) -> TextIO:
     """Opens a text; `-` is standard input, which is read once, however often it is opened."""
     if path != "-":
         return open(path, **how)

@@ -6,6 +6,7 @@ from __future__ import annotations
 
 import re
 from collections.abc import Iterable, Sequence
+from typing import Any
 
 from ibsm_texts import END, FLOOR, FORMS, GUID, NUMBER
 
@@ -75,7 +76,7 @@ class FactsRead(Rules):
         name = {"portguid": "portguid", "link": "far", "port": "state", "claim": "lid", "cap": "size"}[kind]
         return {name: int(value) if kind in ("claim", "cap") else value}
 
-    def value_of_text(self) -> dict:
+    def value_of_text(self) -> dict[str, Any]:
         return {"floor": self.floor} | self.found
 
 
@@ -103,7 +104,7 @@ class TablesRead(Rules):
         self.switches[-1]["blocks"].append({"block": int(number), "entries": list(bytes.fromhex(digits))})
         return True
 
-    def value_of_text(self) -> dict:
+    def value_of_text(self) -> dict[str, Any]:
         return {"lids": self.lids, "switches": self.switches}
 
 
@@ -173,7 +174,7 @@ class AuditRead(Rules):
         have_tables = not found["tableless"] or not all_pairs["pairs"]
         return arrive and have_tables and not found["unusable"] and not found["lidless"]
 
-    def value_of_text(self) -> dict:
+    def value_of_text(self) -> dict[str, Any]:
         told = {"passes": self.passes()} | self.told[""]
         told |= {name: self.told[name] for name in ("between_adapters", "with_a_switch", "missed")}
         return told | self.found | {"more": self.others} | self.counts | self.spreads | {"credit_loop": self.cycle}
@@ -196,7 +197,7 @@ class NextRead(Rules):
     def lacks(self) -> bool:
         return self.cycle is None or len(self.cycle) != len(self.lids)
 
-    def value_of_text(self) -> dict:
+    def value_of_text(self) -> dict[str, Any]:
         return {"credit_loop": self.cycle, "lids": self.lids}
 
 
@@ -277,7 +278,7 @@ class CompareRead(Rules):
     def lacks(self) -> bool:
         return self.end is None
 
-    def value_of_text(self) -> dict:
+    def value_of_text(self) -> dict[str, Any]:
         return {"equal": self.end == "equal", "changes": self.changes} | self.counts
 
 
@@ -304,7 +305,7 @@ class WhatIfRead(Rules):
         self.kind = "switches" if kind == "switch" else "cables"
         return is_first
 
-    def take_row(self, told: dict, words: Sequence[str]) -> bool:
+    def take_row(self, told: dict[str, Any], words: Sequence[str]) -> bool:
         names = ("adapters", "all", "cut_off", "entries", "switches")
         self.rows.append(told | {name: int(word) for name, word in zip(names, words)})
         return self.last is None
@@ -321,7 +322,7 @@ class WhatIfRead(Rules):
     def lacks(self) -> bool:
         return self.last is None
 
-    def value_of_text(self) -> dict:
+    def value_of_text(self) -> dict[str, Any]:
         count, harmless, entries, switches = self.last
         uncut = {"entries": entries, "switches": switches}
         return {self.kind: self.rows, "count": count, "harmless": harmless, "uncut": uncut}

@@ -6,11 +6,12 @@ import os
 import sys
 import threading
 from collections.abc import Callable, Iterable, Iterator
-from typing import IO
+from typing import IO, TypeVar
 
 # Seconds until something is said, and until it is said anew.
 FIRST, THEN = 2, 0.5
 WIDEST = 100
+Thing = TypeVar("Thing")
 
 _lock = threading.Lock()
 _now = [None]  # what is done now: a text, or a function that returns one
@@ -47,7 +48,7 @@ def reading(path: str | os.PathLike, file: IO) -> contextlib.AbstractContextMana
     return doing(lambda: f"reads {path}" + (f", {100 * os.lseek(number, 0, os.SEEK_CUR) // size} %" if size else ""))
 
 
-def counted(what: str, things: Iterable, count: int) -> Iterator:
+def counted(what: str, things: Iterable[Thing], count: int) -> Iterator[Thing]:
     """Yields `count` things, and notes meanwhile how many are done."""
     behind = 0
     with doing(lambda: f"{what}, {behind} of {count}"):

@@ -3,12 +3,14 @@ from __future__ import annotations
 
 import dataclasses
 from collections.abc import Iterator
+from typing import TypeVar
 
 from ibsm_texts import End, Refused, name_of, opened_bytes
-from record_files import NO_REPORTS, NODE_INFO, PORT_INFO
+from record_files import NODE_INFO, NO_REPORTS, PORT_INFO
 
 RECORD, HEAD, ATTRIBUTE, VIA = 272, 16, 64, 1
 Cable = tuple[End, End]
+Said = TypeVar("Said")
 # By the bits of PortInfo: the number of lanes, and the name and the rate of a lane in Gb/s. LinkSpeedExtActive takes
 # precedence.
 WIDTHS = {1: 1, 16: 2, 2: 4, 4: 8, 8: 12}
@@ -77,7 +79,7 @@ class Recording:
             self.note(self.fars, (guid, port), far, age)
             self.note(self.fars, far, (guid, port), age)
 
-    def note(self, known: dict, key: End, value: object, age: int) -> None:
+    def note(self, known: dict[End, Said], key: End, value: Said, age: int) -> None:
         """Notes what a record says under a key, unless a newer generation has said it."""
         if age >= self.ages.get((id(known), key), 0):
             known[key], self.ages[id(known), key] = value, age

@@ -6,6 +6,7 @@ import json
 import pathlib
 import re
 from collections.abc import Container, Iterable, Sequence
+from typing import Any
 
 from report_picture import Picture
 
@@ -31,7 +32,7 @@ def escaped(text: object) -> str:
     return html.escape(str(text))
 
 
-def table(head: Sequence[str], rows: Iterable[Sequence], numbers: Container[int] = ()) -> str:
+def table(head: Sequence[str], rows: Iterable[Sequence[object]], numbers: Container[int] = ()) -> str:
     """Returns a table. `numbers` are the indices of columns that hold numbers."""
 
     def cell(tag: str, i: int, value: object) -> str:
@@ -59,13 +60,13 @@ def paragraph(text: object) -> str:
     return f"<p>{text if isinstance(text, Raw) else escaped(text)}</p>"
 
 
-def verdict(parts: dict) -> str:
+def verdict(parts: dict[str, Any]) -> str:
     """Returns whether the tables pass the audit, as a paragraph."""
     word = "The tables pass the audit." if parts["passes"] else "The tables do not pass the audit."
     return f'<p class="verdict {"good" if parts["passes"] else "bad"}">{word}</p>'
 
 
-def audit(parts: dict) -> str:
+def audit(parts: dict[str, Any]) -> str:
     """Returns the lines of the audit: its counts, and findings by kind."""
     counts, found = [], {}
     for line in parts["audit"]:
@@ -86,7 +87,7 @@ def audit(parts: dict) -> str:
     return section("Audit", f"<pre>{escaped(chr(10).join(counts))}</pre>", *blocks)
 
 
-def changes(parts: dict) -> str:
+def changes(parts: dict[str, Any]) -> str:
     """Returns the section on what changed since earlier facts, or an empty text if none were given."""
     if parts["changes"] is None:
         return ""
@@ -95,7 +96,7 @@ def changes(parts: dict) -> str:
     return section(f"Changes since {parts['was']}", body)
 
 
-def what_if(parts: dict) -> str:
+def what_if(parts: dict[str, Any]) -> str:
     """Returns the section on what is lost without each cable."""
     if parts["cuts"] is None:
         return section(
@@ -164,7 +165,7 @@ def svg(picture: Picture) -> str:
     return "".join(lines) + "</svg>"
 
 
-def picture_section(parts: dict) -> str:
+def picture_section(parts: dict[str, Any]) -> str:
     """Returns the section with the picture, its legend and the busiest channels."""
     picture = parts["picture"]
     data = picture.data()
@@ -216,7 +217,7 @@ PROVED = {
 }
 
 
-def proved(parts: dict) -> str:
+def proved(parts: dict[str, Any]) -> str:
     """Returns the section on what of the page is proved and what is not."""
     agrees = "THE COUNTS DIFFER: the busiest channel or the mean is another one by this page than by the audit"
     if parts["agrees"]:
@@ -233,7 +234,7 @@ def proved(parts: dict) -> str:
     return section("What is proved of this", paragraph(PROVED[parts["proved"]]), body)
 
 
-def page(parts: dict) -> str:
+def page(parts: dict[str, Any]) -> str:
     """Returns the page of what `tools/report` has found, with its style and its script."""
     style, script = ((HERE / f"report.{kind}").read_text() for kind in ("css", "js"))
     script = re.sub(r"(?m)^\s*//.*\n", "", script)

@@ -5,6 +5,7 @@ from __future__ import annotations
 import base64
 import collections
 from collections.abc import Iterable, Iterator
+from typing import Any
 
 import groups
 from ibsm_texts import NO_WAY, End, Facts, Names, Plan
@@ -129,7 +130,7 @@ class Picture:
                 ends = (x + off * across, y + off * along, u + off * across, v + off * along)
                 yield channel, ends if side == 1 else (*ends[2:], *ends[:2])
 
-    def data(self) -> dict | None:
+    def data(self) -> dict[str, Any] | None:
         """Returns what the page follows packets by: names, cables and entries, or None if these are too many."""
         routes, width = self.routes, self.held.greatest + 1
         if len(routes.guids) * width > MOST_ENTRIES:

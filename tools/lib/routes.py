@@ -186,7 +186,7 @@ class Routes:
         home: int,
         column: bytes,
         ends: dict[Channel, int],
-        sources: collections.Counter,
+        sources: collections.Counter[int],
         count: int,
         carried: dict[Channel, int],
     ) -> None:

@@ -4,6 +4,7 @@ from __future__ import annotations
 
 from collections.abc import Container
 from pathlib import Path
+from typing import Any
 
 from ibsm_texts import End, Facts, name_of, put
 from record_files import KINDS
@@ -85,7 +86,7 @@ class Completed:
         floor = [f"floor {self.facts.floor}"] if self.facts.floor > 1 else []
         return "".join(f"{line}\n" for line in [*floor, *(self.lines[key] for key in sorted(self.lines))])
 
-    def told(self) -> dict:
+    def told(self) -> dict[str, Any]:
         """Returns what is silent, for status.json."""
         return {
             "ports": list(map(name_of, self.ports)),
@@ -94,7 +95,7 @@ class Completed:
         }
 
 
-def line_of(told: dict) -> str:
+def line_of(told: dict[str, Any]) -> str:
     """Returns what is silent, as a line."""
     parts = []
     if ports := told["ports"]:

@@ -12,7 +12,7 @@ def hundredths(total: int, count: int) -> str:
     return f"{total // count}.{100 * total // count % 100:02}"
 
 
-def hops_of(ways: Routes) -> collections.Counter:
+def hops_of(ways: Routes) -> collections.Counter[int]:
     """Counts the packets between adapter ports by the number of wires that they take."""
     hops = collections.Counter()
     sources = collections.Counter(ways.home[end][0] for end in set(ways.owners.values()) if end in ways.home)
