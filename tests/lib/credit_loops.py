@@ -9,7 +9,7 @@ from ibsm_texts import End, end_in
 from routes import Channel, Routes
 
 
-def after(ways: Routes) -> dict[Channel, set[Channel]]:
+def followers(ways: Routes) -> dict[Channel, set[Channel]]:
     """Returns for each channel, a switch and its port, the channels that packets take next, for any LID up to the
     greatest top."""
     ends, found = ways.ends(), collections.defaultdict(set)

@@ -215,7 +215,7 @@ def holed(costs: Costs, switches: int, hosts: int, without: int = 1) -> str:
         return b"switch ".join(
             [
                 *parts[:-without],
-                *(re.sub(rb"(block \d+ ).*", lambda it: it[1] + b"ff" * ENTRIES, it) for it in parts[-without:]),
+                *(re.sub(rb"(block \d+ ).*", lambda found: found[1] + b"ff" * ENTRIES, it) for it in parts[-without:]),
             ]
         )
 
@@ -226,13 +226,13 @@ def claimed(costs: Costs, hosts: int) -> str:
     """Makes the facts of a tree whose adapters' ports claim LIDs from 16,384 on."""
     def made() -> bytes:
         tree = tree_of(8, hosts)
-        claims = [
+        claimed_lids = [
             make.cell(make.CLAIM, guid, port, (16384 + at).to_bytes(2, "big"))
             for at, (guid, port, _, _) in enumerate(tree.ends)
         ]
         cells = tree.cells()
         first = next(at for at, it in enumerate(cells) if it[0] == make.CAP)
-        return make.store(*cells[:first], *claims, *cells[first:])
+        return make.store(*cells[:first], *claimed_lids, *cells[first:])
 
     return costs.put(f"claimed{hosts}", made)
 
@@ -392,15 +392,15 @@ def check_all(program: pathlib.Path, folder: pathlib.Path, noted: Noted) -> tupl
     """Checks all costs. Returns what counted them and how many runs it measured. `noted` gets the cost of each command
     at the larger size."""
     costs = Costs(program, folder)
-    growing = [(row, row.words(costs, row.size), row.words(costs, 2 * row.size)) for row in GROWING]
+    growing = [(case, case.words(costs, case.size), case.words(costs, 2 * case.size)) for case in GROWING]
     costs.take(
         [words for _, *both in growing for words in both],
-        {words: row.status for row, *both in growing for words in both},
+        {words: case.status for case, *both in growing for words in both},
     )
-    for (row, one, two), count in zip(growing, costs.allocations([two for _, _, two in growing])):
-        costs.at_most(costs.known[two], costs.known[one], row.limit, f"{row.title}, of twice the size")
-        noted.find(INSTRUCTIONS, row.title, costs.known[two] / 10**6)
-        noted.find(ALLOCATIONS, row.title, count)
+    for (case, one, two), count in zip(growing, costs.allocations([two for _, _, two in growing])):
+        costs.at_most(costs.known[two], costs.known[one], case.limit, f"{case.title}, of twice the size")
+        noted.find(INSTRUCTIONS, case.title, costs.known[two] / 10**6)
+        noted.find(ALLOCATIONS, case.title, count)
     check_apart(costs)
     check_steady(costs)
     return costs.counter.name, len(costs.known)
@@ -421,7 +421,7 @@ def check_steady(costs: Costs) -> None:
         (title, [[scheduled(costs, size, line, times) for times in (few, many)] for size in (hosts, 4 * hosts)])
         for title, line in STEADY
     ]
-    costs.take(words for _, rows in steady for row in rows for words in row)
+    costs.take(words for _, rows in steady for both in rows for words in both)
     for title, rows in steady:
         one, two = (costs.known[more] - costs.known[less] for less, more in rows)
         costs.at_most(two, one, STAYS, f"{title}, in a fabric of four times the size", costs.known[rows[1][0]])

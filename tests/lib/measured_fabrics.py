@@ -122,7 +122,7 @@ def tangle(dice: random.Random, switches: int, degree: int, adapters: int) -> Fa
     return fabric
 
 
-def fabric(name: str) -> Fabric:
+def fabric_of(name: str) -> Fabric:
     """Returns the fabric of a name, by its row in SETS."""
     kind, sizes, seed = SETS[name]
     return (tree if kind == "tree" else tangle)(random.Random(seed), *sizes)
@@ -133,7 +133,7 @@ def put(name: str, folder: pathlib.Path) -> None:
     recording, topology = folder / f"{name}.reports", folder / f"{name}.topology"
     if recording.exists():
         return
-    made = fabric(name)
+    made = fabric_of(name)
     if len(made.switches) + len(made.adapters) <= MOST_NODES:
         topology.write_text("".join(made.topology()))
     partial = recording.with_suffix(".partial")

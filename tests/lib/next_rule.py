@@ -241,7 +241,7 @@ def by_rank(subnet: Subnet) -> Order:
         if guid not in far:
             far.update(spread_rule.distances(graph, [guid]))
     return Order(
-        {guid: place for place, guid in enumerate(sorted(subnet.switches, key=lambda guid: (far[guid], guid)))}
+        {guid: place for place, guid in enumerate(sorted(subnet.switches, key=lambda it: (far[it], it)))}
     )
 
 

@@ -422,8 +422,8 @@ def by_a_kept_order(room: Room, fab: Fab, ends: Ends) -> None:
         "and if they have none by the kept one, whose step has a loop",
     )
     (room.path / "rd/kept.order").unlink()
-    for name in ("kept", "last"):
-        (room.path / "fab" / name).unlink()
+    for file in ("kept", "last"):
+        (room.path / "fab" / file).unlink()
 
 
 # Fabrics whose cables are cut and repaired one after another.
@@ -436,7 +436,7 @@ CUT_FABRICS = {
 }
 
 
-def over_cuts(room: Room, program: pathlib.Path, name: str, flag: str = "--keep-order", rounds: int = 9) -> None:
+def over_cuts(room: Room, program: pathlib.Path, name: str, flag: str = "--keep-order", count: int = 9) -> None:
     """Checks with the built program that rounds which keep an order, or go by told ones, go through after each of some
     cuts and repairs."""
     fabric, chance, down = CUT_FABRICS[name], random.Random(7), set()
@@ -455,7 +455,7 @@ def over_cuts(room: Room, program: pathlib.Path, name: str, flag: str = "--keep-
     planned = subprocess.run(words, cwd=room.path, capture_output=True, check=True).stdout
     (room.path / "fab/held").write_bytes(planned)
     shutil.rmtree(room.path / "rc", ignore_errors=True)
-    for number in range(rounds):
+    for number in range(count):
         if number % 4 == 3:
             down.remove(chance.choice(sorted(down)))
         elif number:

@@ -18,9 +18,9 @@ RING_WIRES = " ".join(f"{guid:x}/1-{RING[(i + 1) % 5]:x}/2" for i, guid in enume
 RING_LIDS = " ".join(f"{i + 1} {guid:x}/0" for i, guid in enumerate(RING))
 
 
-def ring(*rows: str) -> list[str]:
+def ring(*entries: str) -> list[str]:
     """Returns the rows of tables of the ring's switches, each with its GUID."""
-    return [f"{guid:x} {row}" for guid, row in zip(RING, rows)]
+    return [f"{guid:x} {row}" for guid, row in zip(RING, entries)]
 
 
 def named(word: str) -> str:
@@ -296,9 +296,9 @@ def unclear() -> Iterator[tuple[str, Ended]]:
     yield "switch with a disputed GUID", prints(spelled(f"{nameless}disputed 1\n{BOTH}credit loop none\n"))
     whole = counted(16, 4)
     yield "table of nobody", found(f"{whole}unusable {0x300:016x}\n{BOTH}credit loop none\n")
-    named = "".join(f"unusable {guid:016x}\n" for guid in range(0x301, 0x306))
+    strangers = "".join(f"unusable {guid:016x}\n" for guid in range(0x301, 0x306))
     yield "name for each node", found(
-        f"{whole}{named}unjoined 301/1\nunjoined 303/1\nunjoined 304/1\nunjoined 305/2\n{BOTH}credit loop none\n"
+        f"{whole}{strangers}unjoined 301/1\nunjoined 303/1\nunjoined 304/1\nunjoined 305/2\n{BOTH}credit loop none\n"
     )
     yield "cable that is down", prints(f"{whole}{BOTH}credit loop none\n")
     yield "disputed link", prints(spelled(f"{whole}unjoined 10/3\ndisputed 1\n{BOTH}credit loop none\n"))
@@ -380,8 +380,8 @@ def ring_and_two(plan: Callable[..., Ended]) -> Iterator[tuple[str, str, Ended]]
     makes a loop of two."""
     short = ring("0 1 1 2 2 - -", "2 0 1 1 2 - -", "2 2 0 1 1 - -", "1 2 2 0 1 - -", "1 1 2 2 0 - -")
     lids = f"{RING_LIDS} 6 60/0 7 70/0"
-    tables = plan(lids, *short, "60 1 - - - - 0 1", "70 1 - - - - 1 0").printed.decode()
-    yield "a ring beside a loop of two", tables, found(counted(29, 0) + NEITHER + "credit loop on one lane 60/1 70/1\n")
+    whole = plan(lids, *short, "60 1 - - - - 0 1", "70 1 - - - - 1 0").printed.decode()
+    yield "a ring beside a loop of two", whole, found(counted(29, 0) + NEITHER + "credit loop on one lane 60/1 70/1\n")
     apart = plan(lids, *short, "60 - - - - - 0 1", "70 - - - - - 1 0").printed.decode()
     yield (
         "a ring beside two",

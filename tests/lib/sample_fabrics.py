@@ -61,7 +61,7 @@ class Fabric:
     def ibsim(self) -> str:
         """Returns the topology in the form of ibsim, with the seat H1 first."""
         texts = []
-        for name in sorted(self.nodes, key=lambda name: name != "H1"):
+        for name in sorted(self.nodes, key=lambda it: it != "H1"):
             head = "switchguid" if self.is_switch(name) else "hcaguids"
             kind = "Switch" if self.is_switch(name) else "Hca"
             lines = [f"{head}=0x{self.guid(name):x}", f'{kind}\t{self.ports(name)} "{name}"']
@@ -296,8 +296,8 @@ def apart() -> Fabric:
     fabric = Fabric()
     switches = fabric.switches(15)
     fabric.hosts(switches[::2])
-    ring, rest = switches[::3], switches[1::3] + switches[2::3]
-    for one, other in zip(ring, ring[1:] + ring[:1]):
+    five, rest = switches[::3], switches[1::3] + switches[2::3]
+    for one, other in zip(five, five[1:] + five[:1]):
         fabric.join(one, other)
     for i, switch in enumerate(rest):
         row, column = divmod(i, 5)

@@ -62,18 +62,18 @@ def files(facts: str) -> dict[str, bytes]:
     """Returns the files that rows name. `facts` are those of the sample fabric."""
     records = swept()
     doubled = make.reports(ADAPTER, ADAPTER)
-    cells = [make.cell_of(line) for line in (ADAPTER_NODE, ADAPTER_PORT)]
+    of_adapter = [make.cell_of(line) for line in (ADAPTER_NODE, ADAPTER_PORT)]
     whole = make.store_of(facts)
     return {
         "NO_REPORTS": make.NO_REPORTS,
         "NO_CELLS": make.NO_CELLS,
         "ADAPTER": make.reports(ADAPTER),
         "DOUBLED": doubled,
-        "STORE": make.store(*cells),
-        "OLDER": make.older(make.store(*cells)),
+        "STORE": make.store(*of_adapter),
+        "OLDER": make.older(make.store(*of_adapter)),
         # The adapter's two cells, in a file each.
-        "NODE": make.older(make.store(cells[0])),
-        "PORT_GUID": make.store(cells[1]),
+        "NODE": make.older(make.store(of_adapter[0])),
+        "PORT_GUID": make.store(of_adapter[1]),
         "GREATEST": make.store_of(GREATEST),
         "RAISED": make.store_of("floor 2\n" + GREATEST),
         "LATE": make.store_of(f"floor {MOST}\n" + GREATEST),
@@ -87,8 +87,8 @@ def files(facts: str) -> dict[str, bytes]:
         # A second record with an attribute that tells no facts, and one of zeros.
         "HALF_BAD": changed(doubled, 280 + 16 + 17, 0x10),
         "HALF_ZERO": make.reports(ADAPTER, bytes(272)),
-        "EXCHANGED": make.NO_CELLS + cells[1] + cells[0],
-        "TWICE": make.store(cells[0], cells[0]),
+        "EXCHANGED": make.NO_CELLS + of_adapter[1] + of_adapter[0],
+        "TWICE": make.store(of_adapter[0], of_adapter[0]),
         "FABRIC": make.reports(*records),
         "REVERSED": make.reports(*reversed(records)),
         "WHOLE": whole,

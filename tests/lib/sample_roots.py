@@ -37,7 +37,7 @@ def topology(switches: Iterable[int], adapters: Iterable[int], wires: str) -> st
     return "".join(f'{kind} "{guid:x}" guid 0x{guid:x}\n' + "".join(links.get(f"{guid:x}", [])) for guid, kind in nodes)
 
 
-def spread(plan: Callable[..., Ended]) -> Iterator[tuple[str, tuple[int, ...], tuple[int, ...], str, Ended]]:
+def without_roots(plan: Callable[..., Ended]) -> Iterator[tuple[str, tuple[int, ...], tuple[int, ...], str, Ended]]:
     """Yields subnets whose packets are spread over the wires without roots: title, switches, adapters, wires, plan."""
     yield "the triangle", THREE, (0x100, 0x200), "10/1-20/1 10/2-30/1 20/2-30/2 20/3-100/1 30/3-200/1", plan(
         "1 10/0 2 20/0 3 30/0 4 100/1 5 200/1", "10 0 1 2 1 2", "20 1 0 2 3 2", "30 1 2 0 2 3",

@@ -114,9 +114,9 @@ class Fabric:
         # Each cable is a pair of ends; the second is at least as far from the first adapter's switch.
         self.cables = []
 
-        def take(guid: int) -> tuple[int, int]:
-            used[guid] += 1
-            return guid, used[guid]
+        def take(switch: int) -> tuple[int, int]:
+            used[switch] += 1
+            return switch, used[switch]
 
         for i in range(leaves):
             leaf = self.switches[tops + i]

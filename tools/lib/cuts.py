@@ -247,7 +247,7 @@ def cuts_of_switches(facts: Facts, pairs: Pairs, cables: Sequence[Cable]) -> lis
 def cuts_of_two(facts: Facts, pairs: Pairs, cables: Sequence[Cable]) -> list[Cut]:
     """Returns cuts of two cables: any two of the worst, and both of a switch that has two to other switches."""
     cables = [cable for cable in cables if is_between_switches(facts, cable)]
-    worst = sorted(cables, key=lambda cable: ([-count for count in pairs.lost[cable]], cable))[:MOST_IN_TWO]
+    worst = sorted(cables, key=lambda it: ([-count for count in pairs.lost[it]], it))[:MOST_IN_TWO]
     beside = collections.defaultdict(list)
     for cable in cables:
         for guid in {end[0] for end in cable}:

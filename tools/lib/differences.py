@@ -64,7 +64,7 @@ def facts_apart(old: Facts, new: Facts) -> Iterator[str]:
     shared = set(old.nodes) & set(new.nodes)
 
     def values(
-        word: str,
+        what: str,
         one: dict[Any, Any],
         other: dict[Any, Any],
         spell: Callable[[Any], str],
@@ -72,13 +72,13 @@ def facts_apart(old: Facts, new: Facts) -> Iterator[str]:
     ) -> Iterator[str]:
         for key in sorted(set(one) & set(other)):
             if (key[0] if isinstance(key, tuple) else key) in shared and one[key] != other[key]:
-                yield f"{word} {about(key)} {spell(one[key])} > {spell(other[key])}"
+                yield f"{what} {about(key)} {spell(one[key])} > {spell(other[key])}"
 
     states = [{end: up for end, up in facts.up.items() if end not in told} for facts in (old, new)]
     yield from values("port", *states, lambda up: "up" if up else "down")
     yield from values("lid", old.claims, new.claims, str)
-    yield from values("portguid", old.port_guids, new.port_guids, lambda guid: f"{guid:016x}")
-    yield from values("cap", old.caps, new.caps, str, lambda guid: f"{guid:016x}")
+    yield from values("portguid", old.port_guids, new.port_guids, lambda it: f"{it:016x}")
+    yield from values("cap", old.caps, new.caps, str, lambda it: f"{it:016x}")
     for kind, guid, port in new.disputed:
         yield f"disputed {kind} {guid:016x}" + ("" if kind in ("node", "cap") else f"/{port}")
 

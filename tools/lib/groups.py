@@ -38,7 +38,7 @@ def in_order(guids: Iterable[int], group_of: dict[int, str], names: Names) -> Gr
     for guid in guids:
         found[group_of[guid]].append(guid)
     return {
-        name: sorted(found[name], key=lambda guid: (by_numbers(names.get(guid, "")), guid))
+        name: sorted(found[name], key=lambda it: (by_numbers(names.get(it, "")), it))
         for name in sorted(found, key=by_numbers)
     }
 

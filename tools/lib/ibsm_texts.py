@@ -177,11 +177,11 @@ NAMED = re.compile(r"\b(?:0x)?([0-9a-f]{16})(?:/[0-9]{1,3})?(?![0-9A-Za-z_])")
 def with_names(line: str, names: Names) -> str:
     """Returns a line with names behind its GUIDs and ends."""
 
-    def told(found: re.Match) -> str:
+    def called(found: re.Match) -> str:
         name = names.get(int(found[1], 16))
         return found[0] if name is None else f'{found[0]} "{name}"'
 
-    return NAMED.sub(told, line)
+    return NAMED.sub(called, line)
 
 
 @contextlib.contextmanager

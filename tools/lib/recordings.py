@@ -100,7 +100,7 @@ class Recording:
 
 def rate_of(known: list[Port]) -> Rate | None:
     """Returns the least rate that the ends tell."""
-    return min((rate for port in known if (rate := port.rate())), default=None)
+    return min((told for port in known if (told := port.rate())), default=None)
 
 
 def most_of(known: list[Port]) -> Rate | None:

@@ -39,7 +39,7 @@ class Routes:
     def columns(self, lids: Iterable[int]) -> Iterator[tuple[int, bytes]]:
         """Yields each of some rising LIDs with its column. Puts together no more than a block of each switch at a
         time."""
-        for number, those in itertools.groupby(lids, lambda lid: lid // ENTRIES):
+        for number, those in itertools.groupby(lids, lambda it: it // ENTRIES):
             start = number * ENTRIES
             stripe = b"".join(
                 self.plan.tables[guid][start : min(start + ENTRIES, self.plan.tops[guid] + 1)].ljust(ENTRIES, NONE)
