@@ -394,7 +394,7 @@ def ring_and_two(plan: Callable[..., Ended]) -> Iterator[tuple[str, str, Ended]]
 PAIR_WIRES = "100/1-200/1"
 
 
-def pairs(plan: Callable[..., Ended]) -> Iterator[tuple[str, str, Ended]]:
+def pairs() -> Iterator[tuple[str, str, Ended]]:
     """Yields the audit of two adapters without a switch."""
     lids = f"lid 3 {0x100:016x}/1\nlid 4 {0x200:016x}/1\n"
     yield (

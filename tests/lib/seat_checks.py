@@ -216,7 +216,7 @@ def brought_up(bench: Bench) -> None:
         held(bench, "up")
         bench.check(manager(bench) == (port_guid(bench, "H1"), 5, 3), f"sminfo: {manager(bench)}")
         told = seat.status()
-        nodes = [sum(map(kind, bench.fabric.nodes)) for kind in (lambda node: True, bench.fabric.is_switch)]
+        nodes = [sum(map(kind, bench.fabric.nodes)) for kind in (lambda _: True, bench.fabric.is_switch)]
         counts = [told["writing"]["lids"], told["writing"]["switches"]]
         bench.check(
             told["state"] == "master" and counts == nodes and not told["silent"],

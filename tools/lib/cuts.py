@@ -226,7 +226,7 @@ def is_between_switches(facts: Facts, cable: Cable) -> bool:
     return all(facts.is_switch(end[0]) for end in cable)
 
 
-def cuts_of_cables(facts: Facts, pairs: Pairs, cables: Sequence[Cable]) -> list[Cut]:
+def cuts_of_cables(pairs: Pairs, cables: Sequence[Cable]) -> list[Cut]:
     """Returns the cut of each cable alone."""
     return [Cut([cable], pairs.lost[cable]) for cable in cables]
 
