@@ -49,7 +49,7 @@ def greatest_lid(room: Room) -> None:
 
 
 def several_blocks(room: Room) -> None:
-    """Checks that the blocks to write are those that differ: the first, one in between, and the last."""
+    """Checks that each block that differs is to be written: the first, one in between, and the last."""
     lids, tables, _ = triangle_plan(4, GREATEST)
     for entries, blocks in (
         ({GREATEST: 1}, 1), ({1: 3, GREATEST: 1}, 2), ({1: 3, 2: 3, 20000: 3, GREATEST - 63: 3, GREATEST: 1}, 3)

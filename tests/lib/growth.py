@@ -173,7 +173,7 @@ def claims(costs: Costs, count: int, first: int = 1, floor: int = 1) -> str:
 
 
 def tree_of(switches: int, hosts: int) -> Tree:
-    """Returns a tree: a switch above `switches` others, and `hosts` adapters at each of these."""
+    """Returns a tree: a switch above `switches` others, and `hosts` adapters at each other one."""
     return Tree([0] * switches, [0] + [hosts] * switches)
 
 
@@ -407,7 +407,7 @@ def check_all(program: pathlib.Path, folder: pathlib.Path, noted: Noted) -> tupl
 
 
 def check_apart(costs: Costs) -> None:
-    """Checks that one more switch without wires adds no more than its own table to the cost of a plan."""
+    """Checks that a switch without wires adds no more than its own table to the cost of a plan."""
     for options in (), SPREAD:
         one, two = ("plan", *options, known(costs, 40, 25)), ("plan", *options, apart(costs, 40, 25))
         costs.take([one, two])

@@ -150,8 +150,8 @@ def turns(subnet: Subnet, tables: Tables) -> dict[int, set[tuple[int, int]]]:
 
 def told_order(subnet: Subnet, tables: Tables, preferred: list[int] | None = None) -> list[int] | None:
     """Returns an order of the switches by which the tables lead packets up and then down, or None. It is built from the
-    last switch on: each time, of those at which no packet turns between two that are left, the last in `preferred`, or
-    the one of the greatest GUID."""
+    last switch on. Each time it takes a switch at which no packet turns between two that are left: of several, the last
+    in `preferred`, or the one of the greatest GUID."""
     found, left, taken = turns(subnet, tables), set(subnet.switches), []
     rank = {guid: number for number, guid in enumerate(preferred or subnet.switches)}
     while left:
@@ -303,8 +303,8 @@ def labels_to(subnet: Subnet, orders: tuple[Order, Order], targets: set[int]) ->
 def leads_on(
     orders: tuple[Order, Order], labels: dict[int, tuple[bool, bool]], label: tuple[bool, bool], one: int, other: int
 ) -> bool:
-    """Returns whether a channel leads up by those orders by which the label says so, down by the others, and to a
-    switch whose label goes up by no more."""
+    """Returns whether a channel leads up by the orders that its label names and down by the others, to a switch whose
+    label names no more orders."""
     if one == other or other not in labels:
         return False
     up = tuple(order.places[other] < order.places[one] for order in orders)
@@ -320,7 +320,7 @@ def column_between(
     end: End,
 ) -> dict[int, int]:
     """Returns entries that lead packets to `end` up and then down by both orders: the held ones that do so, else the
-    plan's, else those of the least ports."""
+    plan's, else the entries of the least ports."""
     by_held, by_plan, there = subnet.hops(held, owners), subnet.hops(planned, [end]), (TAKEN, end)
     targets = {guid for guid, hop in by_plan.items() if hop == there}
     labels, graph = labels_to(subnet, orders, targets), subnet.graph()
@@ -391,9 +391,9 @@ def assembled(subnet: Subnet, held: Tables, plan: Tables, columns: dict[int, dic
 
 
 def waits(subnet: Subnet, tables: list[Tables]) -> dict[End, dict[End, int]]:
-    """Returns for each channel the channels that packets may take after it, each with the least LID of a packet that
-    may: first by an entry of any of `tables`, then by one of any. A channel is a switch and its port with a wire to a
-    switch."""
+    """Returns for each channel the channels that packets may take after it, each with the least LID of such a packet.
+    The first is taken by an entry of any of `tables`, and the next by an entry of any. A channel is a switch and its
+    port with a wire to a switch."""
     found = collections.defaultdict(dict)
     for lid in range(1, max((max(them.tops.values(), default=0) for them in tables), default=0) + 1):
         taken = {guid: set() for guid in subnet.switches}  # its ports with the switches there

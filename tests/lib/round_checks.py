@@ -247,7 +247,7 @@ def written_for_opensm(room: Room, ends: Ends) -> None:
 
 
 def by_opensm(room: Room, fab: Fab, ends: Ends) -> None:
-    """Checks rounds that have a running OpenSM write the tables, and those that find none."""
+    """Checks rounds that have a running OpenSM write the tables, and rounds that find no OpenSM."""
     facts, plan = room.text("t.facts"), room.text("t.plan")
     with fake_opensm(room) as process:
         told = ends(f"--opensm {process}", 0, "audit", "the subnet holds the plan")
@@ -575,8 +575,8 @@ def silence(room: Room, fab: Fab, ends: Ends) -> None:
 
 
 def silent_switches(room: Room, fab: Fab, ends: Ends) -> None:
-    """Checks that nothing is kept of a silent cable between switches, and that a switch without a known table size is
-    left out, and so is the adapter that has a wire to it alone."""
+    """Checks that nothing is kept of a silent cable between switches. A switch without a known table size is left out,
+    with the adapter that has a wire to it alone."""
     facts, plan = room.text("t.facts"), room.text("t.plan")
     cut = facts.replace("link 0000000000000020/2 0000000000000030/2 @1\n", "").replace(
         "link 0000000000000030/2 0000000000000020/2 @1\n", ""
@@ -646,7 +646,7 @@ def other_files(room: Room, fab: Fab, ends: Ends) -> None:
 
 
 def by_a_file(room: Room, fab: Fab) -> None:
-    """Checks options in a file. Those of the command line take precedence."""
+    """Checks options in a file. Options of the command line take precedence."""
     room.put(round_conf="# where\ndir rd\nrouting spread  # a rule\nlmc=0\nlook\n\n", bad_conf="dir rd\nsing\n")
     fab(planned="")
     words = "--ibsm ./ibsm --record ./record"

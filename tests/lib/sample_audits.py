@@ -50,8 +50,8 @@ KINDS = "above-top", "no-entry", "no-port", "no-link", "foreign", "misdelivered"
 
 
 def counted(sent: int, between: int, **missed: int) -> str:
-    """Returns the first lines of an audit: the number of packets, how many of these are between adapters, and for each
-    kind in `missed` how many do not arrive. `apart` of those between adapters do not."""
+    """Returns the first lines of an audit: the number of packets, how many of them are between adapters, and for each
+    kind in `missed` how many do not arrive. Of the packets that do not arrive, `apart` are between adapters."""
     apart = missed.pop("apart", 0)
     counts = [missed.pop(kind.replace("-", "_"), 0) for kind in KINDS]
     assert not missed, missed
@@ -96,7 +96,7 @@ def tables(plan: Callable[..., Ended]) -> Iterator[tuple[str, str, Ended]]:
 
 
 def tables_astray(plan: Callable[..., Ended]) -> Iterator[tuple[str, str, Ended]]:
-    """Yields those in which an entry leads astray."""
+    """Yields titles, texts of tables in which an entry leads astray, and how their audits end."""
     yield (
         "an entry to a port without a wire",
         plan(LIDS, "10 0 1 2 3", GOOD[1]).printed.decode(),
@@ -138,7 +138,8 @@ def tables_astray(plan: Callable[..., Ended]) -> Iterator[tuple[str, str, Ended]
 
 
 def tables_cut_short(good: str) -> Iterator[tuple[str, str, Ended]]:
-    """Yields those in which a switch lacks blocks or has too low a top, from those by which all arrive."""
+    """Yields titles, texts of tables in which a switch lacks blocks or has too low a top, and how their audits end. By
+    the tables in `good` all packets arrive."""
     lines = good.splitlines()
     # The greatest LID and the last block say nothing here.
     edges = [*lines, f"block 767 {'f' * 128}"]
@@ -179,8 +180,8 @@ def tables_cut_short(good: str) -> Iterator[tuple[str, str, Ended]]:
 
 
 def tables_with_other_lids(plan: Callable[..., Ended], good: str) -> Iterator[tuple[str, str, Ended]]:
-    """Yields those in which several end ports hold a LID, or none does, and those of ports and switches that the facts
-    lack; `good` are those by which all arrive."""
+    """Yields titles, texts of tables, and how their audits end. Several end ports hold a LID, or none does, or there
+    are ports and switches that the facts lack. By the tables in `good` all packets arrive."""
     lines = good.splitlines()
     twice = good.replace("lid 4 ", "lid 3 ")
     misdelivered = "200/1 3 at 200/1", "10/0 3 at 100/1", "20/0 3 at 100/1", "100/1 3 at 100/1"

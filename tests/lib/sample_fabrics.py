@@ -122,7 +122,7 @@ class Fabric:
         return tables
 
     def exits(self, name: str) -> list[tuple[int, str]]:
-        """Returns the ports of a switch with a cable to a switch, each with that switch."""
+        """Returns the ports of a switch with a cable to a switch, each with the other switch."""
         ends = ((port, self.peers.get((name, port), ("", 0))[0]) for port in range(1, self.ports(name) + 1))
         return [(port, far) for port, far in ends if far and self.is_switch(far)]
 

@@ -59,7 +59,7 @@ def swept() -> list[bytes]:
 
 
 def files(facts: str) -> dict[str, bytes]:
-    """Returns the files that rows name. `facts` are those of the sample fabric."""
+    """Returns the files that rows name. `facts` has the facts of the sample fabric."""
     records = swept()
     doubled = make.reports(ADAPTER, ADAPTER)
     of_adapter = [make.cell_of(line) for line in (ADAPTER_NODE, ADAPTER_PORT)]
@@ -173,7 +173,7 @@ def taken(held: dict[str, bytes], facts: str) -> Iterator[tuple[str, Ended]]:
 
 
 def first_faults() -> Iterator[tuple[str, Ended]]:
-    """Yields files of which one is refused: the first such is named, and nothing is printed."""
+    """Yields files of which one or more are refused. The first fault is named, and nothing is printed."""
     for files_named, ends in (
         ("EMPTY ADAPTER", refused("EMPTY: bad magic")),
         ("ADAPTER SHORT", refused("SHORT: bad magic")),
@@ -206,8 +206,7 @@ def first_faults() -> Iterator[tuple[str, Ended]]:
 
 
 def schedules() -> list[tuple[str, Ended]]:
-    """Returns runs of two texts, which are opened, read and judged in this order: both are read before one is
-    judged."""
+    """Returns runs of two texts. Both are opened, then both read, and then judged, each time in their order."""
     return [
         ("run TOPOLOGY SCHEDULE", prints("progress M never\nrefused NoSuchPacket\n")),
         ("run MANY SCHEDULE", prints("progress M never\nrefused NoSuchPacket\n")),

@@ -298,7 +298,7 @@ def run_orders() -> Iterator[tuple[str, str, Ended]]:
 
 
 def long_text(count: int) -> Iterator[tuple[str, Ended]]:
-    """Yields two texts and how they end: `count` roots, none of which is a switch, and those with the first
+    """Yields two texts and how they end: `count` roots, none of which is a switch, and the roots with the first one
     repeated."""
     lines = [f"0x{number:x}" for number in range(0x10000, 0x10000 + count)]
     yield "\n".join(lines), refused(f"ROOTS: no usable switch {0x10000:016x}")

@@ -335,7 +335,7 @@ def hundredths(number: int) -> str:
 
 
 def levels(first: int, second: int, hosts: int) -> Tree:
-    """Returns a tree: a switch above `first` others, each above `second` others, and adapters below these."""
+    """Returns a tree: a switch above `first` others, each above `second` others, with adapters at the lowest."""
     parents = [0] * first + [1 + i // second for i in range(first * second)]
     return Tree(parents, [0] * (1 + first) + [hosts] * (first * second))
 

@@ -57,7 +57,7 @@ class Seat:
         return json.loads(self.status_file.read_text())
 
     def state(self) -> str | None:
-        """Returns its state, or None before it told any."""
+        """Returns the state that the seat told, or None before it told any."""
         return self.status()["state"] if self.status_file.exists() else None
 
     def children(self) -> list[int]:
@@ -470,8 +470,8 @@ def cable(bench: Bench) -> None:
 
 
 def losses(bench: Bench) -> None:
-    """Checks that if packets are lost at a port, unanswered requests are sent again, and no gap is written: a fifth of
-    those between two switches, then a tenth and three tenths of all."""
+    """Checks that unanswered requests are sent again if a port loses packets, and that no gap is written. A fifth is
+    lost between two switches, and then a tenth and three tenths at the seat."""
     seat_port = bench.fabric.peers["H1", 1]
     for (name, port), lost in ((between_switches(bench)[0], 20), (seat_port, 10), (seat_port, 30)):
         bench.tell(f'Error "{name}"[{port}] {lost}')
@@ -503,7 +503,7 @@ def losses(bench: Bench) -> None:
 
 
 def two_seats(bench: Bench) -> None:
-    """Checks two seats: one is master; it is killed, and the other takes over with its tables; a seat of higher
+    """Checks that one of two seats is master. It is killed, and the other takes over with its tables. A seat of higher
     priority then gets them."""
     timing = ["-s", 3, "-m", 200, "-r", 1]
     hosts = [node for node in bench.fabric.nodes if not bench.fabric.is_switch(node)]
@@ -557,7 +557,7 @@ def killed_while_it_writes(bench: Bench) -> None:
 
 
 def without_a_master(bench: Bench) -> None:
-    """Checks that two seats that both stand by find that nobody is master: a lesser master's process is killed while a
+    """Checks that two seats that both stand by find that nobody is master. A lesser master's process is killed while a
     greater seat stands by, so the new process stands by too."""
     with contextlib.ExitStack() as stack:
         lesser = stack.enter_context(seated(bench, "H2", "-p", 3, "-s", 0, "-m", 200, "-r", 1))

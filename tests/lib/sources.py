@@ -122,7 +122,7 @@ class Code:
             at = before
 
     def end(self, at: int) -> int:
-        """Returns the last word of that statement or arm."""
+        """Returns the last word of the statement or arm around the word."""
         while at + 1 < len(self.words):
             word = self.words[at]
             if word in OPENS:

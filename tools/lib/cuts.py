@@ -31,7 +31,7 @@ class Pairs:
         return self.routes.index.get(end[0]) if end[1] == 0 else self.routes.home.get(end, (None,))[0]
 
     def take(self, is_all: int) -> None:
-        """Counts by cable the pairs that packets serve: those of adapters or, if `is_all` is 1, of all end ports."""
+        """Counts by cable the pairs that packets serve, of adapters or, if `is_all` is 1, of all end ports."""
         routes, senders = self.routes, [end for end in self.count if is_all or end[1]]
         at = {end: self.switch_of(end) for end in senders}
         sources = collections.Counter(switch for switch in at.values() if switch is not None)
@@ -59,7 +59,7 @@ class Pairs:
                 self.lost[self.cable(end)][is_all] += count
 
     def cable(self, end: End) -> Cable:
-        """Returns the cable in a port by its two ends, or a pair of this port alone if it has none."""
+        """Returns the cable in a port by its two ends, or a pair of the port alone if it has none."""
         far = self.facts.wire(end)
         return (min(end, far), max(end, far)) if far else (end, end)
 

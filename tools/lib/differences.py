@@ -23,7 +23,7 @@ def names_differ(plan: Plan, held: Plan, called: tuple[str, str] = ("plan", "fab
             yield f"switch {guid:016x}: {first} top {plan.tops[guid]}, {second} {held.tops[guid]}"
 
 
-def apart(one: bytes, other: bytes) -> bytes:
+def apart(one: bytes | bytearray, other: bytes | bytearray) -> bytes:
     """Returns a byte for each entry of the longer of two rows: 0 if the two are equal, or one row has ended and the
     other has none."""
     length = max(len(one), len(other))
@@ -32,7 +32,7 @@ def apart(one: bytes, other: bytes) -> bytes:
 
 
 def blocks_to_write(old: bytes, new: bytes) -> int:
-    """Returns how many blocks of a new table differ from those of the old one, up to the new top."""
+    """Returns how many blocks of a new table differ from the old one's, up to the new top."""
     if old == new:
         return 0
     return sum(new[i : i + ENTRIES] != old[i : i + ENTRIES] for i in range(0, len(new), ENTRIES))

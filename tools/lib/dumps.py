@@ -64,7 +64,7 @@ class Entries:
         self.row[lid] = port
 
     def lacks(self, lids: Iterable[int], top: int) -> list[int]:
-        """Returns those of `lids`, up to a top, whose port is unknown."""
+        """Returns the LIDs among `lids`, up to a top, whose port is unknown."""
         row = self.row
         return [
             lid

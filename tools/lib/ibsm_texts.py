@@ -10,7 +10,7 @@ import os
 import pathlib
 import re
 import sys
-from collections.abc import Callable, Iterable, Iterator
+from collections.abc import Callable, Iterable, Iterator, Mapping
 from typing import Any, BinaryIO, TextIO
 
 import progress
@@ -210,7 +210,9 @@ def put(path: str | os.PathLike, text: str) -> None:
         file.write(text.encode())
 
 
-def plan_lines(ranges: dict[End, tuple[int, int]], tops: dict[int, int], tables: dict[int, bytes]) -> Iterator[str]:
+def plan_lines(
+    ranges: dict[End, tuple[int, int]], tops: dict[int, int], tables: Mapping[int, bytes | bytearray]
+) -> Iterator[str]:
     """Yields the lines of a plan from the first and last LID of each end, and the top and the entries from LID 0 of
     each switch's GUID."""
     for end, (first, last) in sorted(ranges.items(), key=lambda item: (item[1], item[0])):

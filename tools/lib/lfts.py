@@ -99,7 +99,7 @@ def read(section: bytes) -> tuple[int, array.array, bytes] | None:
 
 
 def ports_in(digits: Sequence[bytes]) -> bytes | None:
-    """Returns the ports with these hundreds, tens and ones."""
+    """Returns the ports that have these hundreds, tens and ones."""
     if not all(row.isdigit() or not row for row in digits):
         return None
     # A port is at most 254, so no byte of the sum is carried into the next.

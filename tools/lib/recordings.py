@@ -119,8 +119,7 @@ def is_recording(path: str) -> bool:
 
 
 def rates_apart(old: Recording, new: Recording) -> Iterator[str]:
-    """Yields the lines that tell where links of two recordings differ: those that are gone, have come, or are slower or
-    faster."""
+    """Yields the lines that tell which links differ in two recordings: gone, come, slower or faster."""
     before, after = old.rates(), new.rates()
     for word, cables in (("gone", before.keys() - after.keys()), ("come", after.keys() - before.keys())):
         for end, far in sorted(cables):

@@ -39,7 +39,7 @@ class Picture:
         self.places = self.in_groups(group_of) if group_of is not None else self.in_rows(roots)
 
     def agrees(self, audit: Audit) -> bool:
-        """Returns whether the busiest channel and the mean are those of an audit."""
+        """Returns whether an audit has the busiest channel and the mean that are counted here."""
         loads = self.loads.values()
         told = (max(loads), hundredths(sum(loads), len(loads))) if loads else (None, None)
         return told == (audit.busiest, audit.mean)
@@ -102,7 +102,7 @@ class Picture:
         return 4 * x * (1 - x)
 
     def in_groups(self, group_of: dict[int, str] | None) -> dict[int, tuple[float, float]]:
-        """Returns the positions of the shown switches in groups, and notes the frames of these."""
+        """Returns the positions of the shown switches in groups, and notes the frames of the groups."""
         guids = self.routes.guids
         shown = {guids[i]: i for i in self.shown}
         found = groups.in_order(shown, {guid: group_of.get(guid, "?") for guid in shown}, self.names)

@@ -70,7 +70,7 @@ class Routes:
             found[at, column].append(lid)
         return found
 
-    def step(self, at: int, home: int | None, column: bytes) -> tuple[int | None, bool, str | None]:
+    def step(self, at: int, home: int | None, column: bytes) -> tuple[int | None, bool | None, str | None]:
         """Returns the next switch of a packet at a switch, or None with whether the packet is delivered, and what is
         wrong if an entry other than 255 loses it."""
         port = column[at]
@@ -165,7 +165,8 @@ class Routes:
         return without if not without or at.count(count + 1) - 1 == without else None
 
     def ends(self) -> dict[Channel, int]:
-        """Returns the channels, each a switch and its port with a cable to another switch, with that switch."""
+        """Returns the channels and the switch that each leads to. A channel is a switch and its port with a cable to
+        another switch."""
         return {(i, port): self.index[end[0]] for i, ports in enumerate(self.far) for port, end in ports.items()
                 if end[0] in self.index}
 
