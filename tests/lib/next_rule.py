@@ -184,14 +184,14 @@ def next_column(subnet: Subnet, held: dict[int, int], planned: dict[int, int], e
 class Order:
     """An order of the usable switches, by the position of each."""
 
-    def __init__(self, places: dict[int, int]) -> None:
-        self.places = places
+    def __init__(self, positions: dict[int, int]) -> None:
+        self.positions = positions
 
     def is_up(self, one: int, other: int) -> bool:
-        return self.places[other] <= self.places[one]
+        return self.positions[other] <= self.positions[one]
 
     def is_down(self, one: int, other: int) -> bool:
-        return self.places[one] <= self.places[other]
+        return self.positions[one] <= self.positions[other]
 
     def is_right(self, subnet: Subnet, tables: Tables) -> bool:
         """Returns whether no packet goes down and then up again, for any LID."""
@@ -241,7 +241,7 @@ def by_rank(subnet: Subnet) -> Order:
         if guid not in far:
             far.update(spread_rule.distances(graph, [guid]))
     return Order(
-        {guid: place for place, guid in enumerate(sorted(subnet.switches, key=lambda it: (far[it], it)))}
+        {guid: position for position, guid in enumerate(sorted(subnet.switches, key=lambda it: (far[it], it)))}
     )
 
 
@@ -258,13 +258,13 @@ def as_named(subnet: Subnet, named: Iterable[int]) -> Order:
 
 
 def grown(graph: dict[int, list[tuple[int, int]]], order: Order) -> Order:
-    """Returns the order that grows by the places of another."""
-    return Order(spread_rule.positions_of(graph, {guid: (order.places[guid], guid) for guid in graph}))
+    """Returns the order that grows by the positions of another."""
+    return Order(spread_rule.positions_of(graph, {guid: (order.positions[guid], guid) for guid in graph}))
 
 
 def tree_of(graph: dict[int, list[tuple[int, int]]], order: Order) -> dict[int, list[tuple[int, int]]]:
     """Returns the edges between each switch and the earliest one beside it, if that is earlier than it."""
-    parents = {guid: min([guid, *(far for _, far in graph[guid])], key=order.places.get) for guid in graph}
+    parents = {guid: min([guid, *(far for _, far in graph[guid])], key=order.positions.get) for guid in graph}
     return {
         guid: [(port, far) for port, far in edges if parents[guid] == far or parents[far] == guid]
         for guid, edges in graph.items()
@@ -275,10 +275,10 @@ def two_orders(subnet: Subnet, held: Tables, plan: Order) -> tuple[Order, Order]
     """Returns the order by which a step goes from the held tables, if these tell one, and the next order."""
     graph = subnet.graph()
     by_plan = grown(graph, plan)
-    told = told_order(subnet, held, sorted(graph, key=by_plan.places.get))
+    told = told_order(subnet, held, sorted(graph, key=by_plan.positions.get))
     if told is None:
         return None
-    first = Order({guid: place for place, guid in enumerate(told)})
+    first = Order({guid: position for position, guid in enumerate(told)})
     second = grown(graph, first)
     if not second.is_right(subnet, held):
         return first, second
@@ -307,7 +307,7 @@ def leads_on(
     label names no more orders."""
     if one == other or other not in labels:
         return False
-    up = tuple(order.places[other] < order.places[one] for order in orders)
+    up = tuple(order.positions[other] < order.positions[one] for order in orders)
     return up == label and all(before or not after for before, after in zip(label, labels[other]))
 
 
