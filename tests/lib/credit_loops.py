@@ -2,7 +2,7 @@
 from __future__ import annotations
 
 import collections
-from collections.abc import Callable
+from collections.abc import Callable, Collection, Mapping
 
 from built_program import check
 from ibsm_texts import End, end_in
@@ -23,7 +23,7 @@ def followers(ways: Routes) -> dict[Channel, set[Channel]]:
     return found
 
 
-def count_round(after: dict[Channel, set[Channel]], first: Channel) -> int:
+def count_round(after: Mapping[Channel, Collection[Channel]], first: Channel) -> int:
     """Returns the number of channels in the shortest cycle through `first`, by breadth-first search; 0 if there is
     none."""
     counts, reached = {first: 1}, [first]
@@ -37,7 +37,9 @@ def count_round(after: dict[Channel, set[Channel]], first: Channel) -> int:
     return 0
 
 
-def check_told(line: str, after: dict[Channel, set[Channel]], channel_of: Callable[[End], Channel], what: str) -> int:
+def check_told(
+    line: str, after: Mapping[Channel, Collection[Channel]], channel_of: Callable[[End], Channel], what: str
+) -> int:
     """Checks that `line` tells a loop, with the fewest channels of all, and returns its length. `channel_of` maps an
     end to its channel."""
     least = min(filter(None, (count_round(after, first) for first in list(after))), default=0)

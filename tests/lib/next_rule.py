@@ -7,7 +7,7 @@ A hop of a packet is a pair: ON and a switch, TAKEN and the end that took it, or
 from __future__ import annotations
 
 import collections
-from collections.abc import Iterable
+from collections.abc import Collection, Iterable
 
 import paths  # noqa: F401
 import spread_rule
@@ -390,7 +390,7 @@ def assembled(subnet: Subnet, held: Tables, plan: Tables, columns: dict[int, dic
     return made
 
 
-def waits(subnet: Subnet, tables: list[Tables]) -> dict[End, dict[End, int]]:
+def waits(subnet: Subnet, tables: Collection[Tables]) -> dict[End, dict[End, int]]:
     """Returns for each channel the channels that packets may take after it, each with the least LID of such a packet.
     The first is taken by an entry of any of `tables`, and the next by an entry of any. A channel is a switch and its
     port with a wire to a switch."""

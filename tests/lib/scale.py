@@ -59,7 +59,7 @@ def started(
     streams = (os.devnull, os.O_RDONLY), (str(stdout), written), (str(stderr), written)
     starters[0].stdin.write(json.dumps([[str(it) for it in command], str(folder), *streams]) + "\n")
     starters[0].stdin.flush()
-    return json.loads(starters[0].stdout.readline())
+    return tuple(json.loads(starters[0].stdout.readline()))
 
 
 class Run:
