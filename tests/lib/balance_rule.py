@@ -49,8 +49,8 @@ def is_even(loads, graph):
 
 
 def trial_loads(graph, keys, adapters):
-    """Returns what the channels carry in the order that grows by `keys`, if each adapter sends `PACKETS` packets to each
-    adapter, and each switch shares what it has evenly over its candidates."""
+    """Returns what the channels carry in the order that grows by `keys`, if each adapter sends `PACKETS` packets to
+    each adapter, and each switch shares what it has evenly over its candidates."""
     positions = spread_rule.positions_of(graph, keys)
     loads = collections.Counter()
     for target, receivers in adapters.items():
@@ -67,8 +67,8 @@ def trial_loads(graph, keys, adapters):
 
 
 def keys_of(graph, adapters):
-    """Returns the keys that the rule goes by: those without roots if their trial loads are even, and otherwise, of these
-    and those by depth, the first by which the busiest channel carries least."""
+    """Returns the keys that the rule goes by: those without roots if their trial loads are even, and otherwise, of
+    these and those by depth, the first by which the busiest channel carries least."""
     keys = spread_rule.keys_of(graph, list(adapters), ())
     if is_even(trial_loads(graph, keys, adapters), graph):
         return keys
