@@ -174,8 +174,9 @@ fn take(
 {
     choices[position] = choice;
     taken[position] = edge_taken(ways, choices, position);
-    if sent[position] > 0 {
-        change_way(taken, loads, position, Change::Add(sent[position]));
+    let added = sent[position];
+    if added > 0 {
+        change_way(taken, loads, position, Change::Add(added));
     }
 }
 
@@ -186,8 +187,9 @@ fn remove_packets(taken: &[Option<Edge>], sent: &[usize], loads: &mut [usize])
     ensures { loads.new ≡ without_by sent.now taken.now loads.old (numbers_from 0 (length taken.now)) }
 {
     for position in 0..taken.len() {
-        if sent[position] > 0 {
-            change_way(taken, loads, position, Change::Remove(sent[position]));
+        let removed = sent[position];
+        if removed > 0 {
+            change_way(taken, loads, position, Change::Remove(removed));
         }
     }
 }

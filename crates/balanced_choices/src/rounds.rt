@@ -27,8 +27,8 @@ pub struct Destination {
 /// Finds for each end of each destination, in their order, the number of the candidate that each position takes, if
 /// position p sends `sent[p]` packets to it. Candidates and their numbers are in the order of the position's edges; a
 /// position without candidates has number 0. Takes three rounds. In each, takes for each 64 destinations a step or two
-/// for each edge and each label, and for each end a step for each edge of each candidate's way. Keeps a byte for each
-/// end and position.
+/// for each edge and each label, and for each end a step for each position and each edge of each candidate's way. Keeps
+/// a byte for each end and position.
 pub fn balanced_choices(
     alloc: Global,
     graph: &Adjacency,
@@ -271,7 +271,7 @@ fn edges_having(
     requires all { length sets.now ≡ length edges.now }
     ensures { IfOk result (λ found. found.items ≡ picked target sets.now edges.now) }
 {
-    let mut found = Vec::new(alloc);
+    let mut found = Vec::with_capacity(alloc, edges.len())?;
     for (j, edge) in edges.iter().enumerate() {
         if sets[j].has(target) {
             found.push(*edge)?;

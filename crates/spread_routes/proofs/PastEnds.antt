@@ -1,5 +1,5 @@
 -- What is found at an index past the last one, and sums that stop.
-use Rattle.std.proofs.Common.{◌≡◌, ◌<◌, ◌≤◌, ◌+◌, ◌*◌, ℕ, List, [], min, inl, inr, sym, ap, ◌∙◌, subst, arith, get_or, length, map}
+use Rattle.std.proofs.Common.{◌≡◌, ◌<◌, ◌≤◌, ◌+◌, ℕ, List, [], min, inl, inr, sym, ap, ◌∙◌, subst, arith, length, map}
 use Rattle.std.proofs.lemmas.Bool.{cases_lt}
 use Rattle.std.proofs.lemmas.List.{get_or-map, get_or_past, length-map}
 use Rattle.std.specs.Prelude.{All, slice_index_or}

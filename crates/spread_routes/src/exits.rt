@@ -23,7 +23,7 @@ pub struct Exits<'s> {
     /// The targets for which one of the edges leads to a higher switch.
     higher: TargetSet,
     lid_digit: LidDigit,
-    /// The choices of ends, if loads are balanced.
+    /// The choices for adapters, if loads are balanced.
     choices: Option<&'s AdapterChoices>,
     /// The position of the switch.
     own: usize,
@@ -67,7 +67,7 @@ impl<'s> Exits<'s> {
         })
     }
 
-    /// Sets by what LIDs choose among the ports: the choices of ends, if there are some, at the position `own` towards
+    /// Sets by what LIDs choose among the ports: the choices for adapters, if there are some, at the position `own` towards
     /// the positions `targets`.
     pub(crate) fn choose_by(
         &mut self,

@@ -65,7 +65,7 @@ pub struct Spread<'g> {
     edges: Adjacency,
     /// The LID digit of the switch at each position.
     lid_digits: Vec<LidDigit>,
-    /// The choices of ends, if loads are balanced.
+    /// The choices for adapters, if loads are balanced.
     choices: Option<AdapterChoices>,
 }
 

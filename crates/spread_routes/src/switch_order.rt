@@ -23,8 +23,9 @@ pub enum SwitchOrder {
         /// The switches, as in `AsNamed`.
         switches: Vec<Guid>,
     },
-    /// The least load of the busiest channel, with loads balanced: of the order without roots and the orders by depth from the eight
-    /// switches of least GUID, forwards and backwards, the first whose trial load between the leaf switches is least.
+    /// The least trial load, with loads balanced: the order without roots if its trial loads are even; otherwise the
+    /// first whose trial load is least, of this order and the orders by depth from the eight switches of least GUID,
+    /// forwards and backwards.
     LeastLoaded,
 }
 

@@ -4,7 +4,7 @@ use Rattle.balanced_choices.specs.EdgesTaken.{way_by, without_by}
 use Rattle.balanced_choices.proofs.InOrder.{numbers_left}
 use Rattle.balanced_choices.proofs.NoPackets.{none_removed}
 use Rattle.balanced_choices.proofs.choosing.remove_packets.Goals as goal
-use Rattle.balanced_choices.proofs.choosing.remove_packets.Goals.{then-sent-position-gt0, else-sent-position-gt0}
+use Rattle.balanced_choices.proofs.choosing.remove_packets.Goals.{then-removed-gt0, else-removed-gt0}
 
 pub loop-position-preserved : goal.loop-position-preserved
 loop-position-preserved c =
@@ -15,9 +15,9 @@ loop-position-preserved c =
     let left = numbers_left n p (omega (arith, c.loop-position-test.true)) in
     let rest : List ℕ → List ℕ = λ ls. without ls (numbers_from (p + 1) (n - (p + 1))) in
     let next = sym (ap (without loads) left) ∙ c.loop-position.invariant in
-    elim c.if-sent-position-gt0.branch [
-      | then-sent-position-gt0 w ↦ ap rest (w.loads-is ∙ w.change_way.ensures) ∙ next
-      | else-sent-position-gt0 w ↦
-          let none = none_removed (get_or c.args.sent.now p 0) loads (way_by c.args.taken.now p) (omega (arith, w.if-sent-position-gt0.false)) in
+    elim c.if-removed-gt0.branch [
+      | then-removed-gt0 w ↦ ap rest (w.loads-is ∙ w.change_way.ensures) ∙ next
+      | else-removed-gt0 w ↦
+          let none = none_removed (get_or c.args.sent.now p 0) loads (way_by c.args.taken.now p) (omega (arith, w.if-removed-gt0.false)) in
           ap rest (w.loads-is ∙ sym none) ∙ next
     ]

@@ -17,8 +17,8 @@ pub change_way-requires : goal.change_way-requires
 change_way-requires c =
     omega (arith, c.requires.loads, ap length c.requires.taken, taken_long c.args.ways.now c.args.choices.now, length-set c.args.taken.now c.args.position c.edge_taken.result)
 
-pub returns-then-sent-position-gt0 : goal.returns-then-sent-position-gt0
-returns-then-sent-position-gt0 c =
+pub returns-then-added-gt0 : goal.returns-then-added-gt0
+returns-then-added-gt0 c =
     let ways = c.args.ways.now in
     let p = c.args.position in
     let choices : List ℕ = slice_set c.args.choices.now p c.args.choice in
@@ -32,13 +32,13 @@ returns-then-sent-position-gt0 c =
       taken = new;
     }
 
-pub returns-else-sent-position-gt0 : goal.returns-else-sent-position-gt0
-returns-else-sent-position-gt0 c =
+pub returns-else-added-gt0 : goal.returns-else-added-gt0
+returns-else-added-gt0 c =
     let ways = c.args.ways.now in
     let p = c.args.position in
     let loads = c.args.loads.now in
     let choices : List ℕ = slice_set c.args.choices.now p c.args.choice in
-    let same = none_added (get_or c.args.sent.now p 0) loads (way_from ways choices p) (omega (arith, c.if-sent-position-gt0.false))
+    let same = none_added (get_or c.args.sent.now p 0) loads (way_from ways choices p) (omega (arith, c.if-added-gt0.false))
     (λ k. let fits = c.type_inv.loads k in omega (arith, fits)) in
     record {
       choice = ap (λ (ls : List ℕ). let after : Chosen = record { choices = choices; loads = ls } in after) same;

@@ -1,4 +1,4 @@
-use Rattle.std.proofs.Common.{◌≡◌, ◌+◌, ◌++◌, ℕ, [], ◌∷◌, sym, ap, ◌∙◌, arith, add-one, length, map}
+use Rattle.std.proofs.Common.{◌≡◌, ◌++◌, [], ◌∷◌, sym, ap, ◌∙◌, arith, length, map}
 use Rattle.spread_labels.specs.Orders.{numbers_from}
 use Rattle.spread_labels.proofs.Earlier.{mapped_grown}
 use Rattle.spread_routes.specs.LeafNumbers.{leaf_number, least_neighbours}

@@ -1,4 +1,4 @@
-use Rattle.std.proofs.Common.{◌≡◌, ◌<◌, List, ℕ, sym, ap, ◌∙◌, subst, length, map}
+use Rattle.std.proofs.Common.{◌<◌, List, ℕ, sym, ap, ◌∙◌, subst, length, map}
 use Rattle.std.specs.Prelude.{All}
 use Rattle.spread_labels.specs.LeafVertices.{leaf_vertices}
 use Rattle.spread_labels.proofs.LeafVertices.{leaves_within}

@@ -1,5 +1,5 @@
 -- The choices are made by positions, as the rule has them.
-use Rattle.std.proofs.Common.{◌≡◌, ℕ, List, sym, ap, ◌∙◌, subst, length}
+use Rattle.std.proofs.Common.{ℕ, List, sym, ap, ◌∙◌, subst, length}
 use Rattle.std.specs.Prelude.{Some}
 use Rattle.port_graph.specs.declared.edge.Edge.{Edge}
 use Rattle.port_graph.specs.Heads.{LeadToVertices}

@@ -1,12 +1,9 @@
 use Rattle.std.proofs.Common.{◌≡◌, ◌<◌, ℕ, List, sym, ap, ◌∙◌, subst, arith, length, map, All}
 use Rattle.std.specs.Prelude.{Contains, None}
-use Rattle.spread_labels.specs.LabelLaws.{IsSymmetric}
-use Rattle.spread_labels.specs.Keys.{before_by}
-use Rattle.spread_labels.specs.Orders.{by_position, order}
+use Rattle.spread_labels.specs.Orders.{by_position}
 use Rattle.spread_labels.specs.Positions.{ArePositions, StandOnce}
-use Rattle.spread_routes.specs.Rule.{by_index, order_by_keys}
+use Rattle.spread_routes.specs.Rule.{by_index}
 use Rattle.spread_routes.specs.Spread.{lid_digit_at}
-use Rattle.spread_routes.proofs.Indices.{there_and_back}
 use Rattle.spread_routes.proofs.Positions.{all_stand, are_indices, by_positions_is, edges_are, stand_once}
 use Rattle.spread_routes.proofs.spread.Spread.by_keys.Goals as goal
 

@@ -12,7 +12,7 @@ use Rattle.spread_routes.specs.Spread.{Grading, adapters_there, grading_of, keys
 use Rattle.spread_routes.specs.AdapterChoices.{adapter_choices}
 use Rattle.spread_routes.specs.SwitchOrders.{order_value_of}
 use Rattle.spread_routes.proofs.KeyLists.{all_keyed, all_levelled}
-use Rattle.spread_routes.proofs.Balanced.{choices_if, no_choices_if}
+use Rattle.spread_routes.proofs.Balanced.{choices_if}
 use Rattle.spread_routes.proofs.spread.Spread.of.Goals as goal
 
 pub by_keys-requires-clause-keys : goal.by_keys-requires-clause-keys
@@ -76,8 +76,12 @@ returns-then-is_balanced c =
     let all : record c.in_ok-spread.spread {
       choices = Some (adapter_choices (by_positions c.in_ok-spread.spread.graph c.in_ok-spread.spread.keys) c.in_ok-adapters.adapters.items);
     } ≡ grading_of graph adapters order_value =
-    ap (λ (g : Grading). record { graph = g.graph; keys = g.keys; levels = g.levels;
-      choices = Some (adapter_choices (by_positions g.graph g.keys) c.in_ok-adapters.adapters.items) })
+    ap (λ (g : Grading). record {
+      graph = g.graph;
+      keys = g.keys;
+      levels = g.levels;
+      choices = Some (adapter_choices (by_positions g.graph g.keys) c.in_ok-adapters.adapters.items);
+    })
     c.in_ok-spread.ensures
     ∙ (λ i. record {
       graph = graph;
