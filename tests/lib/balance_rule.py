@@ -1,5 +1,6 @@
 """The rule of routing that spreads with balanced loads in the order of the least trial load, worked out from its
 definitions in docs/MODEL.md, apart from the program. Graphs are those of spread_rule, and so are labels and candidates.
+`adapters` has how many adapters each switch has, as a Counter by GUID.
 """
 import collections
 
@@ -40,14 +41,21 @@ def by_depth(graph, keys, root, backwards=False):
     return found
 
 
-def trial_load(graph, keys, leaves):
-    """Returns what the busiest channel carries in the order that grows by `keys`, if each leaf switch sends `PACKETS`
-    packets to each one, and each switch shares what it has evenly over its candidates."""
+def is_even(loads, graph):
+    """Returns whether no load of a channel is over the mean of all channels by more than an eighth of that."""
+    channels = sum(map(len, graph.values()))
+    mean = sum(loads.values()) // channels if channels else 0
+    return max(loads.values(), default=0) - mean <= mean // 8
+
+
+def trial_loads(graph, keys, adapters):
+    """Returns what the channels carry in the order that grows by `keys`, if each adapter sends `PACKETS` packets to
+    each adapter, and each switch shares what it has evenly over its candidates."""
     positions = spread_rule.positions_of(graph, keys)
     loads = collections.Counter()
-    for target in leaves:
+    for target, receivers in adapters.items():
         cost, down = spread_rule.rounds(graph, positions, target)
-        packets = collections.Counter(dict.fromkeys(leaves, PACKETS))
+        packets = collections.Counter({switch: PACKETS * senders * receivers for switch, senders in adapters.items()})
         # A candidate has a cost one less, so all has come to a switch when those of greater cost have shared.
         for switch in sorted(cost, key=cost.get, reverse=True):
             exits = spread_rule.candidates(graph, positions, cost, down, switch)
@@ -55,34 +63,41 @@ def trial_load(graph, keys, leaves):
                 share = packets[switch] // len(exits)
                 loads[switch, port] += share
                 packets[to] += share
-    return max(loads.values(), default=0)
+    return loads
 
 
-def keys_of(graph, leaves):
-    """Returns the keys that the rule goes by: of those tried, the first with the least trial load."""
-    keys = spread_rule.keys_of(graph, leaves, ())
+def keys_of(graph, adapters):
+    """Returns the keys that the rule goes by: those without roots if their trial loads are even, and otherwise, of
+    these and those by depth, the first by which the busiest channel carries least."""
+    keys = spread_rule.keys_of(graph, list(adapters), ())
+    if is_even(trial_loads(graph, keys, adapters), graph):
+        return keys
     tried = [keys]
     for backwards in False, True:
         for root in sorted(graph)[:TRIED]:
             tried.append(spread_rule.keys_as_named(graph, by_depth(graph, keys, root, backwards)))
-    return min(tried, key=lambda keys: trial_load(graph, keys, leaves))
+    return min(tried, key=lambda keys: max(trial_loads(graph, keys, adapters).values(), default=0))
 
 
-def order_of(graph, leaves):
+def order_of(graph, adapters):
     """Returns the switches in the rule's order."""
-    positions = spread_rule.positions_of(graph, keys_of(graph, leaves))
+    positions = spread_rule.positions_of(graph, keys_of(graph, adapters))
     return sorted(graph, key=positions.get)
 
 
 class Choices:
-    """The choices of candidates for each end of each leaf switch, and the loads of channels by them."""
+    """The choices of candidates for each adapter, and the loads of channels by them."""
 
-    def __init__(self, graph, positions, leaves, ends):
-        self.graph, self.positions, self.ends = graph, positions, ends
+    def __init__(self, graph, positions, adapters):
+        self.graph, self.positions, self.adapters = graph, positions, adapters
         self.in_order = sorted(graph, key=positions.get)
-        self.leaves = sorted(leaves)
+        # The adapters are numbered switch by switch, in the order of the switches.
+        self.numbers, count = {}, 0
+        for switch in self.in_order:
+            self.numbers[switch] = range(count, count + adapters[switch])
+            count += adapters[switch]
         self.loads = collections.Counter()
-        self.taken = [dict.fromkeys(graph, 0) for _ in range(len(leaves) * ends)]
+        self.taken = [dict.fromkeys(graph, 0) for _ in range(count)]
 
     def candidates(self, target):
         """Returns the candidates of each switch towards a target."""
@@ -109,11 +124,12 @@ class Choices:
             switch = to
         return found
 
-    def add(self, exits, taken, switch, packets):
-        """Adds so many packets to the way from a switch, if it is a leaf switch."""
-        if switch in self.leaves:
+    def add(self, exits, taken, switch, sign=1):
+        """Adds the packets that a switch sends to one adapter, one from each adapter there, to the way from it; with
+        `sign` -1, takes them away."""
+        if self.adapters[switch]:
             for channel in self.way(exits, taken, switch):
-                self.loads[channel] += packets
+                self.loads[channel] += sign * self.adapters[switch]
 
     def lightest(self, exits, taken, switch):
         """Returns the number of the candidate whose way has the least peak load, the first of equals."""
@@ -123,52 +139,46 @@ class Choices:
         ]
         return peaks.index(min(peaks)) if peaks else 0
 
-    def choose(self, exits, order, end, is_first):
-        """Makes the choices for an end: in turn, or anew by the loads of all others."""
-        taken = self.taken[end]
+    def choose(self, exits, order, adapter, is_first):
+        """Makes the choices for an adapter: in turn, or anew by the loads of all others."""
+        taken = self.taken[adapter]
         if not is_first:
             for switch in self.graph:
                 self.add(exits, taken, switch, -1)
         for switch in order:
             if is_first:
                 count = len(exits[switch])
-                taken[switch] = (end + self.positions[switch]) % count if count else 0
+                taken[switch] = (adapter + self.positions[switch]) % count if count else 0
             else:
                 taken[switch] = self.lightest(exits, taken, switch)
-            self.add(exits, taken, switch, 1)
-
-    def are_even(self):
-        """Returns whether no load is over the mean by more than an eighth of that."""
-        channels = sum(map(len, self.graph.values()))
-        mean = sum(self.loads.values()) // channels if channels else 0
-        return max(self.loads.values(), default=0) - mean <= mean // 8
+            self.add(exits, taken, switch)
 
     def make(self):
         """Makes the first choices, and new ones, at most twice, until loads are even."""
         for number in range(3):
-            if number > 0 and self.are_even():
+            if number > 0 and is_even(self.loads, self.graph):
                 return
-            for index, leaf in enumerate(self.leaves):
-                exits = self.candidates(leaf)
+            for target in self.in_order:
+                if not self.adapters[target]:
+                    continue
+                exits = self.candidates(target)
                 order = self.near_first(exits)
-                for end in range(index * self.ends, (index + 1) * self.ends):
-                    self.choose(exits, order, end, number == 0)
+                for adapter in self.numbers[target]:
+                    self.choose(exits, order, adapter, number == 0)
 
     def of(self, number, switch, target):
         """Returns the number of the candidate that a LID with this number takes at a switch towards a target."""
-        if target not in self.leaves or not self.ends:
-            return 0
-        return self.taken[self.leaves.index(target) * self.ends + number % self.ends][switch]
+        there = self.numbers[target]
+        return self.taken[there[number % len(there)]][switch] if there else 0
 
 
-def tables(graph, leaves, homes, named=None, lmc=0):
+def tables(graph, adapters, homes, named=None, lmc=0):
     """Returns the port by which packets for each LID leave each switch, in the form of spread_rule.tables. Switches are
     in the rule's order, or in that in which they are `named`."""
-    numbers = spread_rule.numbers_of(graph, leaves, homes, lmc)
-    named = order_of(graph, leaves) if named is None else named
+    numbers = spread_rule.numbers_of(graph, adapters, homes, lmc)
+    named = order_of(graph, adapters) if named is None else named
     positions = spread_rule.positions_of(graph, spread_rule.keys_as_named(graph, named))
-    adapters = collections.Counter(home for home, port in set(homes.values()) if port)
-    choices = Choices(graph, positions, leaves, max(adapters.values(), default=0))
+    choices = Choices(graph, positions, adapters)
     choices.make()
     found = {switch: {} for switch in graph}
     exits = {home: choices.candidates(home) for home in {home for home, _ in homes.values()}}

@@ -2,6 +2,7 @@
 from __future__ import annotations
 
 import collections
+import itertools
 import random
 from collections.abc import Iterable
 
@@ -276,6 +277,19 @@ def dragonfly(groups: int, size: int, hosts: int) -> Fabric:
                 fabric.join(one, other)
         for other in range(group + 1, groups):
             fabric.join(own[(other - group - 1) % size], switches[other * size + (group - other) % size])
+    return fabric
+
+
+def nearly_complete(count: int, missing: int, seed: int) -> Fabric:
+    """Returns switches of which each two are wired, except `missing` pairs at random, and an adapter at each."""
+    fabric = Fabric()
+    switches = fabric.switches(count)
+    fabric.hosts(switches)
+    pairs = list(itertools.combinations(switches, 2))
+    apart = random.Random(seed).sample(pairs, missing)
+    for one, other in pairs:
+        if (one, other) not in apart:
+            fabric.join(one, other)
     return fabric
 
 

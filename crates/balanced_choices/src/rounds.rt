@@ -253,29 +253,30 @@ fn ways_towards(
         ≡ map (λ p. picked k (sets_at sets.now p) (edges_at graph.now p)) (numbers_from 0 (length graph.now))) }
 {
     let mut ways = Adjacency::new(alloc);
+    let mut found = Vec::new(alloc);
     for position in 0..graph.len() {
-        let found = edges_having(alloc, graph.at(position), sets.at(position), k)?;
+        find_having(graph.at(position), sets.at(position), k, &mut found)?;
         ways.push_vertex(&found)?;
     }
     Ok(ways)
 }
 
-/// Returns the edges whose set has a target.
-fn edges_having(
-    alloc: Global,
+/// Finds the edges whose set has a target. Replaces what `found` had before.
+fn find_having(
     edges: &[Edge],
     sets: &[TargetSet],
     target: usize,
-) -> Result<Vec<Edge>, AllocError>
+    found: &mut Vec<Edge>,
+) -> Result<(), AllocError>
     requires target { target < 64 }
     requires all { length sets.now ≡ length edges.now }
-    ensures { IfOk result (λ found. found.items ≡ picked target sets.now edges.now) }
+    ensures { OnOk result (found.new.items ≡ picked target sets.now edges.now) }
 {
-    let mut found = Vec::with_capacity(alloc, edges.len())?;
+    found.clear();
     for (j, edge) in edges.iter().enumerate() {
         if sets[j].has(target) {
             found.push(*edge)?;
         }
     }
-    Ok(found)
+    Ok(())
 }

@@ -56,7 +56,7 @@ pub fn rules_are_routings()
 {}
 
 /// Each rule that can be asked for routes packets alike in two views that agree on the wires between switches and on
-/// the leaf switches, whatever else they tell.
+/// how many adapters each switch has, whatever else they tell.
 pub fn rules_stay()
     ensures { RulesStay }
 {}

@@ -10,5 +10,5 @@ loop-position-preserved c =
     let f : ℕ → List Edge = λ p. picked c.args.k (sets_at c.args.sets.now p) (edges_at c.args.graph.now p) in
     let p = c.loop-position.position in
     let is : c.deref.result.now ≡ f p =
-    c.deref.ensures.value ∙ c.in_ok-found.ensures ∙ (λ i. picked c.args.k (c.at-in-loop-position.ensures i) (c.at.ensures i)) in
+    c.deref.ensures.value ∙ c.in_ok-find_having.ensures ∙ (λ i. picked c.args.k (c.at-in-loop-position.ensures i) (c.at.ensures i)) in
     c.in_ok-push_vertex.ensures.added ∙ (λ i. c.loop-position.invariant i ++ is i ∷ []) ∙ sym (made_next f p)

@@ -1,6 +1,6 @@
 use Rattle.std.proofs.Common.{◌≡◌, ◌++◌, drop}
 use Rattle.spread_labels.specs.MarkSets.{picked}
-use Rattle.balanced_choices.proofs.rounds.edges_having.Given as goal
+use Rattle.balanced_choices.proofs.rounds.find_having.Given as goal
 
 -- those that were found, and those among the edges that are left
 abbrev pub invariant-loop-j : goal.invariant-loop-j
