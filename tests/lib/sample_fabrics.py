@@ -286,9 +286,9 @@ def nearly_complete(count: int, missing: int, seed: int) -> Fabric:
     switches = fabric.switches(count)
     fabric.hosts(switches)
     pairs = list(itertools.combinations(switches, 2))
-    apart = random.Random(seed).sample(pairs, missing)
+    unwired = random.Random(seed).sample(pairs, missing)
     for one, other in pairs:
-        if (one, other) not in apart:
+        if (one, other) not in unwired:
             fabric.join(one, other)
     return fabric
 
