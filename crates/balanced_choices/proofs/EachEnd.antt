@@ -52,7 +52,7 @@ pub all_both : (round : ℕ) (graph : List (List Edge)) (sent : List ℕ) (old :
 all_both round graph sent old n [] es = refl
 all_both round graph sent old n (d ∷ ds) es =
     let ways = towards graph d.position in
-    all_both round graph sent (with_ends round ways sent (near_first ways) old (numbers_from n d.ends)) (n + d.ends) ds es
+    all_both round graph sent (with_ends round ways sent (near_first ways) d.number n old (numbers_from n d.ends)) (n + d.ends) ds es
 
 -- the edges whose sets have a target are the candidates towards it
 pub ways_are : (graph : List (List Edge)) (targets : List ℕ) (sets : List (List TargetSet)) (k t : ℕ) → AreCandidateSets graph targets sets

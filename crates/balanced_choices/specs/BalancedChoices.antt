@@ -47,10 +47,11 @@ abbrev pub in_turn : ℕ → ℕ → ℕ
 in_turn zero n = 0
 in_turn (suc count) n = n % suc count
 
--- the first choices for an end: the candidates in turn, from the sum of the numbers of the end and the position on
+-- the first choices for the end with this number: the candidates in turn, from the sum of that number and the position
+-- on
 abbrev pub first_choices : List (List Edge) → List ℕ → List ℕ → ℕ → Chosen → Chosen
-first_choices ways sent order end old =
-    choose_each (λ now p. in_turn (length (candidates_at ways p)) (end + p)) ways sent old order
+first_choices ways sent order number old =
+    choose_each (λ now p. in_turn (length (candidates_at ways p)) (number + p)) ways sent old order
 
 -- the loads without the packets that some positions send
 abbrev pub without_packets : List (List Edge) → List ℕ → List ℕ → List ℕ → List ℕ → List ℕ
@@ -68,28 +69,28 @@ new_choices ways sent order old =
     })
     order
 
--- the choices for an end in a round: the first choices, then new ones
+-- the choices for the end with this number in a round: the first choices, then new ones
 abbrev pub choices_in : ℕ → List (List Edge) → List ℕ → List ℕ → ℕ → Chosen → Chosen
-choices_in zero ways sent order end old = first_choices ways sent order end old
-choices_in (suc round) ways sent order end old = new_choices ways sent order old
+choices_in zero ways sent order number old = first_choices ways sent order number old
+choices_in (suc round) ways sent order number old = new_choices ways sent order old
 
 -- the loads of channels, and the choices for each end
 pub record Balance : Type 0 where
   pub choices : List (List ℕ)
   pub loads : List ℕ
 
--- the choices for an end are made
-abbrev pub with_end : ℕ → List (List Edge) → List ℕ → List ℕ → Balance → ℕ → Balance
-with_end round ways sent order old end =
+-- the choices for an end are made; `first` is the first end at its position, and `number` that end's number
+abbrev pub with_end : ℕ → List (List Edge) → List ℕ → List ℕ → ℕ → ℕ → Balance → ℕ → Balance
+with_end round ways sent order number first old end =
     let before : Chosen = record { choices = slice_index_or old.choices end []; loads = old.loads } in
-    let own = choices_in round ways sent order end before in
+    let own = choices_in round ways sent order (number + (end - first)) before in
     record { choices = slice_set old.choices end own.choices; loads = own.loads }
 
 -- those for some ends at one position, one after the other
-abbrev pub with_ends : ℕ → List (List Edge) → List ℕ → List ℕ → Balance → List ℕ → Balance
-with_ends round ways sent order old [] = old
-with_ends round ways sent order old (end ∷ ends) =
-    with_ends round ways sent order (with_end round ways sent order old end) ends
+abbrev pub with_ends : ℕ → List (List Edge) → List ℕ → List ℕ → ℕ → ℕ → Balance → List ℕ → Balance
+with_ends round ways sent order number first old [] = old
+with_ends round ways sent order number first old (end ∷ ends) =
+    with_ends round ways sent order number first (with_end round ways sent order number first old end) ends
 
 -- the candidates of each position towards position t
 abbrev pub towards : List (List Edge) → ℕ → List (List Edge)
@@ -100,7 +101,7 @@ abbrev pub with_all : ℕ → List (List Edge) → List ℕ → Balance → ℕ 
 with_all round graph sent old end [] = old
 with_all round graph sent old end (d ∷ ds) =
     let ways = towards graph d.position in
-    with_all round graph sent (with_ends round ways sent (near_first ways) old (numbers_from end d.ends))
+    with_all round graph sent (with_ends round ways sent (near_first ways) d.number end old (numbers_from end d.ends))
     (end + d.ends) ds
 
 -- the number of all ends

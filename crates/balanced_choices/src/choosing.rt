@@ -60,29 +60,30 @@ fn is_below(ways: &Adjacency, position: usize) -> bool
     ways.at(position).iter().any(|edge| edge.to < position)
 }
 
-/// Makes the choices for an end: in round 0 the first ones, later new ones, with which its packets take other ways.
+/// Makes the choices for the end with this number: in round 0 the first ones, later new ones, by which its packets take
+/// other ways.
 pub(crate) fn choose(
     alloc: Global,
     round: usize,
     ways: &Adjacency,
     order: &[usize],
     sent: &[usize],
-    end: usize,
+    number: usize,
     choices: &mut [u8],
     loads: &mut [usize],
 ) -> Result<(), AllocError>
     requires positions { All (λ p. p < length ways.now) order.now }
     requires sent { length sent.now ≡ length ways.now }
-    requires end { end + length ways.now < 2 ^ 64 }
+    requires number { number + length ways.now < 2 ^ 64 }
     requires choices { length choices.old ≡ length ways.now }
     requires loads { length loads.old ≡ 256 * length ways.now }
     ensures { OnOk result (let before : Chosen = record { choices = choices.old; loads = loads.old } in
-        choices_in round ways.now sent.now order.now end before
+        choices_in round ways.now sent.now order.now number before
         ≡ record { choices = choices.new; loads = loads.new }) }
 {
     let mut taken = edges_taken(alloc, ways, choices)?;
     if round == 0 {
-        choose_in_turn(ways, order, sent, end, choices, &mut taken, loads);
+        choose_in_turn(ways, order, sent, number, choices, &mut taken, loads);
     } else {
         remove_packets(&taken, sent, loads);
         choose_lightest(ways, order, sent, choices, &mut taken, loads);
@@ -90,28 +91,28 @@ pub(crate) fn choose(
     Ok(())
 }
 
-/// Makes the first choices for an end: the candidates in turn.
+/// Makes the first choices for the end with this number: the candidates in turn.
 fn choose_in_turn(
     ways: &Adjacency,
     order: &[usize],
     sent: &[usize],
-    end: usize,
+    number: usize,
     choices: &mut [u8],
     taken: &mut [Option<Edge>],
     loads: &mut [usize],
 )
     requires positions { All (λ p. p < length ways.now) order.now }
     requires sent { length sent.now ≡ length ways.now }
-    requires end { end + length ways.now < 2 ^ 64 }
+    requires number { number + length ways.now < 2 ^ 64 }
     requires choices { length choices.old ≡ length ways.now }
     requires taken { taken.old ≡ edges_taken ways.now choices.old }
     requires loads { length loads.old ≡ 256 * length ways.now }
     ensures { let before : Chosen = record { choices = choices.old; loads = loads.old } in
-        first_choices ways.now sent.now order.now end before
+        first_choices ways.now sent.now order.now number before
         ≡ record { choices = choices.new; loads = loads.new } }
 {
     for position in order {
-        let choice = in_turn(ways.at(*position).len().min(PORTS), end + *position);
+        let choice = in_turn(ways.at(*position).len().min(PORTS), number + *position);
         take(ways, sent, *position, choice, choices, taken, loads);
     }
 }

@@ -20,8 +20,10 @@ const ROUNDS: usize = 3;
 pub struct Destination {
     /// The position.
     pub position: usize,
-    /// The number of its ends.
+    /// How many ends it has.
     pub ends: usize,
+    /// The number of the first end; the others follow. By these numbers the first choices take candidates in turn.
+    pub number: u32,
 }
 
 /// Finds for each end of each destination, in their order, the number of the candidate that each position takes, if
@@ -194,7 +196,10 @@ fn choose_some(
         let ways = ways_towards(alloc, graph, &sets, k)?;
         let order = near_first(alloc, &ways)?;
         let next = end + destination.ends;
-        choose_between(alloc, round, &ways, &order, sent, end, next, choices, loads)?;
+        let number = destination.number;
+        choose_between(
+            alloc, round, &ways, &order, sent, number, end, next, choices, loads,
+        )?;
         end = next;
     }
     Ok(end)
@@ -210,13 +215,15 @@ fn positions_of(alloc: Global, destinations: &[Destination]) -> Result<Vec<usize
         .collect(alloc)
 }
 
-/// Makes the choices for the ends from number `first` up to, but not including, `last`.
+/// Makes the choices for the ends at one position: from index `first` up to, but not including, `last`. The first has
+/// this number.
 fn choose_between(
     alloc: Global,
     round: usize,
     ways: &Adjacency,
     order: &[usize],
     sent: &[usize],
+    number: u32,
     first: usize,
     last: usize,
     choices: &mut [Vec<u8>],
@@ -229,13 +236,14 @@ fn choose_between(
     requires loads { length loads.old ≡ 256 * length ways.now }
     ensures balance { OnOk result (let before : Balance
         = record { choices = map (λ own. own.items) choices.old; loads = loads.old } in
-        with_ends round ways.now sent.now order.now before (numbers_from first (last - first))
+        with_ends round ways.now sent.now order.now number first before (numbers_from first (last - first))
         ≡ record { choices = map (λ own. own.items) choices.new; loads = loads.new }) }
     ensures long { OnOk result (All (λ own. length own.items ≡ length ways.now) choices.new) }
 {
     for end in first..last {
         let own = &mut choices[end];
-        choose(alloc, round, ways, order, sent, end, own, loads)?;
+        let number = number as usize + (end - first);
+        choose(alloc, round, ways, order, sent, number, own, loads)?;
     }
     Ok(())
 }

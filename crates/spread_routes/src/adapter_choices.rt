@@ -1,10 +1,11 @@
 //! Choices of candidates by which the loads of channels are balanced.
-ghost use Rattle.std.specs.Prelude.{◌≡◌, ◌<◌, ◌-◌, ◌^◌, All, IfOk, length, map, min, slice_index};
+ghost use Rattle.std.specs.Prelude.{◌≡◌, ◌<◌, ◌-◌, ◌*◌, ◌%◌, ◌^◌, All, IfOk, length, map, min, slice_index};
 ghost use Rattle.port_graph.specs.Heads.{LeadToVertices};
 ghost use Rattle.spread_labels.specs.Orders.{numbers_from};
 ghost use Rattle.balanced_choices.specs.BalancedChoices.{in_turn};
-ghost use Rattle.spread_routes.specs.AdapterChoices.{adapter_choices, adapter_of, choice_towards, destination, first_at};
+ghost use Rattle.spread_routes.specs.AdapterChoices.{adapter_choices, adapter_of, choice_towards, destinations, first_at};
 
+use crate::adapters::most_adapters;
 use balanced_choices::{Destination, balanced_choices};
 use port_graph::Adjacency;
 use spread_labels::leaf_vertices;
@@ -125,23 +126,33 @@ fn sent(alloc: Global, adapters: &[u16]) -> Result<Vec<usize>, AllocError>
     Ok(sent)
 }
 
-/// Returns the destinations at `leaves`, each with as many ends as it has adapters.
+/// Returns the destinations at `leaves`, each with as many ends as it has adapters, and as many numbers as the most
+/// adapters that a position has.
 fn destinations(
     alloc: Global,
     adapters: &[u16],
     leaves: &[usize],
 ) -> Result<Vec<Destination>, AllocError>
     requires { All (λ leaf. leaf < length adapters.now) leaves.now }
-    ensures { IfOk result (λ found. found.items ≡ map (destination adapters.now) leaves.now) }
+    ensures { IfOk result (λ found. found.items ≡ destinations adapters.now leaves.now) }
 {
+    let most = most_adapters(adapters);
     let mut found = Vec::with_capacity(alloc, leaves.len())?;
-    for leaf in leaves {
+    for (k, leaf) in leaves.iter().enumerate() {
         found.push(Destination {
             position: *leaf,
             ends: usize::from(adapters[*leaf]),
+            number: first_number(k, most),
         })?;
     }
     Ok(found)
+}
+
+/// Returns the first number of leaf `k` if each leaf takes `most` numbers, counted round at 2^16 leaves.
+fn first_number(k: usize, most: u16) -> u32
+    ensures { result ≡ k % 2 ^ 16 * most }
+{
+    (k % 65536) as u32 * u32::from(most)
 }
 
 /// Returns the number of the first adapter at each position, as far as 64 bits go.

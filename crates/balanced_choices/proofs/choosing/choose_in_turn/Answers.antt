@@ -15,11 +15,11 @@ loop-position-preserved c =
     let i = c.loop-position.position-index in
     let p = get_or order i 0 in
     let now : Chosen = record { choices = c.loop-position.choices; loads = c.loop-position.loads } in
-    let choice : Chosen → ℕ → ℕ = λ old q. in_turn (length (candidates_at ways q)) (c.args.end + q) in
+    let choice : Chosen → ℕ → ℕ = λ old q. in_turn (length (candidates_at ways q)) (c.args.number + q) in
     let turned : min (length (edges_at ways p)) 256 ≡ min 256 (length (edges_at ways p)) = omega arith in
     let count : c.min.result ≡ length (candidates_at ways p) =
     c.min.ensures ∙ ap (λ es. min (length es) 256) c.at.ensures ∙ turned ∙ sym (length-take 256 (edges_at ways p)) in
-    let is : c.in_turn-choice.result ≡ choice now p = c.in_turn-choice.ensures ∙ ap (λ n. in_turn n (c.args.end + p)) count in (
+    let is : c.in_turn-choice.result ≡ choice now p = c.in_turn-choice.ensures ∙ ap (λ n. in_turn n (c.args.number + p)) count in (
       ap (λ new. choose_each choice ways sent new (drop (i + 1) order)) (sym c.take.ensures.choice ∙ ap (with_choice ways sent now p) is)
           ∙ choose_next choice ways sent now order i c.loop-position-test.true ∙ c.loop-position.invariant.0,
       c.take.ensures.taken,

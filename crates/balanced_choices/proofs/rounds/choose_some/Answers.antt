@@ -22,7 +22,7 @@ pub overflow_add-next : goal.overflow_add-next
 overflow_add-next c =
     let ds = c.args.destinations.now in
     let k = c.loop-k.k in
-    let none : Destination = record { position = 0; ends = 0 } in
+    let none : Destination = record { position = 0; ends = 0; number = 0 } in
     let next = ends_next c.loop-k.end ds k none c.loop-k-test.true in
     let most = ends_least (c.loop-k.end + (get_or ds k none).ends) (drop (k + 1) ds) in
     omega (arith, next, most, c.loop-k.invariant.1, c.requires.small)
@@ -37,7 +37,7 @@ pub choose_between-requires-clause-ends : goal.choose_between-requires-clause-en
 choose_between-requires-clause-ends c =
     let ds = c.args.destinations.now in
     let k = c.loop-k.k in
-    let none : Destination = record { position = 0; ends = 0 } in
+    let none : Destination = record { position = 0; ends = 0; number = 0 } in
     let next = ends_next c.loop-k.end ds k none c.loop-k-test.true in
     let most = ends_least (c.loop-k.end + (get_or ds k none).ends) (drop (k + 1) ds) in
     (omega arith, omega (arith, next, most, c.loop-k.invariant.1, c.requires.ends, c.loop-k.auto.choices))
@@ -62,7 +62,7 @@ loop-k-preserved c =
     let ds = c.args.destinations.now in
     let k = c.loop-k.k in
     let end = c.loop-k.end in
-    let none : Destination = record { position = 0; ends = 0 } in
+    let none : Destination = record { position = 0; ends = 0; number = 0 } in
     let d = get_or ds k none in
     let targets = c.deref.result.now in
     let f : ℕ → List Edge = λ p. picked k (sets_at c.in_ok-sets.sets p) (edges_at graph p) in
@@ -77,8 +77,8 @@ loop-k-preserved c =
     let count : end + d.ends - end ≡ d.ends = omega arith in
     let now : Balance = record { choices = map (λ w. w.items) c.loop-k.choices; loads = c.loop-k.loads } in
     let after : Balance = record { choices = map (λ w. w.items) c.choose_between.new.choices; loads = c.choose_between.new.loads } in
-    let became : with_ends round (towards graph d.position) sent (near_first (towards graph d.position)) now (numbers_from end d.ends) ≡ after =
-    sym (λ i. with_ends round (ways i) sent (order i) now (numbers_from end (count i))) ∙ c.in_ok-choose_between.ensures.balance in
+    let became : with_ends round (towards graph d.position) sent (near_first (towards graph d.position)) d.number end now (numbers_from end d.ends) ≡ after =
+    sym (λ i. with_ends round (ways i) sent (order i) d.number end now (numbers_from end (count i))) ∙ c.in_ok-choose_between.ensures.balance in
     let rest = drop (k + 1) ds in
     let long : length c.in_ok-ways.ways ≡ length graph = ap length c.in_ok-ways.ensures ∙ numbers_long f 0 (length graph) in (
       ap (λ b. with_all round graph sent b (end + d.ends) rest) (sym became)

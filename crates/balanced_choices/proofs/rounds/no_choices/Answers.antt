@@ -10,7 +10,7 @@ loop-destination-preserved c =
     let ds = c.args.destinations.now in
     let i = c.loop-destination.destination-index in
     let own : List ℕ = replicate c.args.positions 0 in
-    let none : Destination = record { position = 0; ends = 0 } in
+    let none : Destination = record { position = 0; ends = 0; number = 0 } in
     let d = get_or ds i none in
     c.in_ok-push_choices.ensures ∙ ap (λ (xs : List (List ℕ)). xs ++ replicate d.ends own) c.loop-destination.invariant
     ∙ replicate-append-replicate (ends_of 0 (take i ds)) d.ends own
