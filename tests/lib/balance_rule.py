@@ -7,6 +7,7 @@ import collections
 import spread_rule
 
 TRIED = 8
+ROUND = 65536
 PACKETS = 65536
 
 
@@ -91,13 +92,12 @@ class Choices:
     def __init__(self, graph, positions, adapters):
         self.graph, self.positions, self.adapters = graph, positions, adapters
         self.in_order = sorted(graph, key=positions.get)
-        # The adapters are numbered switch by switch, in the order of the switches.
-        self.numbers, count = {}, 0
-        for switch in self.in_order:
-            self.numbers[switch] = range(count, count + adapters[switch])
-            count += adapters[switch]
+        leaves = [switch for switch in self.in_order if adapters[switch]]
+        # Each leaf switch takes as many numbers as the most adapters that a switch has, in the order of the switches.
+        most = max(adapters.values(), default=0)
+        self.first_numbers = {leaf: index % ROUND * most for index, leaf in enumerate(leaves)}
         self.loads = collections.Counter()
-        self.taken = [dict.fromkeys(graph, 0) for _ in range(count)]
+        self.taken = {(leaf, own): dict.fromkeys(graph, 0) for leaf in leaves for own in range(adapters[leaf])}
 
     def candidates(self, target):
         """Returns the candidates of each switch towards a target."""
@@ -139,16 +139,17 @@ class Choices:
         ]
         return peaks.index(min(peaks)) if peaks else 0
 
-    def choose(self, exits, order, adapter, is_first):
-        """Makes the choices for an adapter: in turn, or anew by the loads of all others."""
-        taken = self.taken[adapter]
+    def choose(self, exits, order, target, own, is_first):
+        """Makes the choices for adapter `own` of a target: in turn, or anew by the loads of all others."""
+        taken = self.taken[target, own]
+        number = self.first_numbers[target] + own
         if not is_first:
             for switch in self.graph:
                 self.add(exits, taken, switch, -1)
         for switch in order:
             if is_first:
                 count = len(exits[switch])
-                taken[switch] = (adapter + self.positions[switch]) % count if count else 0
+                taken[switch] = (number + self.positions[switch]) % count if count else 0
             else:
                 taken[switch] = self.lightest(exits, taken, switch)
             self.add(exits, taken, switch)
@@ -158,18 +159,17 @@ class Choices:
         for number in range(3):
             if number > 0 and is_even(self.loads, self.graph):
                 return
-            for target in self.in_order:
-                if not self.adapters[target]:
-                    continue
+            for target in self.first_numbers:
                 exits = self.candidates(target)
                 order = self.near_first(exits)
-                for adapter in self.numbers[target]:
-                    self.choose(exits, order, adapter, number == 0)
+                for own in range(self.adapters[target]):
+                    self.choose(exits, order, target, own, number == 0)
 
     def of(self, number, switch, target):
         """Returns the number of the candidate that a LID with this number takes at a switch towards a target."""
-        there = self.numbers[target]
-        return self.taken[there[number % len(there)]][switch] if there else 0
+        if not self.adapters[target]:
+            return 0
+        return self.taken[target, number % self.adapters[target]][switch]
 
 
 def tables(graph, adapters, homes, named=None, lmc=0):
