@@ -2,30 +2,37 @@
 definitions in docs/MODEL.md, apart from the program. Graphs are those of spread_rule, and so are labels and candidates.
 `adapters` has how many adapters each switch has, as a Counter by GUID.
 """
+from __future__ import annotations
+
 import collections
+from collections.abc import Callable, Iterable
 
 import spread_rule
+from spread_rule import Edge, Graph
 
 TRIED = 8
 ROUND = 65536
 PACKETS = 65536
+Keys = dict[int, tuple]
+Loads = collections.Counter[tuple[int, int]]
+Adapters = collections.Counter[int]
 
 
-def by_depth(graph, keys, root, backwards=False):
+def by_depth(graph: Graph, keys: Keys, root: int, backwards: bool = False) -> list[int]:
     """Returns the switches in order of depth from `root`."""
     found, placed = [root], {root}
 
-    def first(switches, test):
+    def first(switches: Iterable[int], test: Callable[[int, int], bool]) -> int:
         best = None
         for switch in switches:
             if best is None or test(switch, best):
                 best = switch
         return best
 
-    def is_before(one, other):
+    def is_before(one: int, other: int) -> bool:
         return keys[other] < keys[one] if backwards else keys[one] < keys[other]
 
-    def goes_before(one, other):
+    def goes_before(one: int, other: int) -> bool:
         counts = [sum(to in placed for _, to in graph[switch]) for switch in (one, other)]
         return counts[0] > counts[1] or counts[0] == counts[1] and is_before(one, other)
 
@@ -42,14 +49,14 @@ def by_depth(graph, keys, root, backwards=False):
     return found
 
 
-def is_even(loads, graph):
+def is_even(loads: Loads, graph: Graph) -> bool:
     """Returns whether no load of a channel is over the mean of all channels by more than an eighth of that."""
     channels = sum(map(len, graph.values()))
     mean = sum(loads.values()) // channels if channels else 0
     return max(loads.values(), default=0) - mean <= mean // 8
 
 
-def trial_loads(graph, keys, adapters):
+def trial_loads(graph: Graph, keys: Keys, adapters: Adapters) -> Loads:
     """Returns what the channels carry in the order that grows by `keys`, if each adapter sends `PACKETS` packets to
     each adapter, and each switch shares what it has evenly over its candidates."""
     positions = spread_rule.positions_of(graph, keys)
@@ -67,7 +74,7 @@ def trial_loads(graph, keys, adapters):
     return loads
 
 
-def keys_of(graph, adapters):
+def keys_of(graph: Graph, adapters: Adapters) -> Keys:
     """Returns the keys that the rule goes by: those without roots if their trial loads are even, and otherwise, of
     these and those by depth, the first by which the busiest channel carries least."""
     keys = spread_rule.keys_of(graph, list(adapters), ())
@@ -80,7 +87,7 @@ def keys_of(graph, adapters):
     return min(tried, key=lambda keys: max(trial_loads(graph, keys, adapters).values(), default=0))
 
 
-def order_of(graph, adapters):
+def order_of(graph: Graph, adapters: Adapters) -> list[int]:
     """Returns the switches in the rule's order."""
     positions = spread_rule.positions_of(graph, keys_of(graph, adapters))
     return sorted(graph, key=positions.get)
@@ -89,7 +96,7 @@ def order_of(graph, adapters):
 class Choices:
     """The choices of candidates for each adapter, and the loads of channels by them."""
 
-    def __init__(self, graph, positions, adapters):
+    def __init__(self, graph: Graph, positions: dict[int, int], adapters: Adapters) -> None:
         self.graph, self.positions, self.adapters = graph, positions, adapters
         self.in_order = sorted(graph, key=positions.get)
         leaves = [switch for switch in self.in_order if adapters[switch]]
@@ -99,7 +106,7 @@ class Choices:
         self.loads = collections.Counter()
         self.taken = {(leaf, own): dict.fromkeys(graph, 0) for leaf in leaves for own in range(adapters[leaf])}
 
-    def candidates(self, target):
+    def candidates(self, target: int) -> dict[int, list[Edge]]:
         """Returns the candidates of each switch towards a target."""
         cost, down = spread_rule.rounds(self.graph, self.positions, target)
         found = {switch: [] for switch in self.graph}
@@ -107,15 +114,15 @@ class Choices:
             found[switch] = spread_rule.candidates(self.graph, self.positions, cost, down, switch)
         return found
 
-    def near_first(self, exits):
+    def near_first(self, exits: dict[int, list[Edge]]) -> list[int]:
         """Returns the switches, each behind those that its candidates lead to."""
-        def goes_up(switch):
+        def goes_up(switch: int) -> bool:
             return any(self.positions[to] < self.positions[switch] for _, to in exits[switch])
 
         above = [switch for switch in reversed(self.in_order) if not goes_up(switch)]
         return above + [switch for switch in self.in_order if goes_up(switch)]
 
-    def way(self, exits, taken, switch):
+    def way(self, exits: dict[int, list[Edge]], taken: dict[int, int], switch: int) -> list[tuple[int, int]]:
         """Returns the channels of the way from a switch."""
         found = []
         while exits[switch]:
@@ -124,14 +131,14 @@ class Choices:
             switch = to
         return found
 
-    def add(self, exits, taken, switch, sign=1):
+    def add(self, exits: dict[int, list[Edge]], taken: dict[int, int], switch: int, sign: int = 1) -> None:
         """Adds the packets that a switch sends to one adapter, one from each adapter there, to the way from it; with
         `sign` -1, takes them away."""
         if self.adapters[switch]:
             for channel in self.way(exits, taken, switch):
                 self.loads[channel] += sign * self.adapters[switch]
 
-    def lightest(self, exits, taken, switch):
+    def lightest(self, exits: dict[int, list[Edge]], taken: dict[int, int], switch: int) -> int:
         """Returns the number of the candidate whose way has the least peak load, the first of equals."""
         peaks = [
             max(self.loads[channel] for channel in [(switch, port), *self.way(exits, taken, to)])
@@ -139,7 +146,9 @@ class Choices:
         ]
         return peaks.index(min(peaks)) if peaks else 0
 
-    def choose(self, exits, order, target, own, is_first):
+    def choose(
+        self, exits: dict[int, list[Edge]], order: list[int], target: int, own: int, is_first: bool
+    ) -> None:
         """Makes the choices for adapter `own` of a target: in turn, or anew by the loads of all others."""
         taken = self.taken[target, own]
         number = self.first_numbers[target] + own
@@ -154,7 +163,7 @@ class Choices:
                 taken[switch] = self.lightest(exits, taken, switch)
             self.add(exits, taken, switch)
 
-    def make(self):
+    def make(self) -> None:
         """Makes the first choices, and new ones, at most twice, until loads are even."""
         for number in range(3):
             if number > 0 and is_even(self.loads, self.graph):
@@ -165,14 +174,20 @@ class Choices:
                 for own in range(self.adapters[target]):
                     self.choose(exits, order, target, own, number == 0)
 
-    def of(self, number, switch, target):
+    def of(self, number: int, switch: int, target: int) -> int:
         """Returns the number of the candidate that a LID with this number takes at a switch towards a target."""
         if not self.adapters[target]:
             return 0
         return self.taken[target, number % self.adapters[target]][switch]
 
 
-def tables(graph, adapters, homes, named=None, lmc=0):
+def tables(
+    graph: Graph,
+    adapters: Adapters,
+    homes: dict[int, tuple[int, int]],
+    named: list[int] | None = None,
+    lmc: int = 0,
+) -> dict[int, dict[int, int]]:
     """Returns the port by which packets for each LID leave each switch, in the form of spread_rule.tables. Switches are
     in the rule's order, or in that in which they are `named`."""
     numbers = spread_rule.numbers_of(graph, adapters, homes, lmc)
