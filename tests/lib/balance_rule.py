@@ -11,7 +11,6 @@ import spread_rule
 from spread_rule import Edge, Graph
 
 TRIED = 8
-ROUND = 65536
 PACKETS = 65536
 Keys = dict[int, tuple]
 Loads = collections.Counter[tuple[int, int]]
@@ -100,9 +99,13 @@ class Choices:
         self.graph, self.positions, self.adapters = graph, positions, adapters
         self.in_order = sorted(graph, key=positions.get)
         leaves = [switch for switch in self.in_order if adapters[switch]]
-        # Each leaf switch takes as many numbers as the most adapters that a switch has, in the order of the switches.
+        # Each leaf switch takes as many numbers as the most adapters that a switch has, by its leaf number.
         most = max(adapters.values(), default=0)
-        self.first_numbers = {leaf: index % ROUND * most for index, leaf in enumerate(leaves)}
+        leaf_numbers = spread_rule.leaf_numbers_of(graph, leaves)
+        self.first_numbers = {leaf: leaf_numbers[leaf] * most for leaf in leaves}
+        levels = spread_rule.levels_of(graph, leaves)
+        weights = spread_rule.weights_of(graph, levels)
+        self.weights = {switch: weights[levels[switch]] for switch in graph}
         self.loads = collections.Counter()
         self.taken = {(leaf, own): dict.fromkeys(graph, 0) for leaf in leaves for own in range(adapters[leaf])}
 
@@ -158,7 +161,8 @@ class Choices:
         for switch in order:
             if is_first:
                 count = len(exits[switch])
-                taken[switch] = (number + self.positions[switch]) % count if count else 0
+                digits = number // self.weights[switch]
+                taken[switch] = (digits + self.positions[switch]) % count if count else 0
             else:
                 taken[switch] = self.lightest(exits, taken, switch)
             self.add(exits, taken, switch)

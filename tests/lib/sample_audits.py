@@ -116,7 +116,7 @@ def tables_astray(plan: Callable[..., Ended]) -> Iterator[tuple[str, str, Ended]
         ),
     )
     yield (
-        "an entry to the wrong neighbour",
+        "an entry to the wrong neighbor",
         plan(LIDS, "10 0 2 2 1", GOOD[1]).printed.decode(),
         found(
             counted(16, 4, foreign=2)
@@ -337,7 +337,7 @@ def rings(plan: Callable[..., Ended]) -> Iterator[tuple[str, str, Ended]]:
         plan(RING_LIDS, *short).printed.decode(),
         found(counted(25, 0) + NEITHER + "credit loop on one lane 10/1 20/1 30/1 40/1 50/1\n"),
     )
-    # Each sends only to its neighbours: no packet takes two channels in a row.
+    # Each sends only to its neighbors: no packet takes two channels in a row.
     beside = ring("0 1 - - 2", "2 0 1 - -", "- 2 0 1 -", "- - 2 0 1", "1 - - 2 0")
     far = (0x30, 1), (0x40, 1), (0x40, 2), (0x50, 2), (0x10, 3), (0x50, 3), (0x10, 4), (0x20, 4), (0x20, 5), (0x30, 5)
     missing = "".join(f"lost {guid:x}/0 {lid} at {guid:016x} by 255: no entry\n" for guid, lid in far)

@@ -104,6 +104,11 @@ def candidates(
     ]
 
 
+def levels_of(graph: Graph, leaves: Iterable[int]) -> dict[int, int]:
+    """Returns the level of each switch: its distance from the nearest leaf switch, 0 if it reaches none."""
+    return dict.fromkeys(graph, 0) | distances(graph, leaves)
+
+
 def weights_of(graph: Graph, levels: dict[int, int]) -> list[int]:
     """Returns the digit weight of each level."""
     widths = collections.defaultdict(lambda: 1)
@@ -116,16 +121,21 @@ def weights_of(graph: Graph, levels: dict[int, int]) -> list[int]:
     return weights
 
 
+def leaf_numbers_of(graph: Graph, leaves: Iterable[int]) -> dict[int, int]:
+    """Returns the leaf number of each switch: how many leaf switches come before it by least neighbor and GUID."""
+    def turn(switch: int) -> tuple[float, int]:
+        return min((to for _, to in graph[switch]), default=math.inf), switch
+
+    in_turn = sorted(turn(leaf) for leaf in leaves)
+    return {switch: bisect.bisect_left(in_turn, turn(switch)) % 65536 for switch in graph}
+
+
 def numbers_of(
     graph: Graph, leaves: Iterable[int], homes: dict[int, tuple[int, int]], lmc: int
 ) -> dict[int, int]:
     """Returns the number by which each LID takes its turns: by the number of its switch among the leaf switches, and
     the port there."""
-    def turn(switch: int) -> tuple[float, int]:
-        return min((to for _, to in graph[switch]), default=math.inf), switch
-
-    in_turn = sorted(turn(leaf) for leaf in leaves)
-    leaf_numbers = {switch: bisect.bisect_left(in_turn, turn(switch)) for switch in graph}
+    leaf_numbers = leaf_numbers_of(graph, leaves)
     adapters = collections.Counter(home for home, port in set(homes.values()) if port)
     most = max(adapters.values(), default=0)
     return {
@@ -146,7 +156,7 @@ def tables(
     the port there. The order grows from `roots`, or as switches are `named`."""
     numbers = numbers_of(graph, leaves, homes, lmc)
     positions = positions_of(graph, keys_of(graph, leaves, roots) if named is None else keys_as_named(graph, named))
-    levels = dict.fromkeys(graph, 0) | distances(graph, leaves)
+    levels = levels_of(graph, leaves)
     weights = weights_of(graph, levels)
     found = {switch: {} for switch in graph}
     by_home = collections.defaultdict(list)

@@ -4,7 +4,7 @@ from __future__ import annotations
 import collections
 from collections.abc import Collection, Iterable, Iterator, Sequence
 
-# How often neighbours determine the order of rows, from above and from below.
+# How often neighbors determine the order of rows, from above and from below.
 SWEEPS = 6
 
 
@@ -66,7 +66,7 @@ def nested(
 
 
 def crossings(rows: Sequence[Sequence[int]], beside: dict[int, list[int]], place: dict[int, float]) -> int:
-    """Counts the pairs of cables between neighbouring rows that cross."""
+    """Counts the pairs of cables between neighboring rows that cross."""
     count = 0
     for upper, lower in zip(rows, rows[1:]):
         there = set(lower)
@@ -83,8 +83,8 @@ def places(rows: Iterable[Sequence[int]]) -> dict[int, float]:
     return {node: (i + 0.5) / len(row) for row in rows for i, node in enumerate(row)}
 
 
-def by_neighbours(rows: Sequence[Sequence[int]], beside: dict[int, list[int]], is_down: bool) -> list[list[int]]:
-    """Orders each row, from the top or from the bottom, by the mean position of its neighbours in the row before."""
+def by_neighbors(rows: Sequence[Sequence[int]], beside: dict[int, list[int]], is_down: bool) -> list[list[int]]:
+    """Orders each row, from the top or from the bottom, by the mean position of its neighbors in the row before."""
     found = [list(row) for row in rows]
     steps = range(1, len(found)) if is_down else range(len(found) - 2, -1, -1)
     for i in steps:
@@ -110,7 +110,7 @@ def ordered(beside: dict[int, list[int]], rank: dict[int, int]) -> list[list[int
     rows = [rows[row] for row in sorted(rows)]
     # From below first, which keeps together what stands together at the bottom.
     for is_down in [None, *[False, True] * SWEEPS]:
-        rows = rows if is_down is None else by_neighbours(rows, beside, is_down)
+        rows = rows if is_down is None else by_neighbors(rows, beside, is_down)
         count = crossings(rows, beside, places(rows))
         if best is None or count < best[0]:
             best = count, rows
@@ -119,7 +119,7 @@ def ordered(beside: dict[int, list[int]], rank: dict[int, int]) -> list[list[int
 
 def sags(rows: Iterable[Sequence[int]], beside: dict[int, list[int]]) -> dict[int, float]:
     """Returns how far each node stands below its row, from 0 to 1. If cables of a component join nodes of a row that
-    are not neighbours there, its part of the row is an arc, so that the cables do not run behind others."""
+    are not neighbors there, its part of the row is an arc, so that the cables do not run behind others."""
     part_of = {node: i for i, part in enumerate(components(beside, beside)) for node in part}
     found = {}
     for row in rows:

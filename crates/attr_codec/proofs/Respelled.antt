@@ -1,4 +1,4 @@
--- What was read of an attribute is spelled again, and its fields and zeros are all that is spelled.
+-- An attribute is encoded again as it was decoded, and its encoding is its fields and zeros.
 use Rattle.std.proofs.Common.{◌≡◌, ℕ, ◌+◌, ◌-◌, ◌/◌, ◌%◌, ◌^◌, ◌<◌, ◌≤◌, List, [], ◌∷◌, refl, sym, ap, ◌∙◌, arith, inr, true, length, drop, get_or, replicate}
 use Rattle.std.proofs.lemmas.List.{ext_get_or, get_or-drop, get_or-replicate, length-drop, length-replicate}
 use Rattle.smp_bytes.specs.Field.{Field, Entry, number_in, replaced, with_bits, with_number}

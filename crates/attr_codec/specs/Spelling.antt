@@ -6,12 +6,11 @@ pub record Are64Bytes (bytes : List ℕ) : Type 0 where
   pub count : length bytes ≡ 64
   pub bytes_fit : All (λ byte. byte < 256) bytes
 
--- any 64 bytes are spelled again as they were read
+-- any 64 bytes are encoded again as they were decoded
 abbrev pub KeepsAllBytes : {V : Type 0} → (List ℕ → V) → (V → List ℕ) → Type 0
 KeepsAllBytes value_in bytes_of = (bytes : List ℕ) → Are64Bytes bytes → bytes_of (value_in bytes) ≡ bytes
 
--- the first `count` of any 64 bytes are spelled again as they were read; those behind are reserved, and are spelled as
--- 0
+-- the first `count` of any 64 bytes are encoded again as they were decoded; the others are reserved, and encoded as 0
 abbrev pub KeepsFirstBytes : {V : Type 0} → ℕ → (List ℕ → V) → (V → List ℕ) → Type 0
 KeepsFirstBytes count value_in bytes_of =
     (bytes : List ℕ) → Are64Bytes bytes → bytes_of (value_in bytes) ≡ take count bytes ++ replicate (64 - count) 0

@@ -1,13 +1,13 @@
 ghost use Rattle.std.specs.Prelude.{◌≡◌, ℕ, List};
 
-/// An attribute: the value that the 64 bytes of a packet's payload spell.
+/// An attribute: a value that the 64 bytes of a packet's payload spell.
 pub trait Attribute: Sized {
     /// The number of the attribute.
     const ID: u16;
 
     ghost ID: { ℕ };
 
-    /// Whether each part of a value fits its field; holds of every value of the type.
+    /// Each part of a value fits its field. Holds for every value of the type.
     ghost is_value: { Self → Type 0 };
 
     /// The value that 64 bytes spell.

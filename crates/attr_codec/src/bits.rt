@@ -1,4 +1,4 @@
-//! Some bits of one byte of an attribute, at an offset that const parameters give.
+//! Bit fields of an attribute: some bits of one byte, given by const parameters.
 ghost use Rattle.std.specs.Prelude.{◌≡◌, ◌+◌, ◌^◌, ◌<◌, ◌≤◌};
 ghost use Rattle.smp_bytes.specs.Field.{bits_in, with_bits};
 

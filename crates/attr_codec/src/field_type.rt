@@ -1,4 +1,4 @@
-//! The fields of an attribute: numbers at an offset that a const parameter gives.
+//! Fields of an attribute: numbers at an offset given by a const parameter.
 ghost use Rattle.std.specs.Prelude.{◌≡◌, ℕ, ◌+◌, ◌^◌, ◌<◌, ◌≤◌};
 ghost use Rattle.smp_bytes.specs.Field.{number_in, with_number};
 
@@ -9,7 +9,7 @@ use smp_bytes::wire::{
 };
 use smp_bytes::{Guid, Lid, PortNum};
 
-/// The type of a field: a number with a fixed count of bytes.
+/// A type of field: a number with a fixed number of bytes.
 pub trait FieldType: Copy {
     /// The number of bytes of a field of this type.
     ghost len: { ℕ };

@@ -76,12 +76,12 @@ pub fn sm_info_is_spelled_by_its_fields()
         ⟦<SmInfo as Attribute>⟧.is_value }
 {}
 
-/// Each type of a node has the number that is read as it, and no other number is.
+/// Each node type is read from its own number and from no other.
 pub fn node_types_have_numbers()
     ensures { AreInverse number_of_type type_of_number }
 {}
 
-/// Each state of a port has the number that is read as it, and no other number is.
+/// Each port state is read from its own number and from no other.
 pub fn port_states_have_numbers()
     ensures { AreInverse number_of_state state_of_number }
 {}

@@ -31,6 +31,7 @@ impl LftBlock {
         PortNum::new(self.ports[i])
     }
 
+    /// Sets the port of entry `i`.
     pub fn set_port(&mut self, i: usize, to: PortNum)
         requires { i < 64 }
         ensures { self.new ≡ slice_set self.old i to }

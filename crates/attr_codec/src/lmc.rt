@@ -38,6 +38,7 @@ impl Lmc {
         Lmc(number)
     }
 
+    /// Returns the number, 0 to 7.
     pub fn number(self) -> u8
         ensures value { result ≡ self }
         ensures fits { result < 8 }

@@ -19,12 +19,14 @@ impl Model for NodeTypeNumber {
 }
 
 impl NodeTypeNumber {
+    /// Creates the number of a type, which may be a reserved one.
     pub fn new(number: u8) -> Self
         ensures { result ≡ number }
     {
         NodeTypeNumber(number)
     }
 
+    /// Returns the number.
     pub fn number(self) -> u8
         ensures { result ≡ self }
     {

@@ -14,8 +14,8 @@ use crate::port_state::PortState;
 use smp_bytes::{AttributeId, Lid, PortNum};
 use std::marker::Model;
 
-/// What a port is and does (subnet management, PortInfo): 64 bytes. Those without a name are carried as they are.
-/// Contracts see the bytes.
+/// The properties and the state of a port (subnet management, PortInfo): 64 bytes. Bits outside the named fields are
+/// kept as they are. Contracts see the bytes.
 #[derive(Clone, Copy, Debug, PartialEq, Eq)]
 pub struct PortInfo {
     bytes: [u8; 64],
@@ -56,8 +56,7 @@ impl Attribute for PortInfo {
     ghost reads_back = { λ _ _. refl };
 }
 
-/// Each named field: for whole bytes the type and the first byte; for bits their byte, the lowest bit and the number of
-/// bits.
+/// The named fields: type and first byte of a field of whole bytes; byte, lowest bit and number of bits of a bit field.
 macro_rules! port_info {
     ($access:ident m_key $args:tt) => { field_type::$access::<u64, 0> $args };
     ($access:ident gid_prefix $args:tt) => { field_type::$access::<u64, 8> $args };
@@ -82,6 +81,7 @@ impl PortInfo {
         port_info!(read m_key (&self.bytes))
     }
 
+    /// Writes M_Key.
     pub fn set_m_key(&mut self, to: u64)
         ensures { self.new ≡ with_number m_key to self.old }
     {
@@ -95,6 +95,7 @@ impl PortInfo {
         port_info!(read gid_prefix (&self.bytes))
     }
 
+    /// Writes GIDPrefix.
     pub fn set_gid_prefix(&mut self, to: u64)
         ensures { self.new ≡ with_number gid_prefix to self.old }
     {
@@ -109,6 +110,7 @@ impl PortInfo {
         port_info!(read base_lid (&self.bytes))
     }
 
+    /// Writes BaseLID.
     pub fn set_base_lid(&mut self, to: Lid)
         ensures { self.new ≡ with_number base_lid to self.old }
     {
@@ -122,6 +124,7 @@ impl PortInfo {
         port_info!(read master_sm_lid (&self.bytes))
     }
 
+    /// Writes MasterSMLID.
     pub fn set_master_sm_lid(&mut self, to: Lid)
         ensures { self.new ≡ with_number master_sm_lid to self.old }
     {
@@ -135,6 +138,7 @@ impl PortInfo {
         port_info!(read capability_mask (&self.bytes))
     }
 
+    /// Writes CapabilityMask.
     pub fn set_capability_mask(&mut self, to: u32)
         ensures { self.new ≡ with_number capability_mask to self.old }
     {
@@ -148,6 +152,7 @@ impl PortInfo {
         port_info!(read local_port_num (&self.bytes))
     }
 
+    /// Writes LocalPortNum.
     pub fn set_local_port_num(&mut self, to: PortNum)
         ensures { self.new ≡ with_number local_port_num to self.old }
     {
@@ -162,6 +167,7 @@ impl PortInfo {
         port_info!(bits link_speed_supported (&self.bytes))
     }
 
+    /// Writes LinkSpeedSupported, 4 bits.
     pub fn set_link_speed_supported(&mut self, to: u8)
         requires { to < 2 ^ 4 }
         ensures { self.new ≡ with_bits link_speed_supported to self.old }
@@ -177,6 +183,7 @@ impl PortInfo {
         port_info!(bits port_physical_state (&self.bytes))
     }
 
+    /// Writes PortPhysicalState, 4 bits.
     pub fn set_port_physical_state(&mut self, to: u8)
         requires { to < 2 ^ 4 }
         ensures { self.new ≡ with_bits port_physical_state to self.old }
@@ -192,6 +199,7 @@ impl PortInfo {
         port_info!(bits link_down_default_state (&self.bytes))
     }
 
+    /// Writes LinkDownDefaultState, 4 bits.
     pub fn set_link_down_default_state(&mut self, to: u8)
         requires { to < 2 ^ 4 }
         ensures { self.new ≡ with_bits link_down_default_state to self.old }
@@ -207,6 +215,7 @@ impl PortInfo {
         port_info!(bits m_key_protect_bits (&self.bytes))
     }
 
+    /// Writes M_KeyProtectBits, 2 bits.
     pub fn set_m_key_protect_bits(&mut self, to: u8)
         requires { to < 2 ^ 2 }
         ensures { self.new ≡ with_bits m_key_protect_bits to self.old }
@@ -221,6 +230,7 @@ impl PortInfo {
         Lmc::from_bits(port_info!(bits lmc (&self.bytes)))
     }
 
+    /// Writes LMC.
     pub fn set_lmc(&mut self, to: Lmc)
         ensures { self.new ≡ with_bits lmc to self.old }
     {
@@ -234,6 +244,7 @@ impl PortInfo {
         PortState::from_number(port_info!(bits port_state (&self.bytes)))
     }
 
+    /// Writes PortState.
     pub fn set_port_state(&mut self, to: PortState)
         ensures { self.new ≡ with_bits port_state (number_of_state to) self.old }
     {
@@ -247,6 +258,7 @@ impl PortInfo {
         port_info!(bits is_sm (&self.bytes)) == 1
     }
 
+    /// Writes IsSM of the capability mask.
     pub fn set_is_sm(&mut self, to: bool)
         ensures { self.new ≡ with_bits is_sm_bit (flag to) self.old }
     {

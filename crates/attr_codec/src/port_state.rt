@@ -31,6 +31,7 @@ impl PortState {
             .find(|state| number == state.number())
     }
 
+    /// Returns the number of the state, 0 to 4.
     pub fn number(self) -> u8
         ensures exact { result ≡ number_of_state self }
         ensures fits { result < 5 }

@@ -38,6 +38,7 @@ impl Priority {
         Priority(number)
     }
 
+    /// Returns the number, 0 to 15.
     pub fn number(self) -> u8
         ensures value { result ≡ self }
         ensures fits { result < 16 }

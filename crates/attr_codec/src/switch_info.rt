@@ -12,8 +12,8 @@ use crate::field_type;
 use smp_bytes::{AttributeId, Lid, PortNum};
 use std::marker::Model;
 
-/// What a switch is and does (subnet management, SwitchInfo): 64 bytes. Those without a name are carried as they are.
-/// Contracts see the bytes.
+/// The properties and the state of a switch (subnet management, SwitchInfo): 64 bytes. Bits outside the named fields
+/// are kept as they are. Contracts see the bytes.
 #[derive(Clone, Copy, Debug, PartialEq, Eq)]
 pub struct SwitchInfo {
     bytes: [u8; 64],
@@ -54,8 +54,7 @@ impl Attribute for SwitchInfo {
     ghost reads_back = { λ _ _. refl };
 }
 
-/// Each named field: for whole bytes the type and the first byte; for bits their byte, the lowest bit and the number of
-/// bits.
+/// The named fields: type and first byte of a field of whole bytes; byte, lowest bit and number of bits of a bit field.
 macro_rules! switch_info {
     ($access:ident linear_fdb_cap $args:tt) => { field_type::$access::<u16, 0> $args };
     ($access:ident random_fdb_cap $args:tt) => { field_type::$access::<u16, 2> $args };
@@ -71,13 +70,14 @@ macro_rules! switch_info {
 }
 
 impl SwitchInfo {
-    /// Returns LinearFDBCap: how many LIDs the forwarding table has room for.
+    /// Returns LinearFDBCap: the number of LIDs that the linear forwarding table has room for.
     pub fn linear_fdb_cap(&self) -> u16
         ensures { result ≡ number_in linear_fdb_cap self.now }
     {
         switch_info!(read linear_fdb_cap (&self.bytes))
     }
 
+    /// Writes LinearFDBCap.
     pub fn set_linear_fdb_cap(&mut self, to: u16)
         ensures { self.new ≡ with_number linear_fdb_cap to self.old }
     {
@@ -91,6 +91,7 @@ impl SwitchInfo {
         switch_info!(read random_fdb_cap (&self.bytes))
     }
 
+    /// Writes RandomFDBCap.
     pub fn set_random_fdb_cap(&mut self, to: u16)
         ensures { self.new ≡ with_number random_fdb_cap to self.old }
     {
@@ -104,6 +105,7 @@ impl SwitchInfo {
         switch_info!(read multicast_fdb_cap (&self.bytes))
     }
 
+    /// Writes MulticastFDBCap.
     pub fn set_multicast_fdb_cap(&mut self, to: u16)
         ensures { self.new ≡ with_number multicast_fdb_cap to self.old }
     {
@@ -117,6 +119,7 @@ impl SwitchInfo {
         switch_info!(read linear_fdb_top (&self.bytes))
     }
 
+    /// Writes LinearFDBTop.
     pub fn set_linear_fdb_top(&mut self, to: Lid)
         ensures { self.new ≡ with_number linear_fdb_top to self.old }
     {
@@ -130,6 +133,7 @@ impl SwitchInfo {
         switch_info!(read default_port (&self.bytes))
     }
 
+    /// Writes DefaultPort.
     pub fn set_default_port(&mut self, to: PortNum)
         ensures { self.new ≡ with_number default_port to self.old }
     {
@@ -143,6 +147,7 @@ impl SwitchInfo {
         switch_info!(read default_multicast_primary_port (&self.bytes))
     }
 
+    /// Writes DefaultMulticastPrimaryPort.
     pub fn set_default_multicast_primary_port(&mut self, to: PortNum)
         ensures { self.new ≡ with_number default_multicast_primary_port to self.old }
     {
@@ -156,6 +161,7 @@ impl SwitchInfo {
         switch_info!(read default_multicast_not_primary_port (&self.bytes))
     }
 
+    /// Writes DefaultMulticastNotPrimaryPort.
     pub fn set_default_multicast_not_primary_port(&mut self, to: PortNum)
         ensures { self.new ≡ with_number default_multicast_not_primary_port to self.old }
     {
@@ -169,6 +175,7 @@ impl SwitchInfo {
         switch_info!(read lids_per_port (&self.bytes))
     }
 
+    /// Writes LIDsPerPort.
     pub fn set_lids_per_port(&mut self, to: u16)
         ensures { self.new ≡ with_number lids_per_port to self.old }
     {
@@ -182,6 +189,7 @@ impl SwitchInfo {
         switch_info!(read partition_enforcement_cap (&self.bytes))
     }
 
+    /// Writes PartitionEnforcementCap.
     pub fn set_partition_enforcement_cap(&mut self, to: u16)
         ensures { self.new ≡ with_number partition_enforcement_cap to self.old }
     {
@@ -196,6 +204,7 @@ impl SwitchInfo {
         switch_info!(bits life_time_value (&self.bytes))
     }
 
+    /// Writes LifeTimeValue, 5 bits.
     pub fn set_life_time_value(&mut self, to: u8)
         requires { to < 2 ^ 5 }
         ensures { self.new ≡ with_bits life_time_value to self.old }
@@ -210,6 +219,7 @@ impl SwitchInfo {
         switch_info!(bits port_state_change (&self.bytes)) == 1
     }
 
+    /// Writes PortStateChange.
     pub fn set_port_state_change(&mut self, to: bool)
         ensures { self.new ≡ with_bits port_state_change (flag to) self.old }
     {

@@ -1,4 +1,4 @@
-//! Tests with attributes typed byte for byte from the format.
+//! Tests with attributes written byte by byte from the format.
 use crate::{
     Attribute, NodeInfo, NodeTypeNumber, PortInfo, PortState, Priority, SmInfo, SmStateNumber,
     SwitchInfo, VendorId,

@@ -38,6 +38,7 @@ impl VendorId {
         VendorId(number)
     }
 
+    /// Returns the number.
     pub fn number(self) -> u32
         ensures value { result ≡ self }
         ensures fits { result < 2 ^ 24 }

@@ -46,13 +46,14 @@ ends_of_part n ds first count =
     omega (arith, both, most)
 
 -- the choices for the ends of some destinations and then of others
-pub all_both : (round : ℕ) (graph : List (List Edge)) (sent : List ℕ) (old : Balance) (n : ℕ) (ds es : List Destination)
-    → with_all round graph sent old n (ds ++ es)
-    ≡ with_all round graph sent (with_all round graph sent old n ds) (ends_of n ds) es
-all_both round graph sent old n [] es = refl
-all_both round graph sent old n (d ∷ ds) es =
+pub all_both : (round : ℕ) (graph : List (List Edge)) (sent weights : List ℕ) (old : Balance) (n : ℕ) (ds es : List Destination)
+    → with_all round graph sent weights old n (ds ++ es)
+    ≡ with_all round graph sent weights (with_all round graph sent weights old n ds) (ends_of n ds) es
+all_both round graph sent weights old n [] es = refl
+all_both round graph sent weights old n (d ∷ ds) es =
     let ways = towards graph d.position in
-    all_both round graph sent (with_ends round ways sent (near_first ways) d.number n old (numbers_from n d.ends)) (n + d.ends) ds es
+    all_both round graph sent weights
+    (with_ends round ways sent weights (near_first ways) d.number n old (numbers_from n d.ends)) (n + d.ends) ds es
 
 -- the edges whose sets have a target are the candidates towards it
 pub ways_are : (graph : List (List Edge)) (targets : List ℕ) (sets : List (List TargetSet)) (k t : ℕ) → AreCandidateSets graph targets sets

@@ -47,11 +47,21 @@ abbrev pub in_turn : ℕ → ℕ → ℕ
 in_turn zero n = 0
 in_turn (suc count) n = n % suc count
 
--- the first choices for the end with this number: the candidates in turn, from the sum of that number and the position
--- on
-abbrev pub first_choices : List (List Edge) → List ℕ → List ℕ → ℕ → Chosen → Chosen
-first_choices ways sent order number old =
-    choose_each (λ now p. in_turn (length (candidates_at ways p)) (number + p)) ways sent old order
+-- the number n without its digits below the one of this weight; n itself if the weight is 0
+abbrev pub digits_from : ℕ → ℕ → ℕ
+digits_from zero n = n
+digits_from (suc w) n = n / suc w
+
+-- the number of the candidate that position p takes at first towards the end with this number: the candidates in turn, by
+-- the sum of p and the digits of the number from weight `weights[p]` on
+abbrev pub first_choice : List (List Edge) → List ℕ → ℕ → ℕ → ℕ
+first_choice ways weights number p =
+    in_turn (length (candidates_at ways p)) (digits_from (slice_index weights p) number + p)
+
+-- the first choices for the end with this number
+abbrev pub first_choices : List (List Edge) → List ℕ → List ℕ → List ℕ → ℕ → Chosen → Chosen
+first_choices ways sent weights order number old =
+    choose_each (λ now p. first_choice ways weights number p) ways sent old order
 
 -- the loads without the packets that some positions send
 abbrev pub without_packets : List (List Edge) → List ℕ → List ℕ → List ℕ → List ℕ → List ℕ
@@ -70,9 +80,9 @@ new_choices ways sent order old =
     order
 
 -- the choices for the end with this number in a round: the first choices, then new ones
-abbrev pub choices_in : ℕ → List (List Edge) → List ℕ → List ℕ → ℕ → Chosen → Chosen
-choices_in zero ways sent order number old = first_choices ways sent order number old
-choices_in (suc round) ways sent order number old = new_choices ways sent order old
+abbrev pub choices_in : ℕ → List (List Edge) → List ℕ → List ℕ → List ℕ → ℕ → Chosen → Chosen
+choices_in zero ways sent weights order number old = first_choices ways sent weights order number old
+choices_in (suc round) ways sent weights order number old = new_choices ways sent order old
 
 -- the loads of channels, and the choices for each end
 pub record Balance : Type 0 where
@@ -80,28 +90,29 @@ pub record Balance : Type 0 where
   pub loads : List ℕ
 
 -- the choices for an end are made; `first` is the first end at its position, and `number` that end's number
-abbrev pub with_end : ℕ → List (List Edge) → List ℕ → List ℕ → ℕ → ℕ → Balance → ℕ → Balance
-with_end round ways sent order number first old end =
+abbrev pub with_end : ℕ → List (List Edge) → List ℕ → List ℕ → List ℕ → ℕ → ℕ → Balance → ℕ → Balance
+with_end round ways sent weights order number first old end =
     let before : Chosen = record { choices = slice_index_or old.choices end []; loads = old.loads } in
-    let own = choices_in round ways sent order (number + (end - first)) before in
+    let own = choices_in round ways sent weights order (number + (end - first)) before in
     record { choices = slice_set old.choices end own.choices; loads = own.loads }
 
 -- those for some ends at one position, one after the other
-abbrev pub with_ends : ℕ → List (List Edge) → List ℕ → List ℕ → ℕ → ℕ → Balance → List ℕ → Balance
-with_ends round ways sent order number first old [] = old
-with_ends round ways sent order number first old (end ∷ ends) =
-    with_ends round ways sent order number first (with_end round ways sent order number first old end) ends
+abbrev pub with_ends : ℕ → List (List Edge) → List ℕ → List ℕ → List ℕ → ℕ → ℕ → Balance → List ℕ → Balance
+with_ends round ways sent weights order number first old [] = old
+with_ends round ways sent weights order number first old (end ∷ ends) =
+    with_ends round ways sent weights order number first (with_end round ways sent weights order number first old end) ends
 
 -- the candidates of each position towards position t
 abbrev pub towards : List (List Edge) → ℕ → List (List Edge)
 towards graph t = map (candidates graph t) (numbers_from 0 (length graph))
 
 -- those for the ends at some destinations, of which the first has number `end`
-abbrev pub with_all : ℕ → List (List Edge) → List ℕ → Balance → ℕ → List Destination → Balance
-with_all round graph sent old end [] = old
-with_all round graph sent old end (d ∷ ds) =
+abbrev pub with_all : ℕ → List (List Edge) → List ℕ → List ℕ → Balance → ℕ → List Destination → Balance
+with_all round graph sent weights old end [] = old
+with_all round graph sent weights old end (d ∷ ds) =
     let ways = towards graph d.position in
-    with_all round graph sent (with_ends round ways sent (near_first ways) d.number end old (numbers_from end d.ends))
+    with_all round graph sent weights
+    (with_ends round ways sent weights (near_first ways) d.number end old (numbers_from end d.ends))
     (end + d.ends) ds
 
 -- the number of all ends
@@ -136,17 +147,17 @@ at_first graph destinations =
     }
 
 -- a round more: the first one, or a later one if loads are not even
-abbrev pub with_round : ℕ → List (List Edge) → List ℕ → List Destination → Balance → Balance
-with_round zero graph sent destinations old = with_all zero graph sent old 0 destinations
-with_round (suc round) graph sent destinations old =
-    if are_even graph old.loads then old else with_all (suc round) graph sent old 0 destinations
+abbrev pub with_round : ℕ → List (List Edge) → List ℕ → List ℕ → List Destination → Balance → Balance
+with_round zero graph sent weights destinations old = with_all zero graph sent weights old 0 destinations
+with_round (suc round) graph sent weights destinations old =
+    if are_even graph old.loads then old else with_all (suc round) graph sent weights old 0 destinations
 
 -- after this many rounds
-abbrev pub after_rounds : ℕ → List (List Edge) → List ℕ → List Destination → Balance
-after_rounds zero graph sent destinations = at_first graph destinations
-after_rounds (suc round) graph sent destinations =
-    with_round round graph sent destinations (after_rounds round graph sent destinations)
+abbrev pub after_rounds : ℕ → List (List Edge) → List ℕ → List ℕ → List Destination → Balance
+after_rounds zero graph sent weights destinations = at_first graph destinations
+after_rounds (suc round) graph sent weights destinations =
+    with_round round graph sent weights destinations (after_rounds round graph sent weights destinations)
 
 -- the balanced choices: the first ones, and then new ones, at most twice, until loads are even
-unfoldable pub balanced_choices : List (List Edge) → List ℕ → List Destination → List (List ℕ)
-balanced_choices graph sent destinations = (after_rounds 3 graph sent destinations).choices
+unfoldable pub balanced_choices : List (List Edge) → List ℕ → List ℕ → List Destination → List (List ℕ)
+balanced_choices graph sent weights destinations = (after_rounds 3 graph sent weights destinations).choices

@@ -2,3 +2,4 @@ pub mod Loads
 pub mod EdgesTaken
 pub mod LeastPeakLaw
 pub mod BalancedChoices
+pub mod FirstLoads

@@ -6,8 +6,8 @@ ghost use Rattle.spread_labels.specs.Labels.{leads_up};
 ghost use Rattle.spread_labels.specs.Orders.{numbers_from};
 ghost use Rattle.balanced_choices.specs.EdgesTaken.{edges_taken, without_by};
 ghost use Rattle.balanced_choices.specs.Loads.{lightest};
-ghost use Rattle.balanced_choices.specs.BalancedChoices.{Chosen, choices_in, choose_each, first_choices, in_turn};
-ghost use Rattle.balanced_choices.specs.BalancedChoices.{is_below, near_first, with_choice};
+ghost use Rattle.balanced_choices.specs.BalancedChoices.{Chosen, choices_in, choose_each, digits_from, first_choice};
+ghost use Rattle.balanced_choices.specs.BalancedChoices.{first_choices, in_turn, is_below, near_first, with_choice};
 
 use crate::loads::PORTS;
 use crate::taken::{edge_taken, edges_taken};
@@ -68,22 +68,26 @@ pub(crate) fn choose(
     ways: &Adjacency,
     order: &[usize],
     sent: &[usize],
+    weights: &[usize],
     number: usize,
     choices: &mut [u8],
     loads: &mut [usize],
 ) -> Result<(), AllocError>
     requires positions { All (λ p. p < length ways.now) order.now }
     requires sent { length sent.now ≡ length ways.now }
+    requires weights { length weights.now ≡ length ways.now }
     requires number { number + length ways.now < 2 ^ 64 }
     requires choices { length choices.old ≡ length ways.now }
     requires loads { length loads.old ≡ 256 * length ways.now }
     ensures { OnOk result (let before : Chosen = record { choices = choices.old; loads = loads.old } in
-        choices_in round ways.now sent.now order.now number before
+        choices_in round ways.now sent.now weights.now order.now number before
         ≡ record { choices = choices.new; loads = loads.new }) }
 {
     let mut taken = edges_taken(alloc, ways, choices)?;
     if round == 0 {
-        choose_in_turn(ways, order, sent, number, choices, &mut taken, loads);
+        choose_in_turn(
+            ways, order, sent, weights, number, choices, &mut taken, loads,
+        );
     } else {
         remove_packets(&taken, sent, loads);
         choose_lightest(ways, order, sent, choices, &mut taken, loads);
@@ -91,11 +95,13 @@ pub(crate) fn choose(
     Ok(())
 }
 
-/// Makes the first choices for the end with this number: the candidates in turn.
+/// Makes the first choices for the end with this number: each position takes the candidates in turn, by the number's
+/// digits from its weight on.
 fn choose_in_turn(
     ways: &Adjacency,
     order: &[usize],
     sent: &[usize],
+    weights: &[usize],
     number: usize,
     choices: &mut [u8],
     taken: &mut [Option<Edge>],
@@ -103,17 +109,46 @@ fn choose_in_turn(
 )
     requires positions { All (λ p. p < length ways.now) order.now }
     requires sent { length sent.now ≡ length ways.now }
+    requires weights { length weights.now ≡ length ways.now }
     requires number { number + length ways.now < 2 ^ 64 }
     requires choices { length choices.old ≡ length ways.now }
     requires taken { taken.old ≡ edges_taken ways.now choices.old }
     requires loads { length loads.old ≡ 256 * length ways.now }
     ensures { let before : Chosen = record { choices = choices.old; loads = loads.old } in
-        first_choices ways.now sent.now order.now number before
+        first_choices ways.now sent.now weights.now order.now number before
         ≡ record { choices = choices.new; loads = loads.new } }
 {
     for position in order {
-        let choice = in_turn(ways.at(*position).len().min(PORTS), number + *position);
+        let choice = first_choice(ways, weights, number, *position);
         take(ways, sent, *position, choice, choices, taken, loads);
+    }
+}
+
+/// Returns the number of the candidate that a position takes at first towards the end with this number.
+pub(crate) fn first_choice(
+    ways: &Adjacency,
+    weights: &[usize],
+    number: usize,
+    position: usize,
+) -> u8
+    requires position { position < length ways.now }
+    requires weights { length weights.now ≡ length ways.now }
+    requires number { number + length ways.now < 2 ^ 64 }
+    ensures { result ≡ first_choice ways.now weights.now number position }
+{
+    let digits = digits_from(weights[position], number);
+    in_turn(ways.at(position).len().min(PORTS), digits + position)
+}
+
+/// Returns `number` without its digits below the one of this weight; `number` itself if the weight is 0.
+fn digits_from(weight: usize, number: usize) -> usize
+    ensures digits { result ≡ digits_from weight number }
+    ensures less { result ≤ number }
+{
+    if weight == 0 {
+        number
+    } else {
+        number / weight
     }
 }
 

@@ -21,13 +21,15 @@ pub struct Destination {
     /// The position.
     pub position: usize,
     /// How many ends it has.
-    pub ends: usize,
-    /// The number of the first end; the others follow. By these numbers the first choices take candidates in turn.
+    pub ends: u16,
+    /// The number of the first end; the others follow. By digits of these numbers the first choices take candidates in
+    /// turn.
     pub number: u32,
 }
 
 /// Finds for each end of each destination, in their order, the number of the candidate that each position takes, if
-/// position p sends `sent[p]` packets to it. Candidates and their numbers are in the order of the position's edges; a
+/// position p sends `sent[p]` packets to it, and begins with the candidate that an end's number tells without its
+/// digits below the one of weight `weights[p]`. Candidates and their numbers are in the order of the position's edges; a
 /// position without candidates has number 0. Takes three rounds. In each, takes for each 64 destinations a step or two
 /// for each edge and each label, and for each end a step for each position and each edge of each candidate's way. Keeps
 /// a byte for each end and position.
@@ -35,13 +37,15 @@ pub fn balanced_choices(
     alloc: Global,
     graph: &Adjacency,
     sent: &[usize],
+    weights: &[usize],
     destinations: &[Destination],
 ) -> Result<Vec<Vec<u8>>, AllocError>
     requires lead { LeadToVertices graph.now }
     requires sent { length sent.now ≡ length graph.now }
+    requires weights { length weights.now ≡ length graph.now }
     requires destinations { All (λ d. d.position < length graph.now) destinations.now }
     ensures { IfOk result (λ choices. map (λ own. own.items) choices.items
-        ≡ balanced_choices graph.now sent.now destinations.now) }
+        ≡ balanced_choices graph.now sent.now weights.now destinations.now) }
 {
     let mut choices = no_choices(alloc, graph.len(), destinations)?;
     let mut loads = no_loads(alloc, graph.len())?;
@@ -51,6 +55,7 @@ pub fn balanced_choices(
             round,
             graph,
             sent,
+            weights,
             destinations,
             &mut choices,
             &mut loads,
@@ -70,7 +75,7 @@ fn no_choices(
 {
     let mut choices = Vec::new(alloc);
     for destination in destinations {
-        push_choices(alloc, positions, destination.ends, &mut choices)?;
+        push_choices(alloc, positions, usize::from(destination.ends), &mut choices)?;
     }
     Ok(choices)
 }
@@ -97,12 +102,14 @@ fn make_round(
     round: usize,
     graph: &Adjacency,
     sent: &[usize],
+    weights: &[usize],
     destinations: &[Destination],
     choices: &mut [Vec<u8>],
     loads: &mut [usize],
 ) -> Result<(), AllocError>
     requires lead { LeadToVertices graph.now }
     requires sent { length sent.now ≡ length graph.now }
+    requires weights { length weights.now ≡ length graph.now }
     requires destinations { All (λ d. d.position < length graph.now) destinations.now }
     requires ends { length choices.old ≡ ends_of 0 destinations.now }
     requires small { ends_of 0 destinations.now < 2 ^ 64 }
@@ -110,14 +117,23 @@ fn make_round(
     requires loads { length loads.old ≡ 256 * length graph.now }
     ensures balance { OnOk result (let before : Balance
         = record { choices = map (λ own. own.items) choices.old; loads = loads.old } in
-        with_round round graph.now sent.now destinations.now before
+        with_round round graph.now sent.now weights.now destinations.now before
         ≡ record { choices = map (λ own. own.items) choices.new; loads = loads.new }) }
     ensures long { OnOk result (All (λ own. length own.items ≡ length graph.now) choices.new) }
 {
     if round > 0 && are_even(graph, loads) {
         return Ok(());
     }
-    choose_all(alloc, round, graph, sent, destinations, choices, loads)
+    choose_all(
+        alloc,
+        round,
+        graph,
+        sent,
+        weights,
+        destinations,
+        choices,
+        loads,
+    )
 }
 
 /// Makes the choices of a round for all ends of some destinations. Finds the candidates towards 64 of these at a time.
@@ -126,12 +142,14 @@ fn choose_all(
     round: usize,
     graph: &Adjacency,
     sent: &[usize],
+    weights: &[usize],
     destinations: &[Destination],
     choices: &mut [Vec<u8>],
     loads: &mut [usize],
 ) -> Result<(), AllocError>
     requires lead { LeadToVertices graph.now }
     requires sent { length sent.now ≡ length graph.now }
+    requires weights { length weights.now ≡ length graph.now }
     requires destinations { All (λ d. d.position < length graph.now) destinations.now }
     requires ends { length choices.old ≡ ends_of 0 destinations.now }
     requires small { ends_of 0 destinations.now < 2 ^ 64 }
@@ -139,7 +157,7 @@ fn choose_all(
     requires loads { length loads.old ≡ 256 * length graph.now }
     ensures balance { OnOk result (let before : Balance
         = record { choices = map (λ own. own.items) choices.old; loads = loads.old } in
-        with_all round graph.now sent.now before 0 destinations.now
+        with_all round graph.now sent.now weights.now before 0 destinations.now
         ≡ record { choices = map (λ own. own.items) choices.new; loads = loads.new }) }
     ensures long { OnOk result (All (λ own. length own.items ≡ length graph.now) choices.new) }
 {
@@ -152,6 +170,7 @@ fn choose_all(
             round,
             graph,
             sent,
+            weights,
             &destinations[first..last],
             end,
             choices,
@@ -169,6 +188,7 @@ fn choose_some(
     round: usize,
     graph: &Adjacency,
     sent: &[usize],
+    weights: &[usize],
     destinations: &[Destination],
     first: usize,
     choices: &mut [Vec<u8>],
@@ -176,6 +196,7 @@ fn choose_some(
 ) -> Result<usize, AllocError>
     requires lead { LeadToVertices graph.now }
     requires sent { length sent.now ≡ length graph.now }
+    requires weights { length weights.now ≡ length graph.now }
     requires few { length destinations.now ≤ 64 }
     requires destinations { All (λ d. d.position < length graph.now) destinations.now }
     requires ends { ends_of first destinations.now ≤ length choices.old }
@@ -184,7 +205,7 @@ fn choose_some(
     requires loads { length loads.old ≡ 256 * length graph.now }
     ensures balance { OnOk result (let before : Balance
         = record { choices = map (λ own. own.items) choices.old; loads = loads.old } in
-        with_all round graph.now sent.now before first destinations.now
+        with_all round graph.now sent.now weights.now before first destinations.now
         ≡ record { choices = map (λ own. own.items) choices.new; loads = loads.new }) }
     ensures long { OnOk result (All (λ own. length own.items ≡ length graph.now) choices.new) }
     ensures next { IfOk result (λ end. end ≡ ends_of first destinations.now) }
@@ -195,10 +216,10 @@ fn choose_some(
     for (k, destination) in destinations.iter().enumerate() {
         let ways = ways_towards(alloc, graph, &sets, k)?;
         let order = near_first(alloc, &ways)?;
-        let next = end + destination.ends;
+        let next = end + usize::from(destination.ends);
         let number = destination.number;
         choose_between(
-            alloc, round, &ways, &order, sent, number, end, next, choices, loads,
+            alloc, round, &ways, &order, sent, weights, number, end, next, choices, loads,
         )?;
         end = next;
     }
@@ -206,7 +227,7 @@ fn choose_some(
 }
 
 /// Returns the positions of destinations.
-fn positions_of(alloc: Global, destinations: &[Destination]) -> Result<Vec<usize>, AllocError>
+pub(crate) fn positions_of(alloc: Global, destinations: &[Destination]) -> Result<Vec<usize>, AllocError>
     ensures { IfOk result (λ positions. positions.items ≡ map (λ d. d.position) destinations.now) }
 {
     destinations
@@ -223,6 +244,7 @@ fn choose_between(
     ways: &Adjacency,
     order: &[usize],
     sent: &[usize],
+    weights: &[usize],
     number: u32,
     first: usize,
     last: usize,
@@ -231,25 +253,28 @@ fn choose_between(
 ) -> Result<(), AllocError>
     requires positions { All (λ p. p < length ways.now) order.now }
     requires sent { length sent.now ≡ length ways.now }
+    requires weights { length weights.now ≡ length ways.now }
     requires ends { (first ≤ last) × (last ≤ length choices.old) }
     requires choices { All (λ own. length own.items ≡ length ways.now) choices.old }
     requires loads { length loads.old ≡ 256 * length ways.now }
     ensures balance { OnOk result (let before : Balance
         = record { choices = map (λ own. own.items) choices.old; loads = loads.old } in
-        with_ends round ways.now sent.now order.now number first before (numbers_from first (last - first))
+        with_ends round ways.now sent.now weights.now order.now number first before (numbers_from first (last - first))
         ≡ record { choices = map (λ own. own.items) choices.new; loads = loads.new }) }
     ensures long { OnOk result (All (λ own. length own.items ≡ length ways.now) choices.new) }
 {
     for end in first..last {
         let own = &mut choices[end];
         let number = number as usize + (end - first);
-        choose(alloc, round, ways, order, sent, number, own, loads)?;
+        choose(
+            alloc, round, ways, order, sent, weights, number, own, loads,
+        )?;
     }
     Ok(())
 }
 
 /// Returns the candidates of each position towards target `k` of the sets.
-fn ways_towards(
+pub(crate) fn ways_towards(
     alloc: Global,
     graph: &Adjacency,
     sets: &CandidateSets,

@@ -1,14 +1,15 @@
 -- What a sink over memory holds.
 use Rattle.std.specs.Prelude.{◌≡◌, ◌≤◌, ◌+◌, ℕ, Bool, false, List, length}
 
--- the bytes that it holds, how many it has room for in all, whether a call has failed, and whether nothing is held back
+-- the bytes that the sink holds, how many it has room for in all, whether a call has failed, and whether nothing is
+-- held back
 pub record Room : Type 0 where
   pub written : List ℕ
   pub room : ℕ
   pub has_failed : Bool
   pub is_flushed : Bool
 
--- no call has failed, and `bytes` fit behind those that the sink holds
+-- no call has failed, and `bytes` fit behind the bytes that the sink holds
 pub record HasRoomFor (sink : Room) (bytes : List ℕ) : Type 0 where
   pub works : sink.has_failed ≡ false
   pub fits : length sink.written + length bytes ≤ sink.room

@@ -7,7 +7,8 @@ use Rattle.byte_io.specs.declared.reading.PieceFault.TheVariants.{Read, TooLong}
 use Rattle.byte_io.specs.declared.reading.Reading.{Reading}
 use Rattle.byte_io.specs.Source.{SourceState}
 
--- what the source has left, whether it failed and how often it was interrupted, and the bytes and calls of the reading
+-- what the source has left, whether it has failed, how many of its calls were interrupted, and the bytes and the calls
+-- of the reading
 pub record ReadingState : Type 0 where
   pub left : Option (List ℕ)
   pub has_failed : Bool
@@ -24,7 +25,7 @@ state_of state r = record {
   calls = r.budget.calls;
 }
 
--- the bytes `taken` were taken, and no more calls were interrupted than made
+-- the bytes `taken` were taken, and no more calls were interrupted than were made
 pub record Takes (old new : ReadingState) (taken : List ℕ) : Type 0 where
   pub consumed : Consumes old.left new.left taken
   pub counted : new.bytes ≡ old.bytes + length taken

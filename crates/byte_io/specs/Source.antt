@@ -3,8 +3,8 @@ use Rattle.std.specs.Prelude.{ℕ, Bool, List, Option, Result, Ok, Err}
 use Rattle.byte_io.specs.declared.source.ReadError.{ReadError}
 use Rattle.byte_io.specs.declared.source.ReadError.TheVariants.{Failed, Interrupted}
 
--- the bytes that are left, if they are known; whether a call has failed, and so does each later one; and how many calls
--- were interrupted
+-- the bytes that are left, if they are known; whether a call has failed, so every later one fails too; and the number
+-- of interrupted calls
 pub record SourceState : Type 0 where
   pub left : Option (List ℕ)
   pub has_failed : Bool

@@ -1,6 +1,6 @@
 ghost use Rattle.std.specs.Prelude.{◌≡◌, ◌≤◌, ◌^◌};
 
-/// The greatest number of bytes that one reading takes, and of calls that it makes.
+/// The greatest number of bytes that one reading takes, and of calls that it makes to its source.
 pub const READ_LIMIT: u64 = 1 << 40;
 
 /// The numbers of bytes and of calls that a reading has taken from its source.

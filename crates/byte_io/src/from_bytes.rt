@@ -21,6 +21,7 @@ impl<'b> Model for FromBytes<'b> {
 }
 
 impl<'b> FromBytes<'b> {
+    /// Creates a source over `bytes`.
     pub fn new(bytes: &'b [u8]) -> Self
         ensures { result ≡ bytes.now }
     {

@@ -14,6 +14,7 @@ pub struct FromRead<R> {
 }
 
 impl<R: Read> FromRead<R> {
+    /// Creates a source over `reader`.
     pub fn new(reader: R) -> Self
         ensures { ⟦<FromRead<R> as Source>⟧.state result
             ≡ record { left = R.remaining reader; has_failed = false; interruptions = 0 } }

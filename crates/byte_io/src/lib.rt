@@ -1,4 +1,4 @@
-//! Sources and sinks of bytes, and the numbers, GUIDs and ports of the project's texts.
+//! Sources and sinks of bytes, and writers of the numbers, GUIDs and ports in texts.
 #![tactic(auto)]
 
 mod budget;

@@ -23,6 +23,7 @@ impl<'s, S: Source> Reading<'s, S> {
     ghost use Rattle.byte_io.specs.Budget.{IsSpent};
     ghost use Rattle.byte_io.specs.Reading.{Gives};
 
+    /// Begins a reading of `source`.
     pub fn new(source: &'s mut S) -> Self
         ensures same_source { result.source.ghost_name ≡ source.entry.ghost_name }
         ensures source { result.source.now ≡ source.old }

@@ -6,7 +6,7 @@ use thiserror::Error;
 /// Why bytes were not written.
 #[derive(Clone, Copy, Debug, PartialEq, Eq, Error)]
 pub enum WriteFault {
-    /// The sink failed, and so does each later call.
+    /// The sink failed, and every later call fails too.
     #[error("write failed")]
     Write,
 }
@@ -30,7 +30,7 @@ pub trait Sink {
         ensures stays { IsTrue (has_failed self.old) → IsTrue (has_failed self.new) }
         ensures held_back { OnOk result (is_flushed self.new ≡ false) };
 
-    /// Passes on what is held back.
+    /// Passes on all bytes that are held back.
     fn flush(&mut self) -> Result<(), WriteFault>
         ensures writes { Writes written has_failed result self.old self.new [] }
         ensures stays { IsTrue (has_failed self.old) → IsTrue (has_failed self.new) }

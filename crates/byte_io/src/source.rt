@@ -7,7 +7,7 @@ use thiserror::Error;
 /// Why one call of a source gave no bytes.
 #[derive(Clone, Copy, Debug, PartialEq, Eq, Error)]
 pub enum ReadError {
-    /// The source failed, and so does each later call.
+    /// The source failed, and every later call fails too.
     #[error("read failed")]
     Failed,
     /// Nothing was read. A later call may give more.
@@ -20,8 +20,8 @@ pub trait Source {
     // The bytes that are left, whether a call has failed, and how many calls were interrupted.
     ghost state: { Self → SourceState };
 
-    /// Reads into the front of `room` and returns how many bytes; 0 only at the end, or if `room` is empty. The bytes
-    /// of `room` behind them, and all of `room` after an `Err`, are unspecified.
+    /// Reads into the front of `room` and returns how many bytes; 0 only at the end, or if `room` is empty. The rest of
+    /// `room` is unspecified, and all of it after an `Err`.
     fn read(&mut self, room: &mut [u8]) -> Result<usize, ReadError>
         ensures within { IfOk result (λ n. n ≤ length room.new) }
         ensures bytes { ReadConsumes (state self.old).left (state self.new).left result room.new }

@@ -1,4 +1,4 @@
-//! The words that texts are made of, written to a sink.
+//! Writers of the words that texts are made of.
 ghost use Rattle.std.specs.Prelude.{decimal};
 ghost use Rattle.smp_bytes.specs.Text.{guid_text, port_text};
 ghost use Rattle.byte_io.specs.Writes.{Writes};

@@ -6,7 +6,8 @@ use crate::sink::{Sink, WriteFault};
 use std::alloc::{AllocError, Global};
 use std::marker::Model;
 
-/// A sink over memory of fixed size. A write that does not fit writes nothing and fails, and so does each later call.
+/// A sink over memory of fixed size. A write that does not fit writes nothing and fails, and every later call fails
+/// too.
 #[derive(Drop)]
 pub struct ToRoom {
     written: Vec<u8>,

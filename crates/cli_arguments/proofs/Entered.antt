@@ -1,4 +1,4 @@
--- Words that have no fault name a subcommand, whose arguments take what stands behind it.
+-- Words that have no fault name a subcommand, whose arguments take the words after it.
 use Rattle.std.proofs.Common.{◌≡◌, ◌∙◌, ◌&&◌, ◌||◌, Bool, true, false, not, List, [], ◌∷◌, Option, None, Some, refl, ap, sym, subst}
 use Rattle.std.specs.Prelude.{⊤, find, fold, is_some, slice_get, codes, option_and_then, option_map, if◌then◌else◌}
 use Rattle.std.specs.List.{list_any}

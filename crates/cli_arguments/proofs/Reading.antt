@@ -1,4 +1,4 @@
--- What a command line reads of words, by the command that was built for it.
+-- What a command line is read as, by the command that was built for it.
 use Rattle.std.proofs.Common.{◌≡◌, ◌∙◌, List, [], true, ap, sym}
 use Rattle.clap.specs.Faults.{fault_of, is_simple_and_free}
 use Rattle.clap.specs.Simple.{App, HasMatchesOf, is_simple, subcommand_of, subcommand_rows_of}

@@ -1,4 +1,4 @@
--- What is read of words without a fault is well-formed.
+-- What is read from words without a fault is well-formed.
 use Rattle.std.proofs.Common.{◌≡◌, ◌∙◌, ◌&&◌, ◌||◌, ℕ, Bool, true, false, not, List, [], ◌∷◌, Option, None, Some, refl, ap, sym, subst, inl, inr}
 use Rattle.std.specs.Prelude.{◌⊎◌, Box, Ok, pos, find, map, is_some, codes, option_and_then, option_map}
 use Rattle.std.specs.Borrow.{Bor}

@@ -37,7 +37,7 @@ option_rule name = record (new_rule name) { long = Some name; value_names = 1; a
 abbrev pub floor_rule : Rule
 floor_rule = record (option_rule (codes "floor")) { parser = Some (Signed (pos 1) (pos 4294967295)) }
 
--- options with no word behind them
+-- options with no word after them
 abbrev pub all_rule : Rule
 all_rule = record (new_rule (codes "all")) { long = Some (codes "all"); action = Some SetTrue }
 
@@ -74,7 +74,7 @@ priority_rule = record (text_rule (codes "PRIORITY")) { parser = Some (Signed (p
 abbrev pub of_seat : List Rule
 of_seat = text_rule (codes "GUID") ∷ port_rule ∷ priority_rule ∷ option_rule (codes "sm-key") ∷ []
 
--- the options for how switches are ordered: from roots, or by an order
+-- the options for the order of switches: roots, or an order
 abbrev pub of_order : List Rule
 of_order = option_rule (codes "roots") ∷ option_rule (codes "order") ∷ []
 
@@ -141,14 +141,14 @@ AreRoutings words =
 
 -- commands -----------------------------------------------------------------------------------------------
 
--- the command `c` has this shape, and none of its arguments is one of its subcommands too
+-- the command `c` has this shape, and none of its arguments also applies to its subcommands
 abbrev pub IsOf : Shape → Command → Type 0
 IsOf shape c = (shape_of c ≡ shape) × ((fields_of c).has_globals ≡ false)
 
 abbrev pub IsApp : App → Command → Type 0
 IsApp app c = (app_of c ≡ app) × ((fields_of c).has_globals ≡ false)
 
--- `new` is the command `old` with `rules` added behind its own
+-- `new` is the command `old` with `rules` added after its own
 abbrev pub AddsRules : List Rule → Command → Command → Type 0
 AddsRules rules old new =
     (shape_of new ≡ record (shape_of old) { rules = (shape_of old).rules ++ rules })
@@ -156,12 +156,12 @@ AddsRules rules old new =
 
 -- words --------------------------------------------------------------------------------------------------
 
--- options of the subcommand that `words` name contradict each other
+-- options of the subcommand that `words` name contradict each other, or its GUID or SM_Key is not hex digits
 abbrev pub conflict_of : App → List Text → Bool
 conflict_of app words = has_conflict_behind (subcommand_of app words)
 
 -- what the words of a command line, the program's name first, are read as: the subcommand with its arguments. They are
--- refused if they have a fault or if options contradict each other, and otherwise only for lack of memory
+-- refused if they have a fault or a conflict, and otherwise only for lack of memory
 abbrev pub IsReadAs : App → List Text → Result ArgMatches Error → Type 0
 IsReadAs app words (Ok matches) =
     (subcommand_rows_of matches ≡ subcommand_of app words) × (fault_of app words ≡ []) × (conflict_of app words ≡ false)

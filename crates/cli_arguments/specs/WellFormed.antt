@@ -1,4 +1,4 @@
--- What the words of an accepted command line have: a subcommand, each argument that it requires, numbers in their
+-- What the words of an accepted command line have: a subcommand, each argument that it requires, and numbers in their
 -- ranges.
 use Rattle.std.specs.Prelude.{◌≡◌, ◌⊎◌, ⊤, ℕ, true, false, List, Option, None, Some, codes, is_some, pos}
 use Rattle.clap.specs.Matches.{subcommand_name_of}
@@ -26,20 +26,21 @@ pub record NamesFiles (word : Text → Option Text) (files : Option (List Text))
   pub named : is_some files ≡ true
   pub floor : IsNumberWithin 1 4294967295 (word (codes "floor"))
 
--- the options of a plan: an LMC from 0 to 7, and a rule that takes the roots or the order, if one of them is named
+-- the options of a plan: the LMC, if any, is from 0 to 7, and the rule takes the roots or the order, if one of them is
+-- named
 pub record NamesPlanning (word : Text → Option Text) : Type 0 where
   pub lmc : IsNumberWithin 0 7 (word (codes "lmc"))
   pub routing : IsRouting (word (codes "routing"))
   pub apart : has_conflict_of (word (codes "routing")) (is_some (word (codes "roots"))) (is_some (word (codes "order")))
       ≡ false
 
--- the options of an order: a rule that takes the roots or the order, if one of them is named
+-- the options of an order: the rule, `spread` if none is named, takes the roots or the order, if one of them is named
 pub record NamesOrder (word : Text → Option Text) : Type 0 where
   pub routing : IsRouting (word (codes "routing"))
   pub apart : has_conflict_of (order_rule (word (codes "routing"))) (is_some (word (codes "roots")))
       (is_some (word (codes "order"))) ≡ false
 
--- the GUID and the number of a manager's port and its priority are named, and its SM_Key, if any, is one
+-- the GUID and the number of a manager's port and its priority are named, and its SM_Key, if any, is 1 to 16 hex digits
 pub record NamesSeat (word : Text → Option Text) : Type 0 where
   pub guid : is_guid (word (codes "GUID")) ≡ true
   pub port_given : IsGiven (word (codes "PORT"))

@@ -11,11 +11,11 @@ use Rattle.clap.specs.declared.parser.matches.ArgMatches.{ArgMatches}
 abbrev pub values_in : List ℕ → List Row → Option (List (List ℕ))
 values_in name rows = option_map (λ r. r.values) (find (λ r. bytes_eq r.id name) rows)
 
--- the names of files behind the subcommand
+-- the names of files after the subcommand
 abbrev pub files_named : ArgMatches → Option (List (List ℕ))
 files_named matches = option_and_then (λ s. values_in (codes "FILE") s.1) (subcommand_rows_of matches)
 
--- the first word of the argument `name` behind a subcommand
+-- the first word of the argument `name` after a subcommand
 abbrev pub word_behind : Option (List ℕ × List Row) → List ℕ → Option (List ℕ)
 word_behind subcommand name =
     option_and_then (λ s. option_and_then (λ values. slice_get values 0) (values_in name s.1)) subcommand
@@ -23,15 +23,14 @@ word_behind subcommand name =
 abbrev pub word_named : ArgMatches → List ℕ → Option (List ℕ)
 word_named matches = word_behind (subcommand_rows_of matches)
 
--- roots are named, and the word for the rule is not the one that takes them; or an order, and no word for a rule that
--- takes one
+-- roots are named, but not the rule that takes them; or an order is named, but no rule that takes one
 abbrev pub lacks_rule : Option (List ℕ) → Bool → Bool → Bool
 lacks_rule None rooted ordered = rooted || ordered
 lacks_rule (Some word) rooted ordered =
     if bytes_eq word (codes "spread") then false
     else (if bytes_eq word (codes "balance") then rooted else rooted || ordered)
 
--- options contradict each other: roots and an order are both named, or one of them without the rule that takes it
+-- options contradict each other: roots and an order are both named, or one of them without a rule that takes it
 abbrev pub has_conflict_of : Option (List ℕ) → Bool → Bool → Bool
 has_conflict_of routing rooted ordered = (rooted && ordered) || lacks_rule routing rooted ordered
 
@@ -57,20 +56,19 @@ is_key (Some word) = is_guid_word word
 abbrev pub is_wrong_seat : (List ℕ → Option (List ℕ)) → Bool
 is_wrong_seat word = not (is_guid (word (codes "GUID"))) || not (is_key (word (codes "sm-key")))
 
--- the options of a plan or an order contradict each other in the subcommand `name`; the one that prints an order needs
--- no word for its rule
+-- the options of a plan or an order contradict each other in the subcommand `name`; `order` needs no word for its rule
 abbrev pub planning_conflict : List ℕ → (List ℕ → Option (List ℕ)) → Bool
 planning_conflict name word =
     has_conflict_of (if bytes_eq name (codes "order") then order_rule (word (codes "routing")) else word (codes "routing"))
     (is_some (word (codes "roots"))) (is_some (word (codes "order")))
 
--- options contradict each other in the subcommand `name`, or it serves a manager and its GUID or SM_Key is not hex digits
+-- options contradict each other in the subcommand `name`, or it is `serve` and its GUID or SM_Key is not hex digits
 abbrev pub has_conflict : List ℕ → (List ℕ → Option (List ℕ)) → Bool
 has_conflict name word =
     if bytes_eq name (codes "serve") then planning_conflict name word || is_wrong_seat word
     else planning_conflict name word
 
--- options contradict each other in the subcommand, if one was named
+-- options contradict each other in the subcommand, or its GUID or SM_Key is not hex digits, if a subcommand was named
 abbrev pub has_conflict_behind : Option (List ℕ × List Row) → Bool
 has_conflict_behind None = false
 has_conflict_behind (Some s) = has_conflict s.0 (word_behind (Some s))

@@ -12,7 +12,7 @@ pub const PLAN: &str = "plan";
 /// The subcommand that audits tables.
 pub const AUDIT: &str = "audit";
 
-/// The subcommand that prints the order of switches that held tables tell.
+/// The subcommand that prints the order of switches that held tables follow.
 pub const ORDER_OF: &str = "order-of";
 
 /// The subcommand that prints the tables to write next.
@@ -51,7 +51,7 @@ pub const ALL: &str = "all";
 /// The option for the most pairs of adapter ports that a channel may carry.
 pub const MAX_LOAD: &str = "max-load";
 
-/// The flag by which a step may go by the order that held tables tell.
+/// The flag by which a step may use the order that held tables follow.
 pub const TOLD_ORDER: &str = "told-order";
 
 /// The option for the LMC of a plan.
@@ -69,10 +69,10 @@ pub const ORDER: &str = "order";
 /// The rule that spreads packets over all wires; roots or an order may be named for it.
 pub const SPREAD: &str = "spread";
 
-/// The rule that spreads packets in the order of the least trial load; takes neither roots nor an order.
+/// The rule that spreads packets with balanced loads; an order may be named for it, but no roots.
 pub const BALANCE: &str = "balance";
 
-/// The rule that goes up and down; takes neither roots nor an order.
+/// The up/down rule; takes neither roots nor an order.
 pub const UPDOWN: &str = "updown";
 
 /// The argument for the text of a topology.

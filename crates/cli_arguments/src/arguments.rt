@@ -87,8 +87,8 @@ const SERVE_END: &str =
 ///
 /// # Errors
 ///
-/// Returns `Ok(Err(..))` if `command_line` refuses the words, if options contradict each other, or if memory ran out.
-/// Returns an outer `Err` if memory ran out.
+/// Returns `Ok(Err(..))` if `command_line` refuses the words, if options contradict each other, if a manager's GUID or
+/// SM_Key is not hex digits, or if memory ran out. Returns an outer `Err` if memory ran out.
 pub fn matches_of<'a>(
     alloc: Global,
     words: &'a [String],
@@ -317,15 +317,15 @@ fn with_routing<'a>(
     with_order(alloc, command)
 }
 
-/// Adds the options for how switches are ordered: from roots, or by an order.
+/// Adds the options for the order of switches: roots, or an order.
 fn with_order<'a>(alloc: Global, command: Command<'a>) -> Result<Command<'a>, AllocError>
     ensures { IfOk result (AddsRules of_order command.entry) }
 {
     command.arg(roots(alloc))?.arg(order_file(alloc))
 }
 
-/// Returns whether options contradict each other: if roots and an order are both named, or if one of them is named
-/// without the rule of routing that takes it. Also returns true if a manager's GUID or SM_Key is not hex digits.
+/// Returns whether options contradict each other: roots and an order are both named, or one of them is named without a
+/// rule of routing that takes it. Also returns true if a manager's GUID or SM_Key is not hex digits.
 fn has_conflict(matches: &ArgMatches<'_>) -> bool
     ensures { result ≡ has_conflict_behind (subcommand_rows_of matches.now) }
 {
@@ -396,8 +396,8 @@ fn are_hex_digits(bytes: &[u8]) -> bool
     bytes.iter().all(|byte| byte.is_ascii_hexdigit())
 }
 
-/// Returns whether roots are named (`rooted`) but not the rule that takes them, or an order (`ordered`) but no rule that
-/// takes one. For the subcommand that prints an order, `spread` need not be named.
+/// Returns whether roots are named (`rooted`) but not the rule that takes them, or an order is named (`ordered`) but no
+/// rule that takes one. For the subcommand that prints an order, `spread` need not be named.
 fn lacks_rule(name: &str, words: &ArgMatches<'_>, rooted: bool, ordered: bool) -> bool
     ensures { result ≡ lacks_rule (if bytes_eq name.now (codes "order")
         then order_rule (first_value (found_of words.now) (codes "routing"))
@@ -425,7 +425,8 @@ fn conflict(alloc: Global, matches: &ArgMatches<'_>) -> Result<Error, AllocError
     command.error(ErrorKind::ArgumentConflict, conflict_text(matches))
 }
 
-/// Returns the text of the error for options that contradict each other, or for a GUID or an SM_Key that is not hex digits.
+/// Returns the text of the error for options that contradict each other, or for a GUID or an SM_Key that is not hex
+/// digits.
 fn conflict_text(matches: &ArgMatches<'_>) -> &'static str {
     let Some((_, words)) = matches.subcommand() else {
         return "";
@@ -445,7 +446,7 @@ fn conflict_text(matches: &ArgMatches<'_>) -> &'static str {
     }
 }
 
-/// Builds the subcommand `name`, one of those that make plans, print an order or serve a manager.
+/// Builds the subcommand `name`: `next`, `run`, `order` or `serve`, and `plan` for any other name.
 fn subcommand<'a>(alloc: Global, name: Option<&str>) -> Result<Command<'a>, AllocError> {
     match name {
         Some(NEXT) => next(alloc, RULES.as_slice())?.bin_name("ibsm next"),

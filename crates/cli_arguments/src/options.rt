@@ -73,7 +73,7 @@ pub(crate) fn floor<'a>(alloc: Global) -> Arg<'a>
         .action(ArgAction::Set)
 }
 
-/// Returns the flag for all lines of each kind.
+/// Builds the flag for all lines of each kind.
 pub(crate) fn all<'a>(alloc: Global) -> Arg<'a>
     ensures rule { rule_of result ≡ all_rule }
     ensures own { result.global ≡ false }
@@ -84,7 +84,7 @@ pub(crate) fn all<'a>(alloc: Global) -> Arg<'a>
         .action(ArgAction::SetTrue)
 }
 
-/// Returns the flag by which a step may go by the order that held tables tell.
+/// Builds the flag by which a step may use the order that held tables follow.
 pub(crate) fn told_order<'a>(alloc: Global) -> Arg<'a>
     ensures rule { rule_of result ≡ told_order_rule }
     ensures own { result.global ≡ false }
@@ -98,7 +98,7 @@ pub(crate) fn told_order<'a>(alloc: Global) -> Arg<'a>
         .action(ArgAction::SetTrue)
 }
 
-/// Returns the option for the greatest load that passes.
+/// Builds the option for the greatest load that passes.
 pub(crate) fn max_load<'a>(alloc: Global) -> Arg<'a>
     ensures rule { rule_of result ≡ max_load_rule }
     ensures own { result.global ≡ false }
@@ -172,7 +172,7 @@ pub(crate) fn order_file<'a>(alloc: Global) -> Arg<'a>
         .action(ArgAction::Set)
 }
 
-/// Builds the argument for the files, at least one. They may stand on both sides of an option.
+/// Builds the argument for the files, at least one. An option may stand between them.
 pub(crate) fn files<'a>(alloc: Global) -> Arg<'a>
     ensures rule { rule_of result ≡ files_rule }
     ensures own { result.global ≡ false }

@@ -1,4 +1,4 @@
--- Orders by depth: next comes a neighbour of the vertex that was placed last, if one is left.
+-- Orders by depth: next comes a neighbor of the vertex that was placed last, if one is left.
 use Rattle.std.specs.Prelude.{ℕ, zero, suc, Bool, false, not, ◌&&◌, ◌||◌, ◌==◌, nat_lt}
 use Rattle.std.specs.Prelude.{List, [], ◌∷◌, ◌++◌, filter, length, count_by, Option, None, Some, slice_index_or}
 use Rattle.std.specs.List.{list_any}
@@ -32,12 +32,12 @@ abbrev pub goes_before : List (List Edge) → (ℕ → ℕ → Bool) → (ℕ �
 goes_before edges before placed a b = nat_lt (edges_to edges placed b) (edges_to edges placed a)
     || ((edges_to edges placed a == edges_to edges placed b) && before a b)
 
--- the best of the neighbours of vertex s that are left
+-- the best of the neighbors of vertex s that are left
 abbrev pub best_beside : List (List Edge) → (ℕ → ℕ → Bool) → (ℕ → Bool) → ℕ → Option ℕ
 best_beside edges before placed s =
     earliest_of (goes_before edges before placed) (filter (λ b. not (placed b)) (heads edges s))
 
--- the best neighbour left of the last vertex that has one, among the first n of `vertices`
+-- the best neighbor left of the last vertex that has one, among the first n of `vertices`
 abbrev pub deepest : List (List Edge) → (ℕ → ℕ → Bool) → (ℕ → Bool) → List ℕ → ℕ → Option ℕ
 deepest edges before placed vertices zero = None
 deepest edges before placed vertices (suc i) =

@@ -11,11 +11,11 @@ use port_graph::{Adjacency, Edge};
 use spread_labels::VertexKey;
 use std::alloc::{AllocError, Global};
 
-/// Returns the vertices in their order by depth from `root`. Next comes a neighbour of the vertex that was placed last,
-/// as long as one of its neighbours is left; else of the last one before it that has such a neighbour. Among these
-/// neighbours, the one with most edges to placed vertices comes next, and `direction` decides between equals. If no
-/// placed vertex has a neighbour left, the first of all that are left comes next. For each vertex, takes one step for
-/// each edge that is looked at before a neighbour is found.
+/// Returns the vertices in their order by depth from `root`. Next comes a neighbor of the vertex that was placed last,
+/// as long as one of its neighbors is left; else of the last one before it that has such a neighbor. Among these
+/// neighbors, the one with most edges to placed vertices comes next, and `direction` decides between equals. If no
+/// placed vertex has a neighbor left, the first of all that are left comes next. For each vertex, takes one step for
+/// each edge that is looked at before a neighbor is found.
 pub fn order_by_depth(
     alloc: Global,
     edges: &Adjacency,
@@ -62,7 +62,7 @@ fn next_by_depth(
     }
 }
 
-/// Returns the best neighbour that is left of the last vertex in `vertices` that has one.
+/// Returns the best neighbor that is left of the last vertex in `vertices` that has one.
 fn deepest(
     edges: &Adjacency,
     keys: &[VertexKey],
@@ -87,7 +87,7 @@ fn deepest(
     None
 }
 
-/// Returns, of the neighbours of a vertex that are left, the one with most edges to placed vertices.
+/// Returns, of the neighbors of a vertex that are left, the one with most edges to placed vertices.
 fn best_beside(
     edges: &Adjacency,
     keys: &[VertexKey],

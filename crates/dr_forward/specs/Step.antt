@@ -24,7 +24,7 @@ discarded packet reason = record { packet = packet; verdict = Discard reason }
 abbrev pub pointed : ℕ → List ℕ → List ℕ
 pointed pointer packet = with_number hop_pointer pointer packet
 
--- the packet with the port by which it came recorded for the way back, at its index on the path
+-- the packet with the port by which it came recorded for the way back, at index `at` of the return path
 abbrev pub noted : ℕ → Here → List ℕ → List ℕ
 noted at here packet = with_number (return_path at) here.arrival packet
 
@@ -32,7 +32,7 @@ noted at here packet = with_number (return_path at) here.arrival packet
 abbrev pub is_port : Here → ℕ → Bool
 is_port here port = is_within port here.ports
 
--- the packet leaves by the port as `after`, if the node has the port
+-- the packet leaves by the port as `after`, and is discarded if the node does not have the port
 abbrev pub leaves_by : Here → ℕ → List ℕ → List ℕ → Stepped
 leaves_by here port packet after =
     if is_port here port then record { packet = after; verdict = Out port } else discarded packet OutPort
@@ -43,7 +43,8 @@ moved_on here packet =
     let at = number_in hop_pointer packet in
     if at == 0 then pointed 1 packet else noted at here (pointed (at + 1) packet)
 
--- the packet has not come to the end of its path: it leaves if it was sent here, or if the node is a switch
+-- a step before the end of the path: the packet leaves if it was sent here or if the node is a switch, and is discarded
+-- otherwise
 abbrev pub goes_on : Here → List ℕ → Stepped
 goes_on here packet =
     let at = number_in hop_pointer packet in

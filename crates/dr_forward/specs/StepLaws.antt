@@ -17,7 +17,8 @@ abbrev pub LeavesByAPort : Type 0
 LeavesByAPort = (here : Here) (packet : List ℕ) (port : ℕ) → (step here packet).verdict ≡ Out port → (1 ≤ port)
     × (port ≤ here.ports)
 
--- a step writes the hop pointer and the path back, and no other field
+-- a step changes no field that lies before the return path and apart from the hop pointer, if the hop pointer is below
+-- 64
 abbrev pub OtherFieldsStay : Type 0
 OtherFieldsStay =
     (here : Here) (packet : List ℕ) (field : Field) → length packet ≡ 256 → number_in hop_pointer packet < 64

@@ -6,9 +6,9 @@ use Rattle.fabric_model.specs.declared.cable.NodePort.{NodePort}
 use Rattle.smp_bytes.specs.NodeType.{is_switch}
 use Rattle.smp_bytes.specs.LidRange.{has_lid}
 
--- a node as it was built: its GUID, its type, its ports from 1 on, how many entries its linear forwarding table has
--- room for, and its ports' GUIDs, of which only those of end ports are read (subnet management chapter, NodeInfo and
--- SwitchInfo)
+-- a node as built: its GUID, its type, its number of ports without port 0, the number of entries that its linear
+-- forwarding table has room for, and its ports' GUIDs; only the GUIDs of end ports are read (subnet management chapter,
+-- NodeInfo and SwitchInfo)
 pub record Node : Type 0 where
   pub guid : ℕ
   pub kind : NodeType
@@ -17,7 +17,7 @@ pub record Node : Type 0 where
   pub port_guid : ℕ → ℕ
 
 -- the nodes by number, the other end of the cable in a port, each end port's LID and LMC, and each switch's forwarding
--- table and its top
+-- table and top
 pub record Fabric : Type 0 where
   pub nodes : List Node
   pub across : NodePort → Option NodePort
@@ -51,7 +51,7 @@ IsEndPortNumber node port = MatchBool (is_switch node.kind) (port ≡ 0) ((1 ≤
 abbrev pub IsEndPort : Fabric → NodePort → Type 0
 IsEndPort f p = (node : Node) × IsNodeAt f p.node node × IsEndPortNumber node p.port
 
--- nodes have 1 to 254 ports, and a cable joins two ports, each the other's other end, or loops one
+-- each node has 1 to 254 ports, and each cable joins two ports in both directions, or loops one
 pub record IsFabric (f : Fabric) : Type 0 where
   pub counts : (number : ℕ) (node : Node) → IsNodeAt f number node → (1 ≤ node.ports) × (node.ports ≤ 254)
   pub cabled : (p q : NodePort) → f.across p ≡ Some q → IsCablePort f p

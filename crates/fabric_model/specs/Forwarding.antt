@@ -19,11 +19,11 @@ sent_from p = record { at = p; by_wire = false }
 abbrev pub arrived_at : NodePort → Standing
 arrived_at p = record { at = p; by_wire = true }
 
--- an adapter port takes its own LIDs; it sends any other LID out if it is the sender, and else drops it
+-- an adapter port takes packets for its own LIDs; it sends out others if it is their sender, and drops them otherwise
 abbrev pub adapter_course : Bool → Standing → Course
 adapter_course is_own s = if is_own then Delivers s.at else if s.by_wire then Drops else LeavesBy s.at
 
--- what a switch does by its entry: 255 and ports that it lacks drop, 0 is the switch itself
+-- what a switch does by its entry: it drops for 255 and for ports that it lacks; 0 is the switch itself
 abbrev pub entry_course : ℕ → ℕ → ℕ → Course
 entry_course ports number entry =
     if entry == 255 || nat_lt ports entry then Drops
@@ -64,12 +64,12 @@ IsDelivered f lid source hops target =
 abbrev pub IsStuck : Fabric → ℕ → Standing → Type 0
 IsStuck f lid s = (course f lid s ≡ Drops) ⊎ ((p : NodePort) × (course f lid s ≡ LeavesBy p) × (f.across p ≡ None))
 
--- a packet that takes this many wires goes on without end
+-- a packet that takes this many wires is in a loop
 abbrev pub wire_bound : Fabric → ℕ
 wire_bound f = 2 * switch_count f + 2
 
--- a packet for the LID, sent from port `source`, is lost at the node: dropped, sent by a port without a cable, or given
--- up there since it goes round for ever
+-- a packet for the LID, sent from port `source`, is lost at the node: it is dropped there, leaves by a port without a
+-- cable, or is in a loop and there after `wire_bound` wires
 abbrev pub IsLost : Fabric → ℕ → NodePort → List Hop → ℕ → Type 0
 IsLost f lid source hops node =
     (end : Standing) × Goes f lid (sent_from source) hops end × (end.at.node ≡ node)

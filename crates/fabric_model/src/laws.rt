@@ -9,7 +9,8 @@ pub fn cables_lead_back()
     ensures { CablesLeadBack }
 {}
 
-/// A directed walk of at least one port goes on by one port more from its end, if its end is at a switch.
+/// A directed path of at least one port, with a port appended, leads where this port leads from the path's end, if that
+/// is at a switch, and nowhere otherwise.
 #[tactic(auto, using(crate::proofs::DirectedWalks::walks_go_on))]
 pub fn walks_go_on()
     ensures { WalksGoOn }

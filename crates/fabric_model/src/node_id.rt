@@ -17,12 +17,14 @@ impl Model for NodeId {
 }
 
 impl NodeId {
+    /// Creates the number of a node.
     pub const fn new(number: usize) -> Self
         ensures { result ≡ number }
     {
         NodeId(number)
     }
 
+    /// Returns the number.
     pub const fn number(self) -> usize
         ensures { result ≡ self }
     {

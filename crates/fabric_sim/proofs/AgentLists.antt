@@ -1,4 +1,4 @@
--- What stays of the agents where one of them changes.
+-- What stays of the agents if one of them changes.
 use Rattle.std.proofs.Common.{◌≡◌, ◌≢◌, ℕ, zero, suc, ◌<◌, ◌≤◌, true, false, ◌&&◌, List, [], ◌∷◌, length, refl, arith, ap, ◌∙◌, subst, length-set}
 use Rattle.std.specs.Prelude.{Option, Some, None, All, slice_get, slice_set, nat_le}
 use Rattle.std.specs.Option.{option_map_or}

@@ -1,5 +1,5 @@
--- Packets on directed routes: which path they have come, and from where; and that each answer, where its status is 0, tells what
--- is so at its path's end.
+-- Packets on directed routes: which path they have come, and from where; and that each answer with status 0 says what
+-- is true of the end of its path.
 use Rattle.std.proofs.Common.{◌≡◌, ℕ, List}
 use Rattle.fabric_model.specs.declared.cable.NodePort.{NodePort}
 use Rattle.smp_bytes.specs.Header.{done}

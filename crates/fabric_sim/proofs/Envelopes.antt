@@ -1,4 +1,4 @@
--- A packet that is delivered where it lies fares as a packet that is delivered.
+-- A packet delivered at its index, by its envelope and its bytes, fares as `after_deliver` says.
 use Rattle.std.proofs.Common.{◌≡◌, ℕ, List, refl, ap, sym, ◌∙◌, subst, get_or}
 use Rattle.std.specs.Prelude.{Option, Some, None, Ok, is_some, option_map, slice_get}
 use Rattle.std.proofs.lemmas.Bool.{cond-true}

@@ -1,4 +1,4 @@
--- An agent that a port is wired at, or that a manager comes to sit at.
+-- An agent after a port was wired or a manager was seated.
 use Rattle.std.proofs.Common.{◌≡◌, ◌≢◌, ℕ, zero, suc, ◌<◌, ◌≤◌, Bool, true, List, [], ◌∷◌, length, get_or, set, refl, ap, sym, ◌∙◌, get_or-set_same, get_or-set_other}
 use Rattle.std.specs.Prelude.{if◌then◌else◌}
 use Rattle.attr_codec.specs.declared.port_state.PortState.{PortState}

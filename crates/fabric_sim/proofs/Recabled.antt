@@ -1,4 +1,4 @@
--- A fabric with a cable more, or a cable less.
+-- A fabric with a cable added or removed.
 use Rattle.std.proofs.Common.{◌≡◌, ◌≢◌, ℕ, ◌+◌, ◌≤◌, ◌↔◌, inl, inr, Bool, true, false, List, [], length, get_or, refl, arith, ap, sym, ◌∙◌, subst}
 use Rattle.std.specs.Prelude.{Option, Some, None, All, slice_get, slice_set}
 use Rattle.std.specs.Option.{option_map_or}

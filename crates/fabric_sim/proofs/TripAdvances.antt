@@ -1,4 +1,4 @@
--- Over calls that change no cable, a packet's deliveries alone take it on; and an answer on its way back.
+-- Over calls that change no cable, only its deliveries move a packet; and an answer on its way back.
 use Rattle.std.proofs.lemmas.List.Elements.{All-head, All-tail}
 use Rattle.std.proofs.lemmas.List.Sums.{sum_by-cons}
 use Rattle.std.proofs.Common.{◌≡◌, ℕ, suc, ◌+◌, ◌<◌, ◌≤◌, Bool, true, false, cond, List, [], ◌∷◌, refl, sym, ap, ◌∙◌, subst, arith}

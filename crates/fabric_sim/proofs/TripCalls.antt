@@ -1,4 +1,4 @@
--- Calls that change no cable keep the nodes, the cables, and each packet that they are not for.
+-- Calls that change no cable keep the nodes, the cables, and each packet that they do not name.
 use Rattle.std.proofs.Common.{◌≡◌, ℕ, ◌^◌, ◌<◌, Bool, true, false, cond, List, [], ◌∷◌, not, ◌==◌, refl, sym, ap, ◌∙◌, arith, ◌||◌}
 use Rattle.std.proofs.lemmas.Bool.{eqb-false}
 use Rattle.std.specs.Prelude.{Option, Some, None, slice_get, is_none, Ok}

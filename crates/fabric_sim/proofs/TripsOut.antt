@@ -1,4 +1,4 @@
--- A request on its way out: where it is after so many deliveries.
+-- A request on its way out: where it is after a number of deliveries.
 use Rattle.std.proofs.Common.{◌≡◌, ℕ, zero, suc, ◌<◌, ◌≤◌, ◌⊎◌, inl, inr, Bool, true, false, ◌&&◌, List, length, refl, sym, ap, ◌∙◌, subst, arith}
 use Rattle.std.proofs.lemmas.Bool.{and_parts, leb-true}
 use Rattle.std.specs.Prelude.{Some, None, not, is_some, is_none, slice_index, nat_le}

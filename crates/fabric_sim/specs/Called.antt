@@ -9,12 +9,12 @@ pub record Called (R : Type 0) : Type 0 where
   pub fabric : Simulation
   pub result : Result R FabricFault
 
--- a call left and returned what `called` says, except for lack of memory: that is returned only if the call is not
--- refused otherwise, and leaves everything as it is
+-- a call left and returned what `called` says, except for lack of memory, which is returned only if the call is not
+-- refused otherwise, and leaves the fabric unchanged
 abbrev pub ComesTo : {R : Type 0} → Result R FabricFault → Simulation → Simulation → Called R → Type 0
 ComesTo (Err Memory) old new called = (new ≡ old) × IsOk called.result
 ComesTo result old new called = (new ≡ called.fabric) × (result ≡ called.result)
 
--- a refusal leaves everything as it is
+-- a refusal leaves the fabric unchanged
 abbrev pub refused : {R : Type 0} → Simulation → FabricFault → Called R
 refused s fault = record { fabric = s; result = Err fault }

@@ -1,4 +1,4 @@
--- What else changes a fabric: managers are seated, packets sent, copied and lost, cables plugged in and cut.
+-- The other calls that change a fabric: managers are seated, packets sent, copied and lost, cables plugged in and cut.
 use Rattle.std.specs.Prelude.{ℕ, ◌&&◌, ◌||◌, not, List, [], slice_index_or, slice_set, if◌then◌else◌, Option, Some, None, is_none, is_some, Ok}
 use Rattle.fabric_model.specs.declared.cable.NodePort.{NodePort}
 use Rattle.fabric_model.specs.Fabric.{is_switch_at}
@@ -27,7 +27,7 @@ abbrev pub copied : Simulation → Option Flight → Called ℕ
 copied s None = refused s NoSuchPacket
 copied s (Some flight) = after_enqueue s flight.whereabouts flight.packet
 
--- a packet in flight is copied, at its whereabouts
+-- a packet in flight is copied; the copy waits at the same whereabouts
 unfoldable pub after_repeat : Simulation → ℕ → Called ℕ
 after_repeat s serial = copied s (flight_with s.flights serial)
 

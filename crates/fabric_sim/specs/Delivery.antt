@@ -42,7 +42,7 @@ use Rattle.fabric_sim.specs.Simulation.{Simulation, agent_at, port_count, is_sea
 abbrev pub carrying : Packet → List ℕ → Packet
 carrying packet bytes = record packet { bytes = bytes }
 
--- the packet leaves by a port, to the other end of its cable
+-- the packet leaves by a port to the other end of its cable, and is dropped if there is none
 abbrev pub leaving : Simulation → NodePort → Packet → Outcome
 leaving s out packet = option_map_or (λ into. Moves (Arrived into) packet) (across s.peers out) (Drops Down)
 
@@ -65,7 +65,7 @@ reason_of off.Course = OffCourse
 reason_of off.Transit = Transit
 reason_of off.OutPort = OutPort
 
--- what becomes of a packet that came to an agent: an answer is dropped, a packet for the manager is handed up, and the
+-- what becomes of a directed packet at an agent: an answer is dropped, a packet for the manager is handed up, and the
 -- agent answers any other
 abbrev pub at_agent : Simulation → NodePort → Packet → Outcome
 at_agent s p packet =
@@ -87,8 +87,8 @@ directed_outcome s p packet =
 
 -- a packet that is forwarded by its DLID
 
--- what becomes of a packet at the port that it is for: it is handed up, represses a trap, or is answered; the answer's
--- addresses are those of the request exchanged
+-- what becomes of a packet at the port that it is for: it is handed up, represses a trap, or is answered; the answer
+-- has the request's SLID and DLID exchanged
 abbrev pub arrived : Simulation → NodePort → Packet → Outcome
 arrived s p packet =
     if is_response packet.bytes || is_for_manager s p packet.bytes then HandsUp packet
@@ -105,8 +105,7 @@ lid_routed_outcome s whereabouts packet =
     by_course s (port_of whereabouts) packet
     (course (fabric_of s) packet.dlid (record { at = port_of whereabouts; by_wire = is_by_wire whereabouts }))
 
--- what becomes of any packet: it has to parse, and if it came by a wire or is an answer that was made at its port, the
--- port has to be up
+-- what becomes of any packet: its bytes have to parse and, unless it waits at a seat, a cable has to be in its port
 unfoldable pub outcome_of : Simulation → Whereabouts → Packet → Outcome
 outcome_of s whereabouts packet =
     if is_some (fault_of packet.bytes) then Drops Unreadable
@@ -116,7 +115,7 @@ outcome_of s whereabouts packet =
 
 -- delivery by index --------------------------------------------------------------------------
 
--- what is known of a packet in flight besides its bytes
+-- everything about a packet in flight except its bytes
 abbrev pub envelope_of : Flight → Envelope
 envelope_of flight =
     record {
@@ -138,11 +137,11 @@ flight_in envelope bytes =
       packet = packet_in envelope bytes;
     }
 
--- the envelope is that of the packet at index `i`
+-- the packet at index `i` has this envelope
 abbrev pub IsEnvelopeAt : List Flight → ℕ → Envelope → Type 0
 IsEnvelopeAt flights i envelope = option_map envelope_of (slice_get flights i) ≡ Some envelope
 
--- what becomes of a packet with which the action is done
+-- the outcome of the action for the packet
 abbrev pub outcome_by : Packet → Action → Outcome
 outcome_by packet (action_is.Moves whereabouts) = Moves whereabouts packet
 outcome_by packet (action_is.Asks slid dlid) = Asks packet.bytes slid dlid
@@ -164,7 +163,7 @@ CanFare s (Drops reason) = Unit {0}
 abbrev pub with_changed : List Agent → ℕ → (Agent → Agent) → List Agent
 with_changed agents id change = option_map_or (λ a. slice_set agents id (change a)) (slice_get agents id) agents
 
--- the fabric with one more packet, under the next serial number
+-- the fabric with the packet added, with the next serial number
 abbrev pub with_flight : Simulation → Whereabouts → Packet → Simulation
 with_flight s whereabouts packet =
     record s {
@@ -186,7 +185,7 @@ after_enqueue s whereabouts packet =
 abbrev pub without : Simulation → ℕ → Simulation
 without s serial = record s { flights = without_flight s.flights serial }
 
--- the trap with this TransactionID waits at the node no longer
+-- the fabric in which the trap with this TransactionID no longer waits at the node
 abbrev pub repressed_at : Simulation → ℕ → ℕ → Simulation
 repressed_at s id number = record s { traps = without_trap s.traps id number }
 

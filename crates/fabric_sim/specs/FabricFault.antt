@@ -1,4 +1,4 @@
--- The names of refusals.
+-- The names of faults.
 use Rattle.std.specs.Prelude.{ℕ, List, codes}
 use Rattle.fabric_sim.specs.declared.fault.FabricFault.{FabricFault}
 use Rattle.fabric_sim.specs.declared.fault.FabricFault.TheVariants.{NoSuchPacket, NoSuchPort, PortTaken, Memory, SerialsSpent}

@@ -16,12 +16,12 @@ trap_repress = 0x07
 abbrev pub notice : ℕ
 notice = 0x0002
 
--- the number of the trap by which a switch tells that the state of a link at one of its ports has changed
+-- the number of the trap by which a switch reports that the state of a link at one of its ports has changed
 abbrev pub link_state_change : ℕ
 link_state_change = 128
 
--- what the notice of a switch with this LID says: it is generic and urgent; its producer is a switch; the trap's number;
--- the LID of the issuer; and in the details the same LID once more
+-- what the notice of a switch with this LID says: it is generic and urgent; its producer is a switch; the trap's
+-- number; the LID of the issuer; and, in the details, that LID again
 abbrev pub link_entries : ℕ → List Entry
 link_entries lid =
     record { field = record { at = 0; len = 1 }; number = 0x81 }
@@ -34,6 +34,6 @@ link_entries lid =
 abbrev pub link_notice : ℕ → List ℕ
 link_notice lid = with_numbers (link_entries lid) (replicate 64 0)
 
--- the trap of a switch with this LID, under a TransactionID
+-- the trap of a switch with this LID, with a TransactionID
 abbrev pub link_trap : ℕ → ℕ → List ℕ
 link_trap lid number = lid_routed trap notice 0 number (link_notice lid)

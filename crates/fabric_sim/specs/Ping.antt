@@ -13,7 +13,7 @@ use Rattle.fabric_sim.specs.Simulation.{Simulation, is_port}
 use Rattle.fabric_sim.specs.declared.ping.Ping.{Ping}
 use Rattle.fabric_sim.specs.declared.ping.Ping.TheVariants.{Reached, Lost}
 
--- where a packet ends after `hops` wires, given its course, and where it ends from the other end of a wire
+-- where a packet ends after `hops` wires, given its course; `on` says where it ends from the other end of a wire
 abbrev pub ping_by : Fabric → Standing → ℕ → (NodePort → Ping) → Course → Ping
 ping_by f s hops on (Delivers p) = Reached p hops
 ping_by f s hops on (LeavesBy out) = option_map_or on (f.across out) (Lost s.at.node)
@@ -29,7 +29,7 @@ ping_on f lid (suc left) hops s =
 abbrev pub ping : Fabric → ℕ → NodePort → Ping
 ping f lid source = ping_on f lid (wire_bound f) 0 (sent_from source)
 
--- the port to send from does not exist
+-- a fault if the port to send from does not exist
 abbrev pub ping_fault : Simulation → NodePort → Option FabricFault
 ping_fault s source = if is_port s source then None else Some NoSuchPort
 
@@ -39,15 +39,15 @@ pub record DeliversOver (f : Fabric) (lid : ℕ) (source target : NodePort) (cou
   pub length : length hops ≡ count
   pub delivered : IsDelivered f lid source hops target
 
--- what a ping says is so: a packet that reaches a port is delivered there over as many wires as it says, and one that
--- is lost at a node is lost there
+-- what a ping says is true: a packet that reaches a port is delivered there over as many wires as it says, and a packet
+-- that is lost at a node is lost there
 abbrev pub PingsTell : Type 0
 PingsTell = (f : Fabric) (lid : ℕ) (source : NodePort)
     → ((target : NodePort) (count : ℕ) → ping f lid source ≡ Reached target count
     → DeliversOver f lid source target count)
     × ((id : ℕ) → ping f lid source ≡ Lost id → (hops : List Hop) × IsLost f lid source hops id)
 
--- a ping finds what is so: a packet that is delivered reaches that port in a ping, over as many wires
+-- a ping finds what is true: a packet that is delivered reaches that port in a ping, over as many wires
 abbrev pub PingsFind : Type 0
 PingsFind = (f : Fabric) (lid : ℕ) (source target : NodePort) (hops : List Hop) → IsDelivered f lid source hops target
     → ping f lid source ≡ Reached target (length hops)

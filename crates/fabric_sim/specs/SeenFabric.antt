@@ -2,6 +2,6 @@
 use Rattle.fabric_model.specs.Fabric.{IsFabric}
 use Rattle.fabric_sim.specs.Simulation.{Simulation, IsSimulation, fabric_of}
 
--- the nodes have 1 to 254 ports, and the cables lead from port to port and back
+-- what packets see is a fabric: the nodes have 1 to 254 ports, and each cable leads back to where it leads from
 abbrev pub SimulationsAreFabrics : Type 0
 SimulationsAreFabrics = (s : Simulation) → IsSimulation s → IsFabric (fabric_of s)

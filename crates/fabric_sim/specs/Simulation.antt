@@ -12,8 +12,8 @@ use Rattle.fabric_sim.specs.declared.flight.Flight.{Flight}
 use Rattle.fabric_sim.specs.Traps.{Traps}
 
 -- The agents by the ids of their nodes; for each node the other ends of the cables in its ports, from port 0 on, which
--- never has a cable; the packets in flight, by rising serial number; the next serial number, 2 ^ 64 if none is left; and
--- the traps that wait at switches.
+-- never has a cable; the packets in flight, by rising serial number; the next serial number, 2 ^ 64 if none is left;
+-- and the traps that wait at switches.
 pub record Simulation : Type 0 where
   pub agents : List Agent
   pub peers : List (List (Option NodePort))
@@ -74,7 +74,7 @@ port_of (Seat p) = p
 port_of (Arrived p) = p
 port_of (Made p) = p
 
--- the packet waits where its sender sits
+-- the packet waits at a seat
 abbrev pub is_at_seat : Whereabouts → Bool
 is_at_seat (Seat p) = true
 is_at_seat (Arrived p) = false
@@ -86,7 +86,7 @@ is_by_wire (Seat p) = false
 is_by_wire (Arrived p) = true
 is_by_wire (Made p) = false
 
--- where the answer waits if its request waited here: at its sender's seat, or where it is made
+-- where the answer waits if its request waited here: at the seat, or where it is made
 abbrev pub answer_whereabouts : Whereabouts → Whereabouts
 answer_whereabouts (Seat p) = Seat p
 answer_whereabouts (Arrived p) = Made p
@@ -114,11 +114,11 @@ Finds flights serial (Some i) = IsFlightAt flights i serial × (slice_get flight
 abbrev pub without_flight : List Flight → ℕ → List Flight
 without_flight flights serial = filter (λ flight. not (is_numbered serial flight)) flights
 
--- the packets with `moved` instead of the one with its serial number
+-- the packets, with `moved` in place of the one with its serial number
 abbrev pub with_moved : List Flight → Flight → List Flight
 with_moved flights moved = map (λ flight. if is_numbered moved.serial flight then moved else flight) flights
 
--- what is so of each simulation ---------------------------------------------------------
+-- what holds of each simulation ---------------------------------------------------------
 
 -- there is a slot for the other end of the cable in the port
 abbrev pub HasPeerSlot : List (List (Option NodePort)) → NodePort → Type 0
@@ -134,7 +134,7 @@ AreUncabledDown s =
     (p : NodePort) (a : Agent) → agent_at s p.node ≡ Some a → is_cable_port s p ≡ true → (state_at a p.port ≡ Down)
     ↔ (across s.peers p ≡ None)
 
--- the cables in ports
+-- the cables fit the nodes and their agents
 pub record AreCables (s : Simulation) : Type 0 where
   pub lists : length s.peers ≡ length s.agents
   pub fit : FitsPorts s
@@ -142,12 +142,12 @@ pub record AreCables (s : Simulation) : Type 0 where
   pub lead_back : (p q : NodePort) → across s.peers p ≡ Some q → across s.peers q ≡ Some p
   pub down : AreUncabledDown s
 
--- a packet can wait at the port, which is a seat if the whereabouts are one
+-- a packet can wait there: the port is one for a cable, and a seat if the whereabouts are a seat
 pub record CanWait (s : Simulation) (whereabouts : Whereabouts) : Type 0 where
   pub port : is_cable_port s (port_of whereabouts) ≡ true
   pub seat : is_at_seat whereabouts ≡ true → is_seat_at s (port_of whereabouts) ≡ true
 
--- a packet in flight waits where it can, with a number that was given
+-- a packet in flight waits where it can, and its serial number was given
 pub record IsWaiting (s : Simulation) (flight : Flight) : Type 0 where
   pub whereabouts : CanWait s flight.whereabouts
   pub given : flight.serial < s.next

@@ -35,8 +35,7 @@ IsUp f id node port = ((is_switch node.kind ≡ true) × (port ≡ 0))
 abbrev pub IsUpState : ℕ → Type 0
 IsUpState state = (2 ≤ state) × (state ≤ 4)
 
--- the port that PortInfo is about: for a switch the one that was asked for, for an adapter the one by which the request
--- came
+-- the port that PortInfo is about: for a switch, the port asked for; for an adapter, the port by which the request came
 abbrev pub port_asked : Node → ℕ → ℕ → ℕ
 port_asked node modifier arrival = if is_switch node.kind then modifier else arrival
 
@@ -62,8 +61,7 @@ pub record SaysOf (f : Fabric) (at : NodePort) (packet : List ℕ) : Type 0 wher
   pub switch_info : number_in attribute_id packet ≡ switch_info
       → SaysSwitch node (number_in linear_fdb_cap (bytes_in attribute_data packet))
 
--- a packet handed up at a port: its path leads somewhere from there, and what it says with status 0 is so at the end of
--- the path
+-- a packet handed up at a port: its path has an end from there, and what it says with status 0 is true of that end
 pub record TellsOfEnd (f : Fabric) (at : NodePort) (packet : List ℕ) : Type 0 where
   pub end : NodePort
   pub leads : directed_end f at (path_of packet) ≡ Some end

@@ -1,4 +1,5 @@
--- There and back: a request on a directed route is answered at the end of its path, and the answer comes to its sender.
+-- There and back: a request on a directed route is answered at the end of its path, and the answer returns to the
+-- sender.
 use Rattle.std.specs.Prelude.{◌≡◌, ◌≢◌, ℕ, ◌<◌, ◌≤◌, ◌^◌, true, List, [], ◌∷◌, length, Some, Ok, All, count_by}
 use Rattle.fabric_model.specs.declared.cable.NodePort.{NodePort}
 use Rattle.smp_bytes.specs.Header.{get_resp, sm_info}
@@ -59,9 +60,9 @@ pub record ComesHome (s : Simulation) (serial : ℕ) (at : NodePort) (path reque
   pub result : (after_deliver s serial).result ≡ Ok (delivered_is.ToManager at packet)
   pub answer : IsAnswerOver path request told packet.bytes
 
--- Whatever else is called, as long as no cable changes and the packet is not lost: on a path of n ports the request's
--- delivery n + 1 is the one that the agent at the path's end answers; and the answer's delivery n + 1, if it is not
--- lost, hands the answer up at the port that the request was sent from.
+-- Whatever else is called, as long as no cable changes and the packet is not lost: on a path of n ports, the agent at
+-- the path's end answers the request's delivery n + 1; and the answer's delivery n + 1, if it is not lost, hands the
+-- answer up at the port that the request was sent from.
 abbrev pub ThereAndBack : Type 0
 ThereAndBack =
     (s : Simulation) (origin end : NodePort) (method attribute modifier tid : ℕ) (path payload : List ℕ)

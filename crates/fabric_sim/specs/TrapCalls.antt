@@ -19,7 +19,7 @@ use Rattle.fabric_sim.specs.Delivery.{after_enqueue}
 abbrev pub with_traps : Simulation → Traps → Simulation
 with_traps s traps = record s { traps = traps }
 
--- a call that only lack of memory can refuse
+-- a call that leaves `s`, and fails only for lack of memory
 abbrev pub leaving_just : Simulation → Called (Unit {0})
 leaving_just s = record { fabric = s; result = Ok tt }
 
@@ -33,7 +33,7 @@ after_begin_traps s = leaving_just (with_traps s (begun s.traps (length s.agents
 abbrev pub port_zero : ℕ → NodePort
 port_zero id = record { node = id; port = 0 }
 
--- the LID of the subnet manager that was set at a node's port 0, 0 for none
+-- the subnet manager's LID that was set at a node's port 0, 0 for none
 abbrev pub master_lid : Simulation → ℕ → ℕ
 master_lid s id = option_map_or (λ a. master_sm_lid_at a 0) (agent_at s id) 0
 
@@ -43,7 +43,7 @@ cabled_out s (course_is.LeavesBy out) = if is_some (across s.peers out) then Som
 cabled_out s (course_is.Delivers p) = None
 cabled_out s course_is.Drops = None
 
--- the port by which a node forwards its trap to the subnet manager, if the node has a LID and a cable is in that port
+-- the port by which a node forwards its trap to the subnet manager, if the node has a LID and the port a cable
 abbrev pub trap_out : Simulation → ℕ → Option NodePort
 trap_out s id =
     if (fabric_of s).base_lid (port_zero id) == 0 then None

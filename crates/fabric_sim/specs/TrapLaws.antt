@@ -16,8 +16,8 @@ use Rattle.fabric_sim.specs.Notices.{trap_repress}
 use Rattle.fabric_sim.specs.Simulation.{Simulation, IsSimulation, across, fabric_of, flight_with, is_by_wire, port_of}
 use Rattle.fabric_sim.specs.Traps.{trap_at}
 
--- a packet by LIDs with the method TrapRepress and this TransactionID, at a port with a cable of the switch `id`, which
--- delivers it to itself
+-- a LID-routed packet with the method TrapRepress and this TransactionID waits at a port with a cable of the switch
+-- `id`, which delivers it to itself
 pub record IsRepress (s : Simulation) (flight : Flight) (id number : ℕ) : Type 0 where
   pub parses : fault_of flight.packet.bytes ≡ None
   pub by_lids : is_directed flight.packet.bytes ≡ false
@@ -33,7 +33,7 @@ pub record IsRepress (s : Simulation) (flight : Flight) (id number : ℕ) : Type
         is_by_wire flight.whereabouts;
   }) ≡ Delivers end
 
--- a delivery discards the packet, with no answer; the trap with this TransactionID waits at the node no longer, and any
+-- a delivery discards the packet, with no answer; the trap with this TransactionID no longer waits at the node, and any
 -- other trap waits as before
 pub record EndsTrap (s : Simulation) (done : Called Delivered) (id number : ℕ) : Type 0 where
   pub discarded : done.result ≡ Ok (Discarded Repress)
@@ -41,7 +41,7 @@ pub record EndsTrap (s : Simulation) (done : Called Delivered) (id number : ℕ)
   pub newer : trap_at s.traps id ≢ Some number → trap_at done.fabric.traps id ≡ trap_at s.traps id
   pub others : (other : ℕ) → other ≢ id → trap_at done.fabric.traps other ≡ trap_at s.traps other
 
--- what represses a trap ends it, once it has come to its switch
+-- a TrapRepress that has arrived at its switch ends the trap
 abbrev pub RepressesEndTraps : Type 0
 RepressesEndTraps = (s : Simulation) (serial id number : ℕ) (flight : Flight) → IsSimulation s
     → flight_with s.flights serial ≡ Some flight → IsRepress s flight id number

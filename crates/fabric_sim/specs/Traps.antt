@@ -33,6 +33,6 @@ with_new_trap t id = record { waiting = slice_set t.waiting id (Some (next_trap 
 abbrev pub is_waiting : Traps → ℕ → ℕ → Bool
 is_waiting t id number = option_map_or (λ n. n == number) (trap_at t id) false
 
--- the trap with this TransactionID waits at the node no longer
+-- the traps, of which the one with this TransactionID no longer waits at the node
 abbrev pub without_trap : Traps → ℕ → ℕ → Traps
 without_trap t id number = if is_waiting t id number then record t { waiting = slice_set t.waiting id None } else t

@@ -2,7 +2,7 @@ use crate::delivered::Reason;
 use crate::flight::Whereabouts;
 use smp_bytes::Lid;
 
-/// What is to be done with a packet where it waits.
+/// What to do with a packet where it waits.
 #[derive(Clone, Copy)]
 pub(crate) enum Action {
     /// It moves to other whereabouts.

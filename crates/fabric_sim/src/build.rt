@@ -18,9 +18,9 @@ use topo_file::{Node, Topology};
 
 impl Fabric {
     /// Builds the fabric of a topology: an agent for each of its nodes, to which nothing was written, and a cable for
-    /// each of its links. Nothing is in flight, serial numbers count from `first_serial`, and switches send no
-    /// traps. Takes a step for each
-    /// port of each node. Returns an error only for lack of memory.
+    /// each of its links. Nothing is in flight, serial numbers count from `first_serial`, and switches send no traps.
+    /// Takes a step for each port and each table entry of each node, and for each link. Returns an error only for lack
+    /// of memory.
     pub fn of(alloc: Global, topology: &Topology, first_serial: u64) -> Result<Fabric, AllocError>
         ensures fabric { IfOk result (λ fabric.
             fabric ≡ simulation_of topology.now first_serial) }

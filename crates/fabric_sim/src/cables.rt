@@ -16,7 +16,8 @@ impl Fabric {
     ///
     /// # Errors
     ///
-    /// `NoSuchPort` if either is not a port from 1 to its node's port count, and `PortTaken` if a cable is in either.
+    /// Returns `NoSuchPort` if either is not a port from 1 to its node's port count, and `PortTaken` if a cable is in
+    /// either.
     #[tactic(auto, unfolding(crate::specs::Changes::after_plug))]
     pub fn plug(&mut self, one: NodePort, other: NodePort) -> Result<(), FabricFault>
         ensures fabric { self.new ≡ (after_plug self.old one other).fabric }
@@ -51,7 +52,7 @@ impl Fabric {
     ///
     /// # Errors
     ///
-    /// `NoSuchPort`, also if no cable is in the port.
+    /// Returns `NoSuchPort` if no cable is in the port.
     #[tactic(auto, unfolding(crate::specs::Changes::after_cut))]
     pub fn cut(&mut self, at: NodePort) -> Result<(), FabricFault>
         ensures fabric { self.new ≡ (after_cut self.old at).fabric }

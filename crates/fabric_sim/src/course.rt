@@ -28,7 +28,7 @@ impl Fabric {
         }
     }
 
-    /// Returns whether a port exists: one from 1 to its node's port count, or port 0 of a switch.
+    /// Returns whether a port exists: it is from 1 to its node's port count, or port 0 of a switch.
     pub(crate) fn is_port(&self, port: &NodePort) -> bool
         ensures { result ≡ is_port self.now port.now }
     {

@@ -23,13 +23,13 @@ use smp_bytes::{AttributeId, Lid, Smp, SmpClass};
 
 impl Fabric {
     /// Performs one step of the packet in flight with this serial number: it moves over a wire, is answered, is handed
-    /// to a subnet manager, or is discarded. One that represses a trap ends it. Takes no memory. Takes one search step
-    /// for the first packet in flight, and for any other as many as the number of packets has binary digits; the others
+    /// to a subnet manager, or is discarded. A packet that represses a trap ends the trap. Takes no memory. Takes one
+    /// step to find the first packet in flight, and a binary search to find any other; if it is removed, the others
     /// close its gap.
     ///
     /// # Errors
     ///
-    /// `NoSuchPacket`, and `SerialsSpent` if an agent is to answer and no serial number is left.
+    /// Returns `NoSuchPacket`, or `SerialsSpent` if an agent is to answer and no serial number is left.
     #[tactic(auto, unfolding(crate::specs::Delivery::after_deliver))]
     pub fn deliver(&mut self, serial: u64) -> Result<Delivered, FabricFault>
         ensures fabric { self.new ≡ (after_deliver self.old serial).fabric }
@@ -139,7 +139,7 @@ impl Fabric {
         Ok(Delivered::Answered(serial))
     }
 
-    /// Returns what is to be done with a packet where it waits. A packet on a directed route takes its step.
+    /// Returns what to do with a packet where it waits. A packet on a directed route takes its step.
     #[tactic(auto, using(crate::proofs::AgentLists::within_agents), unfolding(crate::specs::Delivery::outcome_of))]
     fn action(&self, envelope: &Envelope, smp: &mut Smp) -> Action
         requires parses { fault_of smp.old ≡ None }
@@ -157,7 +157,7 @@ impl Fabric {
         }
     }
 
-    /// Performs a step of a packet on a directed route, and returns what is to be done with it.
+    /// Performs a step of a packet on a directed route, and returns what to do with it.
     fn directed_action(&self, at: &NodePort, envelope: &Envelope, smp: &mut Smp) -> Action
         requires directed { is_directed smp.old ≡ true }
         requires port { at.now.node < length self.now.agents }
@@ -188,7 +188,7 @@ impl Fabric {
         }
     }
 
-    /// Returns what is to be done with a packet that has come to the end of its path.
+    /// Returns what to do with a packet that has come to the end of its path.
     fn at_agent(&self, at: &NodePort, envelope: &Envelope, smp: &Smp) -> Action
         ensures { outcome_by (packet_in envelope.now smp.now) result
             ≡ at_agent self.now at.now (packet_in envelope.now smp.now) }
@@ -202,7 +202,7 @@ impl Fabric {
         }
     }
 
-    /// Returns what is to be done with a packet that is forwarded by its DLID.
+    /// Returns what to do with a packet that is forwarded by its DLID.
     fn lid_routed_action(&self, at: &NodePort, envelope: &Envelope, smp: &Smp) -> Action
         requires at { at.now ≡ port_of envelope.now.whereabouts }
         requires port { at.now.node < length self.now.agents }
@@ -216,7 +216,7 @@ impl Fabric {
         }
     }
 
-    /// Returns what is to be done with a packet that has come to the port of its DLID.
+    /// Returns what to do with a packet that has come to the port of its DLID.
     fn arrival(&self, at: &NodePort, envelope: &Envelope, smp: &Smp) -> Action
         ensures { outcome_by (packet_in envelope.now smp.now) result
             ≡ arrived self.now at.now (packet_in envelope.now smp.now) }
@@ -230,7 +230,8 @@ impl Fabric {
         }
     }
 
-    /// Returns the action for a packet that leaves by a port: it moves to the other end of the port's cable.
+    /// Returns the action for a packet that leaves by a port: it moves to the other end of the port's cable, and is
+    /// dropped if there is none.
     fn leaving(&self, out: &NodePort) -> Action
         ensures { (packet : Packet) → outcome_by packet result ≡ leaving self.now out.now packet }
     {

@@ -5,13 +5,13 @@ use fabric_model::NodePort;
 /// Why a packet is discarded.
 #[derive(Clone, Copy, Debug, PartialEq, Eq)]
 pub enum Reason {
-    /// The hop pointer of a directed packet is off its path, or an answer comes to an agent.
+    /// The hop pointer of a directed packet is off its path, or an answer arrives at an agent.
     Course,
     /// The path of a directed packet goes on at a node that is not a switch.
     Transit,
     /// The port by which the path of a directed packet goes on is 0 or above the node's port count.
     OutPort,
-    /// No cable is in the port by which it leaves, or in the port to which it came.
+    /// No cable is in the port by which it leaves, or in the port where it waits.
     Down,
     /// Its bytes are not a packet.
     Unreadable,

@@ -5,7 +5,7 @@ use crate::flight::Whereabouts;
 use crate::packet::Packet;
 use smp_bytes::{Lid, Smp};
 
-/// What is known of a packet in flight besides its bytes.
+/// Everything about a packet in flight except its bytes.
 #[derive(Clone, Copy)]
 pub(crate) struct Envelope {
     pub(crate) serial: u64,

@@ -109,7 +109,7 @@ impl Fabric {
         }
     }
 
-    /// Returns the agent of a node that exists.
+    /// Returns the agent of a node, which must exist.
     pub(crate) fn agent_in(&self, node: NodeId) -> &Agent
         requires { node < length self.now.agents }
         ensures { agent_at self.now node ≡ Some result.now }
@@ -127,7 +127,7 @@ impl Fabric {
         }
     }
 
-    /// Returns whether a port is one from 1 to its node's port count.
+    /// Returns whether a port is from 1 to its node's port count.
     pub(crate) fn is_cable_port(&self, port: &NodePort) -> bool
         ensures { result ≡ is_cable_port self.now port.now }
     {

@@ -9,16 +9,16 @@ pub enum FabricFault {
     /// No packet in flight has the serial number.
     #[error("NoSuchPacket")]
     NoSuchPacket,
-    /// The port does not exist, or the call is not for a port like it.
+    /// The port does not exist, or is not of the kind that the call needs.
     #[error("NoSuchPort")]
     NoSuchPort,
     /// A subnet manager sits at the port, or a cable is in it.
     #[error("PortTaken")]
     PortTaken,
-    /// The memory that the call needs was refused.
+    /// Memory ran out.
     #[error("Memory")]
     Memory,
-    /// A serial number is needed, and none is left.
+    /// No serial number is left.
     #[error("SerialsSpent")]
     SerialsSpent,
 }

@@ -8,11 +8,11 @@ use fabric_model::NodePort;
 /// Where a packet in flight waits.
 #[derive(Clone, Copy, Debug, PartialEq, Eq)]
 pub enum Whereabouts {
-    /// At the port of the subnet manager that sent it, or that sent the request which it answers there.
+    /// At the port of the subnet manager that sent it, or that sent the request that it answers there.
     Seat(NodePort),
     /// At a port to which it came by a wire.
     Arrived(NodePort),
-    /// At a port where it was made, as the answer to a request that came by a wire.
+    /// At a port of the node that made it: an answer to a request that did not wait at a seat, or a trap.
     Made(NodePort),
 }
 
@@ -26,7 +26,7 @@ impl Whereabouts {
         }
     }
 
-    /// Returns whether the packet waits where its sender sits.
+    /// Returns whether the packet waits at a seat.
     pub(crate) fn is_seat(&self) -> bool
         ensures { result ≡ is_at_seat self.now }
     {
@@ -65,7 +65,7 @@ pub struct Flight {
 impl Flight {
     ghost use Rattle.fabric_sim.specs.Delivery.{envelope_of};
 
-    /// Returns what is known of the packet besides its bytes.
+    /// Returns everything about the packet except its bytes.
     pub(crate) fn envelope(&self) -> Envelope
         ensures { result ≡ envelope_of self.now }
     {

@@ -86,7 +86,7 @@ impl Fabric {
     ///
     /// # Errors
     ///
-    /// `NoSuchPacket`.
+    /// Returns `NoSuchPacket` if there is none.
     #[tactic(auto, unfolding(crate::specs::Changes::after_lose))]
     pub fn lose(&mut self, serial: u64) -> Result<(), FabricFault>
         ensures fabric { self.new ≡ (after_lose self.old serial).fabric }
@@ -99,12 +99,12 @@ impl Fabric {
         Ok(())
     }
 
-    /// Copies the packet in flight with this serial number. The copy waits at the same whereabouts; returns its serial
-    /// number.
+    /// Copies the packet in flight with this serial number, and returns the copy's serial number. The copy waits at the
+    /// same whereabouts.
     ///
     /// # Errors
     ///
-    /// `NoSuchPacket`, `SerialsSpent`, and `Memory`.
+    /// Returns `NoSuchPacket`, `SerialsSpent` or `Memory`.
     #[tactic(auto, unfolding(crate::specs::Changes::after_repeat))]
     pub fn repeat(&mut self, serial: u64) -> Result<u64, FabricFault>
         ensures { ComesTo result self.old self.new (after_repeat self.old serial) }

@@ -19,7 +19,7 @@ impl Fabric {
     ///
     /// # Errors
     ///
-    /// `NoSuchPort` if no manager sits there, `SerialsSpent`, and `Memory`.
+    /// Returns `NoSuchPort` if no manager sits there, `SerialsSpent` or `Memory`.
     #[tactic(auto, unfolding(crate::specs::Changes::after_inject))]
     pub fn inject(&mut self, from: NodePort, packet: Packet) -> Result<u64, FabricFault>
         ensures { ComesTo result self.old self.new (after_inject self.old from packet) }

@@ -1,4 +1,4 @@
-//! What is so of packets on their way.
+//! The laws of packets on their way.
 ghost use Rattle.fabric_sim.specs.Ping.{PingsTell, PingsFind};
 ghost use Rattle.fabric_sim.specs.SeenFabric.{SimulationsAreFabrics};
 ghost use Rattle.fabric_sim.specs.ThereAndBack.{ThereAndBack};
@@ -10,18 +10,18 @@ pub fn simulations_are_fabrics()
     ensures { SimulationsAreFabrics }
 {}
 
-/// What a ping says is so: a packet that reaches a port is delivered there over as many wires as it says, and one that
-/// is lost at a node is lost there.
+/// What a ping says is true: a packet that reaches a port is delivered there over as many wires as it says, and a
+/// packet that is lost at a node is lost there.
 pub fn pings_tell()
     ensures { PingsTell }
 {}
 
-/// A ping finds what is so: a packet that is delivered reaches that port in a ping, over as many wires.
+/// A ping finds what is true: a packet that is delivered reaches that port in a ping, over as many wires.
 pub fn pings_find()
     ensures { PingsFind }
 {}
 
-/// A directed request for another attribute than SMInfo, over a path of n ports that has an end, is answered there by
+/// A directed request for an attribute other than SMInfo, over a path of n ports that has an end, is answered there by
 /// its delivery n + 1, and the answer is handed to the manager that sent the request by its own delivery n + 1,
 /// whatever else is called, if neither is lost, no cable changes and serial numbers are left.
 #[tactic(auto, using(crate::proofs::TripEnds::there_and_back))]
@@ -29,8 +29,8 @@ pub fn there_and_back()
     ensures { ThereAndBack }
 {}
 
-/// A TrapRepress that has come by LIDs to its switch is discarded with no answer, and ends the trap of its
-/// TransactionID there, and no other trap.
+/// A LID-routed TrapRepress that has arrived at its switch, by a port with a cable, is discarded with no answer, and
+/// ends the trap of its TransactionID there, and no other trap.
 pub fn represses_end_traps()
     ensures { RepressesEndTraps }
 {}

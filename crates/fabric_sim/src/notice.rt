@@ -1,11 +1,11 @@
-//! The trap by which a switch tells that the state of a link at one of its ports has changed.
+//! The trap by which a switch reports that the state of a link at one of its ports has changed.
 ghost use Rattle.std.specs.Prelude.{◌≡◌};
 ghost use Rattle.fabric_sim.specs.Notices.{link_notice, link_trap};
 
 use smp_bytes::wire::{put_u8, put_u16, put_u24};
 use smp_bytes::{AttributeId, Lid, Method, Smp};
 
-/// The method of a trap, and the one by which it is repressed (management methods).
+/// The method of a trap, and the method that represses it (management methods).
 pub(crate) const TRAP: Method = Method(0x05);
 
 pub(crate) const TRAP_REPRESS: Method = Method(0x07);

@@ -22,11 +22,11 @@ pub enum Ping {
 impl Fabric {
     /// Returns where a packet for `lid` ends if it is sent from the port `from` and switches forward it by their
     /// tables. From a port of a switch it begins at the switch. After two wires for each switch and two more it counts
-    /// as lost, since it loops then. Takes a step for each node, and one for each wire. Takes no memory.
+    /// as lost, since it then loops. Takes a step for each node, and one for each wire. Takes no memory.
     ///
     /// # Errors
     ///
-    /// `NoSuchPort`. Port 0 of a switch is a port.
+    /// Returns `NoSuchPort` if the port does not exist. Port 0 of a switch exists.
     pub fn ping(&self, from: NodePort, lid: Lid) -> Result<Ping, FabricFault>
         ensures judged { Judges result (ping_fault self.now from) }
         ensures ping { IfOk result (λ comes. comes ≡ ping (fabric_of self.now) lid from) }

@@ -11,7 +11,7 @@ impl Fabric {
     ///
     /// # Errors
     ///
-    /// `NoSuchPort`, also at a switch, and `PortTaken` if a manager sits there.
+    /// Returns `NoSuchPort` if the port does not exist or is a switch's, and `PortTaken` if a manager sits there.
     #[tactic(auto, using(crate::proofs::AgentLists::within_agents), unfolding(crate::specs::Changes::after_seat))]
     pub fn seat(&mut self, at: NodePort) -> Result<(), FabricFault>
         ensures fabric { self.new ≡ (after_seat self.old at).fabric }

@@ -21,7 +21,7 @@ impl Fabric {
     ///
     /// # Errors
     ///
-    /// `Memory`.
+    /// Returns `Memory` if memory runs out.
     pub fn begin_traps(&mut self, alloc: Global) -> Result<(), FabricFault>
         ensures { ComesTo result self.old self.new (after_begin_traps self.old) }
     {
@@ -37,7 +37,7 @@ impl Fabric {
     ///
     /// # Errors
     ///
-    /// `Memory`.
+    /// Returns `Memory` if memory runs out.
     #[tactic(auto, unfolding(crate::specs::TrapCalls::after_port_change))]
     pub fn tell_port_change(&mut self, node: NodeId) -> Result<(), FabricFault>
         ensures { ComesTo result self.old self.new (after_port_change self.old node) }
@@ -51,12 +51,12 @@ impl Fabric {
         Ok(())
     }
 
-    /// Sends the trap that waits at a node, if one does. It is not sent if the node has no LID, the table leads to no
-    /// cable, or no serial number is left.
+    /// Sends the trap that waits at a node, if there is one. It is not sent if the node has no LID, the table leads to
+    /// no port with a cable, or no serial number is left.
     ///
     /// # Errors
     ///
-    /// `Memory`.
+    /// Returns `Memory` if memory runs out.
     #[tactic(auto, unfolding(crate::specs::TrapCalls::after_send_trap))]
     pub fn send_trap(&mut self, node: NodeId) -> Result<(), FabricFault>
         ensures { ComesTo result self.old self.new (after_send_trap self.old node) }
@@ -96,7 +96,7 @@ impl Fabric {
         self.traps.has_room(node) && self.is_switch_at(node)
     }
 
-    /// Returns the port by which a node's trap leaves: one with a cable.
+    /// Returns the port by which a node's trap leaves, if the node has a LID and the port a cable.
     fn trap_out(&self, node: NodeId) -> Option<NodePort>
         ensures out { result ≡ trap_out self.now node }
         ensures port { IfSome result (λ out. is_cable_port self.now out ≡ true) }
@@ -123,7 +123,7 @@ impl Fabric {
         }
     }
 
-    /// Returns the LID of the subnet manager that was set at a node's port 0, 0 for none.
+    /// Returns the subnet manager's LID that was set at a node's port 0, 0 for none.
     fn master_lid(&self, node: NodeId) -> Lid
         ensures { result ≡ master_lid self.now node }
     {

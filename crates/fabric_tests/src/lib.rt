@@ -1,5 +1,5 @@
 //! Tests of the agents and of the fabric by their public calls. They are a crate of their own, so that checking them
-//! does not prove the tested crates once more.
+//! does not prove the tested crates again.
 #![tactic(auto)]
 
 #[cfg(test)]

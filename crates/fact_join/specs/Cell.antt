@@ -17,13 +17,13 @@ IsDisputed (Disputed generation) = Unit {0}
 abbrev pub IsBelow : {V : Type 0} → Cell V → Cell V → Type 0
 IsBelow a b = (generation_of a < generation_of b) ⊎ (a ≡ b) ⊎ ((generation_of a ≡ generation_of b) × IsDisputed b)
 
--- the join of two cells of one generation: equal values stay known, and else the cell is disputed
+-- the join of two cells of one generation: known if both are known with equal values, otherwise disputed
 abbrev pub joined_alike : {V : Type 0} → (V → V → Bool) → Cell V → Cell V → Cell V
 joined_alike same (Known generation x) (Known other y) = if same x y then Known generation x else Disputed generation
 joined_alike same (Known generation x) (Disputed other) = Disputed generation
 joined_alike same (Disputed generation) b = Disputed generation
 
--- the newer cell, or within one generation what both say
+-- the newer cell; within a generation, what both say together
 abbrev pub joined_by : {V : Type 0} → (V → V → Bool) → Cell V → Cell V → Cell V
 joined_by same a b =
     if nat_lt (generation_of b) (generation_of a) then a else

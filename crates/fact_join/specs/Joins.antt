@@ -24,11 +24,11 @@ disputed_is : {V : Type 0} (a : Cell V) → IsDisputed a → a ≡ Disputed (gen
 disputed_is (Known g x) h = absurd h
 disputed_is (Disputed g) h = refl
 
--- two disputed cells of one generation are one
+-- two disputed cells of one generation are equal
 both_disputed : {V : Type 0} (a b : Cell V) → generation_of a ≡ generation_of b → IsDisputed a → IsDisputed b → a ≡ b
 both_disputed a b e p q = disputed_is a p ∙ ap Disputed e ∙ sym (disputed_is b q)
 
--- two cells below each other are one
+-- two cells below each other are equal
 pub below_antisymm : {V : Type 0} (a b : Cell V) → IsBelow a b → IsBelow b a → a ≡ b
 below_antisymm a b (inl h) k = absurd (omega (arith, below-le b a k))
 below_antisymm a b (inr (inl e)) k = e
@@ -36,7 +36,7 @@ below_antisymm a b (inr (inr h)) (inl k) = absurd (omega arith)
 below_antisymm a b (inr (inr h)) (inr (inl e)) = sym e
 below_antisymm a b (inr (inr h)) (inr (inr k)) = both_disputed a b h.0 k.1 h.1
 
--- a cell below b is below all that is above b
+-- a cell below b is below every cell above b
 pub below_trans : {V : Type 0} (a b c : Cell V) → IsBelow a b → IsBelow b c → IsBelow a c
 below_trans a b c (inl h) k = inl (omega (arith, below-le b c k))
 below_trans a b c (inr (inl e)) k = let P : Cell _ → Type 0 = λ x. IsBelow x c in subst P (sym e) k

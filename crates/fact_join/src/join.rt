@@ -8,9 +8,9 @@ pub trait Exact: Eq + Copy {
     ghost exact: { (x y : Self) → Self.eq x y ≡ true → x ≡ y };
 }
 
-/// Values in an order, any two of which have a least value above both.
+/// A type with an order in which any two values have a least value above both.
 pub trait Join: Sized {
-    /// Whether the first value says no more than the second.
+    /// The first value says no more than the second.
     ghost below: { Self → Self → Type 0 };
 
     /// The least value above both.
@@ -37,8 +37,8 @@ pub trait Join: Sized {
     ghost least: { (x y z : Self) → below x z → below y z → below (joined x y) z };
 }
 
-/// A cell of a greater generation is above. Within one generation a disputed cell is above all others, and two
-/// different values are in no order.
+/// A cell of a newer generation is above one of an older generation. Within a generation, a disputed cell is above all
+/// others, and cells with different values are not ordered.
 impl<V: Exact> Join for Cell<V> {
     ghost use Rattle.fact_join.specs.Cell.{IsBelow, joined_by};
 

@@ -1,4 +1,4 @@
--- Cells in the order of their keys: as entries of their map, with one put in, and with one changed.
+-- Cells in the order of their keys: as entries of their map, with a cell inserted, and with a cell changed.
 use Rattle.std.proofs.Common.{◌≡◌, ℕ, zero, suc, ◌<◌, ◌≤◌, List, [], ◌∷◌, ◌++◌, length, set, refl, sym, ap, ◌∙◌, subst, arith, Bool, true, false, ◌&&◌}
 use Rattle.std.proofs.lemmas.Option.{get_or_from_slice_get, slice_get_within, slice_get-get_or}
 use Rattle.std.proofs.lemmas.List.{append_assoc}

@@ -1,4 +1,4 @@
--- What cells say together, with one put in, one changed, and two lists of them walked in step.
+-- What cells say together, with a cell inserted, with a cell changed, and with two lists walked in step.
 use Rattle.std.proofs.Common.{◌≡◌, ℕ, zero, suc, List, [], ◌∷◌, ◌++◌, set, take, drop, refl, sym, ap, ◌∙◌, true, false, cond}
 use Rattle.std.proofs.lemmas.List.{append_assoc, take-append-drop, set_split}
 use Rattle.std.proofs.lemmas.Option.{slice_get_within}

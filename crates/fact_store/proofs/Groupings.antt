@@ -1,4 +1,4 @@
--- Stores merged in any grouping, or in turn, hold the view of all that they were made of.
+-- Stores merged in any grouping, or one after another, hold the view of all that they were made of.
 use Rattle.std.proofs.Common.{◌≡◌, ℕ, List, [], ◌∷◌, ◌++◌, refl, sym, ap, ◌∙◌, map}
 use Rattle.std.proofs.lemmas.List.{append-nil, append_assoc}
 use Rattle.std.specs.Prelude.{fold, max}

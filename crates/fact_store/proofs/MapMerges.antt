@@ -1,4 +1,4 @@
--- The merge of two maps is their least upper bound, and so commutes, associates and changes nothing twice.
+-- The merge of two maps is their least upper bound, so it is commutative, associative and idempotent.
 use Rattle.std.proofs.Common.{◌≡◌, List, [], ◌∷◌, ◌++◌, refl, sym, ap, ◌∙◌, subst, true, false, cond, map}
 use Rattle.std.specs.Prelude.{Option, None, Some}
 use Rattle.std.specs.Option.{option_map_or}

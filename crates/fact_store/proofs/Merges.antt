@@ -1,4 +1,4 @@
--- Facts at a floor, and their merge: it is the least above both, and so commutes, associates and changes nothing twice.
+-- Facts at a floor, and their merge: it is the least above both, so it is commutative, associative and idempotent.
 use Rattle.std.proofs.Common.{◌≡◌, ◌≤◌, ℕ, T, List, refl, sym, ap, ◌∙◌, arith, Bool, true, false, cond, [], ◌∷◌}
 use Rattle.std.proofs.lemmas.Bool.{and_parts, leb-true}
 use Rattle.std.specs.Prelude.{Some, max}

@@ -1,4 +1,4 @@
--- A cell that is put among others, or joined to the one of its key.
+-- A cell inserted among others, or joined to the cell of its key.
 use Rattle.std.proofs.Common.{◌≡◌, ℕ, List, [], ◌∷◌, set, take, drop, sym, ap, ◌∙◌, subst, inl, inr, true, cond}
 use Rattle.std.proofs.lemmas.List.Elements.{All-append, All-take, All-drop, All-cons, All-set}
 use Rattle.std.specs.Prelude.{All, None, Some, Contains, slice_get, insert}

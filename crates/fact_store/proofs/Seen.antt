@@ -1,4 +1,5 @@
--- The map of sightings is the least above all of them. So it depends on membership alone, and the map of two lists is the merge of theirs.
+-- The map of sightings is the least above all of them, and so depends on membership alone. The map of two lists
+-- together is the merge of their maps.
 use Rattle.std.proofs.Common.{◌≡◌, ◌≤◌, ◌<◌, ℕ, List, [], ◌∷◌, ◌++◌, ◌⊎◌, inl, inr, refl, sym, ap, ◌∙◌, subst, arith, Bool, true, false, cond, ◌==◌, ◌||◌, map}
 use Rattle.std.proofs.lemmas.Bool.{eqb-true, eq-eqb, ltb-true, ltb-false}
 use Rattle.std.proofs.lemmas.List.Elements.{Contains-append_left, Contains-append_right, Contains-append_cases}

@@ -1,4 +1,4 @@
--- A loop over sightings: what one more tells.
+-- A loop over sightings: what a further sighting adds.
 use Rattle.std.proofs.Common.{◌≡◌, ◌<◌, ◌+◌, ℕ, List, [], ◌∷◌, ◌++◌, sym, ap, ◌∙◌, length, take, get_or}
 use Rattle.std.proofs.lemmas.List.{take_more}
 use Rattle.fact_join.specs.declared.cell.Cell.{Cell}

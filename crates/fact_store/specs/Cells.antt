@@ -21,13 +21,13 @@ pub record AreHeld (floor : ℕ) (cells : List (Key × Cell Value)) : Type 0 whe
   pub are : AreCells cells
   pub kept : All (λ s. IsTrue (is_kept floor s.1)) cells
 
--- the key has no cell, and would have it at this index
+-- the key has no cell; a cell inserted at this index keeps the order of keys
 pub record IsIndexFor (key : Key) (cells : List (Key × Cell Value)) (index : ℕ) : Type 0 where
   pub within : index ≤ length cells
   pub absent : get (seen cells) key ≡ None
   pub rising : (c : Cell Value) → IsTrue (is_sorted key_cmp (insert cells index (key, c)))
 
--- the index of the key's cell, or the one where it would be
+-- the index of the key's cell, or the one where it would be inserted
 abbrev pub IsSearched : Key → List (Key × Cell Value) → Result ℕ ℕ → Type 0
 IsSearched key cells (Ok index) = (c : Cell Value) × (slice_get cells index ≡ Some (key, c))
 IsSearched key cells (Err index) = IsIndexFor key cells index

@@ -9,8 +9,8 @@ use Rattle.reply_facts.specs.Key.{key_cmp}
 
 -- a search: -----------------------------------------------------------------------
 
--- the keys compared so far, the last one first, leave the indices from `low` up to, but not including, `high`: each
--- stood at an index that the earlier ones left, and leaves those on the side of `key`
+-- the keys compared so far, latest first, leave the indices from `low` up to, but not including, `high`: each key is at
+-- an index that the earlier keys left, and leaves the indices on `key`'s side of it
 pub data Leaves (key : Key) (cells : List (Key × Cell Value)) : List Key → ℕ → ℕ → Type 0 where
   all : Leaves key cells [] 0 (length cells)
   later : (compared : List Key) (low high index : ℕ) (e : Key × Cell Value) → Leaves key cells compared low high → low
@@ -48,19 +48,19 @@ pub record IsBudget (n steps most : ℕ) : Type 0 where
 
 -- a walk of two lists in step: -----------------------------------------------------
 
--- one of three numbers, by the order of two keys
+-- one of three numbers, by an ordering
 abbrev pub by_order : Ordering → ℕ → ℕ → ℕ → ℕ
 by_order Less less equal greater = less
 by_order Equal less equal greater = equal
 by_order Greater less equal greater = greater
 
 -- the comparisons from here on, if the first list is at cell x: x's key is compared with the second list's next one,
--- and the lesser of the two is passed, or both if they are equal; `after` counts those after x is passed
+-- and the lesser of the two is passed, or both if they are equal; `after` counts the comparisons after x is passed
 abbrev pub compared_at : Key × Cell Value → (List (Key × Cell Value) → ℕ) → List (Key × Cell Value) → ℕ
 compared_at x after [] = 0
 compared_at x after (y ∷ t) = 1 + by_order (key_cmp x.0 y.0) (after (y ∷ t)) (after t) (compared_at x after t)
 
--- the comparisons of a walk: the lists' next keys are compared until one list ends
+-- the comparisons of a walk: the next keys of both lists are compared until one list ends
 abbrev pub compared_by_walk : List (Key × Cell Value) → List (Key × Cell Value) → ℕ
 compared_by_walk [] t = 0
 compared_by_walk (x ∷ s) t = compared_at x (compared_by_walk s) t

@@ -1,4 +1,4 @@
--- A floor under the generations: what is below it does not count.
+-- A floor under the generations: cells below it do not count.
 use Rattle.std.proofs.Common.{◌≡◌, ℕ, Bool, true, false, List, [], ◌∷◌, ◌&&◌, cond, refl, sym, subst, arith}
 use Rattle.std.proofs.lemmas.Bool.{le-leb}
 use Rattle.std.specs.Prelude.{T, nat_le, max, filter, Option, None, Some, if◌then◌else◌}
@@ -50,7 +50,7 @@ second_true : (a b : Bool) → T (a && b) → T b
 second_true true b h = h
 second_true false b h = absurd h
 
--- a key below all others is below those that are kept
+-- a key below all keys is below all keys that are kept
 below_kept : (floor : ℕ) (k : Key) (es : List (Key × Cell Value)) → T (below_all key_cmp k es)
     → T (below_all key_cmp k (kept floor es))
 below_kept floor k [] h = tt
@@ -59,7 +59,7 @@ below_kept floor k (e ∷ es) h =
     elim (is_kept floor e.1) as (λ b. T (below_all key_cmp k (cond b (e ∷ kept floor es) (kept floor es))))
     [ true ↦ both_true _ _ (first_true _ _ h) rest | false ↦ rest ]
 
--- if keys rise, those that are kept rise
+-- if keys rise, the keys that are kept rise
 pub rising_kept : (floor : ℕ) (es : List (Key × Cell Value)) → T (is_sorted key_cmp es)
     → T (is_sorted key_cmp (kept floor es))
 rising_kept floor [] h = tt
@@ -70,7 +70,7 @@ rising_kept floor (e ∷ es) h =
       | false ↦ rest
     ]
 
--- the entries of a dropped map are those that are kept
+-- the entries of a dropped map are the entries that are kept
 pub entries-dropped : (floor : ℕ) (found : CellMap) → entries (dropped floor found) ≡ kept floor (entries found)
 entries-dropped floor found =
     entries-from_sorted key_cmp (kept floor (entries found)) (rising_kept floor (entries found) (entries_sorted found))

@@ -1,4 +1,4 @@
--- Why a store refuses a report.
+-- Why a report is not added to a store.
 use Rattle.std.specs.Prelude.{Bool, true, false, Option, option_map}
 use Rattle.reply_facts.specs.declared.report.Report.{Report}
 use Rattle.fact_store.specs.declared.ingest.IngestFault.{IngestFault}

@@ -12,19 +12,20 @@ use Rattle.fact_store.specs.Seen.{CellMap}
 use Rattle.reply_facts.specs.Value.{is_same_value}
 use Rattle.fact_store.specs.View.{Facts, at_floor, cell_for, no_facts, raised, view_at}
 
--- the newer of two cells, and within one generation what both say
+-- the newer of two cells; within a generation, what both say together
 abbrev pub join : Cell Value → Cell Value → Cell Value
 join = joined_by is_same_value
 
--- the first map's cells, each joined with the second's cell of its key, and the second's other cells
+-- the first map's cells, each joined with the second map's cell of its key if there is one, and the second map's other
+-- cells
 abbrev pub merge_maps : CellMap → CellMap → CellMap
 merge_maps x y = from_entries (map (λ e. (e.0, option_map_or (join e.1) (get y e.0) e.1)) (entries x) ++ entries y)
 
--- at the greater floor, the merged cells that are not below it
+-- the merged cells that are not below the greater floor, with this floor
 abbrev pub merge : Facts → Facts → Facts
 merge x y = at_floor (max x.floor y.floor) (merge_maps x.found y.found)
 
--- y's floor is not less than x's, and each cell of x that it keeps is below y's cell of its key
+-- y's floor is not less than x's, and each cell of x that is not below y's floor is below y's cell of its key
 pub record IsBelowView (x y : Facts) : Type 0 where
   pub floors : x.floor ≤ y.floor
   pub cells : (key : Key) (c : Cell Value) → cell_for x key ≡ Some c → is_kept y.floor c ≡ true → (d : Cell Value)
@@ -88,7 +89,7 @@ merged (of_two a b) = merge (merged a) (merged b)
 abbrev pub GroupingIsFree : Type 0
 GroupingIsFree = (m : Merging) → merged m ≡ view_at (floor_of m) (all_of m)
 
--- any number of views merged one after another into an empty one
+-- any number of views, merged into an empty one in turn, give the view of all their sightings at the greatest floor
 abbrev pub MergingInTurn : Type 0
 MergingInTurn = (views : List (ℕ × List (Key × Cell Value))) → fold merge no_facts (map (λ v. view_at v.0 v.1) views)
     ≡ view_at (fold max 1 (map (λ v. v.0) views)) (flat_map (λ v. v.1) views)

@@ -1,5 +1,4 @@
--- What sightings say together, whatever floor there is: each key's newest generation, and whether its sightings agree
--- there.
+-- What sightings say together, without a floor: each key's newest generation, and whether its sightings agree there.
 use Rattle.std.specs.Prelude.{◌≡◌, ◌≤◌, ℕ, Bool, List, [], ◌∷◌, ◌==◌, max, map, filter, Contains, MatchOption, if◌then◌else◌}
 use Rattle.std.specs.List.{list_all}
 use Rattle.std.specs.Ordering.{eq_by_cmp}
@@ -33,7 +32,7 @@ newest_of (c ∷ cells) = max (generation_of c) (newest_of cells)
 abbrev pub newest : Key → List (Key × Cell Value) → ℕ
 newest key sightings = newest_of (cells_sighted key sightings)
 
--- what cells of one generation say together: one value if all say it, and else a dispute
+-- what cells of one generation say together: the cell if all are equal, otherwise a dispute
 abbrev pub agreement : ℕ → List (Cell Value) → Cell Value
 agreement generation [] = Disputed generation
 agreement generation (c ∷ cells) = if list_all (is_same_cell c) cells then c else Disputed generation
@@ -76,7 +75,7 @@ pub record IsSeen (sightings : List (Key × Cell Value)) (found : CellMap) : Typ
   pub cells : (key : Key)
       → MatchOption (get found key) ((c : Cell Value) → WasSighted key sightings c → ⊥) (IsCellIn key sightings)
 
--- the lists have equal members, however often and in whatever order
+-- the lists have equal members, in any order and with any repetition
 abbrev pub HaveSameMembers : List (Key × Cell Value) → List (Key × Cell Value) → Type 0
 HaveSameMembers s t =
     ((x : Key × Cell Value) → Contains s x → Contains t x) × ((x : Key × Cell Value) → Contains t x → Contains s x)

@@ -55,7 +55,7 @@ pub record IsNewestGeneration (facts : Facts) (generation : ℕ) : Type 0 where
 
 -- the law of a view: -------------------------------------------------------------
 
--- the floor, and a cell for each key that was sighted at the floor or above it
+-- the facts have this floor, and a cell for each key that was sighted at the floor or above it, and for no other key
 pub record IsView (floor : ℕ) (sightings : List (Key × Cell Value)) (facts : Facts) : Type 0 where
   pub at : facts.floor ≡ max 1 floor
   pub cells : IsSeen (kept floor sightings) facts.found

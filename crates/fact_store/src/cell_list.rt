@@ -27,8 +27,8 @@ fn join_cells(first: &Sighting, second: &Sighting) -> Sighting
     Sighting::new(first.key(), first.cell().join(&second.cell())).unwrap()
 }
 
-/// Adds a cell: inserts it if its key has none, and joins the two otherwise. Moves the fingers of its kind and of its
-/// GUID there.
+/// Adds a cell: joins it with the cell of its key, or inserts it if the key has none. Moves the fingers of its kind and
+/// of its GUID to it.
 pub(crate) fn put(cells: &mut PageList<Sighting>, fingers: &mut Fingers, sighting: Sighting)
     requires cells { AreCells cells.old.items }
     requires room { 0 < cells.old.room }
@@ -42,7 +42,7 @@ pub(crate) fn put(cells: &mut PageList<Sighting>, fingers: &mut Fingers, sightin
     fingers.put(&key, slot);
 }
 
-/// Adds a cell at the index that was found for its key: joins it with the key's cell, or inserts it. Returns its slot.
+/// Adds a cell at the index found for its key: joins it with the key's cell, or inserts it. Returns its slot.
 fn put_found(cells: &mut PageList<Sighting>, found: Found, sighting: Sighting) -> Slot
     requires cells { AreCells cells.old.items }
     requires in_range { IsSighting sighting }

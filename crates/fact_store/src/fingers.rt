@@ -8,8 +8,8 @@ use smp_bytes::Guid;
 const GUIDS: usize = 256;
 
 /// The slots where cells were put last, by the kind of their keys. The next key of a kind is looked for there first.
-/// Both ends of a link are told one after the other, so for links it is the last slot but one. The neighbours of a
-/// switch tell of it in turn, so for nodes, port GUIDs and links there is also the last slot by the hash of the GUID.
+/// The two ends of a link are told one after the other, so a link is looked for at the last slot but one. The neighbors
+/// of a switch tell of it in turn, so nodes, port GUIDs and links also have a last slot for each hash of a GUID.
 #[derive(Clone, Copy)]
 pub(crate) struct Fingers {
     node: Slot,
@@ -28,7 +28,7 @@ pub(crate) struct Fingers {
 }
 
 impl Fingers {
-    /// Creates fingers that are all at the first cell.
+    /// Creates fingers that all point to the first cell.
     pub(crate) fn new() -> Self {
         let first = Slot::first();
         Fingers {

@@ -7,7 +7,7 @@ use crate::store::Store;
 use reply_facts::{Report, ReportFault, sightings};
 use thiserror::Error;
 
-/// Why a store refused a report.
+/// Why a report was not added to a store.
 #[derive(Clone, Copy, Debug, PartialEq, Eq, Error)]
 pub enum IngestFault {
     #[error("{0}")]
@@ -25,7 +25,8 @@ impl Store {
     ///
     /// # Errors
     ///
-    /// Returns the report's first fault, or `Memory` if it has none and memory runs out. Nothing changes then.
+    /// Returns the report's first fault, or `Memory` if it has none and memory runs out. Nothing changes in either
+    /// case.
     pub fn ingest(&mut self, report: &Report) -> Result<(), IngestFault>
         ensures judged { JudgesButFor is_memory result (ingest_fault report.now) }
         ensures ok { OnOk result (self.new ≡ merge self.old (view (sightings_of report.now))) }

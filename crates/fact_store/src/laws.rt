@@ -1,12 +1,12 @@
-//! The laws of views and merges: what a store holds depends only on which sightings were put in and which floor is the
-//! greatest that was raised, in whatever order, however often, and through whatever stores.
+//! The laws of views and merges: what a store holds depends only on the sightings that were put in and on the greatest
+//! floor raised, not on their order, their repetition or the stores that they came through.
 ghost use Rattle.fact_store.specs.View.{ViewLaw, ViewIsUnique, MembersDecideView, ViewOfItsCells, RaisingForgets};
 ghost use Rattle.fact_store.specs.Merge.{MergeLaw, MergeIsUnique, ViewOfBoth, MergeIsCommutative};
 ghost use Rattle.fact_store.specs.Merge.{MergeIsAssociative, MergeIsIdempotent, GroupingIsFree, MergingInTurn};
 
-/// A view at a floor has a cell exactly for each key that was sighted at the floor or above it: of the newest
-/// generation of its sightings, known with a value if all sightings of that generation say that value, and else
-/// disputed.
+/// A view at a floor has a cell for each key that was sighted at the floor or above it, and for no other key; the cell
+/// has the newest generation of the key's sightings, and their value if all sightings of that generation agree, and is
+/// disputed otherwise.
 pub fn view_has_its_law()
     ensures { ViewLaw }
 {}
@@ -26,7 +26,7 @@ pub fn view_of_its_cells()
     ensures { ViewOfItsCells }
 {}
 
-/// A floor that is raised later gives the view that it would have given from the first.
+/// A floor that is raised later gives the view that it would have given from the start.
 pub fn raising_forgets()
     ensures { RaisingForgets }
 {}

@@ -7,7 +7,7 @@ use fact_join::Cell;
 use reply_facts::{Key, Value};
 use smp_bytes::{Guid, Lid, NodeType, PortNum};
 
-// Readers return None for what was not told, and for what is disputed. Each takes a search.
+// Readers return `None` if the fact was not told or is disputed. Each takes a search.
 impl Store {
     /// Returns the known value of a key.
     pub fn known(&self, key: Key) -> Option<Value>

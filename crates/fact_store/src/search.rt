@@ -20,7 +20,7 @@ pub(crate) fn compare(held: &Sighting, key: &Key, steps: &mut u128) -> Ordering
     held.key_cmp(key)
 }
 
-/// Where a key has its cell: `index` is `Ok` with its index, or `Err` with the index where it would be inserted.
+/// The place of a key's cell: `index` is `Ok` with its index, or `Err` with the index where it would be inserted.
 #[derive(Clone, Copy)]
 pub(crate) struct Found {
     pub index: Result<usize, usize>,
@@ -28,8 +28,8 @@ pub(crate) struct Found {
     pub near: Slot,
 }
 
-/// Finds the index of a key's cell, or the one where it would be inserted: at a finger, behind the last cell, or else
-/// by a search.
+/// Finds the index of a key's cell, or the one where it would be inserted. Tries the fingers, then the end of the list,
+/// and then searches.
 pub(crate) fn index_of(cells: &PageList<Sighting>, key: &Key, fingers: &Fingers) -> Found
     requires { AreCells cells.now.items }
     ensures { IsSearched key.now cells.now.items result.index }
@@ -74,8 +74,8 @@ fn found_at_finger(cells: &PageList<Sighting>, key: &Key, finger: Slot) -> Optio
     })
 }
 
-/// Returns the index of a key's cell, or the one where it would be inserted, if the key is that of the cell at
-/// `finger`, that of the next cell, or between the two. Takes at most two comparisons.
+/// Returns the index of a key's cell, or the one where it would be inserted, if `key` is the key of the cell at
+/// `finger` or of the next cell, or lies between the two. Takes at most two comparisons.
 fn index_at_finger(
     cells: &PageList<Sighting>,
     key: &Key,
@@ -98,7 +98,7 @@ fn index_at_finger(
     }
 }
 
-/// Compares the key of the cell at index `i` with `key`. Past the end it is greater than any key.
+/// Compares the key of the cell at index `i` with `key`. Returns `Greater` past the end.
 fn order_at(cells: &PageList<Sighting>, i: usize, near: Slot, key: &Key) -> Ordering
     ensures { result ≡ option_map_or (λ s. key_cmp s.0 key.now) (slice_get cells.now.items i) Greater }
 {
@@ -112,7 +112,7 @@ fn order_at(cells: &PageList<Sighting>, i: usize, near: Slot, key: &Key) -> Orde
 #[derive(Clone, Copy)]
 pub(crate) struct SearchResult {
     pub found: Found,
-    /// The number of keys that were compared with the key.
+    /// The number of cells whose keys were compared with the key.
     pub steps: u32,
 }
 

@@ -35,8 +35,8 @@ impl From<AllocError> for Refused {
 /// The greatest number of sightings that are added one by one: a report has no more.
 const SIGHTINGS_PER_REPORT: usize = 4;
 
-/// What is known of a subnet: the view of all that was put in, a cell for each key. What is below its floor is
-/// forgotten for good.
+/// What is known of a subnet: a cell for each key, the view of all sightings that were put in. Cells below the floor
+/// are forgotten for good.
 #[derive(Drop)]
 pub struct Store {
     /// The least generation that counts.
@@ -81,7 +81,7 @@ impl Store {
     }
 
     /// Forgets all cells below `floor`, and ignores sightings below it from then on. Takes no memory, and frees pages
-    /// that are not needed then. Walks the cells if `floor` is greater than the store's floor, and otherwise does
+    /// that are no longer needed. Walks the cells if `floor` is greater than the store's floor, and otherwise does
     /// nothing.
     pub fn raise_floor(&mut self, floor: Generation)
         ensures { self.new ≡ raised self.old floor }
@@ -92,10 +92,10 @@ impl Store {
         }
     }
 
-    /// Adds the sighting; ignores it if it is below the floor. Takes two comparisons if its key is that of the last
-    /// sighting added of its kind (for links, the last but one), the next key held, or between the two; four if that is
-    /// so only for the last one with its GUID, for a node, a port's GUID or a link, as far as a hash tells; otherwise a
-    /// search. Moves at most a page.
+    /// Adds a sighting, unless it is below the floor. Takes at most two comparisons if its key is the last one put in
+    /// of its kind (for links, the last but one), the next key held, or between the two. Takes at most four if this
+    /// holds only for the last key put in of its kind and its GUID's hash (nodes, port GUIDs and links). Otherwise
+    /// takes a search. Moves at most a page of cells and the list of pages.
     pub fn add(&mut self, sighting: Sighting) -> Result<(), Refused>
         ensures ok { OnOk result (self.new ≡ merge self.old (view (sighting ∷ []))) }
         ensures err { OnErr result (self.new ≡ self.old) }
@@ -105,8 +105,8 @@ impl Store {
         Ok(())
     }
 
-    /// Adds all sightings or, if memory runs out, none. A few are added one by one; more are put in order first, and
-    /// then merged.
+    /// Adds all sightings, or none if memory runs out. Adds four or fewer one by one; puts more in order first, and
+    /// then merges them.
     pub fn add_all(&mut self, sightings: &[Sighting]) -> Result<(), Refused>
         ensures ok { OnOk result (self.new ≡ merge self.old (view sightings.now)) }
         ensures err { OnErr result (self.new ≡ self.old) }
@@ -118,8 +118,8 @@ impl Store {
         }
     }
 
-    /// Builds a store of the sightings and merges it. It is a function of its own since a `Store` is large on the
-    /// stack, and a report has few sightings.
+    /// Builds a store of the sightings and merges it. A function of its own, since a `Store` is large on the stack and
+    /// a report has few sightings.
     fn add_many(&mut self, sightings: &[Sighting]) -> Result<(), Refused>
         ensures ok { OnOk result (self.new ≡ merge self.old (view sightings.now)) }
         ensures err { OnErr result (self.new ≡ self.old) }
@@ -129,7 +129,7 @@ impl Store {
         Ok(())
     }
 
-    /// Reserves a page for each sighting, and then adds them one by one.
+    /// Reserves room for all sightings, and then adds them one by one.
     fn add_few(&mut self, sightings: &[Sighting]) -> Result<(), Refused>
         ensures ok { OnOk result (self.new ≡ merge self.old (view sightings.now)) }
         ensures err { OnErr result (self.new ≡ self.old) }
@@ -176,7 +176,8 @@ impl Store {
         Ok(steps)
     }
 
-    /// Merges `other` as `merge` does. An empty store takes the contents of `other` without a walk.
+    /// Merges `other` as `merge` does. If this store is empty, it takes the contents of `other`, and walks them only if
+    /// its own floor is greater.
     pub fn merge_owned(&mut self, other: Store) -> Result<(), Refused>
         ensures ok { OnOk result (self.new ≡ merge self.old other) }
         ensures err { OnErr result (self.new ≡ self.old) }
@@ -267,7 +268,7 @@ impl Store {
     }
 }
 
-/// Returns the newer of two generations, the first of which may be missing.
+/// Returns the newer of two generations, or `other` if `held` is `None`.
 fn newer(held: Option<Generation>, other: Generation) -> Generation
     ensures { result ≡ max (unwrap_or held 0) other }
 {
@@ -277,7 +278,7 @@ fn newer(held: Option<Generation>, other: Generation) -> Generation
     }
 }
 
-/// Creates a store of what the sightings say at `floor`.
+/// Creates a store with this floor, of the sightings at the floor or above it.
 fn store_of(alloc: Global, floor: Generation, sightings: &[Sighting]) -> Result<Store, Refused>
     ensures { IfOk result (λ store. store ≡ view_at floor sightings.now) }
 {

@@ -1,4 +1,4 @@
--- End ports that are sought one after the other: how claims are kept, and LIDs given.
+-- End ports that are searched for one after the other: how claims are kept, and LIDs given.
 use Rattle.std.proofs.Common.{◌≡◌, ℕ, List, [], ◌∷◌, ◌++◌, refl, sym, ap, ◌∙◌, subst, Bool, true, false, map, not, length}
 use Rattle.std.specs.Prelude.{Option, None, Some, is_some, option_map, replicate}
 use Rattle.subnet_view.specs.declared.end_port.EndPort.{EndPort}

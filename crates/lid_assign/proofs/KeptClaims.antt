@@ -1,4 +1,4 @@
--- Which claims are kept: an end port keeps its claim just where `Keeps` says so, and no two ranges that are kept have a number in common.
+-- Which claims are kept: an end port keeps its claim exactly if `Keeps` says so, and no two kept ranges overlap.
 use Rattle.std.proofs.Common.{◌≡◌, ℕ, List, [], ◌∷◌, ◌++◌, ◌⊎◌, inl, inr, refl, sym, ap, ◌∙◌, subst, true, false, cond, map}
 use Rattle.std.proofs.lemmas.Bool.{false_from_ne_true, both_ways}
 use Rattle.std.specs.Prelude.{Contains, Option, None, Some, option_and_then}

@@ -1,4 +1,4 @@
--- Who owns a number has it, and who has a number owns it.
+-- An end port owns a number exactly if it has the number.
 use Rattle.std.proofs.Common.{◌≡◌, ◌≤◌, ℕ, refl, sym, ap, ◌∙◌, subst, arith, true, cond, ◌==◌, ◌&&◌, map}
 use Rattle.std.proofs.lemmas.Bool.{eqb-true, eq-eqb, ne_eqb, and_parts, and_from}
 use Rattle.std.specs.Prelude.{Contains, Option, None, Some, option_map}

@@ -1,4 +1,4 @@
--- Numbers that are passed: none of them is open any more, since marks are only set.
+-- Numbers that are passed: none of them is open again, since marks are only set.
 use Rattle.std.proofs.Common.{◌≡◌, ◌<◌, ◌≤◌, ◌+◌, ◌*◌, ◌/◌, ◌%◌, ◌^◌, ℕ, List, inl, inr, sym, ap, ◌∙◌, subst, arith, Bool, true, false, ◌||◌, length}
 use Rattle.std.proofs.lemmas.Bool.{both_ways, cases_eq, cases_lt, or_parts}
 use Rattle.std.proofs.lemmas.Nat.{mod-mul-add, pow_pos}

@@ -1,4 +1,4 @@
--- Ranges: the tests of them say what the words say, and ranges at multiples of a width meet one block alone.
+-- Ranges: their tests agree with the statements, and a range at a multiple of its width meets only one block.
 use Rattle.std.proofs.Common.{◌≡◌, ◌<◌, ◌≤◌, ◌+◌, ◌/◌, ◌%◌, ◌^◌, ℕ, suc, inl, inr, refl, ap, arith, true, false, cond, ◌&&◌, ◌==◌}
 use Rattle.std.proofs.lemmas.Bool.{and_parts, and_from, ltb-true, lt-ltb, leb-true, le-leb, eqb-true, eq-eqb, ne_eqb, cases_lt}
 use Rattle.std.proofs.lemmas.Nat.{pow_pos}

@@ -7,11 +7,11 @@ use Rattle.std.specs.BTreeMap.{BTreeMap, get}
 use Rattle.lid_assign.specs.Ranges.{width_of, Range, is_in}
 use Rattle.lid_assign.specs.Lids.{Given, count_up, owner_of, lid_among, top_of, rising_lids, is_lid}
 
--- the table has at each number the end port that has it
+-- the table has at each number the end port that owns it, or None if it has no owner; numbers past its end have none
 abbrev pub AreOwners : Given → List (Option EndPort) → Type 0
 AreOwners given owners = (n : ℕ) → slice_index_or owners n None ≡ owner_of given n
 
--- the table, with an end port written at each number of a range
+-- `new` is `old` with `e` written at each number of `r`
 pub record AreOwnersMore (e : EndPort) (r : Range) (old new : List (Option EndPort)) : Type 0 where
   pub all : length new ≡ length old
   pub each : (n : ℕ) → slice_index_or new n None ≡ (if is_in r n then Some e else slice_index_or old n None)
@@ -24,19 +24,19 @@ AreLidMarks given marks = (n : ℕ) → slice_index_or marks n false ≡ is_lid 
 abbrev pub marked_from : List Bool → ℕ → List ℕ
 marked_from marks first = filter (λ n. slice_index_or marks n false) (count_up first (length marks - first))
 
--- the range of each end port ends at or below the bound
+-- the last number of each end port's range is below the bound
 abbrev pub AreBelow : ℕ → ℕ → List (EndPort × ℕ) → Type 0
 AreBelow bound lmc given = (e : EndPort) (n : ℕ) → Contains given (e, n) → n + width_of lmc e ≤ bound
 
--- the order of nodes and ports
+-- the order of pairs of a node and a port: by node, then by port
 abbrev pub node_port_cmp : ℕ × ℕ → ℕ × ℕ → Ordering
 node_port_cmp a b = ordering_then (nat_cmp a.0 b.0) (nat_cmp a.1 b.1)
 
--- the table has for each node and port the LID of that end port
+-- the table has the LID of each end port by node and port, and no others
 abbrev pub ByPort : List (EndPort × ℕ) → BTreeMap (ℕ × ℕ) ℕ → Type 0
 ByPort given lids = (e : EndPort) → get node_port_cmp lids (e.node, e.port) ≡ lid_among given e
 
--- a map's tables, if its end ports have unicast LIDs
+-- the tables of a map are those of `given`, and no number of it lies past the unicast LIDs
 pub record IsIndexed (given : Given) (owners : List (Option EndPort)) (lids : BTreeMap (ℕ × ℕ) ℕ) (top : Option ℕ)
     (rising : List ℕ) : Type 0 where
   pub owned : AreOwners given owners

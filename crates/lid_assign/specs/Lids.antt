@@ -87,7 +87,7 @@ pub record Given : Type 0 where
   pub lmc : ℕ
   pub ports : List (EndPort × ℕ)
 
--- the LIDs of a view under an LMC
+-- the LIDs of a view under an LMC; no end port has one if one of them finds none
 abbrev pub lids : ℕ → Cells → Given
 lids lmc cells = record { lmc = lmc; ports = unwrap_or (handed_out lmc cells) [] }
 
@@ -136,7 +136,7 @@ greatest (n ∷ ns) = max n (greatest ns)
 abbrev pub last_of : ℕ → EndPort × ℕ → ℕ
 last_of lmc x = x.1 + width_of lmc x.0 - 1
 
--- the last number of the highest of these ranges
+-- the greatest number in these ranges, None if there are no ranges
 abbrev pub top_among : ℕ → List (EndPort × ℕ) → Option ℕ
 top_among lmc [] = None
 top_among lmc (x ∷ given) = Some (max (last_of lmc x) (greatest (map (last_of lmc) given)))

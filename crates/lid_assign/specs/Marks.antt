@@ -22,7 +22,7 @@ from_on width c = record { first = c; width = width }
 abbrev pub is_in_some : Option Range → ℕ → Bool
 is_in_some r n = option_map_or (λ r. is_in r n) r false
 
--- the marks, with those of a range set, if there is one
+-- `new` is `old` with each number of `r` marked, if there is a range
 pub record AreMarkedMore (r : Option Range) (old new : List Bool) : Type 0 where
   pub all : length new ≡ length old
   pub each : (n : ℕ) → n < length old → is_marked new n ≡ (is_in_some r n || is_marked old n)
@@ -70,7 +70,7 @@ pub record IsPassed (marks : List Bool) (width next : ℕ) : Type 0 where
   pub near : next ≤ length marks + width
   pub none_before : NoneUnmarked marks width 0 next
 
--- `next` is passed for switches, and for adapter ports
+-- `next.switch` is passed for switches, and `next.adapter` for adapter ports
 pub record ArePassed (lmc : ℕ) (marks : List Bool) (next : Next) : Type 0 where
   pub switches : IsPassed marks 1 next.switch
   pub adapters : IsPassed marks (2 ^ lmc) next.adapter

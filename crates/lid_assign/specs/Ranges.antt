@@ -3,7 +3,7 @@ use Rattle.std.specs.Prelude.{◌≡◌, ◌↔◌, ◌<◌, ◌≤◌, ◌+◌,
 use Rattle.smp_bytes.specs.LidRange.{is_among}
 use Rattle.subnet_view.specs.declared.end_port.EndPort.{EndPort}
 
--- the LMC of an end port: 0 for port 0, which is a switch's, and else the subnet's
+-- the LMC of an end port: 0 for port 0, which is a switch's, and otherwise the subnet's
 abbrev pub lmc_at : ℕ → EndPort → ℕ
 lmc_at lmc e = if e.port == 0 then 0 else lmc
 

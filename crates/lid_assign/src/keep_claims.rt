@@ -13,9 +13,9 @@ use smp_bytes::Lid;
 use std::alloc::{AllocError, Global};
 use subnet_view::EndPort;
 
-/// Returns the end ports in their order, each with the claim that it keeps: its range fits, and meets none that fits
-/// and that an earlier end port claims. Marks in `claimed` what is claimed, and in `taken` the ranges of claims that
-/// are kept.
+/// Returns the end ports in their order, each with the claim that it keeps: one whose range fits, and meets no range
+/// that fits and that an earlier end port claims. Marks the ranges of fitting claims in `claimed`, and the ranges of
+/// kept claims in `taken`.
 pub(crate) fn keep_claims(
     alloc: Global,
     store: &Store,
@@ -46,8 +46,8 @@ pub(crate) fn claim(store: &Store, port: EndPort) -> Option<Lid>
     store.claim(port.node, port.port)
 }
 
-/// Returns the claim if its range fits and has no mark of a claim yet. Then marks it as taken. Marks it as claimed if
-/// it fits.
+/// Returns the claim if its range fits and has no mark in `claimed`, and then marks the range in `taken`. Marks the
+/// range in `claimed` if it fits.
 pub(crate) fn keep(
     claim: Option<Lid>,
     width: usize,
@@ -67,7 +67,7 @@ pub(crate) fn keep(
     Some(lid)
 }
 
-/// Returns the claim if its range fits and has no mark yet. Marks the range if it fits.
+/// Returns the claim if its range fits and has no mark yet. Marks the range in `claimed` if it fits.
 pub(crate) fn claims_first(claim: Option<Lid>, width: usize, claimed: &mut [bool]) -> Option<Lid>
     requires some { 1 ≤ width }
     requires few { width ≤ 128 }

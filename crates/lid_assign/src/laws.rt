@@ -10,9 +10,9 @@ pub fn ranges_law()
     ensures { RangesLaw }
 {}
 
-/// Each end port has one LID, whose range fits below the room, and no two ranges have a number in common; an end port
-/// keeps a claim whose range fits and meets none that fits and that an earlier end port claims; and each other one has
-/// the least number whose range fits and has no number that was taken before; if there is room.
+/// If there is room, each end port has one LID, whose range fits below the room, and no two ranges have a number in
+/// common; an end port keeps its claim if the claim's range fits and meets no range that fits and that an earlier end
+/// port claims; and each other end port has the least number whose range fits and has no number that was taken before.
 pub fn lids_law()
     ensures { LidsLaw }
 {}

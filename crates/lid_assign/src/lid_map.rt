@@ -11,15 +11,15 @@ use std::collections::BTreeMap;
 use std::marker::Model;
 use subnet_view::EndPort;
 
-/// The LID of each end port, and with it its range: one number for a switch, and 2^LMC for an adapter's port.
+/// The LID of each end port. Its range begins there: one number for a switch, and 2^LMC for an adapter's port.
 #[derive(Drop)]
 pub struct LidMap {
     lmc: Lmc,
     /// The end ports in their order, each with its LID.
     given: Vec<(EndPort, Lid)>,
-    /// The end port that has a number, at the number.
+    /// For each number, the end port that has it.
     owners: Vec<Option<EndPort>>,
-    /// The LID of a port of a node.
+    /// The LID of each end port, by node and port.
     by_port: BTreeMap<(Guid, PortNum), Lid>,
     /// The greatest number that an end port has.
     top: Option<Lid>,
@@ -40,7 +40,7 @@ impl Model for LidMap {
 }
 
 impl LidMap {
-    /// Creates the map that gives these end ports these LIDs.
+    /// Creates a map from the end ports in their order, each with its LID.
     pub(crate) fn new(
         alloc: Global,
         lmc: Lmc,
@@ -110,7 +110,8 @@ impl LidMap {
     }
 }
 
-/// Returns a table with the end port that has a number, at the number. Writes the first end port's entries last.
+/// Returns, for each number below `end`, the end port that has it. Writes the first end port's entries last, as the
+/// first owner counts.
 fn owners(
     alloc: Global,
     lmc: Lmc,
@@ -141,7 +142,7 @@ fn own(owners: &mut Vec<Option<EndPort>>, lmc: Lmc, given: &(EndPort, Lid))
     }
 }
 
-/// Returns a mark for each number: whether it is an end port's LID.
+/// Returns, for each number below `end`, whether it is an end port's LID.
 fn lid_marks(
     alloc: Global,
     lmc: Lmc,
@@ -183,7 +184,8 @@ fn end(top: &Option<Lid>) -> usize
     }
 }
 
-/// Returns a table with the LID of each port of a node. Writes the first end port's entry last.
+/// Returns the LID of each end port, by node and port. Writes the first end port's entry last, as the first one
+/// counts.
 fn by_port(
     alloc: Global,
     given: &[(EndPort, Lid)],

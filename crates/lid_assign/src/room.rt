@@ -12,9 +12,9 @@ use fact_store::{Sighting, Store};
 use smp_bytes::Lid;
 use subnet_view::{count_end_ports, usable_guid};
 
-/// Returns `Some`, with the room and the number of end ports, if an end port of the view finds no LID. Takes no memory.
-/// Walks the cells twice if there are at least as many end ports as the room, or if their ranges fit side by side, as
-/// always with one LID for each port; otherwise twice for each end port.
+/// Returns the room and the number of end ports if an end port of the view finds no LID, and otherwise `None`. Takes no
+/// memory. Walks the cells twice if there are at least as many end ports as the room, or if their ranges fit side by
+/// side (which is always so with LMC 0); otherwise twice for each end port.
 pub fn no_room(store: &Store, lmc: Lmc) -> Option<NoRoom>
     ensures { result ≡ no_room lmc (cells_of store.now) }
 {

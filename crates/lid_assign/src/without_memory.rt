@@ -1,4 +1,4 @@
-//! Whether LIDs run out, found without memory: each next end port is looked for among all cells.
+//! Finds whether LIDs run out without memory: searches all cells for each next end port.
 ghost use Rattle.std.specs.Prelude.{◌≡◌, ◌≤◌, false, replicate};
 ghost use Rattle.std.specs.List.{filter_map};
 ghost use Rattle.fact_store.specs.View.{cells_of};
@@ -14,7 +14,7 @@ use fact_store::Store;
 use smp_bytes::Lid;
 use subnet_view::next_end_port;
 
-/// The count of numbers below the first one past the unicast LIDs.
+/// The number of LIDs up to the last unicast LID, including 0.
 const NUMBERS: usize = Lid::UNICAST_END as usize;
 
 /// Returns whether an end port finds no LID. Takes no memory, and walks the cells twice for each end port.
@@ -50,8 +50,7 @@ fn keep_in_turn(store: &Store, lmc: Lmc, claimed: &mut [bool], taken: &mut [bool
     }
 }
 
-/// Returns whether an end port that keeps no claim finds no LID. The numbers of those that keep one are marked in
-/// `taken`.
+/// Returns whether an end port that keeps no claim finds no LID. The ranges of kept claims are marked in `taken`.
 fn runs_out_after(store: &Store, lmc: Lmc, claimed: &mut [bool], taken: &mut [bool]) -> bool
     requires claimed { claimed.old ≡ replicate (room (cells_of store.now)) false }
     requires taken { AreTaken (room (cells_of store.now))

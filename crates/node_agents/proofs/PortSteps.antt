@@ -1,4 +1,4 @@
--- What a Set makes of a port: it goes up by a step at most, and neither down nor from there.
+-- What a Set makes of a port: its state goes up by one step at most, and neither to Down nor from it.
 use Rattle.std.proofs.Common.{◌≡◌, ◌≢◌, ℕ, zero, suc, ◌+◌, ◌<◌, ◌≤◌, Bool, true, false, List, [], ◌∷◌, inl, inr, refl, sym, ap, subst, arith}
 use Rattle.std.specs.Prelude.{Option, Some, None, option_map, option_and_then, if◌then◌else◌, ◌==◌, ◌&&◌, ◌%◌, ◌^◌, nat_le, slice_index_or, slice_set}
 use Rattle.std.proofs.lemmas.Bool.{and_parts, or_cases, eqb-true, leb-true}

@@ -1,4 +1,4 @@
--- What an agent's answer says of its node is so.
+-- What an agent's answer says of its node is true.
 use Rattle.std.proofs.Common.{◌≡◌, inl, inr, ℕ, ◌+◌, ◌^◌, ◌<◌, ◌≤◌, Bool, true, false, cond, List, refl, sym, ap, ◌∙◌, subst, arith}
 use Rattle.std.specs.Prelude.{◌↔◌, Option, Some, None, Result, Ok, Err, nat_le, option_map, ◌==◌, ◌&&◌, ◌||◌, replicate}
 use Rattle.std.specs.Option.{ok_or}

@@ -10,7 +10,7 @@ use Rattle.node_agents.specs.declared.agent_node.AgentNode.{AgentNode}
 use Rattle.node_agents.specs.declared.port.Port.{Port}
 
 -- the node as it was built, its ports from port 0 on, its forwarding table in whole blocks, and the greatest LID that
--- is forwarded
+-- it forwards
 pub record Agent : Type 0 where
   pub node : AgentNode
   pub ports : List Port
@@ -26,7 +26,7 @@ is_switch a = types.is_switch a.node.kind
 abbrev pub port_in : PortState → Port
 port_in state = record { base_lid = 0; lmc = 0; master_sm_lid = 0; state = state; is_sm = false }
 
--- a port; one that the node does not have is down, and nothing was written to it
+-- a port; a port that the node does not have is down, and nothing was written to it
 abbrev pub port_at : Agent → ℕ → Port
 port_at a port = slice_index_or a.ports port (port_in Down)
 
@@ -39,7 +39,7 @@ base_lid_at a port = (port_at a port).base_lid
 abbrev pub lmc_at : Agent → ℕ → ℕ
 lmc_at a port = (port_at a port).lmc
 
--- the LID of the subnet manager that was set at a port
+-- the subnet manager's LID that was set at a port
 abbrev pub master_sm_lid_at : Agent → ℕ → ℕ
 master_sm_lid_at a port = (port_at a port).master_sm_lid
 
@@ -80,16 +80,16 @@ node_of a = record {
 
 -- what changes an agent from outside --------------------------------------------------
 
--- the agent with the state `to` at a port that it has
+-- the agent with `to` in place of port `port`
 abbrev pub with_port : Agent → ℕ → Port → Agent
 with_port a port to = record a { ports = slice_set a.ports port to }
 
--- a cable is plugged into a port, or taken out
+-- the agent after a cable was plugged into a port, or taken out
 abbrev pub after_set_wired : Agent → ℕ → Bool → Agent
 after_set_wired a port is_wired =
     with_port a port (record (port_at a port) { state = if is_wired then Initialize else Down })
 
--- a subnet manager is seated at a port
+-- the agent after a subnet manager was seated at a port
 abbrev pub after_set_seat : Agent → ℕ → Agent
 after_set_seat a port = with_port a port (record (port_at a port) { is_sm = true })
 
@@ -118,13 +118,14 @@ pub record IsAgentNode (node : AgentNode) : Type 0 where
   pub no_table : types.is_switch node.kind ≡ false → node.cap ≡ 0
   pub port_guids : types.is_switch node.kind ≡ false → node.guid + node.ports < 2 ^ 64
 
--- what is so of each port that an agent has: a state, a LID that a port may have, and no subnet manager at a switch
+-- what holds of each port of an agent: it has a state, a LID below the end of the unicast LIDs, and no subnet manager
+-- if it is a switch's
 pub record IsPort (kind : NodeType) (port : Port) : Type 0 where
   pub state : port.state ≢ NoChange
   pub base_lid : port.base_lid < lid_end
   pub is_sm : types.is_switch kind ≡ true → port.is_sm ≡ false
 
--- what is so of each agent
+-- what holds of each agent
 pub record IsAgent (a : Agent) : Type 0 where
   pub node : IsAgentNode a.node
   pub description : length a.node.description ≡ 64

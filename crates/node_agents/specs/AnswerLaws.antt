@@ -17,7 +17,7 @@ use Rattle.node_agents.specs.Answers.{after_request, status_told, payload_told, 
 
 -- agents stay agents --------------------------------------------------------------------
 
--- the node, the ports that are down, and the subnet managers' seats are as they were
+-- the node, which ports are down, and the subnet managers' seats are as they were
 pub record KeepsShape (old new : Agent) : Type 0 where
   pub node : new.node ≡ old.node
   pub down : (port : ℕ) → (state_at new port ≡ Down) ↔ (state_at old port ≡ Down)
@@ -39,8 +39,8 @@ pub record IsPacket (packet : List ℕ) : Type 0 where
   pub count : length packet ≡ 256
   pub parses : fault_of packet ≡ None
 
--- an answer is a packet with the status and the attribute that the agent gives; all else but the method is as in the
--- request
+-- an answer is a packet with the method GetResp, the D bit if it is directed, and the status and the attribute that the
+-- agent gives; all else is as in the request
 abbrev pub AnswersHold : Type 0
 AnswersHold =
     (a : Agent) (packet : List ℕ) (arrival : ℕ) → IsAgent a → IsPacket packet
@@ -61,7 +61,7 @@ RefusalsChangeNothing =
 
 -- what is said ------------------------------------------------------------------------------
 
--- what PortInfo says: which port it is about, and its state, which is Down exactly if the port is
+-- what PortInfo says: the port that it is about, and its state, which is Down exactly if the port is
 pub record SaysPort (a : Agent) (modifier arrival number : ℕ) : Type 0 where
   pub port : ℕ
   pub meant : port_meant a modifier arrival ≡ Some port
@@ -84,7 +84,7 @@ pub record Says (a : Agent) (arrival : ℕ) (answer : List ℕ) : Type 0 where
   pub switch : number_in attribute_id answer ≡ switch_info
       → SaysSwitch a (number_in linear_fdb_cap (bytes_in attribute_data answer))
 
--- an answer with status 0, to a Get or a Set, says what is so of the node, except for LIDs and tables
+-- an answer with status 0, to a Get or a Set, says what is true of the node, except for LIDs and tables
 abbrev pub AnswersSay : Type 0
 AnswersSay =
     (a : Agent) (packet : List ℕ) (arrival : ℕ) → IsAgent a → IsPacket packet → arrival ≤ a.node.ports
@@ -100,12 +100,13 @@ pub record IsTaken (a : Agent) (packet : List ℕ) (arrival number : ℕ) : Type
   pub attribute : number_in attribute_id packet ≡ number
   pub done : status (after_answer a packet arrival).packet ≡ done
 
--- two packets are about the same attribute, with the same modifier
+-- two packets have the same attribute and modifier
 pub record IsAboutTheSame (p q : List ℕ) : Type 0 where
   pub attribute : number_in attribute_id p ≡ number_in attribute_id q
   pub modifier : number_in attribute_modifier p ≡ number_in attribute_modifier q
 
--- a Get by the same port returns what the answer to the Set before it returned
+-- a Get right after a Set, of the same attribute and modifier and by the same port, returns what the answer to the Set
+-- returned
 abbrev pub GetsTellAsSets : Type 0
 GetsTellAsSets =
     (a : Agent) (p q : List ℕ) (arrival number : ℕ) → IsTaken a p arrival number → IsPacket q → number_in method q ≡ get
@@ -140,8 +141,8 @@ TopsAreSet =
     → SetsTop a (after_answer a packet arrival).agent (bytes_in attribute_data packet)
     (bytes_in attribute_data (after_answer a packet arrival).packet)
 
--- the LID and the LMC that are set at a port with a LID are returned, and so is the state; no other port and nothing
--- else is changed
+-- the LID and the LMC that are set at a port with a LID are returned, and so is the state, unless it is 0 (no change);
+-- no other port and nothing else is changed
 pub record SetsPort (a after : Agent) (port : ℕ) (payload told : List ℕ) : Type 0 where
   pub lids : has_lid a port ≡ true → range_at after port ≡ range_in payload
   pub lids_told : has_lid a port ≡ true → range_in told ≡ range_in payload

@@ -1,4 +1,4 @@
--- What an agent answers to a request that comes to one of its ports, and what it holds afterwards.
+-- What an agent answers to a request that arrives at one of its ports, and what it holds afterwards.
 -- InfiniBand Architecture Specification, Volume 1: subnet management class, methods and attributes.
 use Rattle.std.specs.Prelude.{◌≡◌, ℕ, ◌&&◌, ◌==◌, List, if◌then◌else◌, Result, Ok, Err}
 use Rattle.std.specs.Option.{ok_or}
@@ -34,7 +34,7 @@ set_attribute a attribute modifier arrival payload =
     else if is_switch a && attribute == linear_forwarding_table then ok_or (set_block a modifier payload) InvalidField
     else Err MethodAndAttribute
 
--- a call that accepts a Set makes the agent what it is to be; one that refuses it leaves the agent as it was
+-- a call that accepts a Set leaves the agent as `after` says; one that refuses it leaves the agent as it was
 abbrev pub Takes : {T : Type 0} → Result T Refusal → Agent → Agent → Result Agent Refusal → Type 0
 Takes (Ok _) old new after = after ≡ Ok new
 Takes (Err refusal) old new after = (after ≡ Err refusal) × (new ≡ old)
@@ -44,11 +44,11 @@ pub record Met : Type 0 where
   pub told : Result (List ℕ) Refusal
   pub agent : Agent
 
--- the attribute that a packet asks for
+-- the attribute that a packet asks for, or why it is refused
 unfoldable pub get_of : Agent → List ℕ → ℕ → Result (List ℕ) Refusal
 get_of a packet arrival = get_attribute a (number_in attribute_id packet) (number_in attribute_modifier packet) arrival
 
--- the agent after a packet that sets an attribute
+-- the agent after a packet that sets an attribute, or why it is refused
 unfoldable pub set_of : Agent → List ℕ → ℕ → Result Agent Refusal
 set_of a packet arrival =
     set_attribute a (number_in attribute_id packet) (number_in attribute_modifier packet) arrival
@@ -70,7 +70,7 @@ abbrev pub status_told : Result (List ℕ) Refusal → ℕ
 status_told (Ok payload) = done
 status_told (Err refusal) = status_of refusal
 
--- the attribute in an answer; a refusal sends back the request's
+-- the attribute in an answer; a refusal returns the request's
 abbrev pub payload_told : Result (List ℕ) Refusal → List ℕ → List ℕ
 payload_told (Ok payload) packet = payload
 payload_told (Err refusal) packet = bytes_in attribute_data packet
@@ -83,7 +83,7 @@ pub record Answered : Type 0 where
   pub packet : List ℕ
   pub agent : Agent
 
--- the agent's answer to a packet that came to its port `arrival`
+-- the agent's answer to a packet that arrived at its port `arrival`, and the agent afterwards
 unfoldable pub after_answer : Agent → List ℕ → ℕ → Answered
 after_answer a packet arrival = record {
   packet = answer_with packet (after_request a packet arrival).told;

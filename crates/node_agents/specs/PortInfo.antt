@@ -10,7 +10,8 @@ use Rattle.attr_codec.specs.declared.port_state.PortState.{PortState}
 use Rattle.node_agents.specs.declared.port.Port.{Port}
 use Rattle.node_agents.specs.Agent.{Agent, is_switch, port_at, with_port}
 
--- any port of a switch, with port 0; for an adapter the port that the request came to, by its number or by 0
+-- the port that a request means: for a switch, any port from 0 on; for an adapter, the port at which the request
+-- arrived, if the modifier is 0 or its number
 abbrev pub port_meant : Agent → ℕ → ℕ → Option ℕ
 port_meant a modifier arrival =
     if is_switch a then (if nat_le modifier a.node.ports then Some modifier else None)
@@ -33,7 +34,7 @@ get_port_info a modifier arrival =
 
 -- Set ---------------------------------------------------------------------------------
 
--- each port of an adapter has a LID, and only port 0 of a switch
+-- each port of an adapter has a LID, and of a switch only port 0
 abbrev pub has_lid : Agent → ℕ → Bool
 has_lid a port = not (is_switch a) || port == 0
 
@@ -41,7 +42,7 @@ has_lid a port = not (is_switch a) || port == 0
 abbrev pub max_lmc : Agent → ℕ → ℕ
 max_lmc a port = if is_switch a && port == 0 then 0 else 7
 
--- the next state on the way from Initialize to Active; none leads to Down, or from it
+-- `wish` is the next state on the way from Initialize to Active; no step leads to Down or from it
 abbrev pub is_next_state : PortState → PortState → Bool
 is_next_state state wish = nat_le 2 (number_of_state state) && number_of_state wish == number_of_state state + 1
 
@@ -52,7 +53,7 @@ state_after state wish =
     else if is_next_state state wish then Some wish
     else None
 
--- the port in another state, with the LIDs and the LMC of the payload if it has LIDs
+-- the port in state `state`, with the LIDs and the LMC of the payload if it has LIDs
 abbrev pub port_with : Port → Bool → List ℕ → PortState → Port
 port_with port has_lid payload state =
     record port {
@@ -62,12 +63,12 @@ port_with port has_lid payload state =
       state = state;
     }
 
--- the LIDs of a payload are ones that a port may have, with an LMC of at most `max_lmc`
+-- a port may have the LIDs of a payload, and their LMC is at most `max_lmc`
 abbrev pub are_lids_taken : ℕ → List ℕ → Bool
 are_lids_taken max_lmc payload =
     nat_le (bits_in lmc payload) max_lmc && may_have (number_in base_lid payload) (bits_in lmc payload)
 
--- the port after a payload, if its LIDs are ones that this port may have, and the state that it asks for is granted
+-- the port after a Set, if it may have the LIDs of the payload, and the state that the payload asks for is granted
 abbrev pub port_after : Port → Bool → ℕ → List ℕ → Option Port
 port_after port has_lid max_lmc payload =
     if are_lids_taken max_lmc payload

@@ -17,7 +17,7 @@ use std::marker::Model;
 #[derive(Drop)]
 pub struct Agent {
     pub(crate) node: AgentNode,
-    /// What is held of each port, from port 0 on; an adapter's port 0 is not used.
+    /// The ports, from port 0 on; an adapter's port 0 is not used.
     pub(crate) ports: Vec<Port>,
     /// The forwarding table in whole blocks: the port for each LID.
     pub(crate) table: Vec<u8>,
@@ -37,8 +37,8 @@ impl Model for Agent {
 }
 
 impl Agent {
-    /// Creates the agent of a node, with no port wired, no manager seated and nothing written. Takes all its memory
-    /// here.
+    /// Creates the agent of a node, with no port wired, no manager seated and nothing written. Allocates all of the
+    /// agent's memory.
     #[tactic(auto, unfolding(crate::specs::Agent::fresh_agent))]
     pub fn new(alloc: Global, node: AgentNode) -> Result<Agent, AllocError>
         requires { IsAgentNode node }
@@ -81,7 +81,7 @@ impl Agent {
         self.node.is_switch()
     }
 
-    /// Returns the number of the node's ports from 1 on, 1 to 254.
+    /// Returns the number of the node's ports, 1 to 254, without port 0.
     pub fn ports(&self) -> u8
         ensures count { result ≡ self.now.node.ports }
         ensures least { 1 ≤ result }
@@ -90,7 +90,7 @@ impl Agent {
         self.node.ports
     }
 
-    /// Returns LinearFDBCap: how many entries the forwarding table has room for, 0 if there is no table.
+    /// Returns LinearFDBCap: the number of entries that the forwarding table has room for, 0 if there is no table.
     pub fn cap(&self) -> u16
         ensures { result ≡ self.now.node.cap }
     {
@@ -115,7 +115,7 @@ impl Agent {
         }
     }
 
-    /// Returns what is held of a port; for a port that the node does not have, a Down one to which nothing was written.
+    /// Returns a port; if the node does not have it, a Down port to which nothing was written.
     pub(crate) fn port(&self, port: PortNum) -> Port
         ensures { result ≡ port_at self.now port }
     {
@@ -146,7 +146,7 @@ impl Agent {
         self.port(port).lmc
     }
 
-    /// Returns the LID of the subnet manager that was set at a port, 0 for none.
+    /// Returns the subnet manager's LID that was set at a port, 0 for none.
     pub fn master_sm_lid(&self, port: PortNum) -> Lid
         ensures { result ≡ master_sm_lid_at self.now port }
     {
@@ -175,7 +175,7 @@ impl Agent {
         self.port(port).is_sm
     }
 
-    /// Plugs a cable into a port, which becomes Initialize, or takes it out, and the port becomes Down.
+    /// Plugs a cable into a port, or takes it out. The port becomes Initialize if it is plugged in, and otherwise Down.
     pub fn set_wired(&mut self, port: PortNum, is_wired: bool)
         requires least { 1 ≤ port }
         requires most { port ≤ self.old.node.ports }
@@ -198,8 +198,8 @@ impl Agent {
         self.ports[usize::from(port.number())].is_sm = true;
     }
 
-    /// Answers a request that came to a port, and applies a Set. A request that is refused changes nothing. Takes time
-    /// in proportion to the 64 bytes of an attribute.
+    /// Answers a request that arrived at port `arrival`, and applies a Set. A request that is refused changes nothing.
+    /// Takes time in proportion to the 64 bytes of an attribute.
     #[tactic(auto, unfolding(crate::specs::Answers::after_answer))]
     pub fn answer(&mut self, smp: &Smp, arrival: PortNum) -> Smp
         requires least { 1 ≤ arrival }

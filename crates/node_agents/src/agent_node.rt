@@ -11,9 +11,9 @@ pub struct AgentNode {
     pub guid: Guid,
     /// The type of the node; a router counts as an adapter.
     pub kind: NodeType,
-    /// The number of its ports from 1 on, 1 to 254.
+    /// The number of ports, 1 to 254, without port 0.
     pub ports: u8,
-    /// How many entries a switch's forwarding table has room for, at most 49152; 0 for an adapter.
+    /// The number of entries that a switch's forwarding table has room for, at most 49,152; 0 for an adapter.
     pub cap: u16,
     /// The name that an operator gave the node.
     pub description: NodeDescription,

@@ -3,7 +3,8 @@ ghost use Rattle.node_agents.specs.AnswerLaws.{AgentsAreMade, AnsweredIsAgent, A
 ghost use Rattle.node_agents.specs.AnswerLaws.{AnswersSay, GetsChangeNothing, RefusalsChangeNothing};
 ghost use Rattle.node_agents.specs.AnswerLaws.{GetsTellAsSets, BlocksAreSet, TopsAreSet, PortsAreSet};
 
-/// A fresh agent is an agent, and it stays one when a port is wired or a subnet manager is seated.
+/// A fresh agent is an agent, and an agent stays one when a port from 1 on is wired, or a subnet manager is seated at
+/// an adapter's port.
 #[tactic(auto, using(crate::proofs::Made::agents_are_made))]
 pub fn agents_are_made()
     ensures { AgentsAreMade }
@@ -21,13 +22,14 @@ pub fn answered_keeps_shape()
     ensures { AnsweredKeepsShape }
 {}
 
-/// An answer is a packet with the status and the attribute that the agent gives, and otherwise as the request was.
+/// An answer is a packet with the method GetResp, the D bit if it is directed, and the status and the attribute that
+/// the agent gives, and otherwise as the request was.
 pub fn answers_hold()
     ensures { AnswersHold }
 {}
 
-/// An answer with status 0, to a Get or a Set, says what is so of the node: what it is, whether a port is down, and how
-/// many entries its forwarding table has room for.
+/// An answer with status 0, to a Get or a Set, says what is true of the node: what it is, whether a port is down, and
+/// how many entries its forwarding table has room for.
 #[tactic(auto, using(crate::proofs::Says::answers_say))]
 pub fn answers_say()
     ensures { AnswersSay }
@@ -45,7 +47,8 @@ pub fn refusals_change_nothing()
     ensures { RefusalsChangeNothing }
 {}
 
-/// A Get by the same port after a Set that is taken returns what the answer to the Set returned.
+/// A Get right after a Set that is taken, of the same attribute and modifier and by the same port, returns what the
+/// answer to the Set returned.
 pub fn gets_tell_as_sets()
     ensures { GetsTellAsSets }
 {}
@@ -62,7 +65,8 @@ pub fn tops_are_set()
     ensures { TopsAreSet }
 {}
 
-/// The LID and the state that are set at a port are returned; no other port and nothing else is changed.
+/// The LID and the LMC that are set at a port with a LID are returned, and so is a state other than 0 (no change); no
+/// other port and nothing else is changed.
 pub fn ports_are_set()
     ensures { PortsAreSet }
 {}

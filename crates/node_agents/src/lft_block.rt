@@ -1,4 +1,4 @@
-//! LinearForwardingTable: the block that a Get returns, and the one that a Set writes.
+//! LinearForwardingTable: the block that a Get returns, and the block that a Set writes.
 ghost use Rattle.std.specs.Prelude.{◌≡◌, is_some};
 ghost use Rattle.std.specs.Option.{unwrap_or};
 ghost use Rattle.node_agents.specs.LftBlock.{has_block, get_block, set_block};
@@ -23,7 +23,7 @@ pub(crate) fn get(agent: &Agent, block: u32) -> Option<[u8; BLOCK]>
     Some(entries)
 }
 
-/// Writes the whole block, if the table has it. Returns whether it does.
+/// Writes the whole block, if the table has it. Returns whether the table has it.
 pub(crate) fn set(agent: &mut Agent, block: u32, payload: &[u8; BLOCK]) -> bool
     ensures taken { result ≡ is_some (set_block agent.old block payload.now) }
     ensures agent { agent.new ≡ unwrap_or (set_block agent.old block payload.now) agent.old }
@@ -35,7 +35,7 @@ pub(crate) fn set(agent: &mut Agent, block: u32, payload: &[u8; BLOCK]) -> bool
     has_block
 }
 
-/// Returns whether the block is one of unicast LIDs and begins within the table.
+/// Returns whether the block has unicast LIDs and begins within the table.
 fn has_block(agent: &Agent, block: u32) -> bool
     ensures { result ≡ has_block agent.now block }
 {

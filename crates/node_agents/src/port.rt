@@ -3,7 +3,7 @@ ghost use Rattle.std.specs.Prelude.{◌≡◌};
 use attr_codec::{Lmc, PortState};
 use smp_bytes::Lid;
 
-/// What an agent holds of a port.
+/// A port's values as its agent holds them.
 #[derive(Clone, Copy)]
 pub struct Port {
     /// The port's own LID, 0 for none.

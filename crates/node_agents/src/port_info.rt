@@ -11,7 +11,7 @@ use crate::port::Port;
 use attr_codec::{Attribute, Lmc, PortInfo, PortState};
 use smp_bytes::{Lid, PortNum};
 
-/// Returns the attribute for a Get, or `None` if the modifier names no port that it may ask for.
+/// Returns the attribute for a Get, or `None` if the modifier does not name a port that the Get may ask for.
 pub(crate) fn get(agent: &Agent, modifier: u32, arrival: PortNum) -> Option<[u8; 64]>
     ensures { result ≡ get_port_info agent.now modifier arrival }
 {
@@ -35,7 +35,7 @@ pub(crate) fn set(agent: &mut Agent, modifier: u32, arrival: PortNum, payload: &
     }
 }
 
-/// Returns the port that a Set means, and its state afterwards. Returns `None` if the Set is refused.
+/// Returns the port that a Set means, with its values afterwards, or `None` if the Set is refused.
 #[tactic(auto, unfolding(crate::specs::PortInfo::changed_port))]
 fn changed_port(
     agent: &Agent,
@@ -57,7 +57,8 @@ fn changed_port(
     Some((port, after))
 }
 
-/// Returns the port that a request means: any port of a switch; for an adapter the one that the request came to.
+/// Returns the port that a request means: for a switch, any port from 0 on; for an adapter, the port at which the
+/// request arrived, if the modifier is 0 or its number.
 fn port_meant(agent: &Agent, modifier: u32, arrival: PortNum) -> Option<PortNum>
     ensures port { result ≡ port_meant agent.now modifier arrival }
 {
@@ -85,7 +86,7 @@ fn info_of(port: Port, arrival: PortNum) -> [u8; 64]
     info.encode()
 }
 
-/// Returns whether the port has a LID of its own: each port of an adapter does, and port 0 of a switch.
+/// Returns whether the port has a LID of its own: each port of an adapter has one, and port 0 of a switch.
 fn has_lid(agent: &Agent, port: PortNum) -> bool
     ensures { result ≡ has_lid agent.now port }
 {
@@ -111,8 +112,8 @@ fn are_lids_taken(max_lmc: u8, info: &PortInfo) -> bool
     lmc.number() <= max_lmc && may_have(info.base_lid(), lmc)
 }
 
-/// Returns whether a port may have the LID `base` with `lmc`: none, or one that is a multiple of the number of LIDs,
-/// all of which are unicast.
+/// Returns whether a port may have the LID `base` with `lmc`: `base` is 0, for none, or a multiple of the number of
+/// LIDs, all of which are unicast.
 fn may_have(base: Lid, lmc: Lmc) -> bool
     ensures { result ≡ may_have base lmc }
 {
@@ -121,7 +122,7 @@ fn may_have(base: Lid, lmc: Lmc) -> bool
     first == 0 || (first % count == 0 && first + count <= u32::from(Lid::UNICAST_END))
 }
 
-/// Returns the port's state after a Set, or `None` if the LIDs or the link state are refused.
+/// Returns the port after a Set, or `None` if the LIDs or the link state are refused.
 fn port_after(port: Port, has_lid: bool, max_lmc: u8, payload: &[u8; 64]) -> Option<Port>
     ensures { result ≡ port_after port has_lid max_lmc payload.now }
 {

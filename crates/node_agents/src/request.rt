@@ -25,7 +25,7 @@ pub(crate) fn handle(agent: &mut Agent, smp: &Smp, arrival: PortNum) -> Result<[
     }
 }
 
-/// Returns the attribute that the packet asks for.
+/// Returns the attribute that the packet asks for, or why it is refused.
 #[tactic(auto, unfolding(crate::specs::Answers::get_of))]
 fn get(agent: &Agent, smp: &Smp, arrival: PortNum) -> Result<[u8; 64], Refusal>
     requires { arrival ≤ agent.now.node.ports }
@@ -68,7 +68,7 @@ fn set(agent: &mut Agent, smp: &Smp, arrival: PortNum) -> Result<(), Refusal>
     }
 }
 
-/// Returns `Ok` if the fields were taken, and else `InvalidField`.
+/// Returns `Ok` if the fields were taken, and otherwise `InvalidField`.
 fn valid_if(is_taken: bool) -> Result<(), Refusal>
     ensures { Judges result (if is_taken then None else Some InvalidField) }
 {

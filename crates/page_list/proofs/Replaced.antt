@@ -1,4 +1,4 @@
--- An item put where another was.
+-- An item that replaces another.
 use Rattle.std.proofs.Common.{◌≡◌, ℕ, zero, suc, ◌+◌, ◌-◌, ◌<◌, ◌≤◌, List, [], ◌∷◌, ◌++◌, length, get_or, set, take, drop, refl, sym, ap, ◌∙◌, subst, arith}
 use Rattle.std.proofs.lemmas.List.{length-append, length-set, set-append_left, set-append_right}
 use Rattle.std.proofs.lemmas.List.Elements.{All-set}

@@ -1,4 +1,4 @@
--- The indices from one on, one more each, and the next of them.
+-- The indices from some index on, incremented, and the next of them.
 use Rattle.std.proofs.Common.{◌≡◌, ℕ, ◌+◌, ◌-◌, ◌<◌, ◌≤◌, List, ◌++◌, length, get_or, set, take, drop, map, refl, sym, ap, ◌∙◌, arith}
 use Rattle.std.proofs.lemmas.List.{set-append_right, get_or-append_right, length-take-le, length-take, length-drop, length-append, length-map, get_or_default}
 use Rattle.std.proofs.lemmas.List.Edits.{map_over_more}

@@ -25,7 +25,7 @@ pub record IsEmptyPage {T : Type 0} (page : Vec T Global) : Type 0 where
   pub empty : page.items ≡ []
   pub roomy : 256 ≤ vec_capacity page
 
--- the indices are right, and each spare page can be put among the others without new memory
+-- the indices are right, and every spare page can be put among the others without new memory
 pub record ArePages {T : Type 0} (pages : Vec (Vec T Global) Global) (starts : Listing ℕ)
     (spare : Vec (Vec T Global) Global) (len room : ℕ) : Type 0 where
   pub starts_are : starts.items ≡ starts_from 0 pages.items

@@ -128,9 +128,9 @@ impl<T: Copy> PageList<T> {
     }
 
     /// Inserts an item at index `i`, before the item that is there, and returns its slot. Finds the page in one step if
-    /// it is that of `near`. Moves the items behind it in its page, increments the start indices of at most 64 pages,
-    /// and one number for each 64 further pages. About once in a hundred items a full page is halved, which moves the
-    /// list of pages and walks their start indices.
+    /// it is the page of `near`. Moves the items behind it in its page, and increments the start indices of at most 64
+    /// pages and one number for every 64 further pages. About once in a hundred items a full page is halved, which
+    /// moves the list of pages and walks their start indices.
     pub fn insert_near(&mut self, i: usize, item: T, near: Slot) -> Slot
         requires index { i ≤ length self.old.items }
         requires room { 0 < self.old.room }

@@ -2,8 +2,8 @@ ghost use Rattle.std.specs.Prelude.{◌≡◌, ◌+◌, ◌<◌, ◌≤◌, Some
 
 use crate::starts::Starts;
 
-/// Returns the last page that begins at index `at` or before it; `starts` has the index of each page's first item.
-/// Takes one step if that is the last page of all, otherwise a binary search.
+/// Returns the last page that begins at index `at` or before it. `starts` has the index of each page's first item.
+/// Takes one step if it is the last page of the list, otherwise a binary search.
 pub(crate) fn page_of(starts: &Starts, at: usize) -> usize
     requires { slice_get starts.now.items 0 ≡ Some 0 }
     ensures within { result < length starts.now.items }
@@ -28,8 +28,8 @@ pub(crate) fn page_of(starts: &Starts, at: usize) -> usize
 
 ghost use Rattle.page_list.specs.Pages.{items_of, starts_from, IsSlot};
 
-/// Where an item lies in its list: its page, and the index in it. It is a hint: the list looks there first. Insertions
-/// move items, so nothing depends on it.
+/// The place of an item in its list: its page, and its index in the page. It is only a hint: the list looks there
+/// first, but insertions move items.
 #[derive(Clone, Copy)]
 pub struct Slot {
     pub(crate) page: usize,

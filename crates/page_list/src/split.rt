@@ -4,8 +4,8 @@ ghost use Rattle.page_list.specs.Split.{IsSplit};
 use crate::page_list::PageList;
 use crate::slot::{Slot, slot_near};
 
-/// The pages that contain a part of a list, where a search looks first. It is a hint: a split is fair whatever they
-/// are.
+/// The pages that contain a part of a list. A search looks there first. They are only a hint: a split is fair whatever
+/// they are.
 #[derive(Clone, Copy)]
 pub struct Pages {
     first: usize,
@@ -42,8 +42,8 @@ impl<T: Copy> PageList<T> {
 
     /// Returns an item at an index from `low` up to, but not including, `high`, with at most `most` items of the part
     /// on either side. Prefers the first item of the page in the middle of `pages`, so that searches read the same few
-    /// items; otherwise takes the item in the middle. Takes one step if the part lies in one page, and mostly
-    /// otherwise; at worst a binary search among the pages.
+    /// items; otherwise takes the item in the middle. Takes one step if the part lies in one page, and usually
+    /// otherwise too; at worst a binary search among the pages.
     pub fn split(&self, low: usize, high: usize, most: usize, pages: Pages) -> Split<T>
         requires part { low < high }
         requires within { high ≤ length self.now.items }

@@ -10,11 +10,11 @@ use std::marker::Model;
 /// The number of indices in a group.
 const GROUP: usize = 64;
 
-/// The indices of the pages' first items, in order, in groups of 64. To increment all from some page on, only the
-/// indices of its own group and one number for each later group are changed.
+/// The indices of the pages' first items, in order, in groups of 64. Incrementing all indices from some page on changes
+/// only the indices of that page's group and one number for each later group.
 #[derive(Drop)]
 pub(crate) struct Starts {
-    /// Each index, without what is added to its group.
+    /// Each index, less the number that is added to its group.
     starts: Vec<usize>,
     /// The number that is added to each index of a group.
     added: Vec<usize>,
@@ -157,7 +157,7 @@ fn count_up(numbers: &mut [usize], from: usize, until: usize)
     }
 }
 
-/// Adds to each number what is added to its group, and sets that to 0.
+/// Adds to each index the number of its group, and sets the groups' numbers to 0.
 fn settle(numbers: &mut Vec<usize>, added: &mut Vec<usize>)
     requires grouped { length numbers.old.items ≤ 64 * length added.old.items }
     requires fits { All (λ n. n < 2 ^ 64) (raised added.old.items 0 numbers.old.items) }
@@ -185,7 +185,7 @@ fn has_any(numbers: &[usize]) -> bool
     false
 }
 
-/// Adds to each number what is added to its group.
+/// Adds to each index the number of its group.
 fn add_all(numbers: &mut [usize], added: &[usize])
     requires grouped { length numbers.old ≤ 64 * length added.now }
     requires fits { All (λ n. n < 2 ^ 64) (raised added.now 0 numbers.old) }

@@ -1,4 +1,4 @@
--- A function mapped over the numbers from 0 on, and then over one number more.
+-- A function mapped over the numbers from 0 on, and then over the next number.
 use Rattle.std.proofs.Common.{◌≡◌, ◌+◌, ℕ, List, [], ◌∷◌, ◌++◌, refl, ap, sym, ◌∙◌, arith}
 use Rattle.std.proofs.lemmas.List.{append_assoc, append-nil}
 use Rattle.std.proofs.lemmas.List.Elements.{filter_map-append}

@@ -1,4 +1,4 @@
--- A function mapped over a list that is walked by an index, and then over one item more.
+-- A function mapped over a list that is walked by an index, and then over the next item.
 use Rattle.std.proofs.Common.{◌≡◌, ◌<◌, ◌+◌, ℕ, List, [], ◌∷◌, ◌++◌, ap, sym, ◌∙◌, drop, length, get_or}
 use Rattle.std.proofs.lemmas.List.{append_assoc}
 use Rattle.std.specs.Prelude.{Option, Some, None}

@@ -9,7 +9,7 @@ use Rattle.lft_blocks.specs.Plan.{plan_of}
 use Rattle.sweep.specs.Sweep.{Sweep}
 use Rattle.plan_steps.specs.Phases.{phases_by}
 
--- one step for each number below 0xC000, one for each block below it at each usable switch, and one for each fact
+-- one step for each number below 0xC000, one for each block of them at each usable switch, and one for each cell
 abbrev pub most_steps : Cells → ℕ
 most_steps cells = 0xC000 + 768 * length (switches cells) + length cells
 

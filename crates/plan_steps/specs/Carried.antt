@@ -47,7 +47,7 @@ abbrev pub changed : List Change → List ℕ → List ℕ
 changed [] bytes = bytes
 changed (c ∷ changes) bytes = changed changes (with_bits c.bits c.number bytes)
 
--- a number that was read, or another one if that is 0
+-- `number`, or `otherwise` if it is 0
 abbrev pub or_default : ℕ → ℕ → ℕ
 or_default otherwise number = if number == 0 then otherwise else number
 
@@ -66,13 +66,13 @@ quarter_second = 16
 abbrev pub one_second : ℕ
 one_second = 18
 
--- the MTU of a port on a wire: the lesser of those that its two ends can take, if both say one, and otherwise as it was
--- read
+-- the MTU of a port on a wire: the lesser of the MTUs that its two ends can take, if both say one, and otherwise as it
+-- was read
 abbrev pub mtu_of : List ℕ → Option (List ℕ) → ℕ
 mtu_of own None = bits_in neighbor_mtu own
 mtu_of own (Some far) = or_default (bits_in neighbor_mtu own) (min (bits_in mtu_cap own) (bits_in mtu_cap far))
 
--- the bits of PortInfo in which a Set carries another value than was read
+-- the bits of PortInfo in which a Set may carry another value than was read
 abbrev pub port_changes : PortRead → List Change
 port_changes read =
     record { bits = link_width_enabled; number = no_change }
@@ -85,7 +85,7 @@ port_changes read =
     ∷ record { bits = subnet_timeout; number = or_default one_second (bits_in subnet_timeout read.own) }
     ∷ record { bits = client_reregister; number = 0 } ∷ []
 
--- the bits of SwitchInfo in which a Set carries another value than was read: a 1 clears PortStateChange
+-- the bits of SwitchInfo in which a Set may carry another value than was read: a 1 clears PortStateChange
 abbrev pub switch_changes : List ℕ → List Change
 switch_changes read =
     record { bits = life_time_value; number = or_default one_second (bits_in life_time_value read) }
@@ -93,11 +93,11 @@ switch_changes read =
 
 -- what was read ---------------------------------------------------------------------------------------
 
--- what was read of the port at the other end of the wire in a port, if it is kept
+-- PortInfo that was read of the port across, if there is one and it is kept
 abbrev pub far_image : Cells → Sweep → ℕ → ℕ → Option (List ℕ)
 far_image cells sweep guid port = option_and_then (λ far. port_image sweep far.0 far.1) (across cells guid port)
 
--- what was read of a port, if it is kept, and of the port across
+-- PortInfo that was read of a port, if it is kept, and of the port across
 abbrev pub port_read : Cells → Sweep → ℕ → ℕ → Option PortRead
 port_read cells sweep guid port =
     option_map (λ own. record { own = own; far = far_image cells sweep guid port }) (port_image sweep guid port)

@@ -15,7 +15,7 @@ pub record Phase : Type 0 where
   pub counts : Bool
   pub steps : List Step
 
--- LIDs, blocks and tops are the plan; the states of ports come last, so that no data moves before
+-- LIDs, blocks and tops are the plan; the states of ports come last, so that no data moves before the plan is set
 abbrev pub phases_by : PlanValue → Cells → Sweep → ℕ → List Phase
 phases_by plan cells sweep master =
     record { counts = true; steps = lid_steps cells sweep master plan.given }

@@ -18,14 +18,14 @@ use Rattle.plan_steps.specs.Tables.{top_data}
 
 -- what the plan asks for ---------------------------------------------------------------------------
 
--- 64 bytes of PortInfo that say this LID and LMC, this LID of the manager and this state
+-- the payload is 64 bytes of PortInfo with this LID and LMC, this LID of the manager and this state
 pub record SaysPort (range : ℕ × ℕ) (master : ℕ) (state : PortState) (payload : List ℕ) : Type 0 where
   pub whole : length payload ≡ 64
   pub range_is : range_in payload ≡ range
   pub master_is : number_in master_sm_lid payload ≡ master
   pub state_is : bits_in port_state payload ≡ number_of_state state
 
--- 64 bytes of SwitchInfo that say this greatest LID
+-- the payload is 64 bytes of SwitchInfo with this greatest LID
 pub record SaysTop (top : ℕ) (payload : List ℕ) : Type 0 where
   pub whole : length payload ≡ 64
   pub top_is : number_in linear_fdb_top payload ≡ top
@@ -39,7 +39,7 @@ pub record SetsSayThePlan : Type 0 where
 
 -- all else -------------------------------------------------------------------------------------------
 
--- the bits are apart from each of the others
+-- the bits are apart from all others
 abbrev pub are_apart_from : List Bits → Bits → Bool
 are_apart_from [] b = true
 are_apart_from (other ∷ others) b = are_bits_apart b other && are_apart_from others b
@@ -52,7 +52,7 @@ are_outside (f ∷ fields) b = are_apart (record { at = b.at; len = 1 }) f && ar
 abbrev pub bits_of : List Change → List Bits
 bits_of changes = map (λ c. c.bits) changes
 
--- where a Set of PortInfo may differ from what was read: in these fields, and in these bits
+-- the fields in which a Set of PortInfo may differ from what was read; `port_bits` has the bits
 abbrev pub port_fields : List Field
 port_fields = base_lid ∷ master_sm_lid ∷ gid_prefix ∷ []
 
@@ -81,8 +81,8 @@ pub record SetsChangeNothingElse : Type 0 where
 
 -- two Sets of one port -------------------------------------------------------------------------------
 
--- the Set of a state at an end port says what the Set of its LID says, except for the state: so whichever comes last,
--- no LID and no LMC is taken back
+-- the Set of a state at an end port says what the Set of its LID says, except for the state, so that neither undoes the
+-- other's LID and LMC, whichever comes last
 abbrev pub LidAndStateAgree : Type 0
 LidAndStateAgree =
     (cells : Cells) (sweep : Sweep) (given : Given) (master : ℕ) (state : PortState) (e : EndPort) (range : ℕ × ℕ)

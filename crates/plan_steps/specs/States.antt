@@ -31,7 +31,7 @@ wired_port cells (_, c) = None
 abbrev pub wired_ports : Cells → List (ℕ × ℕ)
 wired_ports cells = filter_map (wired_port cells) cells
 
--- a port in the second state is to go on to the first: from Initialize to Armed or Active, and from Armed to Active
+-- a port in the second state is due to go to the first: from Initialize to Armed or Active, or from Armed to Active
 abbrev pub is_due : PortState → PortState → Bool
 is_due Armed Initialize = true
 is_due Active Initialize = true
@@ -42,13 +42,13 @@ is_due state seen = false
 abbrev pub vertex_port : Cells → ℕ × ℕ → ℕ
 vertex_port cells at = if is_usable cells at.0 then 0 else at.1
 
--- PortInfo with a state: an end port's LIDs go with it; a switch's other ports have none
+-- PortInfo with a state, and with an end port's LIDs; a switch's other ports have none
 abbrev pub state_data : Option PortRead → Given → ℕ → PortState → ℕ × ℕ → List ℕ
 state_data read given master state at =
     option_map_or (λ range. port_data read range master state) (range_of given (record { node = at.0; port = at.1 }))
     (port_data read (0, 0) 0 state)
 
--- the step that sets `state` at a port, if the sweep saw it in an earlier state
+-- the step that sets `state` at a port, if the sweep saw it in a state from which it is due
 abbrev pub state_step : Cells → Sweep → Given → ℕ → PortState → ℕ × ℕ → Option Step
 state_step cells sweep given master state at =
     if option_map_or (is_due state) (seen_state sweep at.0 at.1) false
@@ -56,13 +56,13 @@ state_step cells sweep given master state at =
     (state_data (port_read cells sweep at.0 at.1) given master state at)
     else None
 
--- the steps that set `state` at each port on a wire that was reached and is to go on to it, by node GUID and port
+-- the steps that set `state` at each port on a wire that was reached and is due to go to it, by node GUID and port
 abbrev pub state_steps : Cells → Sweep → Given → ℕ → PortState → List Step
 state_steps cells sweep given master state = filter_map (state_step cells sweep given master state) (wired_ports cells)
 
 -- the law of the ports on wires, in words: -------------------------------------------------
 
--- the list has the ports on wires, and nothing else
+-- the list has exactly the ports on wires
 abbrev pub HasWiredPorts : Cells → List (ℕ × ℕ) → Type 0
 HasWiredPorts cells ports = (g p : ℕ) → Contains ports (g, p) ↔ IsSome (across cells g p)
 

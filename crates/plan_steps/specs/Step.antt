@@ -1,4 +1,4 @@
--- A step of writing: what is set at an agent, where it goes, and as which packet.
+-- A step of writing a plan: an attribute that is set at an agent, and its packet.
 use Rattle.std.specs.Prelude.{ℕ, List, Option, option_map}
 use Rattle.smp_bytes.specs.Header.{set}
 use Rattle.smp_bytes.specs.Requests.{directed}

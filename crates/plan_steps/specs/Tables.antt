@@ -14,20 +14,20 @@ use Rattle.plan_steps.specs.declared.step.Step.{Step}
 use Rattle.plan_steps.specs.Carried.{carried_switch}
 use Rattle.plan_steps.specs.Step.{step_at}
 
--- block b of a switch
+-- the step that sets block b of a switch
 abbrev pub block_step : Sweep → PlanValue → ℕ → ℕ → Option Step
 block_step sweep plan guid b = option_and_then (step_at sweep guid 0 linear_forwarding_table b) (block_at plan guid b)
 
--- the blocks of a switch that was reached, from 0 to that of the greatest LID
+-- the steps that set the blocks of a switch that was reached, from 0 to that of the greatest LID
 abbrev pub switch_steps : Sweep → PlanValue → ℕ → List Step
 switch_steps sweep plan guid =
     filter_map (block_step sweep plan guid) (range_with_len 0 (block_count (top_of plan.given)))
 
--- the blocks of each usable switch, by rising GUID
+-- the steps that set the blocks of each usable switch that was reached, by rising GUID
 abbrev pub block_steps : Sweep → PlanValue → List Step
 block_steps sweep plan = flat_map (switch_steps sweep plan) (switches_of plan)
 
--- SwitchInfo with the greatest LID that is forwarded; everything else is carried over from what was read
+-- SwitchInfo with the greatest LID that is forwarded; everything else is as a Set carries it
 abbrev pub top_data : Option (List ℕ) → ℕ → List ℕ
 top_data read top = with_number linear_fdb_top top (carried_switch read)
 

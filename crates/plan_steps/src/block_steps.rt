@@ -108,8 +108,7 @@ fn top_step(sweep: &Sweep, top: Lid, guid: Guid) -> Option<Step>
     )
 }
 
-/// Returns the SwitchInfo with `top` as the greatest LID that is forwarded. Carries over everything else from what was
-/// read.
+/// Returns the SwitchInfo with `top` as the greatest LID that is forwarded, and everything else as a Set carries it.
 fn top_data(read: Option<SwitchInfo>, top: Lid) -> [u8; 64]
     ensures { result ≡ top_data read top }
 {

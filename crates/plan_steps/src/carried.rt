@@ -13,13 +13,13 @@ use sweep::Sweep;
 /// The prefix of link-local GIDs, fe80::/64 (addressing).
 const LINK_LOCAL_PREFIX: u64 = 0xFE80_0000_0000_0000;
 
-/// HOQLife: how long a packet may stay first in its queue, 4.096 us * 2^16.
+/// HOQLife: how long a packet may stay at the head of its queue, 4.096 us * 2^16.
 const QUARTER_SECOND: u8 = 16;
 
 /// SubnetTimeOut and LifeTimeValue: 4.096 us * 2^18.
 const ONE_SECOND: u8 = 18;
 
-/// Each further field of PortInfo: its byte, the lowest bit and the number of bits.
+/// The further fields of PortInfo: the byte, the lowest bit and the number of bits of each.
 macro_rules! port_bits {
     ($access:ident link_width_enabled $args:tt) => { $access::<29, 0, 8> $args };
     ($access:ident neighbor_mtu $args:tt) => { $access::<36, 4, 4> $args };
@@ -50,7 +50,7 @@ pub(crate) fn port_read(store: &Store, sweep: &Sweep, guid: Guid, port: PortNum)
     Some(PortRead { own, far })
 }
 
-/// Returns what was read of the port at the other end of the wire in a port, if it is kept.
+/// Returns what was read of the port across, if there is one and it is kept.
 fn far_image(store: &Store, sweep: &Sweep, guid: Guid, port: PortNum) -> Option<PortInfo>
     ensures { result ≡ far_image (cells_of store.now) sweep.now guid port }
 {

@@ -11,7 +11,7 @@ pub fn own_lid_is_of_the_first()
     ensures { OwnLidLaw }
 {}
 
-/// The list of ports on wires has each of these ports once, by node GUID and port, and nothing else.
+/// The list of ports on wires has each of them once, by node GUID and port, and nothing else.
 pub fn wired_ports_are_listed_in_order()
     ensures { WiredPortsLaw }
 {}
@@ -28,8 +28,8 @@ pub fn sets_say_the_plan()
     ensures { SetsSayThePlan }
 {}
 
-/// A Set leaves what was read as it is, except for what the plan asks for, "no change" in some bits, and defaults for
-/// what no manager has set.
+/// A Set carries what was read, except for what the plan asks for, the MTU of the wire, "no change" in some bits,
+/// defaults for what no manager has set, and the bits ClientReregister and PortStateChange.
 pub fn sets_change_nothing_else()
     ensures { SetsChangeNothingElse }
 {}

@@ -85,8 +85,8 @@ fn lid_step(
     )
 }
 
-/// Returns the PortInfo with a LID and an LMC, the manager's LID and the state that is asked for. Carries over
-/// everything else from what was read.
+/// Returns the PortInfo with a LID and an LMC, the manager's LID and the state that is asked for, and everything else
+/// as a Set carries it.
 pub(crate) fn port_data(
     read: Option<PortRead>,
     lid: Lid,

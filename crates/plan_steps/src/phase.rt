@@ -15,7 +15,7 @@ use std::collections::VecDeque;
 use std::marker::Model;
 use sweep::Sweep;
 
-/// Steps that are sent together. Contracts see the list of these steps, and whether they count.
+/// Steps that are sent together. Contracts see the steps, and whether they count.
 #[derive(Drop)]
 pub struct Phase {
     /// Whether the plan counts as written only if the steps were done.

@@ -70,7 +70,7 @@ pub(crate) fn state_steps(
     Ok(steps)
 }
 
-/// Builds the step that sets `state` at a port on a wire.
+/// Builds the step that sets `state` at a port on a wire, if the port is due.
 fn state_step(
     store: &Store,
     sweep: &Sweep,
@@ -96,7 +96,7 @@ fn state_step(
     )
 }
 
-/// Returns whether the sweep saw the port in a state from which it is to go on to `state`.
+/// Returns whether the sweep saw the port in a state from which it is due to go to `state`.
 fn is_still_due(sweep: &Sweep, state: PortState, guid: Guid, port: PortNum) -> bool
     ensures { result ≡ option_map_or (is_due state) (seen_state sweep.now guid port) false }
 {
@@ -106,8 +106,8 @@ fn is_still_due(sweep: &Sweep, state: PortState, guid: Guid, port: PortNum) -> b
     }
 }
 
-/// Returns whether a port in the state `seen` is to go on to `state`: from Initialize to Armed or Active, or from Armed
-/// to Active.
+/// Returns whether a port in the state `seen` is due to go to `state`: from Initialize to Armed or Active, or from
+/// Armed to Active.
 fn is_due(state: PortState, seen: PortState) -> bool
     ensures { result ≡ is_due state seen }
 {

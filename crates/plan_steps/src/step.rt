@@ -7,11 +7,11 @@ use sweep::Sweep;
 /// An attribute that is set at an agent over a directed route (subnet management, SubnSet).
 #[derive(Debug, Drop)]
 pub struct Step {
-    /// The ports that lead to the agent.
+    /// The path to the agent.
     pub path: Path<63>,
     /// The number of the attribute.
     pub attribute: u16,
-    /// The port for PortInfo, the number of the block for a block, else 0.
+    /// The port for PortInfo, the number of the block for a block, otherwise 0.
     pub modifier: u32,
     /// The 64 bytes of the attribute.
     pub payload: [u8; 64],

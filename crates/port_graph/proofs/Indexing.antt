@@ -1,4 +1,4 @@
--- Slopes whose vertices are the numbers from 0 on: their edges, down distances and costs.
+-- Slopes of vertices that are numbered from 0: their edges, down distances and costs.
 use Rattle.std.proofs.Common.{◌≡◌, ◌≤◌, ◌<◌, ◌+◌, ℕ, zero, suc, List, [], ◌∷◌, inl, inr, refl, sym, ap, ◌∙◌, subst, arith, true, false, cond, ◌==◌, length, map, min}
 use Rattle.std.proofs.lemmas.Bool.{cases_lt, eqb-true, eq-eqb}
 use Rattle.std.proofs.lemmas.List.{get_or_past}

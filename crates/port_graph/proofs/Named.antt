@@ -1,4 +1,4 @@
--- What the code finds by the numbers of vertices, said by other names of theirs.
+-- What the code finds by the numbers of vertices, stated for vertices with other names.
 use Rattle.std.proofs.Common.{◌≡◌, ◌<◌, ℕ, List, sym, ap, ◌∙◌, subst, arith, length, map}
 use Rattle.std.specs.Prelude.{Option, None, Contains, slice_index_or}
 use Rattle.port_graph.specs.declared.edge.Edge.{Edge}

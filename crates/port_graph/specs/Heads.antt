@@ -15,7 +15,7 @@ heads edges a = map (λ e. e.to) (edges_at edges a)
 abbrev pub LeadToVertices : List (List Edge) → Type 0
 LeadToVertices edges = (a : ℕ) (e : Edge) → Contains (edges_at edges a) e → e.to < length edges
 
--- for each vertex the length of a shortest walk to it from `from`
+-- for each vertex, the length of a shortest walk to it from `from`; None if there is none
 pub record AreDistances (edges : List (List Edge)) (from : ℕ) (distances : List (Option ℕ)) : Type 0 where
   pub all : length distances ≡ length edges
   pub shortest : (a : ℕ) → a < length edges → slice_index_or distances a None

@@ -1,4 +1,4 @@
--- Slopes whose vertices are the numbers from 0 on.
+-- Slopes of vertices that are numbered from 0.
 use Rattle.std.specs.Prelude.{◌≡◌, ◌<◌, ℕ, suc, List, [], ◌∷◌, length, map, Contains, Option, None, Some, is_some, option_map, slice_index_or, if◌then◌else◌}
 use Rattle.std.specs.List.{filter_map, find}
 use Rattle.port_graph.specs.declared.edge.Edge.{Edge}
@@ -21,7 +21,7 @@ indexed ups downs = indexed_from 0 ups downs
 abbrev pub LeadToLesser : List (List Edge) → Type 0
 LeadToLesser edges = (a : ℕ) (e : Edge) → Contains (edges_at edges a) e → e.to < a
 
--- edges up lead to lesser vertices, and each edge up has one down that leads back, and the other way round
+-- edges up lead to lesser vertices; each edge up has an edge down that leads back, and each edge down an edge up
 pub record AreSlopes (ups downs : List (List Edge)) : Type 0 where
   pub all : length downs ≡ length ups
   pub rise : LeadToLesser ups
@@ -37,25 +37,25 @@ lesser_of (Some n) other = Some (lesser n other)
 abbrev pub AreLess : ℕ → List (Option ℕ) → Type 0
 AreLess bound numbers = (a n : ℕ) → slice_index_or numbers a None ≡ Some n → n < bound
 
--- the distance if there is one, else one more than the least cost over the edges
+-- the distance if there is one, otherwise one more than the least cost over the edges
 abbrev pub cost_of : Option ℕ → List Edge → List (Option ℕ) → Option ℕ
 cost_of distance edges costs =
     if is_some distance then distance else option_map suc
     (least_of (filter_map (λ e. slice_index_or costs e.to None) edges))
 
--- for each of the first n vertices its cost, by the distances and the costs of the vertices up from it
+-- the cost of each of the first n vertices, by its distance and the costs of the vertices up from it
 pub record AreCosts (ups : List (List Edge)) (distances : List (Option ℕ)) (n : ℕ) (costs : List (Option ℕ)) : Type 0
   where
     pub all : length costs ≡ n
     pub cost : (a : ℕ) → a < n → slice_index_or costs a None
         ≡ cost_of (slice_index_or distances a None) (edges_at ups a) costs
 
--- the port of the first edge to a vertex whose number is one less
+-- the port of the first edge to a vertex whose number is one less than `number`
 abbrev pub port_nearer : List Edge → List (Option ℕ) → Option ℕ → Option ℕ
 port_nearer edges numbers number =
     option_map (λ e. e.port) (find (λ e. same_number (option_map suc (slice_index_or numbers e.to None)) number) edges)
 
--- a's port down if its distance is known, else its port up
+-- a's port down if its distance is known, otherwise its port up
 abbrev pub port_by : List (List Edge) → List (List Edge) → List (Option ℕ) → List (Option ℕ) → ℕ → Option ℕ
 port_by ups downs distances costs a =
     let distance = slice_index_or distances a None in
@@ -67,12 +67,12 @@ pub record AreNextPorts (ups downs : List (List Edge)) (target : ℕ) (ports : L
   pub all : length ports ≡ length ups
   pub next : (a : ℕ) → a < length ups → slice_index_or ports a None ≡ next_port (indexed ups downs) a target
 
--- the next ports between `vertices`: for each as a target, the next port of each
+-- the next ports between `vertices`: for each of them as the target, the next port of each of them
 abbrev pub ports_between : List (List Edge) → List (List Edge) → List ℕ → List (List (Option ℕ))
 ports_between ups downs vertices = map (λ t. map (λ s. next_port (indexed ups downs) s t) vertices) vertices
 
--- from a vertex with a cost a way by next ports leads to the target, first up and then down, over as many edges as the
--- cost
+-- from each vertex with a cost to a target, the next ports lead to the target, first up and then down, over as many
+-- edges as the cost
 abbrev pub WaysLaw : Type 0
 WaysLaw = (ups downs : List (List Edge)) → AreSlopes ups downs → (s t n : ℕ) → t < length ups
     → cost (indexed ups downs) s t ≡ Some n → Way (indexed ups downs) s t n

@@ -36,21 +36,21 @@ nearest_from x found (e ∷ edges) = nearest_from x (nearer found (x e.to) e.por
 abbrev pub nearest_by : (ℕ → ℕ) → List Edge → ℕ × ℕ
 nearest_by x edges = nearest_from x (255, 0) edges
 
--- a vertex's number and port, given the nearest one down: 0 at the target
+-- a vertex's number and port, given the nearest vertex down; the target's number is 0
 pub record IsStepDown (is_target : Bool) (nearest : ℕ × ℕ) (x its_port : ℕ) : Type 0 where
   pub number : number_in x ≡ (if is_target then Some 0 else option_map suc (number_in nearest.0))
   pub port : its_port ≡ nearest.1
 
--- a vertex's number and port, given its down distance y with its port, or else the nearest one up
+-- a vertex's number and port, given its down distance y with the port down, and the nearest vertex up
 pub record IsStepUp (y port_down : ℕ) (nearest : ℕ × ℕ) (x its_port : ℕ) : Type 0 where
   pub number : number_in x ≡ (if nat_lt y 255 then number_in y else option_map suc (number_in nearest.0))
   pub port : its_port ≡ (if nat_lt y 255 then port_down else nearest.1)
 
--- the target of lane k: the vertices from index `first` on, and then the last one
+-- the target of lane k: the lanes have the vertices from index `first` on, and lanes left over the last vertex
 abbrev pub target_in : List ℕ → ℕ → ℕ → ℕ
 target_in vertices first k = slice_index vertices (first + min k (length vertices - 1 - first))
 
--- in lane k stand the costs of all vertices and their next ports to target t
+-- lane k has the costs of all vertices and their next ports towards target t
 pub record AreRouted (ups downs : List (List Edge)) (t k : ℕ) (numbers ports : List (List ℕ)) : Type 0 where
   pub cost : (a : ℕ) → a < length ups → number_in (at numbers a k) ≡ cost (indexed ups downs) a t
   pub next : (a : ℕ) → a < length ups → port_in (at numbers a k) (at ports a k) ≡ next_port (indexed ups downs) a t

@@ -45,7 +45,7 @@ pub record IsPortUp (slopes : List Slope) (s t p : ℕ) : Type 0 where
 abbrev pub IsNextPort : List Slope → ℕ → ℕ → ℕ → Type 0
 IsNextPort slopes s t p = (s ≢ t) × (IsPortDown slopes s t p ⊎ IsPortUp slopes s t p)
 
--- wires up from s to u; `Descends` the wires down
+-- the wires lead up from s to u; for `Descends`, down
 abbrev pub Climbs : List Slope → ℕ → List Edge → ℕ → Type 0
 Climbs slopes s [] u = s ≡ u
 Climbs slopes s (e ∷ es) u = Contains (ups_at slopes s) e × Climbs slopes e.to es u
@@ -54,18 +54,18 @@ abbrev pub Descends : List Slope → ℕ → List Edge → ℕ → Type 0
 Descends slopes s [] u = s ≡ u
 Descends slopes s (e ∷ es) u = Contains (downs_at slopes s) e × Descends slopes e.to es u
 
--- wires by the next port of each switch, up to the target t
+-- the wires leave by the next port of each switch, until they reach the target t
 abbrev pub GoesBy : List Slope → ℕ → ℕ → List Edge → Type 0
 GoesBy slopes t s [] = s ≡ t
 GoesBy slopes t s (e ∷ es) = ((s == t) ≡ false) × (next_port slopes s t ≡ Some e.port) × GoesBy slopes t e.to es
 
--- from cost n on, the costs of the switches that the wires lead to fall by one each
+-- the costs of the switches that the wires lead to fall from n by one each
 abbrev pub CostsFall : List Slope → ℕ → ℕ → List Edge → Type 0
 CostsFall slopes t n [] = Unit {0}
 CostsFall slopes t zero (e ∷ es) = ⊥
 CostsFall slopes t (suc n) (e ∷ es) = (cost slopes e.to t ≡ Some n) × CostsFall slopes t n es
 
--- a way by next ports: up, and then down, over as many wires as the cost n
+-- a walk by next ports from s to t, first up and then down, over as many wires as the cost n
 pub record Way (slopes : List Slope) (s t n : ℕ) : Type 0 where
   pub ups : List Edge
   pub downs : List Edge

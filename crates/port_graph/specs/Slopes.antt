@@ -4,7 +4,7 @@ use Rattle.std.specs.List.{filter_map, find}
 use Rattle.port_graph.specs.declared.edge.Edge.{Edge}
 use Rattle.port_graph.specs.Walks.{shortest}
 
--- the wires of a switch that lead up, to one before it, and down, to one after it
+-- the wires of a switch: up, to earlier switches, and down, to later ones
 pub record Slope : Type 0 where
   pub guid : ℕ
   pub ups : List Edge
@@ -33,8 +33,8 @@ abbrev pub least_of : List ℕ → Option ℕ
 least_of [] = None
 least_of (n ∷ ns) = Some (lesser n (least_of ns))
 
--- the cost with at most `climbs` wires up: the down distance if there is one, else one more than the least cost over
--- the wires up
+-- the cost with at most `climbs` wires up: the down distance if there is one, otherwise one more than the least cost
+-- over the wires up
 abbrev pub cost_within : List Slope → ℕ → ℕ → ℕ → Option ℕ
 cost_within slopes zero s t = down_distance slopes s t
 cost_within slopes (suc climbs) s t = let down = down_distance slopes s t in
@@ -62,7 +62,7 @@ port_up slopes s t =
     option_map (λ e. e.port) (find (λ e. same_number (option_map suc (cost slopes e.to t)) (cost slopes s t))
     (ups_at slopes s))
 
--- the port down if a walk down leads to t, else the port up
+-- the port down if a walk down leads to t, otherwise the port up
 abbrev pub next_port : List Slope → ℕ → ℕ → Option ℕ
 next_port slopes s t =
     if s == t then None else (if is_some (down_distance slopes s t) then port_down slopes s t else port_up slopes s t)

@@ -4,7 +4,7 @@ use crate::edge::Edge;
 use std::alloc::{AllocError, Global};
 use std::marker::Model;
 
-/// The edges of each vertex, all in one list. The vertices are the numbers from 0 on.
+/// The edges of each vertex, all in one list. Vertices are numbered from 0.
 #[derive(Drop)]
 pub struct Adjacency {
     /// The part of `edges` that belongs to each vertex.
@@ -61,7 +61,7 @@ impl Adjacency {
         Ok(())
     }
 
-    /// Returns the edges of a vertex in their order; no edges past the last vertex. Takes one step.
+    /// Returns the edges of `vertex` in their order, or none if there is no such vertex. Takes one step.
     pub fn at(&self, vertex: usize) -> &[Edge]
         ensures { result.now ≡ slice_index_or self.now vertex [] }
     {

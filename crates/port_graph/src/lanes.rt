@@ -4,20 +4,20 @@ ghost use Rattle.port_graph.specs.Lanes.{EachLane, IsOneMore, at, nearer, neares
 use crate::edge::Edge;
 use smp_bytes::PortNum;
 
-/// The number of targets that are routed to side by side.
+/// The number of targets to which routes are computed at a time.
 pub(crate) const LANES: usize = 16;
 
-/// The number that stands for none in a lane.
+/// The number in a lane that has none.
 const NONE: u8 = 255;
 
-/// For each lane a number, and the port that leads to a vertex with a lesser one.
+/// A number and a port for each lane.
 #[derive(Clone, Copy)]
 pub(crate) struct Hops {
     pub(crate) numbers: [u8; LANES],
     pub(crate) ports: [u8; LANES],
 }
 
-/// Finds for each lane the least number of the vertices that the edges lead to, and the port of the first edge to a
+/// Finds, for each lane, the least number of the vertices that `edges` lead to, and the port of the first edge to a
 /// vertex with that number.
 pub(crate) fn nearest(edges: &[Edge], numbers: &[[u8; LANES]]) -> Hops
     requires { All (λ edge. edge.to < length numbers.now) edges.now }
@@ -34,7 +34,7 @@ pub(crate) fn nearest(edges: &[Edge], numbers: &[[u8; LANES]]) -> Hops
     nearest
 }
 
-/// Replaces in each lane the number found by that of `numbers` if this is less, and the port by `port`.
+/// Takes the number of `numbers`, with `port`, in each lane in which it is less than the number found so far.
 fn take_nearer(found: &mut Hops, numbers: &[u8; LANES], port: u8)
     ensures { EachLane (λ k. (slice_index found.new.numbers k, slice_index found.new.ports k)
         ≡ nearer (slice_index found.old.numbers k, slice_index found.old.ports k) (slice_index numbers.now k) port) }
@@ -79,7 +79,7 @@ pub(crate) fn set_at_target(numbers: &mut [u8; LANES], targets: &[usize; LANES],
     }
 }
 
-/// Takes number and port of `others` in each lane without a number.
+/// Takes the number and the port of `others` in each lane of `hops` without a number.
 pub(crate) fn fill_in(hops: &mut Hops, others: &Hops)
     ensures numbers { EachLane (λ k. slice_index hops.new.numbers k
         ≡ cond (nat_lt (slice_index hops.old.numbers k) 255) (slice_index hops.old.numbers k)
@@ -103,7 +103,7 @@ pub(crate) fn fill_in(hops: &mut Hops, others: &Hops)
     }
 }
 
-/// Returns the port of a lane; `None` if its number is 0 or stands for none.
+/// Returns the port of a lane, or `None` if the lane's number is 0 or it has none.
 pub(crate) fn port_in(number: u8, port: u8) -> Option<PortNum>
     ensures { result ≡ port_in number port }
 {

@@ -7,8 +7,8 @@ pub fn distances_law()
     ensures { DistancesLaw }
 {}
 
-/// A way by next ports leads from a vertex to the target, first up and then down, over as many edges as the vertex's
-/// cost, if it has one.
+/// From each vertex with a cost to a target, the next ports lead to the target, first up and then down, over as many
+/// edges as the cost.
 pub fn ways_law()
     ensures { WaysLaw }
 {}

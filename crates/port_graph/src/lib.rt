@@ -1,5 +1,4 @@
-//! Graphs whose vertices are numbers and whose edges leave by ports: shortest walks, and routes that go up and then
-//! down.
+//! Graphs of numbered vertices whose edges leave by ports: shortest walks, and routes that go up and then down.
 #![tactic(auto)]
 
 mod adjacency;

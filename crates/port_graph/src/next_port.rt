@@ -8,9 +8,9 @@ use crate::edge::Edge;
 use smp_bytes::PortNum;
 use std::alloc::{AllocError, Global};
 
-/// Computes the next port of each vertex to `target`: if a walk down leads there, the first port down to a vertex one
-/// nearer; otherwise the first port up to a vertex of least cost. `None` at the target, and if no route leads to it.
-/// Takes one step for each vertex and each edge.
+/// Computes the next port of each vertex towards `target`: the first port down to a vertex one nearer if a walk down
+/// leads there, otherwise the first port up to a vertex of least cost. The target has `None`, and so does a vertex
+/// without a route. Takes one step for each vertex and each edge.
 pub(crate) fn next_ports(
     alloc: Global,
     ups: &Adjacency,

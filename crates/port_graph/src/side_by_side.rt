@@ -12,8 +12,8 @@ use crate::next_port::next_ports;
 use smp_bytes::PortNum;
 use std::alloc::{AllocError, Global};
 
-/// Computes the next ports between `vertices`: for each as a target, the next port of each. Takes one step for each
-/// vertex and each edge for 16 targets at a time, or for each target if a cost is greater than 254.
+/// Computes the next ports between `vertices`: row `i` has the next port of each of them towards `vertices[i]`. Takes
+/// one step for each vertex and each edge for every 16 targets, or for every target if a cost is over 254.
 pub fn next_ports_between(
     alloc: Global,
     ups: &Adjacency,
@@ -38,7 +38,7 @@ pub fn next_ports_between(
     Ok(rows)
 }
 
-/// Returns the targets of the lanes: the vertices from index `first` on, and the last one in the lanes left over.
+/// Returns the targets of the lanes: `vertices` from index `first` on. Lanes left over get the last vertex.
 fn targets_from(vertices: &[usize], first: usize) -> [usize; LANES]
     requires { first < length vertices.now }
     ensures { EachLane (λ k. slice_index result k ≡ target_in vertices.now first k) }
@@ -51,7 +51,7 @@ fn targets_from(vertices: &[usize], first: usize) -> [usize; LANES]
     targets
 }
 
-/// A target in each lane, with the costs of all vertices and their next ports to it.
+/// The target of each lane, with the costs of all vertices and their next ports towards it.
 #[derive(Drop)]
 struct Block {
     targets: [usize; LANES],
@@ -89,7 +89,7 @@ impl Block {
         self.is_routed = route_in_lanes(ups, downs, &targets, &mut self.numbers, &mut self.ports);
     }
 
-    /// Returns the next ports of `vertices` to the target of a lane.
+    /// Returns the next ports of `vertices` towards the target of a lane.
     fn row(
         &self,
         alloc: Global,
@@ -120,8 +120,9 @@ impl Block {
     }
 }
 
-/// Computes for each lane the costs of all vertices and their next ports to its target: down distances from the last
-/// vertex to the first, and then costs from the first to the last. Returns `false` if a cost is too great for a lane.
+/// Computes, for each lane, the costs of all vertices and their next ports towards its target: first down distances,
+/// from the last vertex to the first, then costs, from the first to the last. Returns `false` if a cost is too great
+/// for a lane.
 fn route_in_lanes(
     ups: &Adjacency,
     downs: &Adjacency,

@@ -1,4 +1,4 @@
--- Exactly a head with good records behind it is accepted.
+-- A file is accepted exactly if it is a head with good records behind it.
 use Rattle.std.proofs.Common.{◌≡◌, ℕ, zero, suc, ◌+◌, ◌-◌, ◌*◌, ◌/◌, ◌%◌, ◌<◌, ◌≤◌, ◌^◌, List, [], ◌∷◌, ◌++◌, Option, None, Result, Ok, Err}
 use Rattle.std.proofs.Common.{IsOk, length, drop, refl, sym, ap, ◌∙◌, arith, append-nil, length-append, length-drop}
 use Rattle.std.specs.List.{AllByRecursion, concat}

@@ -1,4 +1,4 @@
--- What is told of a file that ends within a record, and of one with a bad record.
+-- The faults of a file that ends within a record, and of a file with a bad record.
 use Rattle.std.proofs.Common.{◌≡◌, ◌+◌, ◌-◌, ◌^◌, [], ◌∷◌, ◌++◌, None, Some, length, sym, ap, ◌∙◌, arith}
 use Rattle.std.proofs.Common.{append_assoc, append-nil}
 use Rattle.std.specs.List.{concat}

@@ -1,4 +1,5 @@
--- Exactly the store files of facts in range are accepted, and they are read back.
+-- Bytes with the head of a store file are accepted exactly if they are the store file of facts in range, and are read
+-- back.
 use Rattle.std.proofs.Common.{inl, inr, ◌≡◌, ℕ, max, ◌+◌, Bool, true, false, ◌&&◌, List, [], ◌∷◌, ◌++◌, Option, None, Some, Result, Ok, Err, map, drop, cond, nat_eq, nat_le, refl}
 use Rattle.std.proofs.Common.{sym, ap, ◌∙◌, subst, arith, append-nil}
 use Rattle.std.specs.Prelude.{T, Contains, option_map}

@@ -35,11 +35,11 @@ abbrev pub state_byte : Cell Value → ℕ
 state_byte (Known generation value) = 1
 state_byte (Disputed generation) = 2
 
--- the bytes, with zeros up to n bytes
+-- the bytes, padded with zeros to n bytes
 abbrev pub filled_up : ℕ → List ℕ → List ℕ
 filled_up n bytes = bytes ++ replicate (n - length bytes) 0
 
--- the spelling of a cell
+-- the record that spells a cell
 abbrev pub record_bytes : Key × Cell Value → List ℕ
 record_bytes e =
     key_kind e.0 ∷ state_byte e.1 ∷ key_port e.0 ∷ 0 ∷
@@ -67,7 +67,7 @@ abbrev pub state_of : Key → ℕ → ℕ → List ℕ → Option (Cell Value)
 state_of key state generation bytes =
     if state == 1 then option_map (Known generation) (value_of key bytes) else Some (Disputed generation)
 
--- the cell that these bytes spell if they are a record
+-- the cell that these bytes spell, if they are a record
 abbrev pub candidate : List ℕ → Option (Key × Cell Value)
 candidate bytes =
     option_and_then (λ key. option_map (λ cell. (key, cell))
@@ -80,6 +80,6 @@ if_sighting e = if is_sighting e then Some e else None
 abbrev pub if_spelled : List ℕ → Key × Cell Value → Option (Key × Cell Value)
 if_spelled bytes e = if bytes_eq (record_bytes e) bytes then Some e else None
 
--- the sighting whose record these bytes are, if there is one
+-- the sighting that these bytes are the record of; None if there is none
 unfoldable pub cell_of : List ℕ → Option (Key × Cell Value)
 cell_of bytes = option_and_then (if_spelled bytes) (option_and_then if_sighting (candidate bytes))

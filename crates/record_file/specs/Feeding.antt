@@ -1,4 +1,4 @@
--- A file that comes in pieces: what an absorber waits for after the bytes that it was fed, and what one more piece
+-- A file that comes in pieces: what an absorber waits for after the bytes that it was fed, and what a further piece
 -- does.
 use Rattle.std.specs.Prelude.{◌≡◌, ◌⊎◌, ℕ, ◌+◌, ◌*◌, ◌<◌, ◌≤◌, ◌^◌, List, [], ◌∷◌, ◌++◌, Option, None, Some, Result, Ok, Err, IfOk, length, take}
 use Rattle.std.specs.Prelude.{nat_lt, ◌==◌, if◌then◌else◌}
@@ -18,7 +18,7 @@ use Rattle.record_file.specs.Absorbs.{AbsorbsJudged}
 use Rattle.record_file.specs.Head.{IsFormat, floor_told, floored_magic, format_in, head_bytes, head_size}
 use Rattle.record_file.specs.RecordFile.{AreGoodRecords, floor_in, judged, kept, key_in, last_key, outcome, record_size}
 
--- what an absorber waits for, or the fault that it stopped with; and the bytes of the awaited part that came
+-- what an absorber waits for, or the fault that it stopped with; and the bytes of the awaited part that have come
 pub record Absorbing : Type 0 where
   pub awaited : Result Awaited FileFault
   pub part : List ℕ
@@ -35,16 +35,16 @@ offset_of awaited.Magic = 0
 offset_of awaited.Header = 8
 offset_of (awaited.Record format index last) = head_size format + record_size format * index
 
--- not all bytes of the awaited part came
+-- not all bytes of the awaited part have come
 abbrev pub IsShortOf : Awaited → List ℕ → Type 0
 IsShortOf awaited part = length part < awaited_size awaited
 
--- not all bytes of the awaited part came, and fewer than 2^40 bytes in all
+-- not all bytes of the awaited part have come, and fewer than 2^40 bytes in all
 abbrev pub IsInReach : Result Awaited FileFault → List ℕ → Type 0
 IsInReach (Ok awaited) part = IsShortOf awaited part × (offset_of awaited + length part < 2 ^ 40)
 IsInReach (Err fault) part = Unit {0}
 
--- the bytes `fed` are the head, `index` good records, and the bytes `part` of the next one
+-- the bytes `fed` are a head, `index` good records, and `part`, the first bytes of the next record
 pub record IsBehindRecords (format : Format) (index : ℕ) (last : Option Key) (part fed : List ℕ) : Type 0 where
   pub records : List (List ℕ)
   pub sound : IsFormat format
@@ -54,7 +54,7 @@ pub record IsBehindRecords (format : Format) (index : ℕ) (last : Option Key) (
   pub key : last ≡ last_key format None records
   pub short : length part < record_size format
 
--- after the bytes `fed` this is awaited, and `part` of it came
+-- after the bytes `fed`, this part is awaited, and `part` of it has come
 abbrev pub Awaits : Awaited → List ℕ → List ℕ → Type 0
 Awaits awaited.Magic part fed = (fed ≡ part) × (length part < 8)
 Awaits awaited.Header part fed = (fed ≡ floored_magic ++ part) × (length part < 8)
@@ -82,11 +82,12 @@ staying n (Err fault) = Some fault
 abbrev pub fault_so_far : List ℕ → Option FileFault
 fault_so_far bytes = staying (length bytes) (outcome bytes)
 
--- the floor that a piece raises behind the bytes `fed`: that of all bytes together, unless `fed` has one
+-- the floor that a piece raises behind the bytes `fed`: the floor of all bytes together, or 1 if `fed` already has a
+-- floor
 abbrev pub floor_behind : List ℕ → List ℕ → ℕ
 floor_behind fed piece = if floor_in fed == 1 then floor_in (fed ++ piece) else 1
 
--- what the head and the records say that this piece completes was merged into the store
+-- what the head and the records completed by this piece say was merged into the store
 pub record AddsSightings (fed piece : List ℕ) (old new : Facts) : Type 0 where
   pub sightings : List (Key × Cell Value)
   pub more : kept (fed ++ piece) ≡ kept fed ++ sightings
@@ -108,32 +109,32 @@ pub record WantsMemory (fed piece : List ℕ) (old new : Facts) : Type 0 where
   pub more : kept (head_bytes format ++ concat records) ≡ kept fed ++ sightings
   pub held : new ≡ merge old (view_at (floor_behind fed piece) sightings)
 
--- memory ran out for a record of the piece, or the bytes have this fault; and the store holds what came before it
+-- memory ran out for a record of the piece, or the bytes have this fault; the store holds what came before
 abbrev pub StopsWith : FileFault → List ℕ → List ℕ → Facts → Facts → Type 0
 StopsWith fault fed piece old new =
     ((fault ≡ Memory) × WantsMemory fed piece old new)
     ⊎ ((fault_so_far (fed ++ piece) ≡ Some fault) × AddsSightings fed piece old new)
 
--- what feeding a piece behind the bytes `fed` answers and does
+-- what feeding a piece behind the bytes `fed` returns and does
 abbrev pub FeedsBehind : List ℕ → List ℕ → Result (Unit {0}) FileFault → Absorbing → Facts → Facts → Type 0
 FeedsBehind fed piece (Ok u) a old new =
     WasFed a (fed ++ piece) × (fault_so_far (fed ++ piece) ≡ None) × AddsSightings fed piece old new
 FeedsBehind fed piece (Err fault) a old new = HasStopped a fault × StopsWith fault fed piece old new
 
--- what feeding a piece answers, and what it leaves of the absorber and of the store
+-- what feeding a piece returns, and what it does to the absorber and to the store
 pub record FeedsPiece (a : Absorbing) (piece : List ℕ) (answer : Result (Unit {0}) FileFault) (a' : Absorbing)
     (old new : Facts) : Type 0 where
   pub goes_on : (fed : List ℕ) → WasFed a fed → FeedsBehind fed piece answer a' old new
   pub stays : (fault : FileFault) → HasStopped a fault → (answer ≡ Err fault) × (a' ≡ a) × (new ≡ old)
 
--- what the end of the file answers
+-- what the end of the file returns
 pub record Finishes (a : Absorbing) (answer : Result (Unit {0}) FileFault) : Type 0 where
   pub ends : (fed : List ℕ) → WasFed a fed → answer ≡ outcome fed
   pub stays : (fault : FileFault) → HasStopped a fault → answer ≡ Err fault
 
 -- the steps of a piece -----------------------------------------------------------------
 
--- what is awaited behind eight bytes: the first record or, if their head is not whole, its header
+-- what is awaited behind a file's first eight bytes: the first record, or the header if the magic has one behind it
 abbrev pub behind_magic : Result Format FileFault → Result Awaited FileFault
 behind_magic (Ok format) = Ok (awaited.Record format 0 None)
 behind_magic (Err (Truncated offset)) = Ok awaited.Header
@@ -149,14 +150,14 @@ abbrev pub raised_to : Option ℕ → Facts → Facts
 raised_to None facts = facts
 raised_to (Some floor) facts = raised facts floor
 
--- how a file ends if n bytes of the awaited part came
+-- the outcome of a file that ends after n bytes of the awaited part
 abbrev pub ending_at : Awaited → ℕ → Result (Unit {0}) FileFault
 ending_at awaited.Magic n = Err Magic
 ending_at awaited.Header n = Err (Truncated (offset_of awaited.Header))
 ending_at (awaited.Record format index last) n =
     if n == 0 then Ok tt else Err (Truncated (offset_of (awaited.Record format index last)))
 
--- what taking the whole awaited part answers, and does to the store
+-- what taking the whole awaited part returns, and does to the store
 abbrev pub TakesAwaited : Awaited → List ℕ → Result Awaited FileFault → Facts → Facts → Type 0
 TakesAwaited awaited.Magic bytes answer old new = (answer ≡ behind_magic (format_in bytes)) × (new ≡ old)
 TakesAwaited awaited.Header bytes answer old new =
@@ -165,12 +166,12 @@ TakesAwaited (awaited.Record format index last) bytes answer old new =
     AbsorbsJudged (judged format last bytes) index answer old new
     × IfOk answer (λ next. next ≡ awaited.Record format (index + 1) (key_in format bytes))
 
--- where `piece` leads after `fed`: to an awaited part and the bytes of it, or to a fault
+-- where `piece` leads after `fed`: to an awaited part and its first bytes, or to a fault
 abbrev pub TakesTo : List ℕ → List ℕ → Result Awaited FileFault → List ℕ → Facts → Facts → Type 0
 TakesTo fed piece (Ok next) part old new = Awaits next part (fed ++ piece) × AddsSightings fed piece old new
 TakesTo fed piece (Err fault) part old new = StopsWith fault fed piece old new
 
--- `piece` leads there behind any bytes after which `part` of the awaited part came
+-- `piece` leads there behind any bytes after which `part` of the awaited part has come
 abbrev pub TakesPiece : Awaited → List ℕ → List ℕ → Result Awaited FileFault → List ℕ → Facts → Facts → Type 0
 TakesPiece awaited part piece answer part' old new =
     (fed : List ℕ) → Awaits awaited part fed → TakesTo fed piece answer part' old new

@@ -47,7 +47,7 @@ ReportsHaveOneSpelling =
     (bytes : List ℕ) (r : Report) → length bytes ≡ 272 → AreBytes bytes → IsWritable r → (report_of bytes ≡ Some r)
     ↔ (bytes ≡ report_bytes r)
 
--- a file of good records and a part of one more ends within the record behind them
+-- a file of good records and a part of a further one is truncated at the offset of that record
 abbrev pub TruncationIsTold : Type 0
 TruncationIsTold =
     (format : Format) (rs : List (List ℕ)) (part : List ℕ) → IsFormat format → AreGoodRecords format None rs → 0
@@ -56,7 +56,7 @@ TruncationIsTold =
     → outcome (head_bytes format ++ (concat rs ++ part))
     ≡ Err (Truncated (head_size format + record_size format * length rs))
 
--- a file of good records and a bad one has the bad one's fault, with its index, whatever follows it
+-- a file of good records and a bad record has the bad record's fault, with its index, whatever follows
 abbrev pub FirstBadRecordIsTold : Type 0
 FirstBadRecordIsTold =
     (format : Format) (rs : List (List ℕ)) (r rest : List ℕ) (f : ℕ → FileFault) → IsFormat format
@@ -69,7 +69,7 @@ FirstBadRecordIsTold =
 abbrev pub report_file : List (List ℕ) → List ℕ
 report_file rs = head_bytes Reports ++ concat rs
 
--- the bytes are the file of these good reports, and fewer than 2^40
+-- the bytes are the file of these good reports, and there are fewer than 2^40 of them
 pub record IsReportFile (bytes : List ℕ) (rs : List (List ℕ)) : Type 0 where
   pub whole : bytes ≡ report_file rs
   pub each : AllByRecursion IsGoodReport rs
@@ -80,7 +80,7 @@ abbrev pub ReportFilesAreAccepted : Type 0
 ReportFilesAreAccepted = (bytes : List ℕ) → ((format_in bytes ≡ Ok Reports) × (outcome bytes ≡ Ok tt))
     ↔ ((rs : List (List ℕ)) × IsReportFile bytes rs)
 
--- both parts are accepted, have the whole file's floor, and keep together what it keeps
+-- both parts are accepted, have the whole file's floor, and together keep what it keeps
 pub record AreParts (whole front back : List ℕ) : Type 0 where
   pub front_accepted : outcome front ≡ Ok tt
   pub back_accepted : outcome back ≡ Ok tt

@@ -1,4 +1,4 @@
--- A file: its head, and records of one size behind it; and what reading any bytes gives.
+-- A file: a head, and records of one size behind it; and what reading any bytes gives.
 use Rattle.std.specs.Prelude.{◌≡◌, ℕ, zero, suc, ◌+◌, ◌-◌, ◌*◌, ◌/◌, ◌%◌, ◌^◌, ◌==◌, List, [], ◌∷◌, ◌++◌, Option, None, Some, Result, Ok, Err, IsOk, length}
 use Rattle.std.specs.Prelude.{Bool, true, take, drop, nat_le, option_map, if◌then◌else◌}
 use Rattle.fact_join.specs.declared.cell.Cell.{Cell}
@@ -64,12 +64,12 @@ first_records size (suc n) bytes = take size bytes ∷ first_records size n (dro
 unfoldable pub records : ℕ → List ℕ → List (List ℕ)
 records size bytes = first_records size (length bytes / size) bytes
 
--- a bad record's fault, or else the later one
+-- the record's fault if it is bad, otherwise the later one
 abbrev pub fault_or : ℕ → Judgement → Option FileFault → Option FileFault
 fault_or index (Ok sightings) later = later
 fault_or index (Err f) later = Some (f index)
 
--- the fault of the first bad record; the records count from `index`, and `last` is the key before them
+-- the fault of the first bad record; the records are numbered from `index`, and `last` is the key before them
 abbrev pub first_fault : Format → Option Key → ℕ → List (List ℕ) → Option FileFault
 first_fault format last index [] = None
 first_fault format last index (r ∷ rs) =
@@ -115,7 +115,7 @@ abbrev pub outcome_as : Result Format FileFault → List ℕ → Result (Unit {0
 outcome_as (Err fault) bytes = Err fault
 outcome_as (Ok format) bytes = fault_first (fault_in format bytes) (ending format (length bytes))
 
--- what reading the bytes answers
+-- the outcome of reading the bytes
 unfoldable pub outcome : List ℕ → Result (Unit {0}) FileFault
 outcome bytes = outcome_as (format_in bytes) bytes
 
@@ -123,7 +123,7 @@ abbrev pub kept_as : Result Format FileFault → List ℕ → List (Key × Cell 
 kept_as (Err fault) bytes = []
 kept_as (Ok format) bytes = sightings_by format None (records_in_reach format bytes)
 
--- what reading the bytes keeps: what the good records before the first fault say
+-- the sightings that reading the bytes keeps: what the records before the first bad record say
 unfoldable pub kept : List ℕ → List (Key × Cell Value)
 kept bytes = kept_as (format_in bytes) bytes
 
@@ -131,10 +131,10 @@ abbrev pub floor_as : Result Format FileFault → ℕ
 floor_as (Err fault) = 1
 floor_as (Ok format) = floor_of format
 
--- the floor that reading the bytes raises: that of their header, or 1
+-- the floor that reading the bytes raises: the floor of their header, or 1
 unfoldable pub floor_in : List ℕ → ℕ
 floor_in bytes = floor_as (format_in bytes)
 
--- what the bytes say: what is kept of them, at their floor
+-- what the bytes say: the sightings kept of them, at their floor
 abbrev pub facts_in : List ℕ → Facts
 facts_in bytes = view_at (floor_in bytes) (kept bytes)

@@ -12,6 +12,6 @@ use Rattle.record_file.specs.Head.{head_bytes}
 abbrev pub cells_file : Option ℕ → List (Key × Cell Value) → List ℕ
 cells_file head_floor cells = head_bytes (Cells head_floor) ++ flat_map record_bytes cells
 
--- the store file that is written
+-- the store file that `write_store` writes
 abbrev pub store_bytes : ℕ → List (Key × Cell Value) → List ℕ
 store_bytes floor cells = cells_file (Some floor) cells

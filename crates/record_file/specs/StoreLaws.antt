@@ -49,7 +49,7 @@ pub record IsFlooredFile (bytes : List ℕ) : Type 0 where
   pub accepted : outcome bytes ≡ Ok tt
   pub begins : starts_with nat_eq bytes floored_magic ≡ true
 
--- two such files that say equal facts are equal: facts have one spelling
+-- two accepted files with a floor in their heads are equal if they say equal facts
 abbrev pub FactsHaveOneSpelling : Type 0
 FactsHaveOneSpelling = (bytes others : List ℕ) → IsFlooredFile bytes → IsFlooredFile others → facts_in bytes
     ≡ facts_in others → bytes ≡ others

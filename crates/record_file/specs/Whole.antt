@@ -1,4 +1,4 @@
--- What reading a source whole takes of it, and how it ends if that fails.
+-- What reading a whole source takes from it, and why that can fail.
 use Rattle.std.specs.Prelude.{◌≡◌, ◌⊎◌, ℕ, ◌+◌, ◌<◌, ◌≤◌, ◌^◌, Bool, false, List, IsTrue, length}
 use Rattle.std.specs.Io.KnownBytes.{Consumes, IsAtEnd}
 use Rattle.byte_io.specs.Source.{SourceState}

@@ -11,11 +11,11 @@ use byte_io::READ_LIMIT;
 use fact_store::Store;
 use std::marker::Model;
 
-/// The bytes of the awaited part that came with earlier pieces. No part is longer than a record.
+/// The bytes of the awaited part that came with earlier pieces. No part is longer than a record of a report.
 type Part = ArrayVec<u8, RECORD_LEN>;
 
-/// Reads a file piece by piece. Judges each record once its last byte is there: in the piece itself or, if it was cut,
-/// put together here. Takes no memory of its own.
+/// Reads a file piece by piece. Judges each record once its last byte is there: in place, or put together here if it
+/// was cut. Takes no memory of its own.
 #[derive(Drop)]
 pub struct Absorber {
     awaited: Result<Awaited, FileFault>,
@@ -41,14 +41,14 @@ impl Absorber {
         }
     }
 
-    /// Adds what the header and the records that this piece completes say to the store.
+    /// Adds to the store what the header and the records completed by `piece` say.
     ///
     /// # Errors
     ///
-    /// Returns `Magic` once 8 bytes are there that are no magic, `BadFloor` for the header, `BadReport`, `BadCell`,
-    /// `CellOrder` or `Memory` for the first record with such a fault, and behind the records `TooLong` with the 2^40th
-    /// byte. The store then holds the floor and the records before the fault. Every later call returns that error and
-    /// changes nothing.
+    /// Returns `Magic` if the file's first 8 bytes are no magic, `BadFloor` for its header, `BadReport`, `BadCell`,
+    /// `CellOrder` or `Memory` for the first record with such a fault, and `TooLong` at the 2^40th byte if no fault
+    /// comes before. The store then holds the floor and the records before the fault. Every later call returns this
+    /// error and changes nothing.
     pub fn feed(&mut self, piece: &[u8], store: &mut Store) -> Result<(), FileFault>
         ensures feeds { FeedsPiece self.old piece.now result self.new store.old store.new }
     {
@@ -107,7 +107,7 @@ fn take_piece(
     Ok(next)
 }
 
-/// Takes the bytes that belong to the awaited part. Returns what is awaited behind them, and how many they are.
+/// Takes the bytes that belong to the awaited part. Returns what is awaited behind them, and their number.
 fn take_front(
     awaited: Awaited,
     part: &mut Part,

@@ -38,7 +38,7 @@ impl Awaited {
         }
     }
 
-    /// Returns how many bytes of the file are before the part.
+    /// Returns the offset of the part in the file.
     pub(crate) fn offset(&self) -> u64
         requires { offset_of self.now < 2 ^ 40 }
         ensures { result ≡ offset_of self.now }
@@ -51,7 +51,7 @@ impl Awaited {
         }
     }
 
-    /// Returns how the file ends if `count` bytes of the part came.
+    /// Returns the outcome if the file ends after `count` bytes of the part.
     pub(crate) fn end(&self, count: usize) -> Result<(), FileFault>
         requires { offset_of self.now < 2 ^ 40 }
         ensures { result ≡ ending_at self.now count }
@@ -65,7 +65,7 @@ impl Awaited {
         }
     }
 
-    /// Judges the part, adds what it says to the store, and returns what is awaited behind it.
+    /// Judges the part, adds to the store what it says, and returns what is awaited behind it.
     pub(crate) fn absorb(self, bytes: &[u8], store: &mut Store) -> Result<Awaited, FileFault>
         requires whole { length bytes.now ≡ awaited_size self }
         requires in_reach { offset_of self < 2 ^ 40 }
@@ -107,7 +107,7 @@ fn behind_magic(front: &[u8]) -> Result<Awaited, FileFault>
     }
 }
 
-/// Raises the store's floor to that of a header, and returns what is awaited behind it.
+/// Raises the store's floor to the floor of a header, and returns what is awaited behind the header.
 fn absorb_header(bytes: &[u8], store: &mut Store) -> Result<Awaited, FileFault>
     requires { length bytes.now ≡ 8 }
     ensures takes { TakesAwaited Awaited.Header bytes.now result store.old store.new }

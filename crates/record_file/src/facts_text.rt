@@ -24,7 +24,7 @@ fn write_subject<W: Sink>(sink: &mut W, key: &Key) -> Result<(), WriteFault>
     }
 }
 
-/// Writes what a fact is about: `node`, `portguid`, `link`, `port`, `claim` or `cap`, and the node or port.
+/// Writes what a fact is about: `node`, `portguid`, `link`, `port`, `claim` or `cap`, and the node or the port.
 fn write_key<W: Sink>(sink: &mut W, key: &Key) -> Result<(), WriteFault>
     ensures writes { Writes W.written W.has_failed result sink.old sink.new (key_text key.now) }
 {
@@ -106,8 +106,8 @@ fn write_floor<W: Sink>(sink: &mut W, floor: Generation) -> Result<(), WriteFaul
     sink.write(b"\n")
 }
 
-/// Writes the line of the floor, if it is over 1, and that of each cell in the order of keys, and flushes. Takes no
-/// memory.
+/// Writes the line of the floor, if it is over 1, and the line of each cell, in the order of keys, and flushes. Takes
+/// no memory.
 pub fn write_facts<W: Sink>(sink: &mut W, store: &Store) -> Result<(), WriteFault>
     ensures writes { Writes W.written W.has_failed result sink.old sink.new (facts_text store.now) }
     ensures flushed { OnOk result (IsTrue (W.is_flushed sink.new)) }

@@ -48,7 +48,7 @@ impl From<PieceFault> for FileFault {
 impl FileFault {
     ghost use Rattle.record_file.specs.FileFault.{fault_words, fault_number, fault_of_report, is_of_file};
 
-    /// Returns the fault's text, without its number.
+    /// Returns the fault's text up to its number, if it has one.
     pub fn words(&self) -> &'static str
         ensures { result.now ≡ fault_words self.now }
     {
@@ -65,7 +65,7 @@ impl FileFault {
         }
     }
 
-    /// Returns the offset or the index of the record that the text ends with, if it has a number.
+    /// Returns the offset, or the index of the record, if the fault has one.
     pub fn number(&self) -> Option<u64>
         ensures { result ≡ fault_number self.now }
     {
@@ -78,7 +78,7 @@ impl FileFault {
         }
     }
 
-    /// Returns the fault of the report, if a record's report is bad.
+    /// Returns the fault of the report, if the fault is `BadReport`.
     pub fn report_fault(&self) -> Option<ReportFault>
         ensures { result ≡ fault_of_report self.now }
     {
@@ -88,7 +88,7 @@ impl FileFault {
         }
     }
 
-    /// Returns whether the fault is the file's; only `Memory` is not.
+    /// Returns whether the fault lies with the file: `false` for `Memory` only.
     pub fn is_of_file(&self) -> bool
         ensures { result ≡ is_of_file self.now }
     {

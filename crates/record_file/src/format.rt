@@ -1,4 +1,4 @@
-//! The formats of files, which their heads distinguish.
+//! The formats of files. The head of a file says which one it has.
 use crate::head::{HEADER_LEN, MAGIC_LEN};
 use crate::{report_record, store_file};
 use smp_bytes::Generation;
@@ -6,7 +6,7 @@ use smp_bytes::Generation;
 /// The format of a file: what its records are.
 #[derive(Clone, Copy)]
 pub(crate) enum Format {
-    /// Reports, in the order in which they came.
+    /// Reports, in order of arrival.
     Reports,
     /// The cells of a store, in the order of keys. None is below the floor of the header, if there is one.
     Cells { floor: Option<Generation> },

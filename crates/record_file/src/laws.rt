@@ -1,4 +1,4 @@
-//! Laws of reading files. None of these functions is called: their contracts are what counts.
+//! Laws of reading files. None of these functions is called: only their contracts count.
 
 ghost use Rattle.record_file.specs.StoreLaws.{AbsorbingReadsBack, FactsAreReadBack, FactsHaveOneSpelling};
 ghost use Rattle.record_file.specs.StoreLaws.{RecordsAreSpellings, StoreFilesAreAccepted};
@@ -13,12 +13,13 @@ pub fn bad_part_stays()
     ensures { BadPartStays }
 {}
 
-/// A file that ends within a record is refused with that record's offset.
+/// A file of good records that ends within a further record, in fewer than 2^40 bytes, is rejected as truncated at that
+/// record's offset.
 pub fn truncation_is_told()
     ensures { TruncationIsTold }
 {}
 
-/// A file is refused for its first bad record, with that record's index.
+/// A file is rejected for its first bad record, with that record's index, if the record ends within 2^40 bytes.
 pub fn first_bad_record_is_told()
     ensures { FirstBadRecordIsTold }
 {}
@@ -28,7 +29,7 @@ pub fn reports_have_one_spelling()
     ensures { ReportsHaveOneSpelling }
 {}
 
-/// A file of reports is accepted exactly if it is the magic with good reports behind it.
+/// A file of reports is accepted exactly if it is the magic with good reports behind it, in fewer than 2^40 bytes.
 pub fn report_files_are_accepted()
     ensures { ReportFilesAreAccepted }
 {}
@@ -38,8 +39,8 @@ pub fn records_are_spellings()
     ensures { RecordsAreSpellings }
 {}
 
-/// A store file, with either head, is accepted exactly if it has a record for each cell of some facts that are in
-/// range.
+/// A store file, with either head, is accepted exactly if it has a record for each cell of some facts that are in range
+/// and at its floor, and fewer than 2^40 bytes.
 pub fn store_files_are_accepted()
     ensures { StoreFilesAreAccepted }
 {}
@@ -59,7 +60,7 @@ pub fn absorbing_reads_back<S: Source>()
     ensures { AbsorbingReadsBack S.state }
 {}
 
-/// A file that comes in pieces is read as it is whole, if no piece runs out of memory.
+/// A file that comes in pieces is read as if it came whole, if no piece runs out of memory.
 pub fn pieces_are_read()
     ensures { PiecesAreRead }
 {}

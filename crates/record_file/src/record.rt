@@ -12,7 +12,7 @@ use crate::store_file::cell_of;
 use fact_store::{Cell, IngestFault, Key, ReportFault, Store, Value};
 use smp_bytes::Generation;
 
-/// Adds what a record says to the store. Returns the key of its cell, or `None` for a report. `last` is the key of the
+/// Adds to the store what a record says. Returns the key of its cell, or `None` for a report. `last` is the key of the
 /// cell before it.
 pub(crate) fn absorb_record(
     format: Format,
@@ -35,7 +35,7 @@ pub(crate) fn absorb_record(
     }
 }
 
-/// Adds what the record of a report tells.
+/// Adds the facts of a report's record.
 fn absorb_report(bytes: &[u8], index: u64, store: &mut Store) -> Result<(), FileFault>
     requires { length bytes.now ≡ 272 }
     ensures judged { AbsorbsJudged (judged Reports None bytes.now) index result
@@ -93,7 +93,7 @@ fn is_after(key: &Key, last: &Option<Key>) -> bool
     }
 }
 
-/// Returns whether a cell is at the floor of the header or above it; any cell is if the header has none.
+/// Returns whether a cell is at the floor of the header or above it; `true` if there is no header.
 fn is_at_told(floor: Option<Generation>, cell: &Cell<Value>) -> bool
     ensures { result ≡ is_at_floor_told floor cell.now }
 {

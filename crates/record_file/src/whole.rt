@@ -13,8 +13,8 @@ const READ_LEN: usize = 4096;
 ///
 /// # Errors
 ///
-/// Returns `Read`, `TooLong` at 2^40 bytes or at 2^40 calls that took bytes or were interrupted, or `Memory` before
-/// that, whichever comes first.
+/// Returns `Read` if the source fails, `TooLong` at 2^40 bytes or at 2^40 calls that took bytes or were interrupted,
+/// and `Memory` if memory runs out, whichever comes first.
 pub fn read_whole<S: Source>(alloc: Global, source: &mut S) -> Result<Vec<u8>, FileFault>
     ensures whole { IfOk result (λ bytes.
         IsReadWhole S.state source.old source.new bytes.items) }

@@ -12,7 +12,7 @@ use Rattle.reply_facts.specs.declared.value.Value.TheVariants.{Kind, Guid, Peer,
 use Rattle.fact_join.specs.Cell.{generation_of}
 use Rattle.reply_facts.specs.Key.{key_guid, key_kind, key_port}
 
--- the key that is spelled
+-- the key that a form, a GUID and a port spell
 abbrev pub key_in : CellForm → ℕ → ℕ → Key
 key_in SwitchNode guid port = Node guid
 key_in AdapterNode guid port = Node guid
@@ -30,7 +30,7 @@ key_in DisputedPort guid port = Port guid port
 key_in DisputedClaim guid port = Claim guid port
 key_in DisputedRoom guid port = Cap guid
 
--- the cell that is spelled
+-- the cell that a form, a generation, a GUID and a number spell
 abbrev pub cell_in : CellForm → ℕ → ℕ → ℕ → Cell Value
 cell_in SwitchNode generation other number = Known generation (Kind Switch number)
 cell_in AdapterNode generation other number = Known generation (Kind ChannelAdapter number)
@@ -77,7 +77,7 @@ abbrev pub form_of : Key → Cell Value → CellForm
 form_of key (Known generation value) = known_form value
 form_of key (Disputed generation) = disputed_form key
 
--- the GUID that a value has, or 0
+-- the GUID of a value, or 0 if it has none
 abbrev pub value_guid : Value → ℕ
 value_guid (Kind kind ports) = 0
 value_guid (Guid guid) = guid
@@ -86,7 +86,7 @@ value_guid (Up up) = 0
 value_guid (Lid lid) = 0
 value_guid (Count count) = 0
 
--- the number that a value has, besides a GUID, or 0
+-- the number of a value besides a GUID, or 0 if it has none
 abbrev pub value_number : Value → ℕ
 value_number (Kind kind ports) = ports
 value_number (Guid guid) = 0
@@ -109,7 +109,7 @@ pub record IsSpelled (form : CellForm) (guid other generation number port : ℕ)
   pub number_is : number_of (cell_in form generation other number) ≡ number
   pub port_is : key_port (key_in form guid port) ≡ port
 
--- the GUID, the generation and the form are read again from what is spelled, whatever they are
+-- the GUID, the generation and the form are read back from the key and the cell that they spell
 pub same_guid : (form : CellForm) (guid port : ℕ) → key_guid (key_in form guid port) ≡ guid
 same_guid SwitchNode guid port = refl
 same_guid AdapterNode guid port = refl

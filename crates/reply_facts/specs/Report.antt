@@ -46,7 +46,7 @@ fits_node_info Start hops = hops == 0
 fits_node_info (Via guid port) hops = nat_lt 0 hops
 fits_node_info (About guid) hops = false
 
--- only a switch that a manager sits at is asked through its management port, 0
+-- only the manager's own node can be asked through port 0, and only if it is a switch
 abbrev pub may_be_asked_by : Context → NodeType → ℕ → Bool
 may_be_asked_by Start kind port = is_switch kind || nat_lt 0 port
 may_be_asked_by (Via guid via) kind port = nat_lt 0 port && is_cabled_port via
@@ -70,7 +70,7 @@ node_info_fault context packet =
     if not (fits_node_info context (number_in hop_count packet)) then Some fault.Context
     else kind_fault context (node_info_of packet) (type_of_number (node_info_of packet).node_type)
 
--- the node and the last port that the request's path leads out of
+-- the node and the port that the request's path leads out of last
 abbrev pub via_of : Context → Option (ℕ × ℕ)
 via_of Start = None
 via_of (Via guid port) = Some (guid, port)
@@ -119,11 +119,11 @@ report_fault report =
 abbrev pub Sightings : Type 0
 Sightings = List (Key × Cell Value)
 
--- the port of the GUID in an answer: port 0 for a switch, else the port that was asked
+-- the port whose GUID is in NodeInfo: port 0 of a switch, otherwise the port that was asked
 abbrev pub guid_port : NodeType → ℕ → ℕ
 guid_port kind local_port = if is_switch kind then 0 else local_port
 
--- the link between the port that was asked and the port before it, from both ends
+-- the link between the port that was asked and the port before it on the path, from both ends
 abbrev pub sightings_of_link : ℕ → Context → NodeInfo → Sightings
 sightings_of_link generation (Via peer port) info =
     (Link info.node_guid info.local_port_num, Known generation (Peer peer port)) ∷

@@ -8,11 +8,11 @@ use Rattle.reply_facts.specs.declared.key.Key.TheVariants.{Node, PortGuid, Link,
 use Rattle.reply_facts.specs.declared.value.Value.{Value}
 use Rattle.reply_facts.specs.declared.value.Value.TheVariants.{Kind, Guid, Peer, Up, Lid, Count}
 
--- a port that a cable can be in, or a number of ports
+-- a port that can have a cable, or a number of ports
 abbrev pub is_cabled_port : ℕ → Bool
 is_cabled_port port = nat_le 1 port && nat_le port 254
 
--- a port that a cable can be in, or a switch's management port
+-- a port that can have a cable, or a switch's management port
 abbrev pub is_any_port : ℕ → Bool
 is_any_port port = nat_le port 254
 
@@ -20,7 +20,7 @@ is_any_port port = nat_le port 254
 abbrev pub is_guid : ℕ → Bool
 is_guid guid = nat_lt guid (2 ^ 64)
 
--- a key in range: its GUID has 64 bits, and its port is from 1 on for a link, from 0 on for other keys
+-- a key in range: its GUID has 64 bits, and its port is from 1 to 254 for a link, from 0 to 254 for other keys
 abbrev pub is_key : Key → Bool
 is_key (Node g) = is_guid g
 is_key (PortGuid g p) = is_guid g && is_any_port p

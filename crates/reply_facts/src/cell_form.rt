@@ -1,4 +1,4 @@
-//! The form of a cell: the kind of its key, and its value if that is one of a few.
+//! The form of a cell: the kind of its key, with the node type, the port's state, or that the cell is disputed.
 ghost use Rattle.std.specs.Prelude.{◌≡◌};
 ghost use Rattle.reply_facts.specs.CellForms.{disputed_form, form_kind, form_of, known_form};
 
@@ -7,7 +7,7 @@ use crate::value::Value;
 use fact_join::Cell;
 use smp_bytes::NodeType;
 
-/// The kind of a key, with its value if that is one of a few, or that it is disputed.
+/// The kind of a key, with the node type of a node, the state of a port, or that the cell is disputed.
 #[derive(Clone, Copy, Debug)]
 pub(crate) enum CellForm {
     SwitchNode,

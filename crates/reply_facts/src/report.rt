@@ -3,8 +3,8 @@ ghost use Rattle.reply_facts.specs.Sighting.{is_guid};
 
 use smp_bytes::{Guid, PortNum};
 
-/// What a manager knows of the node that a reply came from: that it is the manager's own node, the last port that the
-/// request's path leads out of, or the GUID of the node.
+/// What a manager knows of the node that a reply came from: that it is the manager's own node, the node and port that
+/// the request's path leads out of last, or the GUID of the node.
 #[derive(Clone, Copy, Debug, PartialEq, Eq)]
 pub enum Context {
     Start,
@@ -15,13 +15,13 @@ pub enum Context {
 impl Context {
     ghost use Rattle.reply_facts.specs.Report.{about_of, via_of};
 
-    /// Returns the node and the last port that the request's path leads out of, if the context says it.
+    /// Returns the node and the port that the request's path leads out of last, if the context tells them.
     pub(crate) fn via(&self) -> Option<(Guid, PortNum)>
         ensures parts { result ≡ via_of self.now }
         ensures in_range { IfSome result (λ via. IsTrue (is_guid via.0)) }
     {
         match self {
-            // Made of its number, which shows that it has 64 bits.
+            // Built from its number, which shows that it has 64 bits.
             Context::Via(node, port) => Some((Guid::new(node.number()), *port)),
             Context::Start | Context::About(_) => None,
         }
@@ -39,7 +39,7 @@ impl Context {
     }
 }
 
-/// A recorded reply: the generation of the sweep that asked, the context, and the 256 bytes.
+/// A recorded reply: the generation of the sweep that asked, the context, and the 256 bytes of the packet.
 #[derive(Clone, Copy, Debug)]
 pub struct Report {
     pub generation: u32,

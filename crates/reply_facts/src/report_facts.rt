@@ -119,7 +119,8 @@ fn sightings_by_node_info(
     }
 }
 
-/// Returns what a node of type `kind` says of itself, and the link over which the request came.
+/// Returns the facts that a node of type `kind` tells: its type and number of ports, a port GUID, and the link over
+/// which the request came, if the context tells its other end.
 fn sightings_of_kind(
     generation: Generation,
     context: &Context,
@@ -201,7 +202,7 @@ fn sightings_by_port_info(
     Ok(sightings)
 }
 
-/// Returns whether the port is up: in Initialize, Armed or Active, and in nothing else.
+/// Returns whether the port is up: in Initialize, Armed or Active.
 pub fn is_up(info: &PortInfo) -> bool
     ensures { result ≡ is_up_state (bits_in port_state info.now) }
 {
@@ -211,8 +212,8 @@ pub fn is_up(info: &PortInfo) -> bool
     }
 }
 
-/// Returns the facts of an answer of SwitchInfo, or its fault: how many LIDs the switch's forwarding table has room
-/// for.
+/// Returns the fact of an answer of SwitchInfo, or its fault: how many LIDs the switch's linear forwarding table has
+/// room for.
 fn sightings_by_switch_info(
     generation: Generation,
     context: &Context,

@@ -3,7 +3,7 @@ ghost use Rattle.std.specs.Prelude.{◌≡◌};
 use smp_bytes::SmpFault;
 use thiserror::Error;
 
-/// Why a report is refused. The first fault in this order is reported.
+/// Why a report is rejected. The first fault in this order is reported.
 #[derive(Clone, Copy, Debug, PartialEq, Eq, Error)]
 pub enum ReportFault {
     /// The generation is 0.
@@ -18,10 +18,10 @@ pub enum ReportFault {
     /// The packet is not an answer to a Get or a Set.
     #[error("Method")]
     Method,
-    /// The packet is not at the end of its way back: its D bit is 0, or its HopPointer is not.
+    /// The packet is not at the end of its way back: its D bit is 0, or its HopPointer is not 0.
     #[error("Direction")]
     Direction,
-    /// The agent refused the request: its status is not 0.
+    /// The agent rejected the request: the status is not 0.
     #[error("Status")]
     Status,
     /// No facts are read from this attribute.

@@ -12,7 +12,7 @@ use smp_bytes::{Generation, Guid, Lid, NodeType, PortNum};
 use std::cmp::Ordering;
 use std::marker::Model;
 
-/// A fact as it was told once, or that it is disputed. Takes 24 bytes, as long lists hold and move sightings.
+/// A fact as it was told once, or as disputed. Takes 24 bytes, since long lists hold and move sightings.
 #[derive(Clone, Copy, Debug)]
 pub struct Sighting {
     /// The GUID of the key.
@@ -20,7 +20,7 @@ pub struct Sighting {
     /// The GUID of the value, or 0.
     other: Guid,
     generation: Generation,
-    /// The value's count of ports, port, LID or table room, or 0.
+    /// The value's number of ports, port, LID or table room, or 0.
     number: u16,
     /// The port of the key, or 0.
     port: PortNum,
@@ -66,8 +66,8 @@ impl Model for Sighting {
 impl Sighting {
     ghost use Rattle.reply_facts.specs.Sighting.{IsSighting};
 
-    /// Creates a sighting of a cell under a key. Returns `None` if the key cannot have its port, or if the value is of
-    /// another kind than the key or has a number out of range.
+    /// Creates a sighting of a cell under a key. Returns `None` if the key's port is out of range, or if the value is
+    /// not of the key's kind or has a number out of range.
     pub fn new(key: Key, cell: Cell<Value>) -> Option<Self>
         ensures exact { IsSome result ↔ IsSighting (key, cell) }
         ensures value { IfSome result (λ s. s ≡ (key, cell)) }
@@ -169,7 +169,7 @@ impl Sighting {
     }
 }
 
-/// Returns the GUID that the value has, or 0.
+/// Returns the value's GUID, or 0 if it has none.
 fn other_of(cell: &Cell<Value>) -> Guid
     ensures { result ≡ other_of cell.now }
 {
@@ -179,7 +179,7 @@ fn other_of(cell: &Cell<Value>) -> Guid
     }
 }
 
-/// Returns the count of ports, the port, the LID or the table room that the value has, or 0.
+/// Returns the value's number of ports, port, LID or table room, or 0 if it has none.
 fn number_of(cell: &Cell<Value>) -> u16
     ensures { result ≡ number_of cell.now }
 {
@@ -268,7 +268,7 @@ fn is_any_port(port: PortNum) -> bool
     matches!(port.number(), 0..=254)
 }
 
-/// Returns whether a cable can be in the port; also whether a node can have `port` ports.
+/// Returns whether `port` is from 1 to 254: a port that can have a cable, or a possible number of ports of a node.
 pub(crate) fn is_cabled_port(port: u8) -> bool
     ensures { result ≡ is_cabled_port port }
 {

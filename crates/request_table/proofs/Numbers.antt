@@ -1,4 +1,4 @@
--- Requests by rising numbers: the index of one by its number, and what is left without it.
+-- Requests in ascending order of their numbers: the index of a request by its number, and the requests without it.
 use Rattle.std.proofs.Common.{◌≡◌, ◌≢◌, ℕ, zero, suc, ◌+◌, ◌<◌, ◌≤◌, Bool, true, false, List, [], ◌∷◌, ◌++◌, append-nil}
 use Rattle.std.proofs.Common.{inl, inr, length, get_or, refl, arith, ap, sym, ◌∙◌, subst}
 use Rattle.std.specs.Prelude.{Some, None, ◌^◌, find, remove, slice_get, nat_lt, ◌==◌}

@@ -1,7 +1,7 @@
--- Requests by rising numbers.
+-- Requests in ascending order of their numbers.
 use Rattle.std.specs.Prelude.{◌≡◌, ℕ, ◌+◌, ◌≤◌, ◌^◌, not, List, [], ◌∷◌, filter, find, slice_get, ◌==◌, Option, Some, None}
 
--- the number of the next request, the requests, and how many more there is memory for
+-- the number of the next request, the requests, and how many more fit in memory that is reserved
 pub record Table (T : Type 0) : Type 0 where
   pub next : ℕ
   pub requests : List T
@@ -21,7 +21,7 @@ pub record AreNumbered {T : Type 0} (number : T → ℕ) (requests : List T) (ne
 abbrev pub with_number : {T : Type 0} → (T → ℕ) → ℕ → List T → Option T
 with_number number n requests = find (λ r. number r == n) requests
 
--- the requests without the one of number n
+-- the requests without the one with number n
 abbrev pub without_number : {T : Type 0} → (T → ℕ) → ℕ → List T → List T
 without_number number n requests = filter (λ r. not (number r == n)) requests
 

@@ -4,6 +4,7 @@ ghost use Rattle.std.specs.Prelude.{◌≡◌, ℕ};
 pub trait Numbered {
     ghost number: { Self → ℕ };
 
+    /// Returns the number of the request.
     fn number(&self) -> u32
         ensures { result ≡ number self.now };
 }

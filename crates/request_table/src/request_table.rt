@@ -8,8 +8,8 @@ use std::alloc::{AllocError, Global};
 use std::collections::VecDeque;
 use std::marker::Model;
 
-/// Requests by rising numbers. No number is given twice. Contracts see the requests, the number of the next one, and
-/// how many more there is memory for.
+/// Requests in ascending order of their numbers. No number is given twice. Contracts see the requests, the number of
+/// the next one, and how many more fit in memory that is reserved.
 #[derive(Drop)]
 pub struct RequestTable<T: Numbered> {
     next: u64,
@@ -60,6 +60,7 @@ impl<T: Numbered + Drop> RequestTable<T> {
         self.requests.len()
     }
 
+    /// Returns whether no request is waiting.
     pub fn is_empty(&self) -> bool
         ensures { IsTrue result ↔ (self.now.requests ≡ []) }
     {
@@ -103,8 +104,8 @@ impl<T: Numbered + Drop> RequestTable<T> {
         self.requests.get(index)
     }
 
-    /// Counts the requests with numbers below `number`: the index of the request with this number, if there is one.
-    /// Takes a binary search.
+    /// Counts the requests with numbers below `number`. The count is the index of the request with this number, if
+    /// there is one. Takes a binary search.
     pub fn count_below(&self, number: u64) -> usize
         ensures index { IsIndex (λ r. nat_lt (T.number r) number) self.now.requests result }
         ensures numbered { AreNumbered T.number self.now.requests self.now.next }

@@ -6,7 +6,7 @@ use Rattle.text_words.specs.Number.{number_of}
 use Rattle.roots_file.specs.declared.fault.RootsTextError.{RootsTextError}
 use Rattle.roots_file.specs.declared.fault.RootsTextError.TheVariants as wrong
 
--- the digits of a word: what follows '0x', if the word begins with that, and else the word
+-- the digits of a word: what follows '0x', if the word begins with that, and otherwise the word
 abbrev pub digits_of : List ℕ → List ℕ
 digits_of word = if bytes_eq (take 2 word) (codes "0x") then drop 2 word else word
 
@@ -19,7 +19,7 @@ guid_by digits (Some n) = if nat_le (length digits) 16 && not (n == 0) then Ok n
 abbrev pub root_of : List ℕ → Result ℕ RootsTextError
 root_of word = guid_by (digits_of word) (number_of 16 (digits_of word))
 
--- a root on a line of its own
+-- what a line with this word alone says
 abbrev pub on_line : Result ℕ RootsTextError → Result (Option ℕ) RootsTextError
 on_line (Ok root) = Ok (Some root)
 on_line (Err what) = Err what

@@ -11,7 +11,7 @@ use Rattle.roots_file.specs.Line.{root_on}
 abbrev pub is_among : List ℕ → ℕ → Bool
 is_among roots root = list_any (λ r. r == root) roots
 
--- the roots with one more, if it is not there already
+-- the roots with `root` appended, or `Repeated` at line `number` if it is there already
 abbrev pub root_more : ℕ → List ℕ → ℕ → Result (List ℕ) RootsLineFault
 root_more number roots root =
     if is_among roots root then Err (record { line = number; wrong = Repeated })
@@ -26,13 +26,13 @@ more_by number roots (Err what) = Err (record { line = number; wrong = what })
 abbrev pub with_line : ℕ → List ℕ → List ℕ → Result (List ℕ) RootsLineFault
 with_line number roots line = more_by number roots (root_on line)
 
--- what follows the roots, or their fault
+-- `next` of the roots, or the fault
 abbrev pub then_from : Result (List ℕ) RootsLineFault → (List ℕ → Result (List ℕ) RootsLineFault)
     → Result (List ℕ) RootsLineFault
 then_from (Ok roots) next = next roots
 then_from (Err fault) next = Err fault
 
--- the roots, with what the lines say; they count from `number`
+-- the roots, with what the lines say; the first of these is line `number`
 abbrev pub with_lines : ℕ → List ℕ → List (List ℕ) → Result (List ℕ) RootsLineFault
 with_lines number roots [] = Ok roots
 with_lines number roots (line ∷ later) =
@@ -52,7 +52,7 @@ is_root root _ = false
 abbrev pub names : ℕ → List ℕ → Bool
 names root line = is_root root (root_on line)
 
--- the fault of a line that says this, below the lines `above`
+-- the fault, if there is one, of a line that says this below the lines `above`
 abbrev pub wrong_below : List (List ℕ) → Result (Option ℕ) RootsTextError → Option RootsTextError
 wrong_below above (Ok None) = None
 wrong_below above (Ok (Some root)) = if list_any (names root) above then Some Repeated else None

@@ -1,4 +1,4 @@
--- What is printed about a fault of a text of roots, and what reading such a text answers.
+-- The words for the faults of a text of roots, and what reading such a text returns.
 use Rattle.std.specs.Prelude.{◌≡◌, ℕ, List, Result, Ok, Err, codes}
 use Rattle.text_words.specs.declared.fault.LineFault.{LineFault}
 use Rattle.text_words.specs.declared.fault.LinesFault.{LinesFault}
@@ -18,7 +18,7 @@ wrong_word Syntax = codes "syntax"
 wrong_word Guid = codes "guid"
 wrong_word Repeated = codes "repeated"
 
--- the answer is what the text says, roots or the first fault, unless memory ran out
+-- the result is what the text says, the roots or the first fault, unless memory ran out
 abbrev pub Reads : Result (List ℕ) RootsTextFault → Result (List ℕ) RootsLineFault → Type 0
 Reads (Ok roots) told = told ≡ Ok roots
 Reads (Err (Line fault)) told = told ≡ Err fault

@@ -1,4 +1,4 @@
--- The set in which a root that is there already is found.
+-- The set by which repeated roots are found.
 use Rattle.std.specs.Prelude.{◌≡◌, ℕ, List}
 use Rattle.std.specs.BTreeSet.{BTreeSet, contains}
 use Rattle.std.specs.Ordering.{nat_cmp}

@@ -8,11 +8,11 @@ use std::alloc::Global;
 use std::collections::BTreeSet;
 use std::marker::Model;
 
-/// Roots in the order of their lines, none twice.
+/// The roots of a text, in the order of their lines.
 #[derive(Drop)]
 pub(crate) struct Roots {
     guids: Vec<Guid>,
-    /// The set of the roots, to find one that is there already.
+    /// The set of the roots, to find repeated ones.
     seen: BTreeSet<Guid>,
 }
 
@@ -38,7 +38,7 @@ impl Roots {
         }
     }
 
-    /// Appends the root of line `line`. Returns its fault if the root is there already. Takes a search.
+    /// Appends the root of line `line`. Returns `Repeated` at that line if the root is there already. Takes a search.
     pub(crate) fn with(self, line: usize, root: Guid) -> Result<Self, RootsTextFault>
         ensures { Reads result (root_more line self root) }
     {

@@ -45,7 +45,7 @@ pub fn parse(alloc: Global, text: &[u8]) -> Result<Vec<Guid>, RootsTextFault>
     }
 }
 
-/// Returns the roots that the lines of a text name.
+/// Returns the roots that the lines of a text name, or the first fault.
 #[tactic(auto, using(crate::proofs::Folds::reading))]
 fn read_lines(alloc: Global, text: &[u8]) -> Result<Roots, RootsTextFault>
     ensures { Reads result (roots_of text.now) }
@@ -61,7 +61,7 @@ fn read_lines(alloc: Global, text: &[u8]) -> Result<Roots, RootsTextFault>
     Ok(roots)
 }
 
-/// Appends the root that line `number` names, if it names one.
+/// Appends the root that line `number` names, if it names one. Returns the line's fault if it has one.
 fn with_line(roots: Roots, number: usize, line: &[u8]) -> Result<Roots, RootsTextFault>
     ensures { Reads result (with_line number roots line.now) }
 {
@@ -93,7 +93,7 @@ fn first_fault(text: &[u8]) -> Option<RootsLineFault>
     None
 }
 
-/// Returns the fault of a line that stands below the first `above` lines of a text.
+/// Returns the fault, if there is one, of a line below the first `above` lines of a text.
 fn wrong_below(text: &[u8], above: usize, line: &[u8]) -> Option<RootsTextError>
     ensures { result ≡ wrong_below (take above (lines text.now)) (root_on line.now) }
 {

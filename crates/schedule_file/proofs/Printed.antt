@@ -1,4 +1,4 @@
--- A schedule that is read from a text is read from its own text as it is.
+-- The text of a schedule that was read is read as that schedule.
 use Rattle.std.proofs.Common.{◌≡◌, ℕ, ◌+◌, ◌∙◌, Bool, true, false, cond, List, [], ◌∷◌, ◌++◌, length, map, get_or}
 use Rattle.std.proofs.Common.{Option, None, Some, Result, Ok, Err, refl, sym, ap, subst, arith, append_assoc, append-nil, length-append}
 use Rattle.std.specs.Prelude.{IfSome, codes, decimal, is_some, option_and_then, option_map, slice_get}

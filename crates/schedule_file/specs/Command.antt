@@ -47,7 +47,7 @@ port_name word =
     (λ name. option_map (λ port. record { node = name; port = port }) (bracketed_number x.1)) (name_in x.0))
     (enclosed 34 34 word)
 
--- what follows the priority of a new manager: nothing, or the SM_Key of one by the live conduct
+-- what follows the priority of a new manager: nothing, or 'live' and an SM_Key
 abbrev pub sm_key_in : List (List ℕ) → Option (Option ℕ)
 sm_key_in [] = Some None
 sm_key_in (word ∷ key ∷ []) =
@@ -74,7 +74,7 @@ bare_of word =
 
 -- commands of two words --------------------------------------------------------------------------
 
--- the manager `name` is asked for something
+-- the command that asks the manager `name` for something
 abbrev pub ask : Ask → List ℕ → Option NamedCommand
 ask what name = option_map (λ manager. command.Ask manager what) (manager_name_in name)
 
@@ -88,7 +88,7 @@ to_manager word name =
     (if bytes_eq word (codes "timeout") then option_map command.Timeout (manager_name_in name)
     else option_and_then (λ what. show what name) (shown_by word))
 
--- a packet in flight meets its fate
+-- the command that decides the fate of a packet in flight
 abbrev pub packet : Fate → List ℕ → Option NamedCommand
 packet fate which = option_map (λ w. command.Packet w fate) (which_of which)
 
@@ -132,7 +132,7 @@ of_two word one other =
 
 -- the words of commands ---------------------------------------------------------------------
 
--- a port, by the name of its node
+-- a port, with the name of its node
 abbrev pub port_word : PortName → List ℕ
 port_word p = named_text p.node p.port
 
@@ -160,12 +160,12 @@ ask_words Handover name = codes "handover" ∷ name ∷ []
 ask_words (Poll None) name = codes "poll" ∷ name ∷ []
 ask_words (Poll (Some lid)) name = codes "poll" ∷ name ∷ decimal lid ∷ []
 
--- the words behind the priority of a new manager
+-- the words after the priority of a new manager
 abbrev pub sm_key_words : Option ℕ → List (List ℕ)
 sm_key_words None = []
 sm_key_words (Some key) = codes "live" ∷ decimal key ∷ []
 
--- the words of a command; a new manager's line has more words
+-- the words of a command; none for a new manager, whose line says more than the command
 abbrev pub named_words : NamedCommand → List (List ℕ)
 named_words (command.Manager name) = []
 named_words (command.Ask name what) = ask_words what name

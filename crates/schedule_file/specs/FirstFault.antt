@@ -1,4 +1,4 @@
--- The first fault of a text, given only the managers.
+-- The first fault of a text, found from the managers alone.
 use Rattle.std.specs.Prelude.{◌≡◌, ◌⊎◌, ◌<◌, ℕ, Bool, true, false, List, [], ◌∷◌, ◌++◌, Option, None, Some, Result, Ok, Err, length}
 use Rattle.topo_file.specs.declared.node.Node.{Node}
 use Rattle.schedule_file.specs.declared.fault.ScheduleFault.{ScheduleFault}
@@ -13,7 +13,7 @@ abbrev pub fault_of : {T : Type 0} → Result T ScheduleFault → Option Schedul
 fault_of (Ok value) = None
 fault_of (Err fault) = Some fault
 
--- some of the lines, from the first on, have no fault, and more than 64 managers
+-- some of the first lines have no fault, and more than 64 managers
 pub record IsCrowded (nodes : List Node) (lines : List (List ℕ)) : Type 0 where
   pub front : List (List ℕ)
   pub back : List (List ℕ)
@@ -22,11 +22,11 @@ pub record IsCrowded (nodes : List Node) (lines : List (List ℕ)) : Type 0 wher
   pub told : schedule_of_lines nodes front ≡ Ok script
   pub many : 64 < length script.seats
 
--- the lines have no fault, or more than 64 managers stand above it
+-- the lines have no fault, or some of the first lines have no fault and more than 64 managers
 abbrev pub IsSoundOrCrowded : List Node → List (List ℕ) → Type 0
 IsSoundOrCrowded nodes lines = (fault_of (schedule_of_lines nodes lines) ≡ None) ⊎ IsCrowded nodes lines
 
--- the managers with the one in a line, if it is one
+-- the managers, with the new one if the line adds one, or the line's fault
 abbrev pub seats_with : List Node → ℕ → List Seat → Option ScheduleLine → Result (List Seat) ScheduleFault
 seats_with nodes number seats None = Err (Syntax number)
 seats_with nodes number seats (Some line.Empty) = Ok seats
@@ -35,7 +35,7 @@ seats_with nodes number seats (Some (line.Manager new)) =
 seats_with nodes number seats (Some (line.Command named)) =
     where_known number (command_of nodes seats named) >>= λ command. Ok seats
 
--- a call left these managers, or there was no room for all of them, or it returned the fault
+-- a call left these managers, or returned `false` as they are more than 64, or returned the fault
 abbrev pub Leaves : Result (List Seat) ScheduleFault → Result Bool ScheduleFault → List Seat → Type 0
 Leaves (Ok now) (Ok true) new = new ≡ now
 Leaves (Ok now) (Ok false) new = 64 < length now

@@ -1,4 +1,4 @@
--- Words about one manager: what it is asked for, what is shown of it, and the numbers behind these.
+-- Words about one manager: what it is asked for, what is shown of it, and the numbers that follow.
 use Rattle.std.specs.Prelude.{ℕ, List, Option, None, Some, option_and_then, codes, nat_le, ◌==◌, if◌then◌else◌}
 use Rattle.std.specs.Str.{bytes_eq}
 use Rattle.text_words.specs.Number.{number_of}
@@ -16,7 +16,7 @@ asked_by word =
     else if bytes_eq word (codes "poll") then Some (Poll None)
     else None
 
--- what of a manager `word` shows
+-- what `word` shows of a manager
 abbrev pub shown_by : List ℕ → Option Shown
 shown_by word =
     if bytes_eq word (codes "facts") then Some Facts
@@ -31,10 +31,10 @@ shown_by word =
 abbrev pub number_up_to : ℕ → List ℕ → Option ℕ
 number_up_to most word = option_and_then (λ n. if nat_le n most then Some n else None) (number_of 10 word)
 
--- a LID in decimal
+-- a LID in decimal, up to 65,535
 abbrev pub lid_of : List ℕ → Option ℕ
 lid_of word = number_up_to 0xFFFF word
 
--- a generation in decimal
+-- a generation in decimal, from 1 to 2^32 - 1
 abbrev pub generation_of : List ℕ → Option ℕ
 generation_of word = option_and_then (λ n. if n == 0 then None else Some n) (number_up_to 0xFFFFFFFF word)

@@ -11,7 +11,7 @@ use Rattle.schedule_file.specs.declared.schedule.Seat.{Seat}
 use Rattle.schedule_file.specs.Command.{named_words, port_word, sm_key_words}
 use Rattle.schedule_file.specs.Schedule.{Script, SeatCommand, schedule_of}
 
--- the name of the manager at an index
+-- the name of the manager at an index, empty if there is none
 abbrev pub manager_at : List Seat → ℕ → List ℕ
 manager_at seats seat = option_map_or (λ s. s.name) (slice_get seats seat) []
 
@@ -44,7 +44,7 @@ command_words nodes seats command.Flight = named_words command.Flight
 abbrev pub schedule_text : List Node → Script → List ℕ
 schedule_text nodes script = lines_text (map (command_words nodes script.seats) script.commands)
 
--- a schedule that is read from a text is read as it is from its own text
+-- the text of a schedule that was read is read as that schedule
 abbrev pub PrintedSchedulesAreRead : Type 0
 PrintedSchedulesAreRead =
     (nodes : List Node) (text : List ℕ) (script : Script) → schedule_of nodes text ≡ Ok script

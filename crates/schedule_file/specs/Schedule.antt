@@ -31,7 +31,7 @@ pub record Script : Type 0 where
   pub seats : List Seat
   pub commands : List SeatCommand
 
--- the value goes to `next`, and a fault stays
+-- `next` of the value, or the fault
 infixl 10 ◌>>=◌
 abbrev pub ◌>>=◌ : {A B : Type 0} → Result A ScheduleFault → (A → Result B ScheduleFault) → Result B ScheduleFault
 (Ok value) >>= next = next value
@@ -61,7 +61,7 @@ is_free nodes seats p = is_seat nodes p && not (is_taken seats p)
 abbrev pub port_of : List Node → PortName → Option NodePort
 port_of nodes name = option_map (λ id. record { node = id; port = name.port }) (id_of nodes name.node)
 
--- the command with its names resolved, if all are known
+-- the command with its names resolved, None if one is unknown
 abbrev pub command_of : List Node → List Seat → NamedCommand → Option SeatCommand
 command_of nodes seats (command.Manager name) = option_map command.Manager (seat_of seats name)
 command_of nodes seats (command.Ask name what) = option_map (λ seat. command.Ask seat what) (seat_of seats name)
@@ -86,24 +86,24 @@ abbrev pub where_known : ℕ → Option SeatCommand → Result SeatCommand Sched
 where_known number (Some command) = Ok command
 where_known number None = Err (fault.Name number)
 
--- the schedule with one more command
+-- the schedule with the command appended
 abbrev pub with_command : Script → SeatCommand → Script
 with_command before command = record before { commands = before.commands ++ command ∷ [] }
 
--- the seat of a new manager at a port, if a manager may sit there and none does
+-- the seat of a new manager at a port, if a manager may sit there and none does; otherwise the fault of line `number`
 abbrev pub seat_at : List Node → List Seat → ℕ → NewManager → Option NodePort → Result Seat ScheduleFault
 seat_at nodes seats number new (Some p) =
     if is_free nodes seats p then Ok (record { name = new.name; at = p; priority = new.priority; sm_key = new.sm_key })
     else Err (fault.Seat number)
 seat_at nodes seats number new None = Err (fault.Name number)
 
--- the seat of a new manager
+-- the seat of a new manager, or the fault of line `number`
 abbrev pub new_seat : List Node → List Seat → ℕ → NewManager → Result Seat ScheduleFault
 new_seat nodes seats number new =
     if is_some (seat_of seats new.name) then Err (fault.Name number)
     else seat_at nodes seats number new (port_of nodes new.at)
 
--- the schedule with one more manager
+-- the schedule with the manager appended, and the command that adds it
 abbrev pub with_seat : Script → Seat → Script
 with_seat before seat =
     record {
@@ -112,7 +112,7 @@ with_seat before seat =
           ∷ [];
     }
 
--- the schedule before, with what the line `number` adds
+-- the schedule before, with what the line `number` adds, or its fault
 abbrev pub with_line : List Node → ℕ → Script → Option ScheduleLine → Result Script ScheduleFault
 with_line nodes number before None = Err (fault.Syntax number)
 with_line nodes number before (Some line.Empty) = Ok before
@@ -121,7 +121,7 @@ with_line nodes number before (Some (line.Manager new)) =
 with_line nodes number before (Some (line.Command named)) =
     where_known number (command_of nodes before.seats named) >>= λ command. Ok (with_command before command)
 
--- the schedule before, with what lines add that are numbered from `number` on
+-- the schedule before, with what the lines add, or the first fault; the lines count from `number`
 abbrev pub with_lines : List Node → ℕ → Script → List (List ℕ) → Result Script ScheduleFault
 with_lines nodes number before [] = Ok before
 with_lines nodes number before (line ∷ later) =

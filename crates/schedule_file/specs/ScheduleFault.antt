@@ -1,19 +1,19 @@
--- What a call returns that may refuse its text, and what is said of a fault: its line, and a word.
+-- What a call that may refuse its text returns, and what is written about a fault: its line and a word.
 use Rattle.std.specs.Prelude.{◌≡◌, ℕ, List, Option, None, Some, Result, Ok, Err, ◌++◌, codes, decimal}
 use Rattle.schedule_file.specs.declared.fault.ScheduleFault.{ScheduleFault}
 use Rattle.schedule_file.specs.declared.fault.ScheduleFault.TheVariants.{Syntax, Name, Seat, Memory}
 
--- the fault is the text's first one, or memory was refused
+-- the fault is what the text says, or lack of memory
 abbrev pub IsRefused : {T : Type 0} → ScheduleFault → Result T ScheduleFault → Type 0
 IsRefused Memory told = Unit {0}
 IsRefused fault told = told ≡ Err fault
 
--- a call returns exactly `told`, a value or the first fault, unless memory was refused
+-- the result is `told`, a value or the first fault, unless memory ran out
 abbrev pub Reads : {T : Type 0} → Result T ScheduleFault → Result T ScheduleFault → Type 0
 Reads (Ok value) told = told ≡ Ok value
 Reads (Err fault) told = IsRefused fault told
 
--- what is said of the fault, without its line
+-- what is written about the fault, without its line
 abbrev pub fault_word : ScheduleFault → List ℕ
 fault_word (Syntax line) = codes "syntax"
 fault_word (Name line) = codes "name"

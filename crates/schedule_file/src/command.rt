@@ -5,35 +5,35 @@ use smp_bytes::{Generation, Lid};
 /// index of a manager's seat, from 0, and `P` has the index of a port's node.
 #[derive(Clone, Copy, PartialEq, Eq, Drop)]
 pub enum Command<M, P> {
-    /// A manager is added.
+    /// Adds a manager.
     Manager(M),
-    /// A manager is asked for something, and may refuse it.
+    /// Asks a manager for something, which it may refuse.
     Ask(M, Ask),
-    /// A manager stops waiting for all answers.
+    /// Makes a manager stop waiting for all answers.
     Timeout(M),
-    /// A manager forgets what is older than the generation.
+    /// Makes a manager forget what is older than the generation.
     Floor(M, Generation),
-    /// The records of the second manager go to the first.
+    /// Gives the records of the second manager to the first.
     Merge(M, M),
-    /// Something of a manager is shown.
+    /// Shows something of a manager.
     Show(M, Shown),
-    /// A packet in flight meets its fate.
+    /// Decides the fate of a packet in flight.
     Packet(Which, Fate),
-    /// At most this many packets arrive, up to 1,000,000.
+    /// Delivers at most this many packets, up to 1,000,000.
     Drain(u32),
-    /// The cable in the port is cut.
+    /// Cuts the cable in the port.
     Cut(P),
-    /// A cable joins two ports.
+    /// Joins two ports by a cable.
     Plug(P, P),
-    /// The agents of switches send traps from here on.
+    /// Makes the agents of switches send traps from here on.
     Traps,
-    /// The traps that wait are sent again.
+    /// Sends the waiting traps again.
     Resend,
-    /// A packet is sent from the port to the LID.
+    /// Sends a packet from the port to the LID.
     Ping(P, Lid),
-    /// The forwarding tables are shown.
+    /// Shows the forwarding tables.
     Tables,
-    /// The packets in flight are shown.
+    /// Shows the packets in flight.
     Flight,
 }
 
@@ -42,11 +42,11 @@ pub enum Command<M, P> {
 pub enum Ask {
     /// A sweep of the fabric.
     Sweep,
-    /// A writing of the plan of what it knows.
+    /// A writing of the plan that follows from what it knows.
     Write,
     /// A handover to the greatest manager that wins over it.
     Handover,
-    /// A poll of the manager at the LID or, without one, of whom its last sweep saw.
+    /// A poll of the manager at the LID or, without a LID, of one that its last sweep saw.
     Poll(Option<Lid>),
 }
 
@@ -74,7 +74,7 @@ pub enum Fate {
     Deliver,
     /// It is lost.
     Lose,
-    /// It will arrive once more.
+    /// It is duplicated, and will arrive once more.
     Repeat,
 }
 

@@ -7,13 +7,13 @@ use std::fmt;
 /// Why a text is not a schedule, in the order of checks of each line. Lines count from 1.
 #[derive(Clone, Copy, Debug, PartialEq, Eq)]
 pub enum ScheduleFault {
-    /// The line is not one of the grammar, or a number in it is out of its range.
+    /// The line is not in the grammar, or a number in it is out of its range.
     Syntax { line: usize },
     /// No node, or no manager above, has the name, or a new manager's name is taken.
     Name { line: usize },
     /// A new manager is at a switch, at a port that the node does not have, or where a manager sits.
     Seat { line: usize },
-    /// Memory was refused.
+    /// Memory ran out.
     Memory,
 }
 

@@ -16,7 +16,7 @@ use topo_file::Topology;
 /// The managers so far, as many as can be stored without memory from the allocator.
 type Seats = ArrayVec<Seat, 64>;
 
-/// Returns the first fault of a text. Also returns `None` if more than 64 managers stand above the fault. Takes a
+/// Returns the first fault of a text, or `None` if there is none or more than 64 managers stand above it. Takes a
 /// search and a walk over the managers for each line.
 pub(crate) fn first_fault(topology: &Topology, text: &[u8]) -> Option<ScheduleFault>
     ensures found { IfSome result (λ fault.
@@ -37,7 +37,7 @@ pub(crate) fn first_fault(topology: &Topology, text: &[u8]) -> Option<ScheduleFa
     None
 }
 
-/// Checks a line, given the managers above, and adds its manager. Returns whether there was room for it.
+/// Checks a line, given the managers above, and adds its manager, if it has one. Returns `false` if there is no room.
 fn judge_line(
     topology: &Topology,
     seats: &mut Seats,

@@ -1,4 +1,4 @@
-//! Words about one manager: what it is asked for, what is shown of it, and the numbers behind these.
+//! Words about one manager: what it is asked for, what is shown of it, and the numbers that follow.
 ghost use Rattle.std.specs.Prelude.{◌≡◌};
 ghost use Rattle.schedule_file.specs.ManagerWords.{asked_by, generation_of, lid_of, shown_by};
 
@@ -24,7 +24,7 @@ pub fn asked_by(word: &[u8]) -> Option<Ask>
     }
 }
 
-/// Returns what of a manager `word` shows.
+/// Returns what `word` shows of a manager.
 pub fn shown_by(word: &[u8]) -> Option<Shown>
     ensures { result ≡ shown_by word.now }
 {

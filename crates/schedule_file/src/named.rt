@@ -1,5 +1,4 @@
-//! Commands with names, as in their lines. For each number of words behind a command's own, a table has a line for each
-//! command.
+//! Commands with names, as in their lines. There is a function for each number of words after the command's own.
 ghost use Rattle.std.specs.Prelude.{◌≡◌, option_map};
 ghost use Rattle.text_words.specs.Text.{words};
 ghost use Rattle.schedule_file.specs.Command.{ask, bare_of, bracketed_number, command_in, floor};
@@ -20,7 +19,7 @@ pub(crate) struct PortName {
     pub(crate) port: PortNum,
 }
 
-/// A command as in its line. A `manager` line says more, and is not a command before its seat is found.
+/// A command as in its line. A `manager` line says more, and becomes a command when its seat is found.
 pub(crate) type NamedCommand = Command<ManagerName, PortName>;
 
 /// Parses a command from its word and the rest of its line.

@@ -119,7 +119,7 @@ fn and_one<T: Drop>(items: Vec<T>, item: T) -> Result<Vec<T>, ScheduleFault>
     Ok(items)
 }
 
-/// Builds the seat of a new manager. Takes a search, and a walk over the seats.
+/// Builds the seat of a new manager, or returns the line's fault. Takes a search, and a walk over the seats.
 pub(crate) fn new_seat(
     topology: &Topology,
     seats: &[Seat],
@@ -167,21 +167,21 @@ pub(crate) fn new_seat(
 /// | `sweep NAME`, `write NAME`, `handover NAME`, `timeout NAME` | |
 /// | `poll NAME`, `poll NAME LID` | LID 0 to 65,535 |
 /// | `floor NAME GENERATION` | generation 1 to 4,294,967,295 |
-/// | `facts NAME`, `plan NAME`, `progress NAME`, `state NAME` | |
+/// | `facts NAME`, `plan NAME`, `progress NAME`, `silent NAME`, `written NAME`, `state NAME` | |
 /// | `merge NAME NAME` | |
 /// | `deliver PACKET`, `lose PACKET`, `repeat PACKET` | `last`, or a serial number of 64 bits |
 /// | `drain COUNT` | 0 to 1,000,000 |
 /// | `cut "node"[port]`, `plug "node"[port] "node"[port]` | port 0 to 255 |
 /// | `ping "node"[port] LID` | LID 0 to 65,535 |
-/// | `tables`, `flight` | |
+/// | `traps`, `resend`, `tables`, `flight` | |
 ///
 /// A manager sits at an adapter's port, and has a name of 1 to 16 ASCII letters and digits, known from its line on.
 /// Takes a search and a walk over the managers for each line.
 ///
 /// # Errors
 ///
-/// Returns the first fault. Lack of memory is returned only if no line has a fault, or if more than 64 managers stand
-/// above it: once memory is refused, the lines are checked without any, and only 64 managers can be stored then.
+/// Returns the first fault, or `Memory` if memory runs out and no line has a fault, or more than 64 managers stand
+/// above it: the lines are then checked again without memory, and only 64 managers can be stored.
 #[tactic(auto, using(crate::proofs::Scripts::told_is_script), unfolding(crate::specs::Schedule::schedule_of))]
 pub fn parse(alloc: Global, text: &str, topology: &Topology) -> Result<Schedule, ScheduleFault>
     ensures reads { Reads result (schedule_of topology.now.nodes text.now) }

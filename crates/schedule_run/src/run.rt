@@ -22,7 +22,7 @@ use std::alloc::Global;
 /// Writes `run_text` of the two texts: the lines of all commands in turn. If an input is refused, writes nothing. If
 /// memory is refused as the commands are run, writes a beginning of that text. If a write fails, how much was written
 /// is unspecified. If the fabric or a manager refuses a call, writes a line with the fault's name and goes on; only
-/// lack of memory ends the run. `docs/FORMATS.md` has the table of the commands.
+/// lack of memory and a failed write end the run. `docs/FORMATS.md` has the table of the commands.
 ///
 /// Takes memory for the texts, the fabric, the packets in flight, and the facts of managers. A delivery costs one step
 /// for the packet of the least serial number (as in `drain`), otherwise a search, plus the manager's work if the packet

@@ -1,4 +1,4 @@
--- What is asked for in a run over files: the rule of routing, and the number of texts that are read for it first.
+-- What is asked for in a run over files: the rule of routing, and the number of texts that are read first for it.
 use Rattle.std.specs.Prelude.{ℕ}
 use Rattle.sm_cli.specs.declared.asked.RuleAsked.{RuleAsked}
 use Rattle.sm_cli.specs.declared.asked.RuleAsked.TheVariants.{UpDown, Spread, SpreadFromRoots, SpreadInOrder, Balance, BalanceInOrder}
@@ -14,7 +14,7 @@ texts_for SpreadInOrder = 1
 texts_for Balance = 0
 texts_for BalanceInOrder = 1
 
--- the rule of a plan or of an order; if the output needs none, one that takes no text
+-- the rule of a plan or of an order; `UpDown`, which takes no text, if the output needs none
 abbrev pub rule_for : Output → RuleAsked
 rule_for Facts = UpDown
 rule_for Join = UpDown

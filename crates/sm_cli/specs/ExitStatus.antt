@@ -17,7 +17,7 @@ code_of Refused = 3
 code_of InputOutput = 4
 code_of Memory = 5
 
--- the exit status for the fault of a file: a malformed file is refused
+-- the exit status for the fault of a file
 abbrev pub file_status : FileFault → ExitStatus
 file_status Magic = Refused
 file_status (Truncated offset) = Refused

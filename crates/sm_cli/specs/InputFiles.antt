@@ -1,4 +1,4 @@
--- The files of a run: what is read of each, what they say together, and why one is refused.
+-- The files of a run: what is read from each, what they say together, and why one is refused.
 use Rattle.std.specs.Prelude.{◌≡◌, ◌↔◌, ◌+◌, ℕ, max, map, fold, false, List, [], Some, Ok, Err, IsTrue, length, slice_get}
 use Rattle.std.specs.List.{flat_map}
 use Rattle.std.specs.Io.KnownBytes.{Consumes, IsAtEnd}
@@ -20,7 +20,7 @@ floor_among floor files = fold max floor (map floor_in files)
 abbrev pub facts_of : ℕ → List (List ℕ) → Facts
 facts_of floor files = view_at (floor_among floor files) (flat_map kept files)
 
--- the source was read to its end: its bytes are `file`, which is accepted
+-- the source was read to its end, and its bytes are `file`, which is accepted
 pub record IsReadAs {S : Type 0} (state : S → SourceState) (old new : S) (file : List ℕ) : Type 0 where
   pub consumed : Consumes (state old).left (state new).left file
   pub at_end : IsAtEnd (state new).left
@@ -80,7 +80,7 @@ pub record RefusesFile {S : Type 0} (state : S → SourceState) (olds news : Lis
   pub there_after : slice_get news input ≡ Some new
   pub refuses : Refuses state old new fault
 
--- a file is refused: `fault` is at the input `input`, if `before` inputs precede the files
+-- a file is refused: `fault` is at input `input`, counted with the `before` inputs that precede the files
 pub record IsRefusedAt {S : Type 0} (state : S → SourceState) (before : ℕ) (olds news : List S)
     (input : ℕ) (fault : FileFault) : Type 0 where
   pub index : ℕ

@@ -1,4 +1,4 @@
--- The text of tables that switches hold, which is read whole and then judged, and the files after it.
+-- The text of the tables that switches hold, which is read whole and then checked, and the files after it.
 use Rattle.std.specs.Prelude.{◌≡◌, ◌⊎◌, ◌+◌, ℕ, List, None, Some}
 use Rattle.byte_io.specs.Source.{SourceState}
 use Rattle.record_file.specs.Whole.{IsReadWhole, FailsToRead}
@@ -25,7 +25,7 @@ pub record IsTables {S : Type 0} (state : S → SourceState) (old new : S) (held
 abbrev pub AreTables : {S : Type 0} → (S → SourceState) → List S → List S → HeldPlan → Type 0
 AreTables state olds news held = IsOneRead olds news (λ old new. IsTables state old new held)
 
--- the fault is the text's first one; or the text has none, and memory was refused
+-- the fault is the text's first one, or the text has none and memory ran out
 abbrev pub IsFaultOfText : List ℕ → TablesFault → Type 0
 IsFaultOfText text (wrong.Line fault) = first_fault text ≡ Some fault
 IsFaultOfText text wrong.Memory = first_fault text ≡ None

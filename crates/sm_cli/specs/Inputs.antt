@@ -1,5 +1,5 @@
 -- The inputs of a run: the text of roots or of an order is read if the rule takes one, and then the inputs after it;
--- the roots are judged once the switches are known.
+-- the roots are checked once the switches are known.
 use Rattle.std.specs.Prelude.{◌≡◌, ◌⊎◌, ℕ, Bool, List, [], ◌∷◌, Option, None, Some, Ok, Err, find, not, option_map}
 use Rattle.byte_io.specs.Source.{SourceState}
 use Rattle.record_file.specs.Whole.{IsReadWhole, FailsToRead}
@@ -17,14 +17,14 @@ use Rattle.sm_cli.specs.declared.fault.Fault.TheVariants.{File, Text}
 use Rattle.sm_cli.specs.declared.text_fault.TextFault.{TextFault}
 use Rattle.sm_cli.specs.declared.text_fault.TextFault.TheVariants as texts
 
--- judging ---------------------------------------------------------------------------------------
+-- checking --------------------------------------------------------------------------------------
 
 -- the first root that is not a usable switch; `usable` says which GUIDs are
 abbrev pub first_unusable : (ℕ → Bool) → List ℕ → Option ℕ
 first_unusable usable roots = find (λ root. not (usable root)) roots
 
 -- why no plan can be made from the roots: there is no root, or `unusable` is the first that is not a usable switch;
--- None if one can
+-- None if a plan can be made
 abbrev pub fault_of_first : List ℕ → Option ℕ → Option TextFault
 fault_of_first [] unusable = Some texts.NoRoot
 fault_of_first (root ∷ roots) unusable = option_map texts.NoSwitch unusable
@@ -40,7 +40,8 @@ order_fault usable (as_named switches) = None
 order_fault usable (balanced_as switches) = None
 order_fault usable least_loaded = None
 
--- why no plan can be made by the rule that was asked for: only roots that a text names can be at fault; None if one can
+-- why no plan can be made by the rule that was asked for: only roots that a text names can be at fault; None if a plan
+-- can be made
 abbrev pub rule_fault : (ℕ → Bool) → RuleAsked → RuleValue → Option TextFault
 rule_fault usable UpDown rule = None
 rule_fault usable Spread rule = None
@@ -58,7 +59,7 @@ pub record IsRoots {S : Type 0} (state : S → SourceState) (old new : S) (roots
   pub read : IsReadWhole state old new text
   pub told : roots_of text ≡ Ok roots
 
--- the fault is the text's first one; or the text has none, and memory was refused
+-- the fault is the text's first one, or the text has none and memory ran out
 abbrev pub IsFaultOfText : List ℕ → RootsFault → Type 0
 IsFaultOfText text (wrong.Line fault) = roots_of text ≡ Err fault
 IsFaultOfText text wrong.Memory = (roots : List ℕ) × (roots_of text ≡ Ok roots)
@@ -81,7 +82,7 @@ IsRootsFault state old new (Text input fault) =
     (input ≡ 0) × IsTextRefused state old new fault
 IsRootsFault state old new fault = ⊥
 
--- the text that the rule takes was read, and the order grows by the GUIDs that it names
+-- the text that the rule takes was read, and `grows` makes the order from the GUIDs that it names
 pub record IsOrderRead {S : Type 0} (state : S → SourceState) (grows : List ℕ → OrderValue) (olds news : List S)
     (rule : RuleValue) : Type 0 where
   pub guids : List ℕ
@@ -98,7 +99,7 @@ IsRuleRead state SpreadInOrder olds news rule = IsOrderRead state as_named olds 
 IsRuleRead state Balance olds news rule = (news ≡ olds) × (rule ≡ spread_in least_loaded)
 IsRuleRead state BalanceInOrder olds news rule = IsOrderRead state balanced_as olds news rule
 
--- why the rule is not read: its text is not
+-- why the rule is not read: its text is not read
 abbrev pub IsRuleFault : {S : Type 0} → (S → SourceState) → RuleAsked → List S → List S
     → Fault → Type 0
 IsRuleFault state UpDown olds news fault = ⊥
@@ -113,28 +114,28 @@ IsRuleFault state BalanceInOrder olds news fault =
 
 -- inputs ----------------------------------------------------------------------------------------
 
--- A reader of the inputs after the text that a rule takes. `reads` relates them to what they say, and `refuses` to a
--- fault if some number of inputs precedes them. `has_switch` says, by what they say, which GUIDs are those of usable
--- switches
+-- A reader of the inputs after the text that a rule takes. `reads` relates them, before and after, to what they say,
+-- and `refuses n` to a fault if n inputs precede them. `has_switch` tells from what they say which GUIDs are usable
+-- switches.
 pub record Reader (S T : Type 0) : Type 1 where
   pub reads : List S → List S → T → Type 0
   pub refuses : ℕ → List S → List S → Fault → Type 0
   pub has_switch : T → ℕ → Bool
 
 module _ {S T : Type 0} (state : S → SourceState) (reader : Reader S T) (asked : RuleAsked) (olds news : List S) where
-  -- the inputs were read, the text that the rule takes first: `rule` is the rule, and `told` what the others say
+  -- the inputs were read, first the text that the rule takes: `rule` is the rule, and `told` is what the others say
   pub record AreRead (rule : RuleValue) (told : T) : Type 0 where
     pub were : Parts olds
     pub are : Parts news
     pub rule_read : IsRuleRead state asked were.first are.first rule
     pub others_read : reader.reads were.others are.others told
 
-  -- the inputs were read, and each root that was asked for is a usable switch
+  -- the inputs were read, and the roots, if a text names them, are not at fault
   pub record AreInputs (rule : RuleValue) (told : T) : Type 0 where
     pub read : AreRead rule told
     pub sound : rule_fault (reader.has_switch told) asked rule ≡ None
 
-  -- the inputs were read, each root is a usable switch, and `holds` holds of the rule and of what the inputs say
+  -- the inputs were read, the roots are not at fault, and `holds` holds of the rule and of what the inputs say
   pub record WithInputs (holds : RuleValue → T → Type 0) : Type 0 where
     pub rule : RuleValue
     pub told : T

@@ -34,15 +34,16 @@ answer_to output.Join rule facts = store_bytes facts.floor (cells_of facts)
 answer_to (output.Plan lmc asked) rule facts = plan_text (plan_of rule lmc (cells_of facts))
 answer_to (output.Order asked) rule facts = order_text (order_by rule (cells_of facts))
 
--- the facts can be answered: they are in range, or a plan has room for their LIDs
+-- the output can be made: for facts or a join, the facts are in range; for a plan, there is room for the LIDs; an order
+-- needs neither
 abbrev pub IsAnswered : Output → Facts → Type 0
 IsAnswered output.Facts facts = AreInRange facts
 IsAnswered output.Join facts = AreInRange facts
 IsAnswered (output.Plan lmc asked) facts = no_room lmc (cells_of facts) ≡ None
 IsAnswered (output.Order asked) facts = ⊤
 
--- a plan is asked for, and `why` says why it has no room, or is None if it has; or an order is asked for, which needs
--- no room
+-- a plan is asked for, and `why` says why it has no room, or is None if it has room; or an order is asked for, and
+-- `why` is None
 abbrev pub IsPlanned : Output → Facts → Option LacksRoom → Type 0
 IsPlanned output.Facts facts why = ⊥
 IsPlanned output.Join facts why = ⊥
@@ -69,8 +70,7 @@ IsAnswerFault what facts sink_failed Write = IsTrue sink_failed
 IsAnswerFault what facts sink_failed Memory = IsPlanned what facts None
 IsAnswerFault what facts sink_failed fault = ⊥
 
--- `prints` holds of what was asked for from the facts, by `rule` if it is a plan or an order; and the facts can be
--- answered
+-- `prints` holds of what is written from the facts, by `rule` if it is a plan or an order; and the output can be made
 pub record IsAnswer (output : Output) (rule : RuleValue) (facts : Facts) (prints : List ℕ → Type 0) : Type 0 where
   pub can_be : IsAnswered output facts
   pub answered : prints (answer_to output rule facts)

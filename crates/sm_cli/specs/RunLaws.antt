@@ -21,7 +21,7 @@ use Rattle.sm_cli.specs.InputFiles.{facts_of, floor_among}
 use Rattle.sm_cli.specs.Run.{answer_to}
 
 -- two lists of files keep the same sightings, in any order and each any number of times, and have the same greatest
--- floor
+-- floor, which is at least `floor`
 pub record SayTheSame (floor : ℕ) (files others : List (List ℕ)) : Type 0 where
   pub sightings : HaveSameMembers (flat_map kept files) (flat_map kept others)
   pub floors : floor_among floor files ≡ floor_among floor others
@@ -85,7 +85,7 @@ pub record OrderStands (order : OrderValue) (asked again : RuleAsked) (facts : F
   pub same_plan : (lmc : ℕ) → answer_to (Plan lmc again) (spread_in (named_in order named)) facts
       ≡ answer_to (Plan lmc asked) (spread_in order) facts
 
--- each printed order stands, unless a switch has the GUID 0, which no text names
+-- each printed order stands, if the facts are in range and no switch has the GUID 0, which no text names
 abbrev pub PrintedOrdersStand : Type 0
 PrintedOrdersStand = (order : OrderValue) (asked again : RuleAsked) (facts : Facts) → AreInRange facts
     → ¬ (Contains (switches (cells_of facts)) 0) → OrderStands order asked again facts

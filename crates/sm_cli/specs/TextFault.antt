@@ -50,17 +50,17 @@ is_of_text (Tables line.Memory) = false
 is_of_text (Roots line.Memory) = false
 is_of_text _ = true
 
--- the number of the line, before what is said of it
+-- the number of the line, before what is written about it
 abbrev pub line_text : Option ℕ → List ℕ
 line_text None = []
 line_text (Some line) = codes "line " ++ decimal line ++ codes ": "
 
--- the LID, before what is said of it
+-- the LID, before what is written about it
 abbrev pub lid_before : Option ℕ → List ℕ
 lid_before None = []
 lid_before (Some lid) = codes "lid " ++ decimal lid ++ codes " "
 
--- the GUID, after what is said of it
+-- the GUID, after what is written about it
 abbrev pub guid_behind : Option ℕ → List ℕ
 guid_behind None = []
 guid_behind (Some guid) = codes " " ++ guid_text guid

@@ -11,7 +11,7 @@ use smp_bytes::{Generation, Guid};
 use std::alloc::Global;
 use subnet_view::is_usable;
 
-/// The reader of files, which knows the switches of their facts.
+/// A reader of files, which knows the usable switches from their facts.
 #[derive(Clone, Copy, Debug, PartialEq, Eq)]
 pub struct FilesFrom {
     /// The generation below which facts are ignored.

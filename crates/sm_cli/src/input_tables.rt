@@ -1,4 +1,4 @@
-//! The text of tables, which is read and then judged, and the files after it.
+//! The text of tables, which is read and then checked, and the files after it.
 ghost use Rattle.std.specs.Prelude.{◌≡◌, ◌+◌, ◌≤◌, length, IfErr, IfOk};
 ghost use Rattle.sm_cli.specs.InputTables.{AreNoTables, AreNoTablesAndFiles, AreTables, AreTablesAndFiles};
 ghost use Rattle.sm_cli.specs.InputTables.{IsTables, IsTablesFault};
@@ -24,7 +24,7 @@ pub struct TablesAndFacts {
     pub store: Store,
 }
 
-/// The reader of a text of tables and the files after it, which knows the switches of the files' facts.
+/// A reader of a text of tables and the files after it, which knows the usable switches from the files' facts.
 #[derive(Clone, Copy, Debug, PartialEq, Eq)]
 pub struct TablesAndFiles {
     /// The generation below which facts are ignored.

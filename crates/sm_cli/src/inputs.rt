@@ -1,4 +1,4 @@
-//! The inputs of a run: the text of roots or of an order that its rule takes, if any, and the inputs after it.
+//! The inputs of a run: the text of roots or of an order, if the rule takes one, and the inputs after it.
 ghost use Rattle.std.specs.Prelude.{◌≡◌, ◌+◌, ◌-◌, ◌≤◌, ℕ, length, IfErr, IfOk};
 ghost use Rattle.lft_blocks.specs.Rules.{value_of};
 ghost use Rattle.sm_cli.specs.Asked.{texts_for};
@@ -36,7 +36,7 @@ pub trait InputReader<S: Source> {
         ensures read { IfOk result ((reader self.now).reads inputs.old inputs.new) }
         ensures refused { IfErr result ((reader self.now).refuses before inputs.old inputs.new) };
 
-    /// Returns whether `guid` is the GUID of a usable switch, by what the inputs say.
+    /// Returns whether `guid` is a usable switch, by what the inputs say.
     fn has_switch(&self, told: &Self::Told, guid: Guid) -> bool
         ensures { result ≡ (reader self.now).has_switch told.now guid };
 }
@@ -75,7 +75,7 @@ pub fn read_inputs<S: Source, R: InputReader<S>>(
     }
 }
 
-/// Reads the rule that is asked for. If a text names its roots or its order, that is the only one of `texts`, and is
+/// Reads the rule that is asked for. If a text names its roots or its order, it is the only one of `texts`, and is
 /// read to its end.
 fn read_rule<S: Source>(alloc: Global, asked: RuleAsked, texts: &mut [S]) -> Result<Rule, Fault>
     requires { length texts.old ≡ texts_for asked }
@@ -115,7 +115,7 @@ fn read_rule<S: Source>(alloc: Global, asked: RuleAsked, texts: &mut [S]) -> Res
     }
 }
 
-/// Reads the roots, or the switches of an order, from a text, to its end.
+/// Reads a text of roots, or of the switches of an order, to its end.
 fn read_roots<S: Source>(alloc: Global, roots: &mut S) -> Result<Vec<Guid>, Fault>
     ensures read { IfOk result (λ found.
         IsRoots S.state roots.old roots.new found.items) }

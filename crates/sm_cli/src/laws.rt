@@ -31,8 +31,8 @@ pub fn split_store_stands()
     ensures { SplitStoreStands }
 {}
 
-/// A printed order, given back as the order of a plan, is printed with the same text again and gives the same plan,
-/// byte for byte, if no switch has the GUID 0.
+/// A printed order, given back as the order of a plan, is printed as the same text again and gives the same plan, byte
+/// for byte, if no switch has the GUID 0.
 pub fn printed_orders_stand()
     ensures { PrintedOrdersStand }
 {}

@@ -24,9 +24,9 @@ use record_file::{write_facts, write_store};
 use smp_bytes::Guid;
 use std::alloc::Global;
 
-/// Reads the inputs in order: the text that the rule takes, and then the files (`read_inputs`). Writes what is asked
-/// for, from all that the files say together. If an input is refused, or a plan has no room, writes nothing. If a write
-/// fails, how much was written is unspecified.
+/// Reads the inputs in order: the text that the rule takes, if any, and then the files (`read_inputs`). Writes what is
+/// asked for, from all that the files say together, and flushes. If it fails, writes nothing, unless a write fails: how
+/// much was written is then unspecified.
 pub fn run_files<S: Source, W: Sink>(
     alloc: Global,
     inputs: &mut [S],

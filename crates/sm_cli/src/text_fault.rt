@@ -11,16 +11,16 @@ pub enum TextFault {
     /// The text is not UTF-8.
     #[error("not UTF-8")]
     NotUtf8,
-    /// The topology has a fault, or memory was refused as it was judged.
+    /// The topology has a fault, or memory ran out while it was checked.
     #[error("{0}")]
     Topology(TopoFault),
-    /// The schedule has a fault, or memory was refused as it was judged.
+    /// The schedule has a fault, or memory ran out while it was checked.
     #[error("{0}")]
     Schedule(ScheduleFault),
-    /// The text of tables has a fault, or memory was refused as it was judged.
+    /// The text of tables has a fault, or memory ran out while it was checked.
     #[error("{0}")]
     Tables(plan_file::PlanTextFault),
-    /// The text of roots or of an order has a fault, or memory was refused as it was judged.
+    /// The text of roots or of an order has a fault, or memory ran out while it was checked.
     #[error("{0}")]
     Roots(roots_file::RootsTextFault),
     /// The text names no root.
@@ -29,7 +29,7 @@ pub enum TextFault {
     /// The text names a root that is not a usable switch of the facts, or not a switch of the topology.
     #[error("no usable switch {0}")]
     NoSwitch(Guid),
-    /// The tables give this LID to another end port than the plan does.
+    /// The tables give this LID to a different end port than the plan does.
     #[error("lid {} moves", .0.number())]
     Moves(Lid),
 }
@@ -38,7 +38,7 @@ impl TextFault {
     ghost use Rattle.sm_cli.specs.TextFault.{text_fault_guid, text_fault_lid, text_fault_line, text_fault_word};
     ghost use Rattle.sm_cli.specs.TextFault.{is_of_text};
 
-    /// Returns the number of the faulty line, from 1, if the fault is one of a line.
+    /// Returns the number of the faulty line, from 1, if a line has the fault.
     pub fn line(&self) -> Option<usize>
         ensures { result ≡ text_fault_line self.now }
     {
@@ -52,7 +52,7 @@ impl TextFault {
         }
     }
 
-    /// Returns what is said of the line, or of the text if no line has the fault.
+    /// Returns what the message says about the line, or about the text if no line has the fault.
     pub fn word(&self) -> &'static str
         ensures { result.now ≡ text_fault_word self.now }
     {
@@ -88,7 +88,7 @@ impl TextFault {
         }
     }
 
-    /// Returns whether the fault is one of the text; lack of memory is not.
+    /// Returns whether the text has the fault; lack of memory is not the text's.
     pub fn is_of_text(&self) -> bool
         ensures { result ≡ is_of_text self.now }
     {

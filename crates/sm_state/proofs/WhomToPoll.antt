@@ -1,4 +1,4 @@
--- Whom a manager polls outranks it, and there is somebody to poll if any outranks it.
+-- The manager to poll outranks the one that polls, and there is one if any manager outranks it.
 use Rattle.std.proofs.Common.{◌≡◌, ◌⊎◌, inl, inr, Bool, true, false, cond, List, [], ◌∷◌, refl, ap, subst}
 use Rattle.std.proofs.lemmas.Bool.{and_from, and_parts, or_left}
 use Rattle.std.specs.List.{list_any}

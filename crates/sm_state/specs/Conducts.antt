@@ -1,4 +1,4 @@
--- How a manager deals with other managers: plainly, or as on a live subnet beside managers such as OpenSM.
+-- How a manager deals with other managers: plainly, or as on a live subnet with managers such as OpenSM.
 -- InfiniBand Architecture Specification, Volume 1: subnet management, SMInfo (SM_Key, controls).
 use Rattle.std.specs.Prelude.{ℕ, Bool, true, false, ◌==◌, ◌||◌, Option, Some, None}
 use Rattle.attr_codec.specs.declared.sm_info.SmInfo.{SmInfo}
@@ -10,7 +10,7 @@ abbrev pub conduct_with : Option ℕ → Conduct
 conduct_with None = Plain
 conduct_with (Some key) = Live key
 
--- the SM_Key that a manager tells
+-- the SM_Key that a manager reports
 abbrev pub key_of : Conduct → ℕ
 key_of Plain = 0
 key_of (Live key) = key
@@ -19,6 +19,6 @@ abbrev pub is_live : Conduct → Bool
 is_live Plain = false
 is_live (Live key) = true
 
--- the manager `own` takes `other` for a manager of its subnet: its own SM_Key is 0, or the other has the same SM_Key
+-- the manager `own` takes `other` for a manager of its subnet: `own` has SM_Key 0, or `other` has the same SM_Key
 abbrev pub is_heard : SmInfo → SmInfo → Bool
 is_heard own other = own.sm_key == 0 || other.sm_key == own.sm_key

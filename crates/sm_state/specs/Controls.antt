@@ -20,7 +20,7 @@ controls = Handover ∷ Acknowledge ∷ Disable ∷ Standby ∷ Discover ∷ []
 abbrev pub control_of_modifier : ℕ → Option Control
 control_of_modifier modifier = find (λ control. modifier == modifier_of_control control) controls
 
--- the control that a message is sent as
+-- the control that sends a message
 abbrev pub control_of_message : Message → Control
 control_of_message message.Handover = Handover
 control_of_message message.Acknowledge = Acknowledge

@@ -26,7 +26,7 @@ outranks own other = is_heard own other && (says Master other || (not (says NotA
 abbrev pub any_outranks : SmInfo → List SeenManager → Bool
 any_outranks own seen = list_any (λ s. outranks own s.info) seen
 
--- what the end of a sweep that saw the managers `seen` means for a manager
+-- the event for a manager at the end of a sweep that saw the managers `seen`
 abbrev pub sweep_verdict : SmInfo → List SeenManager → Event
 sweep_verdict own seen = if any_outranks own seen then Outranked else Unrivalled
 
@@ -47,11 +47,11 @@ abbrev pub best_with : (SeenManager → Bool) → List SeenManager → Option Se
 best_with test [] best = best
 best_with test (s ∷ seen) best = best_with test seen (next_best (test s) best s)
 
--- the greatest of those that pass a test, and of equals the first
+-- the greatest manager that passes the test, of equals the first
 abbrev pub greatest_of : (SeenManager → Bool) → List SeenManager → Option SeenManager
 greatest_of test seen = best_with test seen None
 
--- the greatest of the candidates
+-- the greatest candidate, of equals the first
 abbrev pub successor_of : SmInfo → List SeenManager → Option SeenManager
 successor_of own seen = greatest_of (is_candidate own) seen
 
@@ -82,11 +82,11 @@ is_heard_master own s = is_heard own s.info && says Master s.info
 abbrev pub is_above : SmInfo → SeenManager → Bool
 is_above own s = outranks own s.info
 
--- the first master that is heard; if there is none, the greatest of those that outrank `own`
+-- the first master that is heard; if there is none, the greatest manager that outranks `own`
 abbrev pub polled_of : SmInfo → List SeenManager → Option SeenManager
 polled_of own seen = option_or (find (is_heard_master own) seen) (greatest_of (is_above own) seen)
 
--- who is polled was seen, and outranks `own`; there is nobody to poll only if none outranks it
+-- the polled manager was seen, and outranks `own`; there is none only if no seen manager outranks `own`
 abbrev pub IsPolledOrNone : SmInfo → List SeenManager → Option SeenManager → Type 0
 IsPolledOrNone own seen None = any_outranks own seen ≡ false
 IsPolledOrNone own seen (Some polled) = Contains seen polled × (outranks own polled.info ≡ true)

@@ -15,7 +15,7 @@ use Rattle.sm_state.specs.States.{number_of_state}
 use Rattle.sm_state.specs.Steps.{stepped}
 use Rattle.sm_state.specs.declared.standing.Standing.{Standing}
 
--- a manager at the port with this GUID, which has done nothing
+-- a manager at the port with this GUID, before it did anything
 abbrev pub new_standing : ℕ → ℕ → Conduct → Standing
 new_standing guid priority conduct =
     record {
@@ -41,7 +41,7 @@ info_of s = record {
 abbrev pub is_acknowledge : Control → Bool
 is_acknowledge control = modifier_of_control control == modifier_of_control Acknowledge
 
--- the SMInfo that the manager sends with a control; by the live conduct an acknowledgement comes from a standby
+-- the SMInfo that the manager sends with a control; by the live conduct an acknowledgement says Standby
 abbrev pub info_with : Control → Standing → SmInfo
 info_with control s =
     if is_live s.conduct && is_acknowledge control then record (info_of s) { state = number_of_state Standby }
@@ -50,7 +50,7 @@ info_with control s =
 abbrev pub is_in : SmState → Standing → Bool
 is_in state s = number_of_state s.state == number_of_state state
 
--- `n` + 1, as far as 32 bits count
+-- `n` + 1, but at most 2^32 - 1
 abbrev pub one_more : ℕ → ℕ
 one_more n = min (n + 1) (2 ^ 32 - 1)
 

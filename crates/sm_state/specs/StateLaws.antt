@@ -1,4 +1,4 @@
--- What is so of the moves of managers, in words.
+-- The laws of the moves of managers, in words.
 use Rattle.std.specs.Prelude.{◌≡◌, ◌⊎◌, ℕ, Some, None}
 use Rattle.sm_state.specs.declared.conduct.Conduct.{Conduct}
 use Rattle.sm_state.specs.declared.control.Control.{Control}
@@ -39,13 +39,13 @@ MastersStay =
     → (Is control.Acknowledge e × ((stepped conduct Master e).state ≡ Standby))
     ⊎ (Is control.Discover e × ((stepped conduct Master e).state ≡ Discovering))
 
--- an acknowledgement goes out only for a handover, and its sender is master then
+-- an acknowledgement is sent only for a handover, and its sender is then master
 abbrev pub OthersAreTold : Type 0
 OthersAreTold =
     (conduct : Conduct) (state : SmState) (e : Event) → (stepped conduct state e).message ≡ Some message.Acknowledge
     → Is control.Handover e × ((stepped conduct state e).state ≡ Master)
 
--- a manager that answers a handover with status 0 is master then
+-- a manager that answers a handover with status 0 is then master
 abbrev pub HandoversAreTaken : Type 0
 HandoversAreTaken =
     (conduct : Conduct) (state : SmState) (e : Event) → Is control.Handover e → status_of (stepped conduct state e) ≡ done

@@ -19,12 +19,12 @@ use Rattle.sm_state.specs.Controls.{control_of_modifier}
 abbrev pub to : SmState → Option Message → Transition
 to state sends = record { state = state; message = sends; is_refused = false }
 
--- a control without a move from the state changes nothing, and is refused
+-- a control that has no move from the state changes nothing, and is refused
 abbrev pub refused : SmState → Transition
 refused state = record { state = state; message = None; is_refused = true }
 
--- what a manager in standby does about an acknowledgement: by the live conduct the answer to its handover made it a
--- standby, and the acknowledgement comes later
+-- what a standby does about an acknowledgement: by the live conduct the answer to its handover has made it a standby
+-- before the acknowledgement comes
 abbrev pub acknowledged_late : Conduct → Transition
 acknowledged_late Plain = refused Standby
 acknowledged_late (Live key) = to Standby None

@@ -4,7 +4,7 @@ ghost use Rattle.sm_state.specs.Conducts.{conduct_with, is_live, key_of};
 /// How a manager deals with the other managers of its subnet.
 #[derive(Clone, Copy, Debug, PartialEq, Eq)]
 pub enum Conduct {
-    /// Obeys controls that come by LIDs. A master that hands over stays Master until the other manager acknowledges.
+    /// Obeys only controls routed by LID. A master that hands over stays Master until the other manager acknowledges.
     /// The SM_Key is 0.
     Plain,
     /// Deals with the managers of a live subnet as OpenSM does. Also obeys controls over directed routes. Is Standby

@@ -1,7 +1,7 @@
 ghost use Rattle.std.specs.Prelude.{◌≡◌};
 ghost use Rattle.sm_state.specs.Controls.{control_of_modifier, modifier_of_control};
 
-/// A command of one subnet manager to another, by a Set(SMInfo) (subnet management, SMInfo: controls).
+/// A command of one subnet manager to another, sent as a Set(SMInfo) (subnet management, SMInfo: controls).
 #[derive(Clone, Copy, Debug, PartialEq, Eq)]
 pub enum Control {
     /// The receiver is to be master instead of the sender.

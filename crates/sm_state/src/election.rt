@@ -11,15 +11,15 @@ use smp_bytes::{Guid, PortNum};
 /// A manager that the last sweep saw.
 #[derive(Clone, Copy, Debug)]
 pub struct SeenManager {
-    /// The GUID of the node that it sits at.
+    /// The GUID of its node.
     pub guid: Guid,
-    /// The port of the node, as the sweep asked for it.
+    /// The port of the node that the sweep asked for.
     pub port: PortNum,
     /// The SMInfo that it answered.
     pub info: SmInfo,
 }
 
-/// Returns what the end of a sweep that saw the managers `seen` means for the manager whose SMInfo is `own`.
+/// Returns the event for the manager whose SMInfo is `own` at the end of a sweep that saw the managers `seen`.
 pub fn sweep_verdict(own: &SmInfo, seen: &[SeenManager]) -> Event
     ensures { result ≡ sweep_verdict own.now seen.now }
 {
@@ -36,8 +36,8 @@ fn any_outranks(own: &SmInfo, seen: &[SeenManager]) -> bool
     seen.iter().any(|other| outranks(own, &other.info))
 }
 
-/// Returns the manager to hand over to: of those that are heard, in Standby or Master, and win over `own` the greatest,
-/// of equals the first. Walks all of them.
+/// Returns the manager to hand over to: the greatest one that is heard, says Standby or Master, and wins over `own`; of
+/// equals the first. Walks all of `seen`.
 pub fn successor(own: &SmInfo, seen: &[SeenManager]) -> Option<SeenManager>
     ensures { result ≡ successor_of own.now seen.now }
 {
@@ -48,8 +48,8 @@ pub fn successor(own: &SmInfo, seen: &[SeenManager]) -> Option<SeenManager>
     best
 }
 
-/// Returns the manager to poll: of those that are heard the first master; if there is none, of those that outrank `own`
-/// the greatest, of equals the first. Walks all of them.
+/// Returns the manager to poll: the first master that is heard; if there is none, the greatest manager that outranks
+/// `own`, of equals the first. Walks all of `seen`.
 pub fn polled(own: &SmInfo, seen: &[SeenManager]) -> Option<SeenManager>
     ensures { result ≡ polled_of own.now seen.now }
 {
@@ -65,7 +65,7 @@ fn first_master(own: &SmInfo, seen: &[SeenManager]) -> Option<SeenManager>
         .find(|other| is_heard_master(own, other))
 }
 
-/// Returns the greatest of those that outrank `own`, of equals the first.
+/// Returns the greatest manager that outranks `own`, of equals the first.
 fn greatest_above(own: &SmInfo, seen: &[SeenManager]) -> Option<SeenManager>
     ensures { result ≡ greatest_of (is_above own.now) seen.now }
 {
@@ -76,7 +76,7 @@ fn greatest_above(own: &SmInfo, seen: &[SeenManager]) -> Option<SeenManager>
     best
 }
 
-/// Returns the best so far, given one more manager, which counts if it passes.
+/// Returns the better of `best` and `other` if `other` passes, and otherwise `best`.
 fn next_best(passes: bool, best: Option<SeenManager>, other: SeenManager) -> Option<SeenManager>
     ensures { result ≡ next_best passes best other }
 {
@@ -87,7 +87,7 @@ fn next_best(passes: bool, best: Option<SeenManager>, other: SeenManager) -> Opt
     }
 }
 
-/// Returns the one that wins, or the former if neither does.
+/// Returns `other` if there is no `best` or `other` wins over it, and otherwise `best`.
 fn better(best: Option<SeenManager>, other: SeenManager) -> SeenManager
     ensures { result ≡ better best other }
 {

@@ -3,8 +3,8 @@ ghost use Rattle.sm_state.specs.Controls.{control_of_message};
 
 use crate::control::Control;
 
-/// What may move a subnet manager from one state to another: a control that came, given by its attribute modifier, or
-/// the manager's own affairs.
+/// What may change the state of a subnet manager: a control that it received, given by its attribute modifier, or an
+/// event of its own.
 #[derive(Clone, Copy, Debug, PartialEq, Eq)]
 pub enum Event {
     Control(u32),

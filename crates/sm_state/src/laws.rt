@@ -21,12 +21,12 @@ pub fn masters_stay()
     ensures { MastersStay }
 {}
 
-/// A manager that sends an acknowledgement is master then, since another one handed over to it.
+/// A manager that sends an acknowledgement is then master, since another one handed over to it.
 pub fn others_are_told()
     ensures { OthersAreTold }
 {}
 
-/// A manager that answers a handover with status 0 is master then, so no handover that is answered so leaves the subnet
+/// A manager that answers a handover with status 0 is then master, so no handover with that answer leaves the subnet
 /// without a master.
 pub fn handovers_are_taken()
     ensures { HandoversAreTaken }
@@ -44,7 +44,7 @@ pub fn successor_is_the_first_of_the_greatest()
     ensures { SuccessorLaw }
 {}
 
-/// Whom a manager polls was seen, and outranks it. There is nobody to poll only if none that was seen outranks it.
+/// The manager to poll was seen, and outranks the one that polls. There is none only if no seen manager outranks it.
 #[tactic(auto, using(crate::proofs::WhomToPoll::polled_law))]
 pub fn polled_managers_outrank()
     ensures { PolledLaw }

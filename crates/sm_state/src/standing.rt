@@ -7,7 +7,7 @@ use crate::{Conduct, Control, Event, SmState, step};
 use attr_codec::{Priority, SmInfo};
 use smp_bytes::Guid;
 
-/// The identity and the state of a manager among the managers of its subnet.
+/// A subnet manager's identity and state.
 #[derive(Clone, Copy, Debug)]
 pub struct Standing {
     /// The GUID of the port that it sits at.
@@ -16,10 +16,9 @@ pub struct Standing {
     /// How it deals with other managers.
     pub conduct: Conduct,
     pub state: SmState,
-    /// The number of sweeps that it began and, by the live conduct, of requests for SMInfo that it answered; stays at
-    /// its greatest value.
+    /// The number of sweeps that it began and, by the live conduct, of requests for SMInfo that it answered. Saturates.
     pub act_count: u32,
-    /// The number of polls in a row that were not answered, since it entered its state.
+    /// The number of polls in a row that were lost since it entered its state. Saturates.
     pub polls_lost: u32,
 }
 

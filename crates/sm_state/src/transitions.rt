@@ -18,7 +18,7 @@ fn goes_to(state: SmState, message: Option<Message>) -> Transition
     }
 }
 
-/// Returns the refusal of a control without a move from `state`.
+/// Returns the refusal of a control that has no move from `state`.
 fn refuses(state: SmState) -> Transition
     ensures { result ≡ refused state }
 {
@@ -67,8 +67,8 @@ fn after_control(conduct: Conduct, state: SmState, control: Option<Control>) -> 
     }
 }
 
-/// Returns what a standby does about an acknowledgement. By the live conduct the answer to its handover made it a
-/// standby, so the acknowledgement changes nothing.
+/// Returns what a standby does about an acknowledgement. By the live conduct the answer to its handover has made it a
+/// standby before, so the acknowledgement changes nothing; by the plain one it is refused.
 fn acknowledged_late(conduct: Conduct) -> Transition
     ensures { result ≡ acknowledged_late conduct }
 {

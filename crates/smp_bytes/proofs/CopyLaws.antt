@@ -1,4 +1,4 @@
--- A number that was read from some bytes is written as those bytes, and of two writes into a field the last one stands.
+-- A number that was read from some bytes is written as these bytes, and the last of two writes into a field stands.
 use Rattle.std.proofs.Common.{◌≡◌, ℕ, zero, suc, ◌+◌, ◌-◌, ◌*◌, ◌/◌, ◌%◌, ◌^◌, ◌<◌, ◌≤◌, List, ◌∷◌, ◌++◌, refl, sym, ap, ◌∙◌, ⊎_elim, subst, arith, length, take, drop, get_or}
 use Rattle.std.specs.Prelude.{All}
 use Rattle.std.specs.Int.{byte_at}

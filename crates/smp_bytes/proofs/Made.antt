@@ -1,4 +1,4 @@
--- Requests hold what was given: each field is written once, and what is written behind it is apart from it.
+-- Requests hold what was given: each field is written once, and later writes are apart from it.
 use Rattle.std.proofs.Common.{◌≡◌, ℕ, ◌+◌, ◌^◌, ◌<◌, ◌≤◌, List, refl, sym, ap, ◌∙◌, arith, true, ◌⊎◌, inl, inr, length, replicate, get_or}
 use Rattle.std.specs.Prelude.{None, Some, slice_get}
 use Rattle.std.proofs.lemmas.List.{get_or-replicate}

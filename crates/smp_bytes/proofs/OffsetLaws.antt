@@ -1,4 +1,4 @@
--- Single bytes, and rows of bytes, of what was written over others.
+-- Single bytes and runs of bytes, after a write over some bytes.
 use Rattle.std.proofs.Common.{◌≡◌, ℕ, ◌+◌, ◌<◌, ◌≤◌, List, [], ◌∷◌, ◌⊎◌, inl, inr, refl, sym, ap, ◌∙◌, arith, Bool, true, length, take, drop, get_or, ◌&&◌}
 use Rattle.std.proofs.lemmas.Bool.{and_parts, leb-true}
 use Rattle.std.proofs.lemmas.List.{ext_get_or, get_or-drop, get_or-take, get_or_append_left, length-drop, length-take-le}

@@ -1,4 +1,4 @@
--- What is made is a packet.
+-- Bytes built as a packet are a packet.
 use Rattle.std.proofs.Common.{◌≡◌, ℕ, ◌+◌, ◌<◌, ◌≤◌, List, refl, sym, ap, ◌∙◌, true, cond, arith, length, replicate, inl}
 use Rattle.std.specs.Prelude.{Option, None, Some, not, nat_lt, ◌==◌, ◌&&◌, ◌||◌, if◌then◌else◌}
 use Rattle.std.proofs.lemmas.Bool.{le-ltb, eq-eqb}

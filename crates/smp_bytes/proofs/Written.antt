@@ -1,4 +1,4 @@
--- What a write to a part of the bytes leaves is those bytes with a field's number.
+-- A write to a part of the bytes gives the bytes with a field's number written.
 use Rattle.std.proofs.Common.{◌≡◌, ℕ, ◌+◌, ◌-◌, ◌<◌, ◌≤◌, List, [], ◌∷◌, ◌++◌, sym, ap, ◌∙◌, arith, length, take, drop, append-nil, add-one}
 use Rattle.std.proofs.lemmas.List.{drop-drop, drop_all, take_all, length-drop, set_split}
 use Rattle.std.proofs.Math.ListN.{set}

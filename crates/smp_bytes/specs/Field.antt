@@ -1,19 +1,19 @@
--- What a field of a packet or an attribute is: a number that some of its bytes spell, or some bits of one byte.
+-- Fields of a packet or an attribute: a number in whole bytes, or in some bits of one byte.
 use Rattle.std.specs.Prelude.{ℕ, ◌+◌, ◌/◌, ◌%◌, ◌*◌, ◌^◌, ◌==◌, Bool, not, ◌||◌, List, [], ◌∷◌, ◌++◌, take, drop, slice_index, length, nat_le}
 use Rattle.byteorder.specs.Endian.{big_number, big_bytes}
 
--- whole bytes: the offset of the first, and how many there are
+-- a field of whole bytes: the offset of the first, and their number
 pub record Field : Type 0 where
   pub at : ℕ
   pub len : ℕ
 
--- some bits of one byte: its offset, the lowest of the bits, and how many there are
+-- some bits of one byte: the offset of the byte, the lowest bit, and the number of bits
 pub record Bits : Type 0 where
   pub at : ℕ
   pub shift : ℕ
   pub width : ℕ
 
--- the number that a field spells, the most significant byte first
+-- the number in a field, most significant byte first
 abbrev pub number_in : Field → List ℕ → ℕ
 number_in field bytes = big_number field.len (drop field.at bytes)
 
@@ -51,7 +51,7 @@ abbrev pub with_numbers : List Entry → List ℕ → List ℕ
 with_numbers [] bytes = bytes
 with_numbers (e ∷ entries) bytes = with_numbers entries (with_number e.field e.number bytes)
 
--- a byte with `number` in place of some bits; those above and below stay
+-- a byte with `number` in place of some bits; the bits above and below stay
 abbrev pub replaced : Bits → ℕ → ℕ → ℕ
 replaced bits number byte =
     (byte / 2 ^ (bits.shift + bits.width) * 2 ^ bits.width + number) * 2 ^ bits.shift + byte % 2 ^ bits.shift
@@ -61,6 +61,6 @@ abbrev pub with_bits : Bits → ℕ → List ℕ → List ℕ
 with_bits bits number bytes =
     with_number (record { at = bits.at; len = 1 }) (replaced bits number (slice_index bytes bits.at)) bytes
 
--- the bits are in different bytes, or some lie above the others
+-- the bits are in different bytes, or all bits of one are above all bits of the other
 abbrev pub are_bits_apart : Bits → Bits → Bool
 are_bits_apart a b = not (a.at == b.at) || (nat_le (a.shift + a.width) b.shift || nat_le (b.shift + b.width) a.shift)

@@ -3,7 +3,7 @@
 -- status, attributes.
 use Rattle.std.specs.Prelude.{ℕ}
 
--- classes: a packet that switches forward by LID, and one that carries the ports of its path
+-- classes: LID routed, and directed route
 
 abbrev pub lid_routed_class : ℕ
 lid_routed_class = 0x01

@@ -19,7 +19,7 @@ FieldApartStays =
     (other field : Field) (number : ℕ) (bytes : List ℕ) → LiesIn field bytes → are_apart other field ≡ true
     → number_in other (with_number field number bytes) ≡ number_in other bytes
 
--- there are as many bytes as before, and each outside the field stays
+-- the length stays, and so does each byte outside the field
 pub record KeepsBytesOutside (field : Field) (old new : List ℕ) : Type 0 where
   pub count : length new ≡ length old
   pub outside : (offset : ℕ) → (offset < field.at) ⊎ (field.at + field.len ≤ offset) → slice_index new offset
@@ -60,7 +60,7 @@ BitsApartStay = (other bits : Bits) (number : ℕ) (bytes : List ℕ) → AreBit
     → are_bits_apart other bits ≡ true
     → bits_in other (with_bits bits number bytes) ≡ bits_in other bytes
 
--- there are as many bytes as before, the one with the bits is still a byte, and each other stays
+-- the length stays, and so does each other byte; the byte with the bits stays below 256
 pub record KeepsOtherBytes (bits : Bits) (old new : List ℕ) : Type 0 where
   pub count : length new ≡ length old
   pub byte : slice_index new bits.at < 256

@@ -80,7 +80,7 @@ is_lid_routed packet = number_in mgmt_class packet == lid_routed_class
 abbrev pub is_directed : List ℕ → Bool
 is_directed packet = number_in mgmt_class packet == directed_class
 
--- the R bit: the packet is an answer, or another one that asks for no answer
+-- the R bit: the packet is an answer, or another packet that asks for no answer
 abbrev pub is_response : List ℕ → Bool
 is_response packet = bits_in response_bit packet == 1
 
@@ -109,7 +109,7 @@ directed_fault_of packet =
     && number_in dr_dlid packet == permissive_lid) then Some DrLid
     else None
 
--- the first fault of 256 bytes, if they are no packet
+-- the first fault of 256 bytes; None if they are a packet
 abbrev pub fault_of : List ℕ → Option SmpFault
 fault_of packet =
     if not (number_in base_version packet == 1) then Some BaseVersion

@@ -1,5 +1,5 @@
--- What packets that are made contain: all that was given, and 0 elsewhere. InfiniBand Architecture Specification,
--- Volume 1: SMP formats; management methods; directed route SMPs.
+-- What built packets contain, and what a packet contains after its status is written. InfiniBand Architecture
+-- Specification, Volume 1: SMP formats; management methods; directed route SMPs.
 use Rattle.std.specs.Prelude.{◌≡◌, ℕ, ◌+◌, ◌^◌, ◌<◌, ◌≤◌, ◌⊎◌, List, All, length, slice_index, None, true}
 use Rattle.smp_bytes.specs.Field.{Field, number_in, bytes_in, with_number}
 use Rattle.smp_bytes.specs.Packet.{base_version, mgmt_class, class_version, method, status_word, transaction_id, attribute_id, attribute_modifier, m_key, attribute_data, hop_pointer, hop_count, dr_slid, dr_dlid, initial_path, return_path, permissive_lid, max_hops, is_directed, is_response, is_returning, status, fault_of}
@@ -71,11 +71,12 @@ LidRoutedReadsBack =
     payload
     × HoldsNoPath (lid_routed method_number attribute modifier tid payload)
 
--- the byte at `offset` is of neither method, status nor attribute
+-- the byte at `offset` belongs to neither the method, the status nor the attribute
 abbrev pub IsKeptInAnswer : ℕ → Type 0
 IsKeptInAnswer offset = (offset < 3) ⊎ (((6 ≤ offset) × (offset < 64)) ⊎ (128 ≤ offset))
 
--- what an answer holds: method, status and attribute as given, and all else as in the request
+-- what an answer holds: the method GetResp, the D bit if it is directed, the status and the attribute as given, and all
+-- else as in the request
 pub record HoldsAnswer (request answer : List ℕ) (given : ℕ) (payload : List ℕ) : Type 0 where
   pub count : length answer ≡ 256
   pub parses : fault_of answer ≡ None
@@ -87,7 +88,7 @@ pub record HoldsAnswer (request answer : List ℕ) (given : ℕ) (payload : List
   pub attribute_data : bytes_in attribute_data answer ≡ payload
   pub kept : (offset : ℕ) → IsKeptInAnswer offset → slice_index answer offset ≡ slice_index request offset
 
--- an answer holds what was given; in the directed class the status must leave its highest bit to the direction
+-- an answer holds what was given, if the status of a directed answer leaves the highest bit to the direction
 abbrev pub AnswerReadsBack : Type 0
 AnswerReadsBack =
     (request : List ℕ) (given : ℕ) (payload : List ℕ) → length request ≡ 256 → fault_of request ≡ None → length payload
@@ -95,7 +96,7 @@ AnswerReadsBack =
     → given < 2 ^ 16 → (is_directed request ≡ true → given < 2 ^ 15)
     → HoldsAnswer request (answer_packet request given payload) given payload
 
--- what a packet holds once its status is written: its class stays, and so does the direction of a directed packet
+-- what a packet holds after its status is written: its class stays, and so does the direction of a directed packet
 pub record HoldsStatus (old new : List ℕ) (given : ℕ) : Type 0 where
   pub class : is_directed new ≡ is_directed old
   pub status : status new ≡ given

@@ -4,7 +4,7 @@ use Rattle.std.specs.Fmt.{digit_glyph}
 use Rattle.smp_bytes.specs.declared.node_type.NodeType.{NodeType}
 use Rattle.smp_bytes.specs.declared.node_type.NodeType.TheVariants.{ChannelAdapter, Switch, Router}
 
--- that many lower-case hex digits, with leading zeros
+-- the lowest `digits` hex digits of `n` in lower case, with leading zeros
 unfoldable pub hex_text : ℕ → ℕ → List ℕ
 hex_text zero n = []
 hex_text (suc digits) n = hex_text digits (n / 16) ++ digit_glyph false (n % 16) ∷ []

@@ -32,6 +32,7 @@ impl Generation {
         }
     }
 
+    /// Returns the number.
     pub fn number(self) -> u32
         ensures value { result ≡ self }
         ensures positive { 0 < result }

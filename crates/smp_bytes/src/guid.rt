@@ -20,12 +20,14 @@ impl Model for Guid {
 }
 
 impl Guid {
+    /// Creates a GUID from its number.
     pub const fn new(number: u64) -> Self
         ensures { result ≡ number }
     {
         Guid(number)
     }
 
+    /// Returns the GUID as a number.
     pub const fn number(self) -> u64
         ensures { result ≡ self }
     {

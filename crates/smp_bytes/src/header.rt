@@ -1,11 +1,11 @@
-/// How a packet is routed: by a LID and the switches' tables, or by the ports of a path that it carries.
+/// How a packet is routed: by LID through the switches' tables, or over the path of ports that it carries.
 #[derive(Clone, Copy, Debug, PartialEq, Eq)]
 pub enum SmpClass {
     LidRouted,
     DirectedRoute,
 }
 
-/// What a packet asks for or is: its R bit and the seven bits of the method.
+/// The method of a packet: its R bit and the seven bits below it.
 #[derive(Clone, Copy, Debug, PartialEq, Eq)]
 pub struct Method(pub u8);
 

@@ -1,4 +1,4 @@
-//! The laws of packets: what a write into a field or into bits does, and what the packets that are made contain.
+//! The laws of packets: what a write into a field or into bits does, and what built packets contain.
 ghost use Rattle.std.specs.Prelude.{◌≡◌};
 ghost use Rattle.smp_bytes.specs.Header.{get, set, get_resp, done, method_not_supported};
 ghost use Rattle.smp_bytes.specs.Header.{method_and_attribute_not_supported, invalid_field, node_description};

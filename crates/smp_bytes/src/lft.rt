@@ -5,5 +5,5 @@
 /// The entry of a LID for which a switch drops packets. Entries up to 254 are port numbers.
 pub const NO_ENTRY: u8 = 255;
 
-/// The number of the last block that has entries of unicast LIDs.
+/// The number of the last block with entries for unicast LIDs.
 pub const LAST_BLOCK: u16 = 767;

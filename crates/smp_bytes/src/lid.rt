@@ -18,18 +18,20 @@ impl Model for Lid {
 }
 
 impl Lid {
-    /// The LID of a port that was given none.
+    /// The LID of a port without one.
     pub const NONE: Self = Lid(0);
 
     /// The first number past the unicast LIDs, which end at 0xBFFF (addressing).
     pub const UNICAST_END: u16 = 0xC000;
 
+    /// Creates a LID from its number.
     pub const fn new(number: u16) -> Self
         ensures { result ≡ number }
     {
         Lid(number)
     }
 
+    /// Returns the LID as a number.
     pub const fn number(self) -> u16
         ensures { result ≡ self }
     {

@@ -13,6 +13,7 @@ pub enum NodeType {
 }
 
 impl NodeType {
+    /// Returns whether the node is a switch.
     pub const fn is_switch(self) -> bool
         ensures { result ≡ is_switch self }
     {

@@ -47,6 +47,7 @@ impl<const MAX: usize> Path<MAX> {
         self.ports.push(port.number());
     }
 
+    /// Returns the number of ports.
     pub fn len(&self) -> usize
         ensures exact { result ≡ length self.now }
         ensures within { result ≤ MAX }
@@ -54,6 +55,7 @@ impl<const MAX: usize> Path<MAX> {
         self.ports.len()
     }
 
+    /// Returns whether the path has no ports.
     pub fn is_empty(&self) -> bool
         ensures { IsTrue result ↔ (self.now ≡ []) }
     {

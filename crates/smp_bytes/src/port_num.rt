@@ -22,12 +22,14 @@ impl PortNum {
     /// The management port of a switch.
     pub const MANAGEMENT: Self = PortNum(0);
 
+    /// Creates the number of a port.
     pub const fn new(number: u8) -> Self
         ensures { result ≡ number }
     {
         PortNum(number)
     }
 
+    /// Returns the number.
     pub const fn number(self) -> u8
         ensures { result ≡ self }
     {

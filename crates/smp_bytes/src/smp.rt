@@ -45,7 +45,7 @@ const LID_ROUTED: u8 = 0x01;
 
 const DIRECTED_ROUTE: u8 = 0x81;
 
-/// The permissive LID, which stands for the port that a packet comes to, whatever its LID is (addressing).
+/// The permissive LID, which stands for whichever port receives the packet (addressing).
 pub const PERMISSIVE_LID: u16 = 0xFFFF;
 
 const MAX_HOPS: u8 = 63;
@@ -148,24 +148,28 @@ impl Smp {
         u8_at(&self.bytes, field::HOP_COUNT)
     }
 
+    /// Returns TransactionID.
     pub fn transaction_id(&self) -> u64
         ensures { result ≡ number_in transaction_id self.now }
     {
         u64_at(&self.bytes, field::TRANSACTION_ID)
     }
 
+    /// Returns AttributeID.
     pub fn attribute_id(&self) -> AttributeId
         ensures { result.0 ≡ number_in attribute_id self.now }
     {
         AttributeId(u16_at(&self.bytes, field::ATTRIBUTE_ID))
     }
 
+    /// Returns AttributeModifier.
     pub fn attribute_modifier(&self) -> u32
         ensures { result ≡ number_in attribute_modifier self.now }
     {
         u32_at(&self.bytes, field::ATTRIBUTE_MODIFIER)
     }
 
+    /// Returns M_Key.
     pub fn m_key(&self) -> u64
         ensures { result ≡ number_in m_key self.now }
     {

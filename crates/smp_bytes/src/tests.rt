@@ -1,4 +1,4 @@
-//! Tests with packets typed byte for byte from the format, and of what is printed.
+//! Tests with packets written byte by byte from the format, and of what is printed.
 use crate::{
     AttributeId, Generation, Guid, Lid, Method, NodeType, Path, PortNum, Smp, SmpFault, Status,
 };
@@ -101,7 +101,7 @@ const CHANGES: [(usize, u8, SmpFault, &str); 7] = [
     (35, 0, SmpFault::DrLid, "DrLid"),
 ];
 
-/// Checks that the reply with one byte changed is refused, and that `{}` of the fault is its name.
+/// Checks that the reply with one byte changed is rejected, and that `{}` of the fault is its name.
 #[test]
 fn names_each_fault(rt: HostRuntime) -> Result<(), Fail> {
     for (offset, byte, fault, name) in CHANGES {

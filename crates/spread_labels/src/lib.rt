@@ -25,4 +25,4 @@ pub use level::{digit_weights, greatest_of};
 pub use target_set::{TARGETS, TargetSet};
 pub use vertex_key::VertexKey;
 pub use vertex_keys::keys;
-pub use vertex_positions::{by_positions, position_of, positions, positions_at};
+pub use vertex_positions::{by_positions, counts_at, position_of, positions, positions_at};

@@ -47,6 +47,18 @@ pub fn positions_at(
     Ok(found)
 }
 
+/// Returns the counts of some vertices, given the count of each vertex.
+pub fn counts_at(alloc: Global, counts: &[u16], vertices: &[usize]) -> Result<Vec<u16>, AllocError>
+    requires { All (λ vertex. vertex < length counts.now) vertices.now }
+    ensures { IfOk result (λ found. found.items ≡ map (slice_index counts.now) vertices.now) }
+{
+    let mut found = Vec::with_capacity(alloc, vertices.len())?;
+    for vertex in vertices {
+        found.push(counts[*vertex])?;
+    }
+    Ok(found)
+}
+
 /// Returns the edges of the vertex at each position of an order, as edges to positions. Takes one step for each edge.
 pub fn by_positions(
     alloc: Global,

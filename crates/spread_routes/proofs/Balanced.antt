@@ -6,16 +6,16 @@ use Rattle.subnet_view.specs.SwitchEdges.{SwitchEdges}
 use Rattle.spread_routes.specs.Spread.{balanced_by, choices_by}
 use Rattle.spread_routes.specs.SwitchOrders.{OrderValue, as_named, balanced_as, from_roots, is_balanced, least_loaded}
 
-pub choices_if : (graph : List SwitchEdges) (keys : List VertexKey) (adapters : List ℕ) (order : OrderValue) → is_balanced order ≡ true
-    → Some (balanced_by graph keys adapters) ≡ choices_by graph keys adapters order
-choices_if graph keys adapters (from_roots roots) e = absurd (cc)
-choices_if graph keys adapters (as_named switches) e = absurd (cc)
-choices_if graph keys adapters (balanced_as switches) e = refl
-choices_if graph keys adapters least_loaded e = refl
+pub choices_if : (graph : List SwitchEdges) (keys : List VertexKey) (levels adapters : List ℕ) (order : OrderValue) → is_balanced order ≡ true
+    → Some (balanced_by graph keys levels adapters) ≡ choices_by graph keys levels adapters order
+choices_if graph keys levels adapters (from_roots roots) e = absurd (cc)
+choices_if graph keys levels adapters (as_named switches) e = absurd (cc)
+choices_if graph keys levels adapters (balanced_as switches) e = refl
+choices_if graph keys levels adapters least_loaded e = refl
 
-pub no_choices_if : (graph : List SwitchEdges) (keys : List VertexKey) (adapters : List ℕ) (order : OrderValue) → is_balanced order ≡ false
-    → None ≡ choices_by graph keys adapters order
-no_choices_if graph keys adapters (from_roots roots) e = refl
-no_choices_if graph keys adapters (as_named switches) e = refl
-no_choices_if graph keys adapters (balanced_as switches) e = absurd (cc)
-no_choices_if graph keys adapters least_loaded e = absurd (cc)
+pub no_choices_if : (graph : List SwitchEdges) (keys : List VertexKey) (levels adapters : List ℕ) (order : OrderValue) → is_balanced order ≡ false
+    → None ≡ choices_by graph keys levels adapters order
+no_choices_if graph keys levels adapters (from_roots roots) e = refl
+no_choices_if graph keys levels adapters (as_named switches) e = refl
+no_choices_if graph keys levels adapters (balanced_as switches) e = absurd (cc)
+no_choices_if graph keys levels adapters least_loaded e = absurd (cc)

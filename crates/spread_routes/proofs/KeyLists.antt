@@ -9,6 +9,7 @@ use Rattle.spread_labels.proofs.Numbers.{numbers_long}
 use Rattle.trial_loads.proofs.Least.{keys_long}
 use Rattle.subnet_view.specs.SwitchEdges.{SwitchEdges}
 use Rattle.subnet_view.specs.Graph.{guids_of}
+use Rattle.spread_routes.specs.LeafNumbers.{leaf_number, leaf_numbers, least_neighbors}
 use Rattle.spread_routes.specs.Rule.{by_index}
 use Rattle.spread_routes.specs.Spread.{indices_of, keys_by, keys_from_roots}
 use Rattle.spread_routes.specs.SwitchOrders.{OrderValue, as_named, balanced_as, from_roots, least_loaded, key_as_named}
@@ -30,3 +31,6 @@ all_keyed graph adapters least_loaded =
 
 pub all_levelled : (graph : List SwitchEdges) (adapters : List ℕ) → length (levels_of (by_index graph) (leaf_vertices adapters)) ≡ length graph
 all_levelled graph adapters = numbers_long (level_of (by_index graph) (leaf_vertices adapters)) 0 (length (by_index graph)) ∙ indexed graph
+
+pub all_numbered : (graph : List SwitchEdges) (adapters : List ℕ) → length (leaf_numbers graph adapters) ≡ length graph
+all_numbered graph adapters = numbers_long (leaf_number (least_neighbors (by_index graph)) (leaf_vertices adapters)) 0 (length graph)

@@ -9,6 +9,7 @@ pub mod Counting
 pub mod Turns
 pub mod PastEnds
 pub mod Balanced
+pub mod Weights
 pub mod AdapterCounts
 pub mod Standing
 pub mod OrderLaws

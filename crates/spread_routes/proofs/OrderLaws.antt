@@ -20,6 +20,7 @@ use Rattle.subnet_view.specs.Graph.{guids_of}
 use Rattle.subnet_view.specs.GraphLaws.{IsGraph}
 use Rattle.subnet_view.specs.Routing.{Routing}
 use Rattle.spread_routes.specs.AdapterChoices.{AdapterChoices, adapter_choices}
+use Rattle.spread_routes.specs.LeafNumbers.{leaf_numbers}
 use Rattle.spread_routes.specs.Rule.{by_index, order_by_keys}
 use Rattle.spread_routes.specs.Spread.{OrdersStand, balanced_by, keys_by, lid_digit_at, number_by, number_with, spread_at, spread_by, switches_in_order}
 use Rattle.spread_routes.specs.SwitchOrders.{as_named, balanced_as, from_roots, key_as_named, keys_as_named, least_loaded, switches_by_keys}
@@ -118,13 +119,14 @@ by_order_alone : (graph : List SwitchEdges) (keys : List VertexKey) (levels : Li
 by_order_alone graph keys levels choices = refl
 
 -- nor do the balanced choices
-abbrev choices_in : List SwitchEdges → List ℕ → List ℕ → AdapterChoices
-choices_in graph adapters standing =
-    adapter_choices (by_position (by_index graph) standing) (map (slice_index adapters) standing)
+abbrev choices_in : List SwitchEdges → List ℕ → List ℕ → List ℕ → AdapterChoices
+choices_in graph levels adapters standing =
+    adapter_choices (by_position (by_index graph) standing) (map (λ i. (lid_digit_at graph levels i).digit_weight) standing)
+    (map (slice_index (leaf_numbers graph adapters)) standing) (map (slice_index adapters) standing)
 
-choices_alone : (graph : List SwitchEdges) (keys : List VertexKey) (adapters : List ℕ)
-    → balanced_by graph keys adapters ≡ choices_in graph adapters (order_by_keys graph keys)
-choices_alone graph keys adapters = refl
+choices_alone : (graph : List SwitchEdges) (keys : List VertexKey) (levels adapters : List ℕ)
+    → balanced_by graph keys levels adapters ≡ choices_in graph levels adapters (order_by_keys graph keys)
+choices_alone graph keys levels adapters = refl
 
 module _ (graph : List SwitchEdges) (adapters : List ℕ) (keys : List VertexKey) (good : IsGraph graph) where
   abbrev levels : List ℕ
@@ -133,10 +135,11 @@ module _ (graph : List SwitchEdges) (adapters : List ℕ) (keys : List VertexKey
   same_order : switches_by_keys graph (keys_as_named graph (switches_by_keys graph keys)) ≡ switches_by_keys graph keys
   same_order = ap (map (at_position (guids_of graph))) (stands_again graph keys good)
 
-  same_choices : Some (balanced_by graph (keys_as_named graph (switches_by_keys graph keys)) adapters) ≡ Some (balanced_by graph keys adapters)
+  same_choices : Some (balanced_by graph (keys_as_named graph (switches_by_keys graph keys)) levels adapters)
+      ≡ Some (balanced_by graph keys levels adapters)
   same_choices =
-      ap Some (choices_alone graph (keys_as_named graph (switches_by_keys graph keys)) adapters
-      ∙ ap (choices_in graph adapters) (stands_again graph keys good) ∙ sym (choices_alone graph keys adapters))
+      ap Some (choices_alone graph (keys_as_named graph (switches_by_keys graph keys)) levels adapters
+      ∙ ap (choices_in graph levels adapters) (stands_again graph keys good) ∙ sym (choices_alone graph keys levels adapters))
 
   same_routing : (new old : Option AdapterChoices) → new ≡ old
       → spread_at (record { graph = graph; keys = keys_as_named graph (switches_by_keys graph keys); levels = levels; choices = new })

@@ -1,11 +1,11 @@
 -- What is found at an index past the last one, and sums that stop.
-use Rattle.std.proofs.Common.{◌≡◌, ◌<◌, ◌≤◌, ◌+◌, ℕ, List, [], min, inl, inr, sym, ap, ◌∙◌, subst, arith, length}
+use Rattle.std.proofs.Common.{◌≡◌, ◌<◌, ◌≤◌, ◌+◌, ℕ, List, [], min, inl, inr, sym, ap, ◌∙◌, arith, length, map}
 use Rattle.std.proofs.lemmas.Bool.{cases_lt}
 use Rattle.std.proofs.lemmas.List.{get_or_past}
+use Rattle.std.proofs.lemmas.List.Elements.{All-map}
 use Rattle.std.specs.Prelude.{All, slice_index_or}
 use Rattle.balanced_choices.specs.declared.rounds.Destination.{Destination}
-use Rattle.spread_labels.proofs.Numbers.{made_at, numbers_long}
-use Rattle.spread_routes.specs.AdapterChoices.{destination, destinations}
+use Rattle.spread_routes.specs.AdapterChoices.{destination}
 
 least : (n m : ℕ) → n < m → min n m ≡ n
 least n m h = omega arith
@@ -25,8 +25,7 @@ pub stopped : (a b m : ℕ) → min (min a m + b) m ≡ min (a + b) m
 stopped a b m = grind arith
 
 -- the destinations are where the leaf switches are
-pub all_destinations : (adapters : List ℕ) (n : ℕ) (leaves : List ℕ) → All (λ leaf. leaf < n) leaves → All (λ (d : Destination). d.position < n) (destinations adapters leaves)
-all_destinations adapters n leaves each = λ k d less.
-    let long = numbers_long (destination adapters leaves) 0 (length leaves) in
-    let low : k < length leaves = omega (arith, less, long) in
-    subst (λ (x : Destination). x.position < n) (sym (made_at (destination adapters leaves) (length leaves) k d low)) (each k 0 low)
+pub all_destinations : (leaf_numbers adapters : List ℕ) (n : ℕ) (leaves : List ℕ) → All (λ leaf. leaf < n) leaves
+    → All (λ (d : Destination). d.position < n) (map (destination leaf_numbers adapters) leaves)
+all_destinations leaf_numbers adapters n leaves each =
+    All-map (λ (d : Destination). d.position < n) (destination leaf_numbers adapters) leaves each

@@ -1,10 +1,9 @@
 -- Which candidate a packet takes by balanced loads: for each adapter each position chooses one, and the LIDs that are
 -- attached at a position share the choices for the adapters there.
-use Rattle.std.specs.Prelude.{ℕ, ◌+◌, ◌*◌, ◌%◌, ◌^◌, ◌==◌, List, [], length, map, slice_index, slice_index_or, sum_by, take, if◌then◌else◌}
+use Rattle.std.specs.Prelude.{ℕ, ◌+◌, ◌*◌, ◌==◌, List, [], map, slice_index, slice_index_or, sum_by, take, if◌then◌else◌}
 use Rattle.port_graph.specs.declared.edge.Edge.{Edge}
 use Rattle.spread_labels.specs.LeafVertices.{leaf_vertices}
 use Rattle.spread_labels.specs.Levels.{greatest}
-use Rattle.spread_labels.specs.Orders.{numbers_from}
 use Rattle.balanced_choices.specs.BalancedChoices.{balanced_choices, in_turn}
 use Rattle.balanced_choices.specs.declared.rounds.Destination.{Destination}
 
@@ -29,20 +28,19 @@ choice_towards by lid p q =
     if slice_index by.adapters q == 0 then 0
     else slice_index (slice_index_or by.choices (adapter_of by.adapters lid q) []) p
 
--- the destination at leaf k of `leaves`: its ends are its adapters, and each leaf takes as many numbers as the most
--- adapters that a position has, counted round at 2^16 leaves
+-- position q as a destination, given the leaf number of each position: its ends are its adapters, and each leaf takes as
+-- many numbers as the most adapters that a position has
 abbrev pub destination : List ℕ → List ℕ → ℕ → Destination
-destination adapters leaves k =
-    let q = slice_index leaves k in
-    record { position = q; ends = slice_index adapters q; number = k % 2 ^ 16 * greatest 0 adapters }
+destination leaf_numbers adapters q = record {
+  position = q;
+  ends = slice_index adapters q;
+  number = slice_index leaf_numbers q * greatest 0 adapters;
+}
 
--- those at all of them
-abbrev pub destinations : List ℕ → List ℕ → List Destination
-destinations adapters leaves = map (destination adapters leaves) (numbers_from 0 (length leaves))
-
--- the balanced choices of a graph by positions, if each adapter sends a packet to each
-unfoldable pub adapter_choices : List (List Edge) → List ℕ → AdapterChoices
-adapter_choices graph adapters = record {
+-- the balanced choices of a graph by positions, if each adapter sends a packet to each; position p begins with digits of
+-- numbers from weight `weights[p]` on
+unfoldable pub adapter_choices : List (List Edge) → List ℕ → List ℕ → List ℕ → AdapterChoices
+adapter_choices graph weights leaf_numbers adapters = record {
   adapters = adapters;
-  choices = balanced_choices graph adapters (destinations adapters (leaf_vertices adapters));
+  choices = balanced_choices graph adapters weights (map (destination leaf_numbers adapters) (leaf_vertices adapters));
 }

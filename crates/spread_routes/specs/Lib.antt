@@ -2,7 +2,7 @@ pub mod Rule
 pub mod Adapters
 pub mod SwitchOrders
 pub mod AdapterChoices
-pub mod Spread
 pub mod LeafNumbers
+pub mod Spread
 pub mod Tables
 pub mod RoundRobins

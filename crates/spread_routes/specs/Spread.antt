@@ -17,6 +17,7 @@ use Rattle.subnet_view.specs.Routing.{Routing, IsRouting}
 use Rattle.trial_loads.specs.LeastLoaded.{least_loaded_keys}
 use Rattle.spread_routes.specs.declared.lid_digit.LidDigit.{LidDigit}
 use Rattle.spread_routes.specs.AdapterChoices.{AdapterChoices, adapter_choices, choice_towards}
+use Rattle.spread_routes.specs.LeafNumbers.{leaf_numbers}
 use Rattle.spread_routes.specs.Rule.{by_index, by_positions, order_by_keys, spread}
 use Rattle.spread_routes.specs.SwitchOrders.{OrderValue, as_named, balanced_as, from_roots, least_loaded, keys_as_named, named_in, switches_by_keys}
 
@@ -93,25 +94,36 @@ keys_by graph adapters least_loaded = keys_least_loaded graph adapters
 abbrev pub adapters_there : List SwitchEdges → List VertexKey → List ℕ → List ℕ
 adapters_there graph keys adapters = map (slice_index adapters) (order_by_keys graph keys)
 
+-- the leaf number of each position
+abbrev pub leaf_numbers_there : List SwitchEdges → List VertexKey → List ℕ → List ℕ
+leaf_numbers_there graph keys adapters = map (slice_index (leaf_numbers graph adapters)) (order_by_keys graph keys)
+
+-- the digit weight of the switch at each position
+abbrev pub weights_there : List SwitchEdges → List VertexKey → List ℕ → List ℕ
+weights_there graph keys levels = map (λ i. (lid_digit_at graph levels i).digit_weight) (order_by_keys graph keys)
+
 -- the balanced choices in that order
-abbrev pub balanced_by : List SwitchEdges → List VertexKey → List ℕ → AdapterChoices
-balanced_by graph keys adapters = adapter_choices (by_positions graph keys) (adapters_there graph keys adapters)
+abbrev pub balanced_by : List SwitchEdges → List VertexKey → List ℕ → List ℕ → AdapterChoices
+balanced_by graph keys levels adapters =
+    adapter_choices (by_positions graph keys) (weights_there graph keys levels) (leaf_numbers_there graph keys adapters)
+    (adapters_there graph keys adapters)
 
 -- the choices for adapters, if loads are balanced
-abbrev pub choices_by : List SwitchEdges → List VertexKey → List ℕ → OrderValue → Option AdapterChoices
-choices_by graph keys adapters (from_roots roots) = None
-choices_by graph keys adapters (as_named switches) = None
-choices_by graph keys adapters (balanced_as switches) = Some (balanced_by graph keys adapters)
-choices_by graph keys adapters least_loaded = Some (balanced_by graph keys adapters)
+abbrev pub choices_by : List SwitchEdges → List VertexKey → List ℕ → List ℕ → OrderValue → Option AdapterChoices
+choices_by graph keys levels adapters (from_roots roots) = None
+choices_by graph keys levels adapters (as_named switches) = None
+choices_by graph keys levels adapters (balanced_as switches) = Some (balanced_by graph keys levels adapters)
+choices_by graph keys levels adapters least_loaded = Some (balanced_by graph keys levels adapters)
 
 -- what the rule goes by, given how many adapters each switch has, and the order
 abbrev pub grading_of : List SwitchEdges → List ℕ → OrderValue → Grading
 grading_of graph adapters order =
+    let levels = levels_of (by_index graph) (leaf_vertices adapters) in
     record {
       graph = graph;
       keys = keys_by graph adapters order;
-      levels = levels_of (by_index graph) (leaf_vertices adapters);
-      choices = choices_by graph (keys_by graph adapters order) adapters order;
+      levels = levels;
+      choices = choices_by graph (keys_by graph adapters order) levels adapters order;
     }
 
 -- the whole rule

@@ -1,9 +1,9 @@
 //! Choices of candidates by which the loads of channels are balanced.
-ghost use Rattle.std.specs.Prelude.{◌≡◌, ◌<◌, ◌-◌, ◌*◌, ◌%◌, ◌^◌, All, IfOk, length, map, min, slice_index};
+ghost use Rattle.std.specs.Prelude.{◌≡◌, ◌<◌, ◌-◌, ◌*◌, ◌^◌, All, IfOk, length, map, min, slice_index};
 ghost use Rattle.port_graph.specs.Heads.{LeadToVertices};
 ghost use Rattle.spread_labels.specs.Orders.{numbers_from};
 ghost use Rattle.balanced_choices.specs.BalancedChoices.{in_turn};
-ghost use Rattle.spread_routes.specs.AdapterChoices.{adapter_choices, adapter_of, choice_towards, destinations, first_at};
+ghost use Rattle.spread_routes.specs.AdapterChoices.{adapter_choices, adapter_of, choice_towards, destination, first_at};
 
 use crate::adapters::most_adapters;
 use balanced_choices::{Destination, balanced_choices};
@@ -40,22 +40,28 @@ impl Model for AdapterChoices {
 }
 
 impl AdapterChoices {
-    /// Balances the loads of a graph by positions, if each adapter sends a packet to each. `adapters` has how many each
-    /// position has. Takes what `balanced_choices` takes.
+    /// Balances the loads of a graph by positions, if each adapter sends a packet to each. `weights`, `leaf_numbers` and
+    /// `adapters` have the digit weight, the leaf number and the number of adapters of each position. Takes what
+    /// `balanced_choices` takes.
     pub(crate) fn of(
         alloc: Global,
         edges: &Adjacency,
+        weights: &[usize],
+        leaf_numbers: &[u16],
         adapters: Vec<u16>,
     ) -> Result<Self, AllocError>
         requires lead { LeadToVertices edges.now }
+        requires weights { length weights.now ≡ length edges.now }
+        requires leaf_numbers { length leaf_numbers.now ≡ length edges.now }
         requires adapters { length adapters.items ≡ length edges.now }
-        ensures { IfOk result (λ found. found ≡ adapter_choices edges.now adapters.items) }
+        ensures { IfOk result (λ found. found
+            ≡ adapter_choices edges.now weights.now leaf_numbers.now adapters.items) }
     {
         let sent = sent(alloc, &adapters)?;
         let leaves = leaf_vertices(alloc, &adapters)?;
-        let destinations = destinations(alloc, &adapters, &leaves)?;
+        let destinations = destinations(alloc, leaf_numbers, &adapters, &leaves)?;
         let firsts = firsts(alloc, &adapters)?;
-        let choices = balanced_choices(alloc, edges, &sent, &destinations)?;
+        let choices = balanced_choices(alloc, edges, &sent, weights, &destinations)?;
         Ok(AdapterChoices {
             adapters,
             firsts,
@@ -127,32 +133,27 @@ fn sent(alloc: Global, adapters: &[u16]) -> Result<Vec<usize>, AllocError>
 }
 
 /// Returns the destinations at `leaves`, each with as many ends as it has adapters, and as many numbers as the most
-/// adapters that a position has.
+/// adapters that a position has, from its leaf number times these on.
 fn destinations(
     alloc: Global,
+    leaf_numbers: &[u16],
     adapters: &[u16],
     leaves: &[usize],
 ) -> Result<Vec<Destination>, AllocError>
-    requires { All (λ leaf. leaf < length adapters.now) leaves.now }
-    ensures { IfOk result (λ found. found.items ≡ destinations adapters.now leaves.now) }
+    requires leaf_numbers { length leaf_numbers.now ≡ length adapters.now }
+    requires leaves { All (λ leaf. leaf < length adapters.now) leaves.now }
+    ensures { IfOk result (λ found. found.items ≡ map (destination leaf_numbers.now adapters.now) leaves.now) }
 {
     let most = most_adapters(adapters);
     let mut found = Vec::with_capacity(alloc, leaves.len())?;
-    for (k, leaf) in leaves.iter().enumerate() {
+    for leaf in leaves {
         found.push(Destination {
             position: *leaf,
             ends: usize::from(adapters[*leaf]),
-            number: first_number(k, most),
+            number: u32::from(leaf_numbers[*leaf]) * u32::from(most),
         })?;
     }
     Ok(found)
-}
-
-/// Returns the first number of leaf `k` if each leaf takes `most` numbers, counted round at 2^16 leaves.
-fn first_number(k: usize, most: u16) -> u32
-    ensures { result ≡ k % 2 ^ 16 * most }
-{
-    (k % 65536) as u32 * u32::from(most)
 }
 
 /// Returns the number of the first adapter at each position, as far as 64 bits go.

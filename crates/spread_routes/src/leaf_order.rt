@@ -1,6 +1,6 @@
 //! The order of leaf switches in which LIDs take their turns.
 ghost use Rattle.std.specs.Prelude.{◌≡◌, ◌<◌, All, IfOk, filter, length};
-ghost use Rattle.spread_routes.specs.LeafNumbers.{goes_first, leaf_number, leaf_numbers, least_head, least_neighbours};
+ghost use Rattle.spread_routes.specs.LeafNumbers.{goes_first, leaf_number, leaf_numbers, least_head, least_neighbors};
 
 use port_graph::{Adjacency, Edge};
 use spread_labels::leaf_vertices;
@@ -8,7 +8,7 @@ use std::alloc::{AllocError, Global};
 use subnet_view::SwitchGraph;
 
 /// Returns the number of each switch among the leaf switches, by rising GUID, counted round at 2^16. Leaf switches with a
-/// common least neighbour come one after the other. `adapters` has the number of adapters at each switch, by rising GUID.
+/// common least neighbor come one after the other. `adapters` has the number of adapters at each switch, by rising GUID.
 /// Takes as many steps for each switch as there are leaf switches.
 pub fn leaf_numbers(
     alloc: Global,
@@ -19,48 +19,48 @@ pub fn leaf_numbers(
     ensures { IfOk result (λ numbers. numbers.items ≡ leaf_numbers graph.now adapters.now) }
 {
     let edges = graph.adjacency();
-    let neighbours = least_neighbours(alloc, edges)?;
+    let neighbors = least_neighbors(alloc, edges)?;
     let leaves = leaf_vertices(alloc, adapters)?;
     let mut numbers = Vec::with_capacity(alloc, graph.len())?;
     for index in 0..graph.len() {
-        numbers.push(leaf_number(&neighbours, &leaves, index))?;
+        numbers.push(leaf_number(&neighbors, &leaves, index))?;
     }
     Ok(numbers)
 }
 
 /// Returns the leaf number of the vertex `index`: how many leaf vertices come before it, counted round at 2^16.
-fn leaf_number(neighbours: &[usize], leaves: &[usize], index: usize) -> u16
-    requires index { index < length neighbours.now }
-    requires leaves { All (λ leaf. leaf < length neighbours.now) leaves.now }
-    ensures { result ≡ leaf_number neighbours.now leaves.now index }
+fn leaf_number(neighbors: &[usize], leaves: &[usize], index: usize) -> u16
+    requires index { index < length neighbors.now }
+    requires leaves { All (λ leaf. leaf < length neighbors.now) leaves.now }
+    ensures { result ≡ leaf_number neighbors.now leaves.now index }
 {
-    (count_before(neighbours, leaves, index) % 65536) as u16
+    (count_before(neighbors, leaves, index) % 65536) as u16
 }
 
 /// Counts the leaf vertices that come before the vertex `index`.
-fn count_before(neighbours: &[usize], leaves: &[usize], index: usize) -> usize
-    requires index { index < length neighbours.now }
-    requires leaves { All (λ leaf. leaf < length neighbours.now) leaves.now }
-    ensures { result ≡ length (filter (λ leaf. goes_first neighbours.now leaf index) leaves.now) }
+fn count_before(neighbors: &[usize], leaves: &[usize], index: usize) -> usize
+    requires index { index < length neighbors.now }
+    requires leaves { All (λ leaf. leaf < length neighbors.now) leaves.now }
+    ensures { result ≡ length (filter (λ leaf. goes_first neighbors.now leaf index) leaves.now) }
 {
     leaves
         .iter()
-        .filter(|leaf| goes_first(neighbours, **leaf, index))
+        .filter(|leaf| goes_first(neighbors, **leaf, index))
         .count()
 }
 
 /// Returns whether vertex `a` comes before vertex `b`.
-fn goes_first(neighbours: &[usize], a: usize, b: usize) -> bool
-    requires a { a < length neighbours.now }
-    requires b { b < length neighbours.now }
-    ensures { result ≡ goes_first neighbours.now a b }
+fn goes_first(neighbors: &[usize], a: usize, b: usize) -> bool
+    requires a { a < length neighbors.now }
+    requires b { b < length neighbors.now }
+    ensures { result ≡ goes_first neighbors.now a b }
 {
-    neighbours[a] < neighbours[b] || neighbours[a] == neighbours[b] && a < b
+    neighbors[a] < neighbors[b] || neighbors[a] == neighbors[b] && a < b
 }
 
-/// Returns the least neighbour of each vertex, the number of vertices if it has none.
-fn least_neighbours(alloc: Global, edges: &Adjacency) -> Result<Vec<usize>, AllocError>
-    ensures { IfOk result (λ found. found.items ≡ least_neighbours edges.now) }
+/// Returns the least neighbor of each vertex, the number of vertices if it has none.
+fn least_neighbors(alloc: Global, edges: &Adjacency) -> Result<Vec<usize>, AllocError>
+    ensures { IfOk result (λ found. found.items ≡ least_neighbors edges.now) }
 {
     let mut found = Vec::with_capacity(alloc, edges.len())?;
     for vertex in 0..edges.len() {

@@ -41,6 +41,16 @@ impl LidDigit {
     }
 }
 
+/// Returns the digit weights of LID digits.
+pub(crate) fn weights_of(alloc: Global, lid_digits: &[LidDigit]) -> Result<Vec<usize>, AllocError>
+    ensures { IfOk result (λ weights. weights.items ≡ map (λ d. d.digit_weight) lid_digits.now) }
+{
+    lid_digits
+        .iter()
+        .map(|lid_digit| lid_digit.digit_weight)
+        .collect(alloc)
+}
+
 /// Returns the LID digit of the switch at each position of an order.
 pub(crate) fn lid_digits(
     alloc: Global,

@@ -1,18 +1,21 @@
 ghost use Rattle.std.specs.Prelude.{◌≡◌, ◌<◌, ◌+◌, All, IfOk, None, OnOk, Some};
-ghost use Rattle.std.specs.Prelude.{drop, length, map, min, slice_index};
+ghost use Rattle.std.specs.Prelude.{drop, length, min};
 ghost use Rattle.spread_routes.specs.AdapterChoices.{adapter_choices};
 ghost use Rattle.spread_routes.specs.Rule.{by_positions, order_by_keys};
-ghost use Rattle.spread_routes.specs.Spread.{grading_of};
+ghost use Rattle.spread_routes.specs.Spread.{grading_of, weights_there};
 ghost use Rattle.spread_routes.specs.SwitchOrders.{is_balanced, order_value_of};
 ghost use Rattle.spread_routes.specs.Tables.{AreExits, AreTowards};
 
 use crate::SwitchOrder;
 use crate::adapter_choices::AdapterChoices;
 use crate::exits::Exits;
-use crate::lid_digit::{LidDigit, higher_targets, lid_digits};
+use crate::leaf_order::leaf_numbers;
+use crate::lid_digit::{LidDigit, higher_targets, lid_digits, weights_of};
 use crate::switch_keys::{SwitchKeys, switch_keys};
 use port_graph::Adjacency;
-use spread_labels::{CandidateSets, TARGETS, VertexKey, by_positions, grown_order, positions};
+use spread_labels::{
+    CandidateSets, TARGETS, VertexKey, by_positions, counts_at, grown_order, positions,
+};
 use std::alloc::{AllocError, Global};
 use std::marker::Model;
 use subnet_view::SwitchGraph;
@@ -105,21 +108,31 @@ impl<'g> Spread<'g> {
         let vertices = grown_order(alloc, graph.adjacency(), &keys)?;
         let spread = Spread::by_keys(alloc, graph, keys, levels, &vertices)?;
         if order.is_balanced() {
+            let leaf_numbers = leaf_numbers(alloc, graph, adapters)?;
+            let leaf_numbers = counts_at(alloc, &leaf_numbers, &vertices)?;
             let adapters = counts_at(alloc, adapters, &vertices)?;
-            spread.balanced(alloc, adapters)
+            spread.balanced(alloc, &leaf_numbers, adapters)
         } else {
             Ok(spread)
         }
     }
 
-    /// Balances the loads of the routes, given the number of adapters at each position.
-    fn balanced(self, alloc: Global, adapters: Vec<u16>) -> Result<Self, AllocError>
-        requires { length adapters.items ≡ length (by_positions self.graph self.keys) }
+    /// Balances the loads of the routes, given the leaf number and the number of adapters of each position.
+    fn balanced(
+        self,
+        alloc: Global,
+        leaf_numbers: &[u16],
+        adapters: Vec<u16>,
+    ) -> Result<Self, AllocError>
+        requires leaf_numbers { length leaf_numbers.now ≡ length (by_positions self.graph self.keys) }
+        requires adapters { length adapters.items ≡ length (by_positions self.graph self.keys) }
         ensures { IfOk result (λ spread. spread ≡ record self.entry {
-          choices = Some (adapter_choices (by_positions self.entry.graph self.entry.keys) adapters.items);
+          choices = Some (adapter_choices (by_positions self.entry.graph self.entry.keys)
+              (weights_there self.entry.graph self.entry.keys self.entry.levels) leaf_numbers.now adapters.items);
         }) }
     {
-        let choices = AdapterChoices::of(alloc, &self.edges, adapters)?;
+        let weights = weights_of(alloc, &self.lid_digits)?;
+        let choices = AdapterChoices::of(alloc, &self.edges, &weights, leaf_numbers, adapters)?;
         Ok(Spread {
             choices: Some(choices),
             ..self
@@ -191,18 +204,6 @@ impl<'g> Spread<'g> {
         exits.choose_by(self.choices.as_ref(), position, targets);
         exits.find(lid_digit, higher, edges, sets)
     }
-}
-
-/// Returns the numbers of adapters of the switches at these indices.
-fn counts_at(alloc: Global, adapters: &[u16], indices: &[usize]) -> Result<Vec<u16>, AllocError>
-    requires { All (λ i. i < length adapters.now) indices.now }
-    ensures { IfOk result (λ found. found.items ≡ map (slice_index adapters.now) indices.now) }
-{
-    let mut found = Vec::with_capacity(alloc, indices.len())?;
-    for index in indices {
-        found.push(adapters[*index])?;
-    }
-    Ok(found)
 }
 
 /// Returns what stands in a list from index `first` on.

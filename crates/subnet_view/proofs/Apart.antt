@@ -1,4 +1,4 @@
--- Lists in which nothing stands twice: they split in one way at an element, and a map of them tells their elements apart.
+-- Lists without duplicates: they split in one way at an element, and a map of them tells their elements apart.
 use Rattle.std.proofs.Common.{◌≡◌, List, [], ◌∷◌, ◌++◌, ◌⊎◌, inl, inr, refl, sym, ap, ◌∙◌, Bool, true, false, cond, map}
 use Rattle.std.proofs.lemmas.List.Elements.{Contains-append_right}
 use Rattle.std.specs.Prelude.{Contains, Some}

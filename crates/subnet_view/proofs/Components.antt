@@ -1,4 +1,4 @@
--- Components: walks join the switches of one, and all of them have one root.
+-- Components: walks join the switches of a component, and all of them have one root.
 use Rattle.std.proofs.Common.{◌≡◌, ◌+◌, ℕ, zero, suc, List, [], ◌∷◌, refl, sym, ap, ◌∙◌, subst, arith, Bool, true, false, map, length}
 use Rattle.std.specs.Prelude.{Option, None, Some, is_some, Contains}
 use Rattle.std.specs.List.{find}

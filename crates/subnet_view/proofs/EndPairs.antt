@@ -1,4 +1,4 @@
--- A wire by the links of the ports that can have one.
+-- Wires, by the links of the ports that can have a wire.
 use Rattle.std.proofs.Common.{◌≡◌, ℕ, Bool, true, false, cond, not, ◌&&◌, refl, sym, ap, ◌∙◌}
 use Rattle.std.specs.Prelude.{Option, None, Some, option_and_then}
 use Rattle.std.specs.Option.{option_map_or}

@@ -1,4 +1,4 @@
--- End ports in their order: sorted lists of the same ones are the same.
+-- End ports in their order: sorted lists of equal end ports are equal.
 use Rattle.std.proofs.Common.{◌≡◌, ◌<◌, ◌≤◌, ℕ, suc, List, [], ◌∷◌, ◌⊎◌, length, inl, inr, refl, sym, ap, ◌∙◌, subst, Bool, true, false, cond, arith, get_or}
 use Rattle.std.specs.Prelude.{Contains, slice_index}
 use Rattle.std.specs.List.{AllByRecursion, IsDistinct}

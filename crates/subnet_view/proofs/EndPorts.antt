@@ -1,4 +1,4 @@
--- No end port stands twice among the end ports of facts.
+-- The end ports of facts have no duplicates.
 use Rattle.std.proofs.Common.{◌≡◌, ℕ, List, [], ◌∷◌, inl, inr, refl, sym, ap, ◌∙◌, Bool, true, false, cond, T, map}
 use Rattle.std.proofs.lemmas.Bool.{and_parts}
 use Rattle.std.specs.Prelude.{Contains, None, Some, option_map}

@@ -1,4 +1,4 @@
--- Two end ports that are joined are one, or two adapter ports with one wire, or lie at switches of one component.
+-- Two joined end ports are equal, or are two adapter ports on one wire, or lie at switches of one component.
 use Rattle.std.proofs.Common.{◌≡◌, ℕ, zero, suc, List, inl, inr, refl, sym, ap, ◌∙◌, subst, true, false}
 use Rattle.std.proofs.lemmas.Option.{same_Some}
 use Rattle.std.specs.Prelude.{None, Some, Contains, slice_get}

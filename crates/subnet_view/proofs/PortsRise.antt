@@ -1,4 +1,4 @@
--- The edges of a switch stand by rising port.
+-- The edges of a switch are listed by rising port.
 use Rattle.std.proofs.Common.{◌≡◌, ◌<◌, ◌+◌, ℕ, zero, suc, refl, sym, ap, arith, cond, map}
 use Rattle.std.proofs.lemmas.Option.{cond_some, option_and_then_some}
 use Rattle.std.specs.Prelude.{None, Some}

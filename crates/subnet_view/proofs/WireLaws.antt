@@ -1,4 +1,4 @@
--- The tests of end ports and wires say what the words say.
+-- The tests of end ports and wires agree with their statements.
 use Rattle.std.proofs.Common.{◌≡◌, ◌≤◌, ℕ, refl, sym, ap, ◌∙◌, arith, Bool, true, false, cond, ◌==◌, ◌&&◌}
 use Rattle.std.proofs.lemmas.Bool.{eqb-true, eq-eqb, leb-true, le-leb, and_parts, and_from, true≢false, not-true, not_from_false, false_from_ne_true}
 use Rattle.std.specs.Prelude.{None, Some, MatchBool, IsSome, is_some, nat_le}

@@ -1,5 +1,5 @@
--- When a view tells exactly what a part of a fabric is. What it says of claims may be anything. InfiniBand Architecture
--- Specification, Volume 1: subnet management, NodeInfo, PortInfo and SwitchInfo.
+-- When a view describes a part of a fabric, or describes it exactly. What it says of claimed LIDs may be anything.
+-- InfiniBand Architecture Specification, Volume 1: subnet management, NodeInfo, PortInfo and SwitchInfo.
 use Rattle.std.specs.Prelude.{◌≡◌, ◌↔◌, ℕ, Some, IsTrue}
 use Rattle.fabric_model.specs.declared.cable.NodePort.{NodePort}
 use Rattle.smp_bytes.specs.NodeType.{is_switch}
@@ -12,7 +12,7 @@ use Rattle.subnet_view.specs.Reading.{Cells, IsUsable}
 use Rattle.subnet_view.specs.EndPorts.{IsEndPort}
 use Rattle.subnet_view.specs.Wires.{IsWire}
 
--- a part of a fabric, by its vertices: all of it, or what is joined to one of them
+-- a part of a fabric, by its vertices: the whole fabric, for example, or all that is joined to one vertex
 abbrev pub Part : Type 1
 Part = NodePort → Type 0
 
@@ -55,8 +55,8 @@ pub record TellsEndPort (cells : Cells) (node : fabric.Node) (p : ℕ) : Type 0 
   pub port_guid : port_guid_of cells node.guid p ≡ Some (node.port_guid p)
   pub cap : IsTrue (is_switch node.kind) → cap_of cells node.guid ≡ Some node.cap
 
--- the view describes the part: it tells the part's end ports and their nodes, and the wires in its ports, as they are;
--- of what is elsewhere it may tell anything, such as nodes that are gone
+-- the view describes the part, whose nodes have different GUIDs: it tells the part's end ports and their nodes, and the
+-- wires in its ports, as they are; of anything else it may tell anything, such as nodes that are gone
 pub record Covers (part : Part) (cells : Cells) (f : Fabric) : Type 0 where
   pub guids_distinct : (p q : NodePort) (a b : fabric.Node) → IsEndPortIn part f p a → IsEndPortIn part f q b → a.guid
       ≡ b.guid → p.node ≡ q.node
@@ -66,8 +66,8 @@ pub record Covers (part : Part) (cells : Cells) (f : Fabric) : Type 0 where
   pub wires_there : (port : NodePort) (node : fabric.Node) → IsNodeAt f port.node node → part (vertex_of f port)
       → (h q : ℕ) → IsWire cells node.guid port.port h q → HasWire part f node.guid port.port h q
 
--- the view describes the part exactly: it tells the part's end ports and their nodes, its switches and its wires, and
--- no others
+-- the view describes the part exactly: the part's nodes have different GUIDs, and the view tells the part's end ports
+-- and their nodes, its switches and its wires, and no others
 pub record AgreesOn (part : Part) (cells : Cells) (f : Fabric) : Type 0 where
   pub guids_distinct : (p q : NodePort) (a b : fabric.Node) → IsEndPortIn part f p a → IsEndPortIn part f q b → a.guid
       ≡ b.guid → p.node ≡ q.node

@@ -1,4 +1,4 @@
--- Cells that are read in step with rising keys.
+-- Cells in which rising keys are looked up.
 use Rattle.std.specs.Prelude.{◌≡◌, T, Bool, false, [], ◌∷◌, Option, MatchOption}
 use Rattle.std.specs.Ordering.{is_lt}
 use Rattle.std.specs.FinMap.{find, is_sorted}
@@ -12,15 +12,15 @@ use Rattle.subnet_view.specs.Reading.{Cells}
 abbrev pub is_before : Key → Key → Bool
 is_before k key = is_lt (key_cmp k key)
 
--- the next cell and those after it are in the order of keys; if there is no next one, none is left
+-- the next cell and the later ones are in the order of keys; if there is no next cell, none is left
 abbrev pub AreLeft : Option (Key × Cell Value) → Cells → Type 0
 AreLeft next later = MatchOption next (later ≡ []) (λ s. T (is_sorted key_cmp (s ∷ later)))
 
--- what was found of this key and of later ones is still found
+-- this key and later keys are found as before
 abbrev pub KeepsFrom : Key → Cells → Cells → Type 0
 KeepsFrom key old new = (k : Key) → is_before k key ≡ false → find key_cmp k new ≡ find key_cmp k old
 
--- the first cell, if there is one, does not have a key before this one
+-- the first cell, if there is one, has this key or a later one
 abbrev pub IsFrom : Key → Cells → Type 0
 IsFrom key [] = Unit {0}
 IsFrom key (s ∷ later) = is_before s.0 key ≡ false

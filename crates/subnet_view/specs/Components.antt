@@ -1,4 +1,4 @@
--- Switches of one component, and its root.
+-- Components of the switches, and their roots.
 use Rattle.std.specs.Prelude.{ℕ, Bool, List, length, Option, is_some}
 use Rattle.std.specs.List.{find}
 use Rattle.port_graph.specs.Walks.{shortest}

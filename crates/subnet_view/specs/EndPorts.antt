@@ -15,7 +15,7 @@ use Rattle.subnet_view.specs.declared.end_port.EndPort.{EndPort}
 use Rattle.reply_facts.specs.Known.{node_of, port_guid_of}
 use Rattle.subnet_view.specs.Reading.{Cells, is_switch_node, is_port_of}
 
--- port 0 of a switch, or a port from 1 to the count of another node
+-- port 0 of a switch, or a port from 1 to the number of ports of another node
 abbrev pub is_end_port_number : Cells → ℕ → ℕ → Bool
 is_end_port_number cells g p = if is_switch_node cells g then p == 0 else is_port_of cells g p
 
@@ -47,7 +47,7 @@ abbrev pub put_in_order : ℕ × EndPort → List (ℕ × EndPort) → List (ℕ
 put_in_order e [] = e ∷ []
 put_in_order e (x ∷ xs) = if comes_before e x then e ∷ x ∷ xs else x ∷ put_in_order e xs
 
--- the list in order: each end port put in where it belongs
+-- the list in order, sorted by insertion
 abbrev pub in_order : List (ℕ × EndPort) → List (ℕ × EndPort)
 in_order [] = []
 in_order (x ∷ xs) = put_in_order x (in_order xs)
@@ -76,7 +76,7 @@ abbrev pub IsEndPort : Cells → ℕ → ℕ → Type 0
 IsEndPort cells g p = (kind : NodeType) × (ports : ℕ) × IsNodeWith cells g kind ports
     × MatchBool (is_switch kind) (p ≡ 0) ((1 ≤ p) × (p ≤ ports)) × IsSome (port_guid_of cells g p)
 
--- the test agrees with the statement
+-- `is_end_port` holds exactly for end ports
 abbrev pub EndPortLaw : Type 0
 EndPortLaw = (cells : Cells) (g p : ℕ) → IsTrue (is_end_port cells g p) ↔ IsEndPort cells g p
 
@@ -89,7 +89,7 @@ ComesBefore cells a b = (m n : ℕ) → port_guid_of cells a.node a.port ≡ Som
 abbrev pub HasEndPorts : Cells → List EndPort → Type 0
 HasEndPorts cells ports = (e : EndPort) → Contains ports e ↔ IsEndPort cells e.node e.port
 
--- the end ports, each once, in their order
+-- `end_ports` has the end ports, each once, in their order
 abbrev pub EndPortsLaw : Type 0
 EndPortsLaw = (facts : Facts) → HasEndPorts (cells_of facts) (end_ports (cells_of facts))
     × AllPairs (ComesBefore (cells_of facts)) (end_ports (cells_of facts))

@@ -33,7 +33,7 @@ is_switch_node cells g = is_switch_in (node_of cells g)
 abbrev pub port_count_of : Cells → ℕ → ℕ
 port_count_of cells g = option_map_or (λ n. n.1) (node_of cells g) 0
 
--- a switch whose type and table room are known
+-- a node known to be a switch, with known table room
 abbrev pub is_usable : Cells → ℕ → Bool
 is_usable cells g = is_switch_node cells g && is_some (cap_of cells g)
 
@@ -56,7 +56,7 @@ switches cells = filter_map (usable_guid cells) cells
 abbrev pub IsUsable : Cells → ℕ → Type 0
 IsUsable cells g = (ports : ℕ) × (node_of cells g ≡ Some (Switch, ports)) × IsSome (cap_of cells g)
 
--- the test agrees with the statement
+-- `is_usable` holds exactly for usable switches
 abbrev pub UsableLaw : Type 0
 UsableLaw = (cells : Cells) (g : ℕ) → IsTrue (is_usable cells g) ↔ IsUsable cells g
 
@@ -64,7 +64,7 @@ UsableLaw = (cells : Cells) (g : ℕ) → IsTrue (is_usable cells g) ↔ IsUsabl
 abbrev pub HasSwitches : Cells → List ℕ → Type 0
 HasSwitches cells guids = (g : ℕ) → Contains guids g ↔ IsUsable cells g
 
--- the usable switches, each once, by rising GUID
+-- `switches` has the usable switches, each once, by rising GUID
 abbrev pub SwitchesLaw : Type 0
 SwitchesLaw = (facts : Facts) → HasSwitches (cells_of facts) (switches (cells_of facts))
     × AllPairs (λ a b. a < b) (switches (cells_of facts))

@@ -15,7 +15,7 @@ LeadBelow n edges = (e : Edge) → Contains edges e → e.to < n
 abbrev pub IsIndexOf : List ℕ → ℕ → ℕ → Type 0
 IsIndexOf numbers number i = (i < length numbers) × (slice_index numbers i ≡ number)
 
--- the index of a number, if the list has it
+-- the index of a number, or None if the list does not have it
 abbrev pub IsIndexIn : List ℕ → ℕ → Option ℕ → Type 0
 IsIndexIn numbers number found = MatchOption found (¬ (Contains numbers number)) (IsIndexOf numbers number)
 
@@ -27,7 +27,7 @@ switch_at graph i = slice_index (guids_of graph) i
 abbrev pub by_guid : List ℕ → Edge → Edge
 by_guid guids e = record { port = e.port; to = slice_index guids e.to }
 
--- the edges, which lead to indices, are those of the switch at index i
+-- these edges, which lead to indices, are the edges of the switch at index i
 abbrev pub AreEdgesAt : List SwitchEdges → ℕ → List Edge → Type 0
 AreEdgesAt graph i edges = map (by_guid (guids_of graph)) edges ≡ edges_at graph (switch_at graph i)
 

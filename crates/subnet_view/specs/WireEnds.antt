@@ -1,4 +1,4 @@
--- The ports that can have a wire, with where their links lead, found in one walk.
+-- The ports that can have a wire, with the far ends of their links, found in one walk.
 use Rattle.std.specs.Prelude.{◌≡◌, ℕ, Bool, false, Option, None, Some, List, is_some, option_map, ◌&&◌, not, if◌then◌else◌}
 use Rattle.std.specs.Option.{option_map_or}
 use Rattle.std.specs.List.{filter_map}
@@ -16,20 +16,20 @@ use Rattle.subnet_view.specs.Reading.{Cells, is_up, is_switch_in}
 use Rattle.subnet_view.specs.CellCursor.{KeepsFrom, is_before}
 use Rattle.subnet_view.specs.Wires.{is_at, is_wire_end}
 
--- where the link of a port leads, if the port can have a wire
+-- the far end of a port's link, if the port can have a wire
 abbrev pub end_link : Cells → ℕ → ℕ → Option (ℕ × ℕ)
 end_link cells g p = if is_wire_end cells g p then link_of cells g p else None
 
--- the port of a link's cell, and where the link leads, if the port can have a wire
+-- the port of a link's cell and the far end of the link, if the port can have a wire
 abbrev pub wire_end : Cells → Key × Cell Value → Option ((ℕ × ℕ) × (ℕ × ℕ))
 wire_end cells ((Link g p), c) = option_map (λ q. ((g, p), q)) (end_link cells g p)
 wire_end cells (_, c) = None
 
--- all ports that can have a wire, with where their links lead, by rising GUID and port
+-- all ports that can have a wire, with the far ends of their links, by rising GUID and port
 abbrev pub wire_ends : Cells → List ((ℕ × ℕ) × (ℕ × ℕ))
 wire_ends cells = filter_map (wire_end cells) cells
 
--- a port's link leads to another port, whose link leads back
+-- the link of `near` leads to another port, `far`, and the link of `far` leads back
 abbrev pub is_pair : ℕ × ℕ → ℕ × ℕ → Option (ℕ × ℕ) → Bool
 is_pair near far back = not (is_at near.0 near.1 far) && option_map_or (is_at near.0 near.1) back false
 
@@ -44,7 +44,8 @@ abbrev pub is_end_read : PortReader → ℕ → ℕ → Bool
 is_end_read r g p = let node = node_of r.nodes g in is_up r.ports g p && is_within p (count_of node)
     && (if is_switch_in node then is_some (cap_of r.caps g) else is_some (port_guid_of r.guids g p))
 
--- the port of a link's cell, and where the link leads, if the port can have a wire by what the reader has not passed
+-- the port of a link's cell and the far end of the link, if the port can have a wire by the cells that the reader has
+-- not passed
 abbrev pub end_read : PortReader → Key × Cell Value → Option ((ℕ × ℕ) × (ℕ × ℕ))
 end_read r ((Link g p), c) =
     if is_end_read r g p then option_map (λ q. ((g, p), q)) (peer_in (value_in (Some c))) else None
@@ -57,7 +58,7 @@ pub record HasNotPassed (cells : Cells) (r : PortReader) (g p : ℕ) : Type 0 wh
   pub port : find key_cmp (Port g p) r.ports ≡ find key_cmp (Port g p) cells
   pub cap : find key_cmp (Cap g) r.caps ≡ find key_cmp (Cap g) cells
 
--- for this key's port and later ones, the reader still has not passed what it had not passed
+-- the reader passes nothing of this key's port or of later ports
 abbrev pub PassesNone : Key → PortReader → PortReader → Type 0
 PassesNone key old new = (cells : Cells) (h q : ℕ) → is_before (Link h q) key ≡ false → HasNotPassed cells old h q
     → HasNotPassed cells new h q

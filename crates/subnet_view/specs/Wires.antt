@@ -7,7 +7,7 @@ use Rattle.reply_facts.specs.Known.{port_guid_of, link_of, cap_of}
 use Rattle.subnet_view.specs.Reading.{Cells, is_up, is_switch_node, is_usable, is_port_of, IsUsable}
 use Rattle.subnet_view.specs.EndPorts.{is_end_port, IsNodeWith}
 
--- a port that can have a wire: up, from 1 to the node's count, and of a usable switch or an end port
+-- a port that can have a wire: up, numbered from 1 to its node's number of ports, and an end port or of a usable switch
 abbrev pub is_wire_end : Cells → ℕ → ℕ → Bool
 is_wire_end cells g p = is_up cells g p && is_port_of cells g p
     && (if is_switch_node cells g then is_usable cells g else is_end_port cells g p)
@@ -16,7 +16,7 @@ is_wire_end cells g p = is_up cells g p && is_port_of cells g p
 abbrev pub is_at : ℕ → ℕ → ℕ × ℕ → Bool
 is_at g p q = g == q.0 && p == q.1
 
--- two different ports that can have a wire and whose links name each other
+-- the ports are different, both can have a wire, and their links name each other
 abbrev pub is_wire : Cells → ℕ → ℕ → ℕ × ℕ → Bool
 is_wire cells g p q = not (is_at g p q) && is_wire_end cells g p && is_wire_end cells q.0 q.1
     && option_map_or (is_at g p) (link_of cells q.0 q.1) false
@@ -46,7 +46,7 @@ pub record IsWire (cells : Cells) (g p h q : ℕ) : Type 0 where
   pub named_there : link_of cells g p ≡ Some (h, q)
   pub named_back : link_of cells h q ≡ Some (g, p)
 
--- a port has another end exactly if there is a wire
+-- `across` gives a port exactly if a wire leads there
 abbrev pub WireLaw : Type 0
 WireLaw = (cells : Cells) (g p h q : ℕ) → (across cells g p ≡ Some (h, q)) ↔ IsWire cells g p h q
 
@@ -60,6 +60,6 @@ pub record IsAttached (cells : Cells) (g p h q : ℕ) : Type 0 where
   pub wire : IsWire cells g p h q
   pub to_switch : IsUsable cells h
 
--- a port is attached exactly if the statement holds
+-- `attached` gives a port exactly if the port is attached to it
 abbrev pub AttachedLaw : Type 0
 AttachedLaw = (cells : Cells) (g p h q : ℕ) → (attached cells g p ≡ Some (h, q)) ↔ IsAttached cells g p h q

@@ -9,7 +9,7 @@ use fact_store::{Cells, Key, Sighting, Store, Value};
 use smp_bytes::{Guid, NodeType, PortNum};
 use std::marker::Model;
 
-/// Cells in the order of keys, read in step with rising keys.
+/// A cursor over cells in the order of keys, to look up rising keys.
 #[derive(Drop)]
 pub(crate) struct CellCursor<'s> {
     /// The first cell that has not been passed.
@@ -82,8 +82,8 @@ impl<'s> CellCursor<'s> {
         matches!(self.known(Key::Port(node, port)), Some(Value::Up(true)))
     }
 
-    /// Returns the known value of a key. Passes the cells of earlier keys, so only this key and later ones can be asked
-    /// for then.
+    /// Returns the known value of a key. Passes the cells of earlier keys, so only this key and later ones can be
+    /// looked up afterwards.
     fn known(&mut self, key: Key) -> Option<Value>
         ensures value { result ≡ known_in self.old key }
         ensures later { KeepsFrom key self.old self.new }

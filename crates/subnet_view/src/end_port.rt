@@ -27,14 +27,15 @@ pub fn is_end_port(store: &Store, node: Guid, port: PortNum) -> bool
     is_end_port_number(store, node, port) && store.port_guid(node, port).is_some()
 }
 
-/// Returns the end ports, by port GUID, then node GUID, then port. Walks the cells, and sorts.
+/// Returns the end ports, by port GUID, then node GUID, then port. Walks the cells, with a search for each port GUID,
+/// and sorts.
 pub fn end_ports(alloc: Global, store: &Store) -> Result<Vec<EndPort>, Refused>
     ensures { IfOk result (λ ports. ports.items ≡ end_ports (cells_of store.now)) }
 {
     Ok(listed_end_ports(alloc, store)?)
 }
 
-/// Counts the end ports: the cells, except those that are no end port's GUID. Takes no memory, and walks the cells.
+/// Counts the end ports. Takes no memory. Walks the cells, with a search for each port GUID.
 pub fn count_end_ports(store: &Store) -> usize
     ensures { result ≡ length (end_ports (cells_of store.now)) }
 {
@@ -47,7 +48,7 @@ pub fn count_end_ports(store: &Store) -> usize
     count
 }
 
-/// Returns the end ports in their order, with the allocator's own error.
+/// Returns the end ports as `end_ports` does, but with the allocator's own error.
 fn listed_end_ports(alloc: Global, store: &Store) -> Result<Vec<EndPort>, AllocError>
     ensures { IfOk result (λ ports. ports.items ≡ end_ports (cells_of store.now)) }
 {
@@ -97,7 +98,8 @@ pub(crate) fn sort_key(end: &(Guid, EndPort)) -> [u64; 3]
     ]
 }
 
-/// Returns the end port of a cell with its port GUID, if the cell is an end port's GUID. Takes a search.
+/// Returns the end port of a cell with its port GUID, if the cell is the GUID of an end port. Takes a search if it is a
+/// port GUID.
 pub(crate) fn guid_and_port(store: &Store, sighting: &Sighting) -> Option<(Guid, EndPort)>
     requires { cell_for store.now sighting.now.0 ≡ Some sighting.now.1 }
     ensures { result ≡ guid_and_port (cells_of store.now) sighting.now }
@@ -115,7 +117,8 @@ pub(crate) fn guid_and_port(store: &Store, sighting: &Sighting) -> Option<(Guid,
     }
 }
 
-/// Returns whether the port is port 0 of a switch, or a port from 1 to the count of another node. Takes a search.
+/// Returns whether the port is port 0 of a switch, or a port from 1 to the number of ports of another node. Takes a
+/// search.
 fn is_end_port_number(store: &Store, node: Guid, port: PortNum) -> bool
     ensures { result ≡ is_end_port_number (cells_of store.now) node port }
 {

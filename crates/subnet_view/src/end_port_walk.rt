@@ -8,8 +8,8 @@ use crate::end_port::{EndPort, guid_and_port, sort_key};
 use fact_store::Store;
 use smp_bytes::Guid;
 
-/// Returns the end port that comes after `last` in their order, with its port GUID; the first one if `last` is `None`.
-/// Takes no memory, and walks the cells.
+/// Returns the first end port after `last` in the order of `end_ports`, with its port GUID, or the first of all if
+/// `last` is `None`. Takes no memory. Walks the cells, with a search for each port GUID.
 pub fn next_end_port(store: &Store, last: Option<(Guid, EndPort)>) -> Option<(Guid, EndPort)>
     ensures { MatchOption result (ports_after (cells_of store.now) last ≡ [])
         (λ end. ports_after (cells_of store.now) last

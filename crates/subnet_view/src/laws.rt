@@ -1,4 +1,4 @@
-//! What the readings of a view mean, and what the graph of switches is.
+//! What the readers of a view mean, and what the graph of switches is.
 ghost use Rattle.subnet_view.specs.EndPorts.{EndPortLaw, EndPortsLaw};
 ghost use Rattle.subnet_view.specs.GraphLaws.{GraphLaw, SwitchLaw, EdgeLaw};
 ghost use Rattle.subnet_view.specs.Reading.{UsableLaw, SwitchesLaw};
@@ -25,7 +25,7 @@ pub fn end_ports_are_listed_in_order()
     ensures { EndPortsLaw }
 {}
 
-/// A wire joins two different ports that can have one and whose links name each other.
+/// A wire joins two different ports exactly if both can have a wire and their links name each other.
 pub fn wire_is_in_words()
     ensures { WireLaw }
 {}

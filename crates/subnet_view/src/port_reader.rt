@@ -9,7 +9,7 @@ use crate::reading::peer_said;
 use fact_store::{Key, Sighting, Store};
 use smp_bytes::{Guid, NodeType, PortNum};
 
-/// What is known of ports, read in step with rising ports.
+/// A reader of what is known of ports, to look up rising ports.
 #[derive(Drop)]
 pub(crate) struct PortReader<'s> {
     nodes: CellCursor<'s>,
@@ -31,8 +31,8 @@ impl<'s> PortReader<'s> {
         }
     }
 
-    /// Returns the port of a link's cell and where the link leads, if the port can have a wire. Passes what is known of
-    /// earlier ports.
+    /// Returns both ends of a link's cell, its own port and the far end, if its own port can have a wire. Passes what
+    /// is known of earlier ports.
     pub(crate) fn wire_end(
         &mut self,
         sighting: &Sighting,
@@ -65,7 +65,7 @@ impl<'s> PortReader<'s> {
     }
 }
 
-/// Returns whether the port is from 1 to the count of its node, if the node is known.
+/// Returns whether the port is from 1 to the number of ports of its node; `false` if the node is not known.
 fn is_port_of(port: PortNum, node: Option<(NodeType, u8)>) -> bool
     ensures { result ≡ is_within port (count_of node) }
 {

@@ -47,7 +47,7 @@ pub(crate) fn guid_said(sighting: &Sighting) -> Option<Guid>
     }
 }
 
-/// Returns the port that a cell says is at the other end of the link.
+/// Returns the node and the port that a cell says are at the other end of the link.
 pub(crate) fn peer_said(sighting: &Sighting) -> Option<(Guid, PortNum)>
     ensures { result ≡ peer_in (value_in (Some sighting.now.1)) }
 {

@@ -22,7 +22,7 @@ pub fn switches(alloc: Global, store: &Store) -> Result<Vec<Guid>, Refused>
     Ok(listed_switches(alloc, store)?)
 }
 
-/// Returns the usable switches, by rising GUID, with the allocator's own error.
+/// Returns the usable switches as `switches` does, but with the allocator's own error.
 fn listed_switches(alloc: Global, store: &Store) -> Result<Vec<Guid>, AllocError>
     ensures { IfOk result (λ found. found.items ≡ switches (cells_of store.now)) }
 {

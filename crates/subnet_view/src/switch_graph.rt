@@ -87,7 +87,7 @@ impl SwitchGraph {
         index_of(&self.guids, switch)
     }
 
-    /// Returns the edges of the switch at `index`, which lead to indices. Takes one step.
+    /// Returns the edges of the switch at `index`. They lead to indices. Takes one step.
     pub fn edges(&self, index: usize) -> &[Edge]
         requires { index < length self.now }
         ensures edges { AreEdgesAt self.now index result.now }
@@ -96,7 +96,7 @@ impl SwitchGraph {
         self.edges.at(index)
     }
 
-    /// Returns the edges of each switch, by rising GUID, which lead to indices.
+    /// Returns the edges of all switches, by rising GUID. They lead to indices.
     pub fn adjacency(&self) -> &Adjacency
         ensures edges { AreEdgesByIndex self.now result.now }
         ensures is_graph { IsGraph self.now }
@@ -104,7 +104,8 @@ impl SwitchGraph {
         &self.edges
     }
 
-    /// Returns the distances from the switch at index `from` to each switch. Takes a breadth-first search.
+    /// Returns the distance from the switch at index `from` to each switch, or `None` if no walk leads there. Takes a
+    /// breadth-first search.
     pub fn distances(&self, alloc: Global, from: usize) -> Result<Vec<Option<usize>>, AllocError>
         requires { from < length self.now }
         ensures { IfOk result (λ found. found.items ≡ distances_from self.now from) }

@@ -14,7 +14,7 @@ use std::marker::Model;
 #[derive(Drop)]
 pub struct Wires<'s> {
     store: &'s Store,
-    /// The ports that can have a wire, each with where its link leads, by rising GUID and port.
+    /// The ports that can have a wire, each with the far end of its link, by rising GUID and port.
     ends: Vec<((Guid, PortNum), (Guid, PortNum))>,
 }
 
@@ -42,7 +42,7 @@ impl<'s> Wires<'s> {
         Ok(Wires { store, ends })
     }
 
-    /// Returns the store whose view it is.
+    /// Returns the store.
     pub fn store(&self) -> &'s Store
         ensures { result.now ≡ self.now }
     {
@@ -79,7 +79,7 @@ impl<'s> Wires<'s> {
         }
     }
 
-    /// Returns where the link of a port leads, if the port can have a wire. Takes a search among the ports that can.
+    /// Returns the far end of a port's link, if the port can have a wire. Takes a search among the ports that can.
     fn end_link(&self, node: Guid, port: PortNum) -> Option<(Guid, PortNum)>
         ensures { result ≡ end_link (cells_of self.now) node port }
     {
@@ -91,14 +91,14 @@ impl<'s> Wires<'s> {
     }
 }
 
-/// Returns whether the link of `near` leads to another port, whose link leads back.
+/// Returns whether `near`'s link leads to another port, `far`, and that port's link, `back`, leads back to `near`.
 fn is_pair(near: (Guid, PortNum), far: (Guid, PortNum), back: Option<(Guid, PortNum)>) -> bool
     ensures { result ≡ is_pair near far back }
 {
     near != far && back == Some(near)
 }
 
-/// Returns the ports that can have a wire, each with where its link leads, by rising GUID and port.
+/// Returns the ports that can have a wire, each with the far end of its link, by rising GUID and port.
 fn wire_ends(
     alloc: Global,
     store: &Store,

@@ -1,4 +1,4 @@
--- Each number that was given is that of a request that was answered, timed out, waits or is to be sent.
+-- Each number that was given belongs to a request that was answered, timed out, waits or is to be sent.
 use Rattle.std.proofs.Common.{◌≡◌, ℕ, suc, ◌+◌, ◌<◌, Bool, true, false, List, [], ◌∷◌, ◌++◌, length, refl, arith, ap, sym, ◌∙◌, subst, append_assoc, length-append}
 use Rattle.std.specs.Prelude.{Option, Some, None, Result, Ok, Err, find, remove, slice_get, ◌==◌}
 use Rattle.std.proofs.lemmas.Bool.{cond-true, cond-false}

@@ -1,4 +1,4 @@
--- How many questions a reply brings up, and that a path goes on only where it can.
+-- How many questions a reply brings up, and that a path is extended only if it is not the longest.
 use Rattle.std.proofs.Common.{◌≡◌, ℕ, ◌≤◌, Bool, true, false, ◌&&◌, ◌||◌, not, List, [], ◌∷◌, length, refl, arith, sym, ◌∙◌, length-append}
 use Rattle.std.specs.Prelude.{Option, Some, None, nat_le, nat_lt, ◌==◌, if◌then◌else◌, is_some}
 use Rattle.std.proofs.lemmas.Bool.{and_parts, cond-true, leb-true, ltb-true}

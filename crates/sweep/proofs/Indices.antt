@@ -1,4 +1,4 @@
--- An item's index in the order of GUIDs and ports: what is found there, and how one is put in.
+-- An item's index in the order of GUIDs and ports: what is found there, and how an item is inserted.
 use Rattle.std.proofs.Common.{◌≡◌, ℕ, zero, suc, ◌+◌, ◌<◌, ◌≤◌, Bool, true, false, ◌&&◌, List, [], ◌∷◌, inl, inr, length, get_or, refl, arith, ap, sym, ◌∙◌, subst}
 use Rattle.std.specs.Prelude.{Option, Some, None, find, insert, slice_get, ◌==◌}
 use Rattle.std.specs.Option.{option_map_or}

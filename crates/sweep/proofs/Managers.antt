@@ -1,4 +1,4 @@
--- Of the requests for SMInfo that went out each was answered, waits, or counts as a silent manager.
+-- Each request for SMInfo that went out was answered, waits, or counts as a silent manager.
 use Rattle.std.proofs.Common.{◌≡◌, ℕ, zero, suc, ◌+◌, ◌<◌, Bool, true, false, List, [], ◌∷◌, ◌++◌, refl, arith, ap, sym, ◌∙◌}
 use Rattle.std.specs.Prelude.{Option, Some, None, Result, Ok, Err, remove, slice_get, ◌==◌}
 use Rattle.std.proofs.lemmas.Bool.{cond-true, cond-false}

@@ -1,4 +1,4 @@
--- What holds of each sweep stays: as a request goes out, and as one has ended.
+-- What holds of each sweep still holds after a request goes out, and after a request ends.
 use Rattle.std.proofs.Common.{◌≡◌, ℕ, ◌+◌, ◌^◌, ◌<◌, ◌≤◌, List, ◌++◌, length, take, drop, arith, ap, sym, ◌∙◌, subst, append_assoc, length-append}
 use Rattle.std.specs.Prelude.{Some, remove, slice_get}
 use Rattle.std.proofs.lemmas.List.{take-append-drop}

@@ -45,7 +45,7 @@ abbrev pub found_anew : List ℕ → NodeInfo → Option NodeType → Finding
 found_anew path info None = Nothing
 found_anew path info (Some kind) = NewVertex (vertex_of path info kind info.num_ports)
 
--- a node that is known: it counts as what its first reply said, and at most a port of an adapter is new
+-- a known node: its first reply decides its type and number of ports, and only another port of an adapter is new
 abbrev pub found_again : Sweep → List ℕ → NodeInfo → Vertex → Finding
 found_again s path info first =
     if is_switch first.kind || is_some (vertex_at s.reached info.node_guid info.local_port_num) then Nothing
@@ -64,13 +64,13 @@ abbrev pub is_start : List ℕ → Bool
 is_start [] = true
 is_start (port ∷ path) = false
 
--- the port is a switch's, but not its management port, nor the one that leads back
+-- the node is a switch, and the port is neither its management port nor the one that leads back
 abbrev pub is_way_on : Sweep → ℕ → ℕ → Bool
 is_way_on s guid port =
     option_map_or (λ first. is_switch first.kind
     && (not (port == 0) && not (port == first.arrival))) (first_vertex s.reached guid) false
 
--- the sweep goes on by the port: it is the one that the sweep goes out by, or one of a switch that leads on
+-- the sweep goes on by the port: it is the port that the sweep goes out by, or a way on from a switch
 abbrev pub goes_by : Sweep → List ℕ → ℕ → ℕ → Bool
 goes_by s path guid port = (is_start path && port == s.origin) || is_way_on s guid port
 
@@ -93,7 +93,7 @@ has_manager info = bits_in is_sm_bit info == 1
 abbrev pub is_of_adapter : Sweep → ℕ → Bool
 is_of_adapter s guid = option_map_or (λ first. not (is_switch first.kind)) (first_vertex s.reached guid) false
 
--- the port reports a manager, and is an adapter's, but not the sweep's own
+-- the port reports a manager, belongs to an adapter, and was not reached by the empty path
 abbrev pub asks_manager : Sweep → List ℕ → ℕ → List ℕ → Bool
 asks_manager s path guid info = has_manager info && (not (is_start path) && is_of_adapter s guid)
 
@@ -110,7 +110,7 @@ port_finding_of s path guid port info =
 abbrev pub port_found_of : Sweep → List ℕ → ℕ → ℕ → List ℕ → Finding
 port_found_of s path guid port info = Port (port_finding_of s path guid port info)
 
--- what PortInfo brings up, if the request was about a node
+-- what PortInfo brings up; nothing if the request was not about a node
 abbrev pub port_found : Sweep → List ℕ → Option ℕ → ℕ → List ℕ → Finding
 port_found s path None port info = Nothing
 port_found s path (Some guid) port info = port_found_of s path guid port info
@@ -129,14 +129,14 @@ finding s r packet = finding_of s r packet r.question
 
 -- what is asked next --------------------------------------------------------------------------------
 
--- questions for PortInfo of consecutive ports, from `port` on
+-- the questions for PortInfo of consecutive ports, from `port` on
 abbrev pub port_questions : ℕ → ℕ → List ℕ → Context → List Asking
 port_questions port zero path context = []
 port_questions port (suc more) path context =
     record { question = ask.Port port; path = path; context = context } ∷ port_questions (port + 1) more path context
 
--- the questions for a new vertex: for a switch its table and all its ports with the management port; for an adapter the
--- port that was reached
+-- the questions for a new vertex: for a switch, SwitchInfo and PortInfo of its ports from 0 on; for an adapter,
+-- PortInfo of the port that was reached
 abbrev pub vertex_questions : Vertex → List Asking
 vertex_questions v =
     if is_switch v.kind
@@ -144,21 +144,21 @@ vertex_questions v =
     ∷ port_questions 0 (v.ports + 1) v.path (About v.guid)
     else record { question = ask.Port v.port; path = v.path; context = About v.guid } ∷ []
 
--- the question for the manager at the port, over the path to the port
+-- the question for the manager at the port, if it is to be asked, over the path to the port
 abbrev pub manager_questions : List ℕ → PortFinding → List Asking
 manager_questions path found =
     if found.asks_manager
     then record { question = ask.Manager found.guid found.port; path = path; context = About found.guid } ∷ []
     else []
 
--- the question for the node behind the port, over the path with the port at its end
+-- the question for the node behind the port, if the port leads on, over the path with the port appended
 abbrev pub onward_questions : List ℕ → ℕ → ℕ → Onward → List Asking
 onward_questions path guid port Stays = []
 onward_questions path guid port Leads =
     record { question = ask.Node; path = path ++ port ∷ []; context = Via guid port } ∷ []
 onward_questions path guid port TooFar = []
 
--- the question for the manager before that for the node behind the port
+-- the questions for the manager and then for the node behind the port
 abbrev pub port_found_questions : List ℕ → PortFinding → List Asking
 port_found_questions path found =
     manager_questions path found ++ onward_questions path found.guid found.port found.onward
@@ -175,7 +175,7 @@ with_vertex Nothing reached = reached
 with_vertex (NewVertex v) reached = placed vertex_key v reached
 with_vertex (Port found) reached = reached
 
--- a state is added, unless its number is reserved
+-- a state is added, unless its number is reserved or the port has one already
 abbrev pub with_state_of : ℕ → ℕ → Option PortState → List SeenState → List SeenState
 with_state_of guid port None states = states
 with_state_of guid port (Some state) states =
@@ -196,7 +196,7 @@ too_far_by Nothing = 0
 too_far_by (NewVertex v) = 0
 too_far_by (Port found) = one_too_far found.onward
 
--- the sweep with what was found, and with the questions that it brings up
+-- the sweep with the finding added and its questions queued
 abbrev pub with_finding : Sweep → List ℕ → Finding → Sweep
 with_finding s path found =
     record (asking s (questions path found)) {
@@ -206,7 +206,7 @@ with_finding s path found =
       too_far = s.too_far + too_far_by found;
     }
 
--- a path goes on only if it is shorter than the longest one
+-- only a path shorter than the longest one is extended
 abbrev pub IsPathWithinReach : List ℕ → Onward → Type 0
 IsPathWithinReach path onward = onward ≡ Leads → length path < max_hops
 

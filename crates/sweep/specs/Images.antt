@@ -18,7 +18,7 @@ pub record Images : Type 0 where
 abbrev pub image_key : SeenImage → ℕ × ℕ
 image_key i = (i.guid, i.port)
 
--- nothing is kept so far
+-- no images yet
 abbrev pub no_images : Bool → Images
 no_images keeps = record { keeps = keeps; ports = []; switches = [] }
 
@@ -28,12 +28,13 @@ image_at images guid port = option_map (λ i. i.bytes) (found_at image_key guid 
 
 -- what a reply adds ---------------------------------------------------------------------------
 
--- an image is added if images are kept; if one is there, that one stays
+-- an image is added if images are kept and none has its GUID and port
 abbrev pub with_image : Bool → SeenImage → List SeenImage → List SeenImage
 with_image true image images = placed image_key image images
 with_image false image images = images
 
--- the data of a reply of the node `guid`, by what was asked: PortInfo and SwitchInfo are kept
+-- the images with the data of a reply of the node `guid` added: PortInfo under its port, SwitchInfo under port 0, and
+-- nothing else
 abbrev pub images_of : Images → ℕ → List ℕ → Question → Images
 images_of images guid bytes ask.Node = images
 images_of images guid bytes ask.Switch =
@@ -46,7 +47,7 @@ images_of images guid bytes (ask.Port port) =
     }
 images_of images guid bytes (ask.Manager at port) = images
 
--- the same, if the request was about a node
+-- the images with the data of a reply added, if the request was about a node
 abbrev pub images_about : Images → Option ℕ → List ℕ → Question → Images
 images_about images None bytes question = images
 images_about images (Some guid) bytes question = images_of images guid bytes question
@@ -63,7 +64,7 @@ pub record ImageTable : Type 0 where
   pub port_room : ℕ
   pub switch_room : ℕ
 
--- there is memory for one more image, if images are kept
+-- if images are kept, there is memory for one more of each kind
 abbrev pub HasImageRoom : ImageTable → Type 0
 HasImageRoom table = table.kept.keeps ≡ true → (1 ≤ table.port_room) × (1 ≤ table.switch_room)
 

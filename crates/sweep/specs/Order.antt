@@ -33,6 +33,6 @@ has_key key guid port x = (key x).0 == guid && (key x).1 == port
 abbrev pub found_at : {T : Type 0} → (T → ℕ × ℕ) → ℕ → ℕ → List T → Option T
 found_at key guid port items = find (has_key key guid port) items
 
--- `index` is that of the item with the GUID and port `at`, or where it would be
+-- `index` is the index of the item with the GUID and port `at`, or where it would be inserted
 abbrev pub IsIndexFor : {T : Type 0} → (T → ℕ × ℕ) → ℕ × ℕ → List T → ℕ → Type 0
 IsIndexFor key at items index = IsIndex (λ x. is_before (key x) at) items index

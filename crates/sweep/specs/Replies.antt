@@ -1,4 +1,4 @@
--- What a sweep answers to a reply, and what it has afterwards.
+-- What a sweep returns for a reply, and what it has afterwards.
 use Rattle.std.specs.Prelude.{ℕ, ◌+◌, ◌^◌, Bool, List, [], length, find, nat_lt, if◌then◌else◌, Option, Some, None, Result, Ok, Err}
 use Rattle.smp_bytes.specs.declared.smp_fault.SmpFault.{SmpFault}
 use Rattle.smp_bytes.specs.Answers.{answers, is_of}
@@ -21,11 +21,11 @@ use Rattle.sweep.specs.Images.{images_with}
 
 -- which request a reply belongs to ----------------------------------------------------------
 
--- attribute, modifier and path of the packet are those of the request
+-- the packet has the request's attribute, modifier and path
 abbrev pub is_for : List ℕ → Request → Bool
 is_for packet r = is_of packet (attribute_asked r.question) (modifier_asked r.question) (Some r.path)
 
--- attribute, modifier, path and TransactionID of the packet are those of the request
+-- the packet has the request's attribute, modifier, path and TransactionID
 abbrev pub belongs : ℕ → List ℕ → Request → Bool
 belongs generation packet r =
     answers packet (transaction_of generation r.number) (attribute_asked r.question) (modifier_asked r.question)
@@ -40,7 +40,7 @@ request_of s packet = find (belongs s.generation packet) s.outstanding
 abbrev pub report_for : Sweep → Request → List ℕ → Report
 report_for s r packet = record { generation = s.generation; context = r.context; bytes = packet }
 
--- the fault of a reply; no attribute is judged in SMInfo, since what a manager says of itself may be anything
+-- the fault of a reply; the data of SMInfo are not judged, since a manager may say anything of itself
 abbrev pub fault_by : Question → Report → Option ReportFault
 fault_by ask.Node report = report_fault report
 fault_by ask.Switch report = report_fault report
@@ -50,7 +50,7 @@ fault_by (ask.Manager guid port) report = packet_fault report.bytes
 abbrev pub fault_for : Sweep → Request → List ℕ → Option ReportFault
 fault_for s r packet = fault_by r.question (report_for s r packet)
 
--- what a reply gives: SMInfo gives what the manager says, with the port that was asked
+-- the answer in a reply: for SMInfo what the manager says, with the port that was asked; otherwise a report of facts
 abbrev pub answer_by : Question → Report → Answer
 answer_by ask.Node report = Facts report
 answer_by ask.Switch report = Facts report
@@ -60,7 +60,7 @@ answer_by (ask.Manager guid port) report = Seen guid port (sm_info_in (payload_o
 abbrev pub answer_for : Sweep → Request → List ℕ → Answer
 answer_for s r packet = answer_by r.question (report_for s r packet)
 
--- a request that the reply brings up needs a number that does not fit 32 bits
+-- a request that the reply brings up needs a number of more than 32 bits
 abbrev pub is_spent : Sweep → Request → List ℕ → Bool
 is_spent s r packet = nat_lt (2 ^ 32) (s.next + length (questions r.path (finding s r packet)))
 
@@ -76,18 +76,18 @@ abbrev pub judged_as : Sweep → List ℕ → Option SmpFault → Result Answer 
 judged_as s packet (Some why) = Err (Bad (fault.Smp why))
 judged_as s packet None = judged_for s packet (request_of s packet)
 
--- the sweep's answer to the packet, or why it is refused, except for lack of memory
+-- the answer in the packet, or why the sweep refuses it, except for lack of memory
 abbrev pub judged : Sweep → List ℕ → Result Answer SweepFault
 judged s packet = judged_as s packet (fault_of packet)
 
--- the facts in an answer; what a manager says of itself has none
+-- the facts in an answer; SMInfo has none
 abbrev pub sightings_by : Answer → Sightings
 sightings_by (Facts report) = sightings_of report
 sightings_by (Seen guid port info) = []
 
 -- what the sweep has then -----------------------------------------------------------------------
 
--- the request has ended, and what its reply brings up is queued
+-- the sweep with the request ended, its reply's image kept, the finding added, and its questions queued
 abbrev pub after_reply_to : Sweep → List ℕ → Option Request → Sweep
 after_reply_to s packet None = s
 after_reply_to s packet (Some r) =
@@ -97,6 +97,6 @@ after_reply_to s packet (Some r) =
           images_with s.images r packet;
     }) r.path (finding s r packet)
 
--- the sweep after a reply that it takes
+-- the sweep after it took the reply `packet`
 abbrev pub after_reply : Sweep → List ℕ → Sweep
 after_reply s packet = after_reply_to s packet (request_of s packet)

@@ -1,4 +1,4 @@
--- Runs of a sweep: requests go out, replies come, and requests time out, in any order.
+-- Runs of a sweep: requests go out, replies arrive, and requests time out, in any order.
 use Rattle.std.specs.Prelude.{◌≡◌, ℕ, ◌+◌, ◌<◌, Bool, false, List, [], ◌∷◌, ◌++◌, length, None, Result, Ok, Err}
 use Rattle.sweep.specs.declared.answer.Answer.{Answer}
 use Rattle.sweep.specs.declared.answer.Answer.TheVariants.{Facts, Seen}
@@ -8,7 +8,7 @@ use Rattle.request_table.specs.Order.{AreOrdered}
 use Rattle.sweep.specs.Replies.{judged, after_reply}
 use Rattle.sweep.specs.Sweep.{Sweep, after_next_request, managers_asked, port_image, started, switch_image, after_timeout}
 
--- the next request goes out; bytes come; a TransactionID times out
+-- the next request goes out; bytes arrive; a TransactionID times out
 pub data Event : Type 0 where
   Sends : Event
   Hears : List ℕ → Event
@@ -44,7 +44,7 @@ abbrev pub NumbersRise : Type 0
 NumbersRise = (origin generation first : ℕ) (keeps : Bool) (events : List Event)
     → AreOrdered (λ a b. a < b) (numbers_sent (started origin generation first keeps) events)
 
--- how many replies are accepted
+-- the number of replies accepted
 abbrev pub taken_by : Result Answer SweepFault → ℕ
 taken_by (Ok answer) = 1
 taken_by (Err fault) = 0
@@ -63,12 +63,11 @@ abbrev pub after : Sweep → List Event → Sweep
 after s [] = s
 after s (e ∷ events) = after (step s e) events
 
--- the requests that have not been answered: they timed out, wait, or are to be sent
+-- the number of requests that have not been answered: they timed out, wait, or are to be sent
 abbrev pub unended : Sweep → ℕ
 unended s = s.unanswered + (length s.outstanding + length s.queued)
 
--- each number from the first on is that of a request that was answered or was not; in a sweep that is done each was
--- answered or counts as unanswered
+-- the requests that were answered, timed out, wait or are to be sent are as many as the numbers given from `first` on
 abbrev pub EachCounts : Type 0
 EachCounts =
     (origin generation first : ℕ) (keeps : Bool) (events : List Event) →
@@ -78,7 +77,7 @@ EachCounts =
 
 -- managers that are asked ----------------------------------------------------------------------
 
--- how many of the requests are for SMInfo
+-- the number of requests for SMInfo
 abbrev pub managers_in : List Request → ℕ
 managers_in [] = 0
 managers_in (r ∷ requests) = managers_asked r.question + managers_in requests
@@ -87,7 +86,7 @@ abbrev pub manager_in_first : List Request → ℕ
 manager_in_first [] = 0
 manager_in_first (r ∷ queued) = managers_asked r.question
 
--- how many requests for SMInfo go out
+-- the number of requests for SMInfo that go out
 abbrev pub manager_sent : Sweep → Event → ℕ
 manager_sent s Sends = manager_in_first s.queued
 manager_sent s (Hears packet) = 0
@@ -97,7 +96,7 @@ abbrev pub managers_sent : Sweep → List Event → ℕ
 managers_sent s [] = 0
 managers_sent s (e ∷ events) = manager_sent s e + managers_sent (step s e) events
 
--- how many managers answer, by replies that are accepted
+-- the number of managers that answer with a reply that is accepted
 abbrev pub manager_told : Result Answer SweepFault → ℕ
 manager_told (Ok (Facts report)) = 0
 manager_told (Ok (Seen guid port info)) = 1
@@ -112,7 +111,7 @@ abbrev pub managers_heard : Sweep → List Event → ℕ
 managers_heard s [] = 0
 managers_heard s (e ∷ events) = manager_heard s e + managers_heard (step s e) events
 
--- each request for SMInfo that went out is to a manager that answered, that may still do so, or that counts as silent
+-- each request for SMInfo that went out was answered, waits, or counts as a silent manager
 abbrev pub EachManagerCounts : Type 0
 EachManagerCounts =
     (origin generation first : ℕ) (keeps : Bool) (events : List Event) →

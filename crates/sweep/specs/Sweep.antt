@@ -18,9 +18,9 @@ use Rattle.sweep.specs.Images.{Images, image_at, no_images}
 use Rattle.sweep.specs.Order.{AreInOrder, found_at}
 
 -- The port that the sweep goes out by and its generation; the number of the next request; the requests that are to be
--- sent and those that wait for a reply, both first in, first out; the vertices that were reached and the states of
--- ports that were seen, in the order of GUIDs and ports; the attributes that are kept; how many requests were not
--- answered, how many of these were for SMInfo, and how many ports lead further than a path.
+-- sent and those that wait for a reply, both by rising number; the vertices that were reached and the states of ports
+-- that were seen, in the order of GUIDs and ports; the attributes that are kept; the number of requests that timed out,
+-- and of these for SMInfo; and the number of ports that lead further than the longest path.
 pub record Sweep : Type 0 where
   pub origin : ℕ
   pub generation : ℕ
@@ -48,7 +48,7 @@ modifier_asked ask.Switch = 0
 modifier_asked (ask.Port port) = port
 modifier_asked (ask.Manager guid port) = 0
 
--- how many managers are asked for SMInfo
+-- the number of managers that are asked for SMInfo
 abbrev pub managers_asked : Question → ℕ
 managers_asked ask.Node = 0
 managers_asked ask.Switch = 0
@@ -65,7 +65,7 @@ packet_of generation r =
     directed get (attribute_asked r.question) (modifier_asked r.question) (transaction_of generation r.number) r.path
     (replicate 64 0)
 
--- what is found is asked for ------------------------------------------------------------
+-- questions ------------------------------------------------------------------------------
 
 -- a question that is to be asked, before it has a number
 pub record Asking : Type 0 where
@@ -79,11 +79,11 @@ numbered number [] = []
 numbered number (a ∷ asked) =
     record { number = number; question = a.question; path = a.path; context = a.context } ∷ numbered (number + 1) asked
 
--- the sweep with the questions `asked` at the end of the queue, numbered on from the last request
+-- the sweep with the questions `asked` at the end of the queue, numbered from `next` on
 abbrev pub asking : Sweep → List Asking → Sweep
 asking s asked = record s { next = s.next + length asked; queued = s.queued ++ numbered s.next asked }
 
--- a sweep that has asked nothing, and keeps images or does not
+-- a sweep that has asked nothing; it keeps images if `keeps`
 abbrev pub empty_sweep : ℕ → ℕ → ℕ → Bool → Sweep
 empty_sweep origin generation first keeps =
     record {
@@ -100,7 +100,7 @@ empty_sweep origin generation first keeps =
       too_far = 0;
     }
 
--- a sweep begins by asking for the node that it sits at
+-- a sweep begins by asking the node that it sits at for NodeInfo
 abbrev pub first_question : Asking
 first_question = record { question = ask.Node; path = []; context = Start }
 
@@ -109,7 +109,7 @@ started origin generation first keeps = asking (empty_sweep origin generation fi
 
 -- sending and waiting ----------------------------------------------------------------------
 
--- the sweep after its next request went out, and that request
+-- the sweep after its next request went out, and the request's packet, None if the queue was empty
 pub record Sent : Type 0 where
   pub sweep : Sweep
   pub packet : Option (List ℕ)
@@ -123,7 +123,7 @@ after_next_request_of s (r ∷ queued) =
           Some (packet_of s.generation r);
     }
 
--- the first request of the queue goes out, and waits for its reply from then on
+-- the first request of the queue goes out, and then waits for its reply
 abbrev pub after_next_request : Sweep → Sent
 after_next_request s = after_next_request_of s s.queued
 
@@ -149,12 +149,12 @@ after_timeout_of s (Some r) =
       silent_managers = s.silent_managers + managers_asked r.question;
     }
 
--- a request that timed out waits no more, and counts as not answered; if it was for SMInfo, its manager counts as
+-- a request that timed out no longer waits, and counts as unanswered; if it was for SMInfo, its manager counts as
 -- silent
 abbrev pub after_timeout : Sweep → ℕ → Sweep
 after_timeout s transaction = after_timeout_of s (request_with s.generation transaction s.outstanding)
 
--- the TransactionID of the request at index `i` of those that wait
+-- the TransactionID of the waiting request at index `i`
 abbrev pub outstanding_at : Sweep → ℕ → Option ℕ
 outstanding_at s i = option_map (λ r. transaction_of s.generation r.number) (slice_get s.outstanding i)
 
@@ -188,15 +188,15 @@ state_at states guid port = option_map (λ p. p.state) (found_at state_key guid 
 abbrev pub path_to : Sweep → ℕ → ℕ → Option (List ℕ)
 path_to s guid port = option_map (λ r. r.path) (vertex_at s.reached guid port)
 
--- the state of a port that its first reply said
+-- the state of a port in its first reply with a state that is not reserved
 abbrev pub seen_state : Sweep → ℕ → ℕ → Option PortState
 seen_state s guid port = state_at s.states guid port
 
--- PortInfo of a port, as its first reply said, if it is kept
+-- PortInfo in the first reply about a port, if it is kept
 abbrev pub port_image : Sweep → ℕ → ℕ → Option (List ℕ)
 port_image s guid port = image_at s.images.ports guid port
 
--- SwitchInfo of a switch, as its first reply said, if it is kept
+-- SwitchInfo in the first reply of a switch, if it is kept
 abbrev pub switch_image : Sweep → ℕ → Option (List ℕ)
 switch_image s guid = image_at s.images.switches guid 0
 
@@ -206,8 +206,9 @@ switch_image s guid = image_at s.images.switches guid 0
 abbrev pub AreRising : ℕ → List Request → ℕ → Type 0
 AreRising least requests next = numbers.AreRising (λ r. r.number) least requests next
 
--- The numbers of the requests that wait and then of the queue rise, and the next number is above all, so that none is
--- used twice; what was found is in order; each request counts once, and some of the unanswered ones were for SMInfo.
+-- The numbers of the waiting requests, followed by the queue, rise and are below the next number; vertices and states
+-- are in order; the requests that timed out, the ports that lead too far, and the requests that wait or are to be sent
+-- are together at most `next`; and the silent managers are at most the unanswered requests.
 pub record IsSweep (s : Sweep) : Type 0 where
   pub rising : AreRising 0 (s.outstanding ++ s.queued) s.next
   pub next : s.next ≤ 2 ^ 32

@@ -15,11 +15,11 @@ use smp_bytes::{Guid, PortNum};
 use std::alloc::{AllocError, Global};
 use std::marker::Model;
 
-/// What a sweep has found. Contracts see the vertices, the states of ports, how many ports lead too far, and for how
-/// many more there is memory.
+/// What a sweep has found. Contracts see the vertices, the states of ports, the number of ports that lead too far, and
+/// for how many more vertices and states there is memory.
 #[derive(Drop)]
 pub(crate) struct Discovered {
-    /// The vertices, by rising GUID and port, as are the states.
+    /// By rising GUID and port, like `seen`.
     vertices: Vec<Vertex>,
     seen: PageList<SeenState>,
     too_far: u64,
@@ -41,7 +41,7 @@ impl Model for Discovered {
     } };
 }
 
-/// Returns the index of the vertex, or where it would be. Halves the range of indices at each step.
+/// Returns the index of the vertex, or where it would be inserted. Takes a binary search.
 fn vertex_index(vertices: &[Vertex], guid: Guid, port: PortNum) -> usize
     requires { AreInOrder vertex_key vertices.now }
     ensures { IsIndexFor vertex_key (guid, port) vertices.now result }
@@ -170,7 +170,8 @@ impl Discovered {
         state_of(item_at(&self.seen, guid, port))
     }
 
-    /// Adds what a reply brings up, unless it is there already. Takes no memory.
+    /// Adds the vertex or the state that a reply brings up, unless it is there already, and counts a port that leads
+    /// too far. Takes no memory.
     pub(crate) fn put(&mut self, finding: Finding)
         requires reached { AreInOrder vertex_key self.old.reached }
         requires states { AreInOrder state_key self.old.states }
@@ -194,7 +195,7 @@ impl Discovered {
     }
 }
 
-/// Inserts the vertex in order, unless it is there already. Moves those behind it.
+/// Inserts the vertex in order, unless it is there already. Moves the vertices behind it.
 fn put_vertex(vertices: &mut Vec<Vertex>, vertex: Vertex)
     requires order { AreInOrder vertex_key vertices.old.items }
     requires room { vec_len vertices.old < vec_capacity vertices.old }
@@ -210,7 +211,7 @@ fn put_vertex(vertices: &mut Vec<Vertex>, vertex: Vertex)
     }
 }
 
-/// Inserts the state that a port reports in order, unless its number is reserved or the port has one already.
+/// Inserts in order the state that a port reports, unless its number is reserved or the port has a state already.
 fn put_state_of(states: &mut PageList<SeenState>, found: &PortFinding)
     requires order { AreInOrder state_key states.old.items }
     requires room { 0 < states.old.room }

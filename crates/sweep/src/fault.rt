@@ -7,16 +7,16 @@ use thiserror::Error;
 /// Why a sweep refuses a call. A refused call leaves it as it was.
 #[derive(Clone, Copy, Debug, PartialEq, Eq, Error)]
 pub enum SweepFault {
-    /// No request that waits is answered by the reply.
+    /// The reply, or the TransactionID that timed out, belongs to no request that waits.
     #[error("NotOutstanding")]
     NotOutstanding,
-    /// The bytes are not a packet, or not an answer from which facts can be read.
+    /// The bytes are not a packet, or not an answer that can be read.
     #[error("{0}")]
     Bad(ReportFault),
     /// A request that the reply brings up needs a number over 4294967295.
     #[error("SequenceSpent")]
     SequenceSpent,
-    /// The memory that the call needs was refused.
+    /// Memory ran out.
     #[error("Memory")]
     Memory,
 }

@@ -15,7 +15,7 @@ use smp_bytes::{Guid, NodeType, Path, PortNum, Smp};
 pub(crate) enum Finding {
     /// Nothing new.
     Nothing,
-    /// A node, or another port of an adapter.
+    /// A new node, or another port of an adapter.
     NewVertex(Vertex),
     /// What a port reports.
     Port(PortFinding),
@@ -28,7 +28,7 @@ pub(crate) struct PortFinding {
     pub(crate) port: PortNum,
     /// The state, or `None` if its number is reserved.
     pub(crate) state: Option<PortState>,
-    /// Whether a manager sits there that is to be asked.
+    /// Whether to ask the manager that sits there.
     pub(crate) asks_manager: bool,
     pub(crate) onward: Onward,
 }
@@ -36,9 +36,9 @@ pub(crate) struct PortFinding {
 /// Whether a sweep goes on by a port.
 #[derive(Clone, Copy, Debug, PartialEq, Eq)]
 pub(crate) enum Onward {
-    /// The port is down, leads back, or is not a switch's.
+    /// The port is not up, or the sweep does not go on by it.
     Stays,
-    /// The node behind the port is asked.
+    /// The sweep asks the node behind the port.
     Leads,
     /// The node behind the port is further away than the longest path.
     TooFar,
@@ -128,8 +128,8 @@ impl Sweep {
         Finding::NewVertex(vertex_of(path, info, first.kind, first.ports))
     }
 
-    /// Returns what PortInfo brings up: the port's state, whether a manager sits there that is to be asked, and whether
-    /// the sweep goes on by the port.
+    /// Returns what PortInfo brings up: the port's state, whether to ask the manager that sits there, and whether the
+    /// sweep goes on by the port.
     fn port_found(&self, path: &Path<63>, guid: Guid, port: PortNum, info: &PortInfo) -> Finding
         ensures { result ≡ port_found_of self.now path.now guid port info.now }
     {
@@ -142,8 +142,8 @@ impl Sweep {
         })
     }
 
-    /// Returns whether the manager at a port is to be asked: the port reports one, and is an adapter's, but not the
-    /// port that the sweep sits at.
+    /// Returns whether to ask the manager at a port: the port reports one, belongs to an adapter, and was not reached
+    /// by the empty path.
     fn asks_manager(&self, path: &Path<63>, guid: Guid, info: &PortInfo) -> bool
         ensures { result ≡ asks_manager self.now path.now guid info.now }
     {
@@ -179,8 +179,8 @@ impl Sweep {
         is_up(info) && self.goes_by(path, guid, port)
     }
 
-    /// Returns whether the sweep goes on by a port: it is the one that the sweep goes out by, or one of a switch that
-    /// does not lead back.
+    /// Returns whether the sweep goes on by a port: it is the port that the sweep goes out by, or a port of a switch
+    /// other than port 0 and the one that leads back.
     fn goes_by(&self, path: &Path<63>, guid: Guid, port: PortNum) -> bool
         ensures { result ≡ goes_by self.now path.now guid port }
     {

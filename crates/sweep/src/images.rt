@@ -11,7 +11,7 @@ use smp_bytes::{Guid, PortNum};
 use std::alloc::{AllocError, Global};
 use std::marker::Model;
 
-/// The 64 bytes of an attribute, as a reply of a port said, or one of a switch (port 0).
+/// The 64 bytes of an attribute in a reply: PortInfo of a port, or SwitchInfo of a switch (under port 0).
 #[derive(Clone, Copy, Debug, PartialEq, Eq)]
 pub struct SeenImage {
     pub guid: Guid,
@@ -29,7 +29,8 @@ impl OfPort for SeenImage {
     }
 }
 
-/// The attributes that a sweep keeps, if it is asked to. Contracts see them, and for how many more there is memory.
+/// The attributes that a sweep keeps, if it is asked to. Contracts see them, and for how many more of each kind there
+/// is memory.
 #[derive(Drop)]
 pub(crate) struct Images {
     keeps: bool,
@@ -55,7 +56,7 @@ impl Model for Images {
 }
 
 impl Images {
-    /// Creates an empty collection, in which images are kept or are not. Takes no memory.
+    /// Creates an empty collection, which keeps images if `keeps`. Takes no memory.
     pub(crate) fn new(alloc: Global, keeps: bool) -> Self
         ensures { result.kept ≡ no_images keeps }
     {
@@ -66,7 +67,7 @@ impl Images {
         }
     }
 
-    /// Reserves memory for one more image, if images are kept.
+    /// Reserves memory for one more image of each kind, if images are kept.
     pub(crate) fn reserve(&mut self) -> Result<(), AllocError>
         ensures kept { self.new.kept ≡ self.old.kept }
         ensures room { OnOk result (HasImageRoom self.new) }
@@ -78,8 +79,8 @@ impl Images {
         Ok(())
     }
 
-    /// Adds the attribute in a reply, `bytes`, if images are kept, unless one is kept of that port or switch already.
-    /// Takes no memory.
+    /// Adds `bytes`, the attribute in a reply, if images are kept, it is PortInfo or SwitchInfo, and the port or switch
+    /// has none yet. Takes no memory.
     pub(crate) fn put(&mut self, question: Question, context: &Context, bytes: &[u8; 64])
         requires { HasImageRoom self.old }
         ensures { self.new.kept
@@ -126,7 +127,7 @@ impl Images {
     }
 }
 
-/// Inserts an image in order, if images are kept, unless its port has one already. Moves at most a page.
+/// Inserts an image in order, if images are kept and its port has none yet. Moves at most a page.
 fn put_image(keeps: bool, images: &mut PageList<SeenImage>, image: SeenImage)
     requires order { AreInOrder image_key images.old.items }
     requires room { keeps ≡ true → 1 ≤ images.old.room }

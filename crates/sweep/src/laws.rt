@@ -6,7 +6,7 @@ pub fn numbers_rise()
     ensures { NumbersRise }
 {}
 
-/// Each number that was given is that of a request that was answered, timed out, waits or is to be sent. If nothing
+/// Each number that was given belongs to a request that was answered, timed out, waits or is to be sent. If nothing
 /// waits or is to be sent, each request was answered or counts as unanswered.
 pub fn each_request_counts()
     ensures { EachCounts }

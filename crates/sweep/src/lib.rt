@@ -1,5 +1,5 @@
-//! Discovery of a subnet as a state machine: it is asked what to send, is told what came back, and does no input or
-//! output.
+//! Discovery of a subnet as a state machine: the caller asks it what to send, and passes it what comes back. It does no
+//! input or output.
 #![tactic(auto)]
 
 mod answer;

@@ -20,7 +20,7 @@ use attr_codec::{Attribute, SmInfo};
 use fact_store::{Context, Report, ReportFault, Sighting, Store, answer_fault, sightings_in};
 use smp_bytes::Smp;
 
-/// An accepted reply: the index of its request among those that wait, what that asked and in which context, the answer,
+/// An accepted reply: the index of its request among those that wait, the request's question and context, the answer,
 /// its facts, and what it brings up.
 #[derive(Drop)]
 pub(crate) struct Accepted {
@@ -50,7 +50,7 @@ impl Sweep {
     ///
     /// In this order: the bytes are not a packet; no request waits for it; facts cannot be read from the reply or, if
     /// it is SMInfo, it is not an answer with status 0; no number is left for a request that it brings up; and memory
-    /// was refused.
+    /// ran out.
     pub fn on_reply(&mut self, bytes: &[u8; 256]) -> Result<Answer, SweepFault>
         ensures judged { JudgesButFor is_memory result (result_err (judged self.old bytes.now)) }
         ensures answer { IfOk result (λ answer. judged self.old bytes.now ≡ Ok answer) }
@@ -64,8 +64,8 @@ impl Sweep {
         }
     }
 
-    /// Takes the reply to a request that waits, as `on_reply` does, and adds its facts to `store`. If the reply is
-    /// refused, the store stays as it is too.
+    /// Takes the reply to a request that waits, as `on_reply` does, and adds its facts to `store`. If it returns an
+    /// error, `store` is unchanged.
     pub fn on_reply_into(&mut self, smp: &Smp, store: &mut Store) -> Result<Answer, SweepFault>
         ensures judged { JudgesButFor is_memory result (result_err (judged self.old smp.now)) }
         ensures answer { IfOk result (λ answer. judged self.old smp.now ≡ Ok answer) }
@@ -102,7 +102,7 @@ impl Sweep {
         Ok(accepted.answer)
     }
 
-    /// Returns what is to be done about a reply, or the first reason to refuse it.
+    /// Returns what to do about a reply, or the first reason to refuse it.
     fn accept(&self, smp: &Smp) -> Result<Accepted, SweepFault>
         ensures ok { IfOk result (λ accepted. IsAccepted self.now smp.now accepted) }
         ensures err { IfErr result (λ fault. judged self.now smp.now ≡ Err fault) }
@@ -158,7 +158,7 @@ impl Sweep {
     }
 }
 
-/// Returns what a reply without a fault gives, by what was asked.
+/// Returns the answer in a reply that has no fault.
 fn answer_by(question: Question, report: Report, smp: &Smp) -> Answer
     requires { report.bytes ≡ smp.now }
     ensures { result ≡ answer_by question report }

@@ -1,11 +1,11 @@
-//! Lists of what is known of ports, in the order of GUIDs and ports.
+//! Lists of items about ports, in the order of GUIDs and ports.
 ghost use Rattle.std.specs.Prelude.{◌≡◌, ℕ, ◌<◌};
 ghost use Rattle.sweep.specs.Order.{AreInOrder, IsIndexFor, found_at, has_key, is_before, passes_at, placed};
 
 use page_list::PageList;
 use smp_bytes::{Guid, PortNum};
 
-/// What is known of a port.
+/// An item about a port.
 pub(crate) trait OfPort: Copy {
     ghost key: { Self → ℕ × ℕ };
 
@@ -21,7 +21,7 @@ pub(crate) fn is_before(a: (Guid, PortNum), b: (Guid, PortNum)) -> bool
     a.0 < b.0 || a.0 == b.0 && a.1 < b.1
 }
 
-/// Returns the index of a port's item, or where it would be. Halves the range of indices at each step.
+/// Returns the index of a port's item, or where it would be inserted. Takes a binary search.
 fn index_for<T: OfPort>(items: &PageList<T>, guid: Guid, port: PortNum) -> usize
     requires { AreInOrder T.key items.now.items }
     ensures { IsIndexFor T.key (guid, port) items.now.items result }

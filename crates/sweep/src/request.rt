@@ -16,7 +16,7 @@ pub enum Question {
     Switch,
     /// PortInfo of a port of the node.
     Port(PortNum),
-    /// SMInfo: what the manager at this port, of the adapter with that GUID, says of itself.
+    /// SMInfo of the manager at this port of the adapter with this GUID.
     Manager(Guid, PortNum),
 }
 
@@ -28,7 +28,7 @@ pub struct Request {
     pub question: Question,
     /// The ports that lead to the node.
     pub path: Path<63>,
-    /// What the report of the reply will say besides the bytes.
+    /// The context in the report of the reply.
     pub context: Context,
 }
 
@@ -40,14 +40,14 @@ impl Numbered for Request {
     }
 }
 
-/// Returns the TransactionID for `number`: the generation is its high half.
+/// Returns the TransactionID for `number`: the generation is its high half, `number` its low half.
 pub(crate) fn transaction_of(generation: Generation, number: u32) -> u64
     ensures { result ≡ transaction_of generation number }
 {
     u64::from(generation.number()) * 0x1_0000_0000 + u64::from(number)
 }
 
-/// Returns the number in a TransactionID of this generation; 0 if the TransactionID is below all of them.
+/// Returns the number in a TransactionID of this generation; 0 if the TransactionID is below all of this generation.
 pub(crate) fn sequence_of(generation: Generation, transaction: u64) -> u64
     ensures { result ≡ transaction - generation * 2 ^ 32 }
 {
@@ -67,7 +67,7 @@ impl Question {
         }
     }
 
-    /// Returns the attribute modifier: the port for PortInfo, else 0.
+    /// Returns the attribute modifier: the port for PortInfo, otherwise 0.
     pub(crate) fn modifier(self) -> u32
         ensures { result ≡ modifier_asked self }
     {
@@ -77,7 +77,7 @@ impl Question {
         }
     }
 
-    /// Returns how many managers are asked for SMInfo, 0 or 1.
+    /// Returns the number of managers that are asked for SMInfo: 0 or 1.
     pub(crate) fn managers_asked(self) -> u64
         ensures count { result ≡ managers_asked self }
         ensures within { result ≤ 1 }

@@ -106,8 +106,8 @@ impl Sweep {
         Some(packet)
     }
 
-    /// Ends the request that waits under this TransactionID, and counts it as unanswered. Takes a search, and moves the
-    /// requests on one side of it.
+    /// Ends the waiting request with this TransactionID, and counts it as unanswered. Returns `NotOutstanding` if there
+    /// is none. Takes a search, and moves the requests on one side of it.
     pub fn on_timeout(&mut self, transaction: u64) -> Result<(), SweepFault>
         ensures judged { Judges result (timeout_fault self.old transaction) }
         ensures ok { OnOk result (self.new ≡ after_timeout self.old transaction) }
@@ -151,7 +151,7 @@ impl Sweep {
         self.unanswered
     }
 
-    /// Returns the number of requests for SMInfo that timed out: of managers that their ports report but that did not
+    /// Returns the number of requests for SMInfo that timed out: of managers that a port reports but that did not
     /// answer.
     pub fn silent_managers(&self) -> u64
         ensures count { result ≡ self.now.silent_managers }
@@ -183,7 +183,7 @@ impl Sweep {
         Some(&vertex.path)
     }
 
-    /// Returns the state of a port, as its reply said. Takes a search.
+    /// Returns the state of a port in its first reply with a state that is not reserved. Takes a search.
     pub fn seen_state(&self, guid: Guid, port: PortNum) -> Option<PortState>
         ensures { result ≡ seen_state self.now guid port }
     {

@@ -106,7 +106,7 @@ impl SweepRequests {
         self.sent += 1;
     }
 
-    /// Returns the request at `index` of those that wait, in the order of numbers.
+    /// Returns the waiting request at `index`, in the order of numbers.
     pub(crate) fn get(&self, index: usize) -> Option<&Request>
         ensures { option_copied result ≡ slice_get self.now.outstanding index }
     {
@@ -117,7 +117,7 @@ impl SweepRequests {
         }
     }
 
-    /// Returns how many requests have a lower TransactionID. Halves the range of indices at each step.
+    /// Returns the number of requests with a lower TransactionID. Takes a binary search.
     fn count_below(&self, generation: Generation, transaction: u64) -> usize
         ensures index { IsIndex (λ r. nat_lt r.number (transaction - generation * 2 ^ 32))
             (self.now.outstanding ++ self.now.queued) result }
@@ -127,7 +127,7 @@ impl SweepRequests {
         self.table.count_below(sequence_of(generation, transaction))
     }
 
-    /// Returns the index of the request that waits under a TransactionID. Takes a search.
+    /// Returns the index of the waiting request with this TransactionID. Takes a search.
     pub(crate) fn index_of(&self, generation: Generation, transaction: u64) -> Option<usize>
         ensures { IsIndexFor (request_with generation transaction self.now.outstanding)
             self.now.outstanding result }
@@ -141,7 +141,7 @@ impl SweepRequests {
         }
     }
 
-    /// Returns the index of the request that waits for a packet. Takes a search.
+    /// Returns the index of the waiting request that a packet answers. Takes a search.
     pub(crate) fn index_for(&self, generation: Generation, smp: &Smp) -> Option<usize>
         ensures { IsIndexFor (find (belongs generation smp.now) self.now.outstanding)
             self.now.outstanding result }
@@ -155,7 +155,7 @@ impl SweepRequests {
         }
     }
 
-    /// Removes the request at `index` of those that wait. Moves the requests on one side of it.
+    /// Removes and returns the waiting request at `index`. Moves the requests on one side of it.
     pub(crate) fn end(&mut self, index: usize) -> Request
         requires { index < length self.old.outstanding }
         ensures request { Some result ≡ slice_get self.old.outstanding index }
@@ -185,7 +185,7 @@ impl SweepRequests {
         });
     }
 
-    /// Asks for PortInfo of all ports of a switch, from its management port on.
+    /// Queues the questions for PortInfo of all ports of a switch, from its management port on.
     fn ask_ports(&mut self, vertex: &Vertex)
         requires room { vertex.now.ports + 1 ≤ self.old.room }
         requires number { self.old.next + (vertex.now.ports + 1) ≤ 2 ^ 32 }
@@ -204,7 +204,7 @@ impl SweepRequests {
         }
     }
 
-    /// Asks what is asked of a new vertex.
+    /// Queues the questions for a new vertex.
     fn ask_vertex(&mut self, vertex: &Vertex)
         requires room { length (vertex_questions vertex.now) ≤ self.old.room }
         requires number { self.old.next + length (vertex_questions vertex.now) ≤ 2 ^ 32 }
@@ -220,7 +220,7 @@ impl SweepRequests {
         }
     }
 
-    /// Asks the manager at a port for SMInfo, over the path to the port, if it is to be asked.
+    /// Queues the question for SMInfo of the manager at a port, over the path to the port, if it is to be asked.
     fn ask_manager(&mut self, path: &Path<63>, found: &PortFinding)
         requires room { length (manager_questions path.now found.now) ≤ self.old.room }
         requires number { self.old.next + length (manager_questions path.now found.now) ≤ 2 ^ 32 }
@@ -235,7 +235,7 @@ impl SweepRequests {
         }
     }
 
-    /// Asks the node behind `port` for NodeInfo, over `path` with `port` appended.
+    /// Queues the question for NodeInfo of the node behind `port`, over `path` with `port` appended.
     fn ask_across(&mut self, path: Path<63>, guid: Guid, port: PortNum)
         requires path { length path < 63 }
         requires room { 0 < self.old.room }
@@ -247,7 +247,7 @@ impl SweepRequests {
         self.ask(Question::Node, path, Context::Via(guid, port));
     }
 
-    /// Asks what a port brings up.
+    /// Queues the questions that a port brings up.
     fn ask_of_port(&mut self, path: Path<63>, found: &PortFinding)
         requires reach { IsPathWithinReach path found.now.onward }
         requires room { length (port_found_questions path found.now) ≤ self.old.room }
@@ -261,7 +261,7 @@ impl SweepRequests {
         }
     }
 
-    /// Removes the request at `index`, and asks what its reply brings up. Takes no memory.
+    /// Removes the request at `index`, and queues the questions that its reply brings up. Takes no memory.
     pub(crate) fn take(&mut self, index: usize, finding: &Finding)
         requires { CanTake self.old index finding.now }
         ensures { HasTaken index finding.now self.old self.new }

@@ -5,7 +5,7 @@ use crate::port_list::OfPort;
 use attr_codec::PortState;
 use smp_bytes::{Guid, NodeType, Path, PortNum};
 
-/// A vertex that a reply came from: a switch with port 0, or an adapter with the port that was reached.
+/// A vertex that was reached: a switch with port 0, or an adapter with the port that was reached.
 #[derive(Debug, Drop)]
 pub struct Vertex {
     pub guid: Guid,
@@ -14,9 +14,9 @@ pub struct Vertex {
     pub kind: NodeType,
     /// The number of ports, as the first reply said.
     pub ports: u8,
-    /// The port by which the request came.
+    /// The port at which the request arrived.
     pub arrival: PortNum,
-    /// The ports that lead there.
+    /// The path to it.
     pub path: Path<63>,
 }
 

@@ -1,4 +1,4 @@
--- What is printed about a text that is refused: the faulty line, and a word.
+-- What is printed about a text that is rejected: the faulty line, and a word.
 use Rattle.std.specs.Prelude.{ℕ, List, Bool, true, false, ◌++◌, Option, None, Some, codes, decimal}
 use Rattle.text_words.specs.declared.fault.LinesFault.{LinesFault}
 use Rattle.text_words.specs.declared.fault.LinesFault.TheVariants.{Line, Memory}
@@ -12,7 +12,7 @@ abbrev pub fault_text : {E : Type 0} → (E → List ℕ) → LinesFault E → L
 fault_text word (Line fault) = codes "line " ++ decimal fault.line ++ codes ": " ++ word fault.wrong
 fault_text word Memory = codes "out of memory"
 
--- the number of the faulty line, if memory is not the fault
+-- the number of the faulty line; None if memory ran out
 abbrev pub fault_line : {E : Type 0} → LinesFault E → Option ℕ
 fault_line (Line fault) = Some fault.line
 fault_line Memory = None

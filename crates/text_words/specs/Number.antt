@@ -1,4 +1,4 @@
--- Numbers that words write.
+-- Numbers that words spell.
 use Rattle.std.specs.Prelude.{ℕ, List, Option, None, Some, length, take, drop, codes, option_map, ◌&&◌, nat_le, if◌then◌else◌}
 use Rattle.std.specs.Char.{is_digit, digit_value}
 use Rattle.std.specs.List.{list_all}
@@ -9,7 +9,7 @@ use Rattle.std.specs.Str.Parse.{digits_value}
 abbrev pub digit_of : ℕ → ℕ → Option ℕ
 digit_of base b = if is_digit b base then Some (digit_value b) else None
 
--- the number that `word` spells in `base`: digits, however many, and nothing else
+-- the number that `word` spells in `base`; None if the word is empty or has other than digits
 abbrev pub number_of : ℕ → List ℕ → Option ℕ
 number_of base word =
     if nat_le 1 (length word) && list_all (λ b. is_digit b base) word then Some (digits_value base word) else None
@@ -18,7 +18,7 @@ number_of base word =
 abbrev pub up_to : ℕ → ℕ → Option ℕ
 up_to most n = if nat_le 1 n && nat_le n most then Some n else None
 
--- a decimal number; inside it is None if it is not from 1 to `most`
+-- a decimal number; Some None if it is not from 1 to `most`
 abbrev pub count_of : ℕ → List ℕ → Option (Option ℕ)
 count_of most word = option_map (up_to most) (number_of 10 word)
 

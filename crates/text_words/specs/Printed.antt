@@ -1,7 +1,7 @@
 -- Words, lines and texts as they are printed.
 use Rattle.std.specs.Prelude.{ℕ, List, [], ◌∷◌, ◌++◌, decimal}
 
--- words with a blank between each two
+-- words, separated by one blank each
 abbrev pub line_text : List (List ℕ) → List ℕ
 line_text [] = []
 line_text (word ∷ []) = word

@@ -6,7 +6,7 @@ abbrev pub begins_with : ℕ → List ℕ → Bool
 begins_with b [] = false
 begins_with b (c ∷ bytes) = c == b
 
--- the lines, with b put before the first
+-- the lines, with b put before the first line
 abbrev pub onto_first : ℕ → List (List ℕ) → List (List ℕ)
 onto_first b [] = (b ∷ []) ∷ []
 onto_first b (line ∷ later) = (b ∷ line) ∷ later
@@ -26,7 +26,7 @@ is_blank b = b == 32 || b == 9
 abbrev pub onto_word : ℕ → List ℕ × List (List ℕ) → List ℕ × List (List ℕ)
 onto_word b parts = (b ∷ parts.0, parts.1)
 
--- the words; an empty first one does not count
+-- the words; an empty first word does not count
 abbrev pub words_in : List ℕ × List (List ℕ) → List (List ℕ)
 words_in ([], later) = later
 words_in (b ∷ word, later) = (b ∷ word) ∷ later
@@ -35,7 +35,7 @@ words_in (b ∷ word, later) = (b ∷ word) ∷ later
 abbrev pub is_behind_word : Bool → ℕ → Bool
 is_behind_word quoted b = not quoted && (b == 35 || is_blank b)
 
--- quotes begin and end at a quote
+-- whether a word is within quotes behind b; each quote opens or closes
 abbrev pub is_quoted_after : Bool → ℕ → Bool
 is_quoted_after quoted b = if b == 34 then not quoted else quoted
 

@@ -22,7 +22,7 @@ pub struct LineFault<E> {
     pub wrong: E,
 }
 
-/// Why a text is refused.
+/// Why a text is rejected.
 #[derive(Clone, Copy, Debug, PartialEq, Eq)]
 pub enum LinesFault<E> {
     /// The first line with a fault, and the fault.

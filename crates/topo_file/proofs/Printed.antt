@@ -1,4 +1,4 @@
--- A printed topology is read as it is: its lines, the nodes and link lines that they tell, and the links of these.
+-- A printed topology is read as that topology: its lines, the nodes and link lines that they give, and their links.
 use Rattle.std.proofs.Common.{◌≡◌, ◌≢◌, ℕ, zero, suc, ◌+◌, ◌<◌, ◌≤◌, ◌^◌, Bool, true, false, cond, leb, ltb, List, [], ◌∷◌, ◌++◌, length, None}
 use Rattle.std.proofs.Common.{Some, Ok, refl, sym, ap, ◌∙◌, arith, subst, append_assoc, append-nil, length-append, eq-eqb, inl, inr}
 use Rattle.std.specs.Prelude.{IsTrue, codes, map, slice_get, ◌==◌}

@@ -1,4 +1,4 @@
--- The first fault of a text's lines, except for those of its links, given only the names of the nodes.
+-- The first fault of a text's lines, except for faults of its links, found from the names of the nodes alone.
 use Rattle.std.specs.Prelude.{◌≡◌, ℕ, ◌+◌, Bool, false, List, [], ◌∷◌, ◌++◌, Option, None, Some, Result, Ok, Err, length, nat_lt, if◌then◌else◌}
 use Rattle.std.specs.List.{list_any}
 use Rattle.std.specs.Option.{option_map_or}
@@ -16,7 +16,7 @@ abbrev pub fault_of : {T : Type 0} → Result T TopoFault → Option TopoFault
 fault_of (Ok value) = None
 fault_of (Err fault) = Some fault
 
--- the first fault of a text's lines, except for those of its links: a peer or a port that does not exist, or a port
+-- the first fault of a text's lines, except for faults of its links: a peer or a port that does not exist, or a port
 -- with two links
 unfoldable pub first_line_fault : List ℕ → Option TopoFault
 first_line_fault text = fault_of (nodes_of_lines (lines text))
@@ -25,25 +25,25 @@ first_line_fault text = fault_of (nodes_of_lines (lines text))
 abbrev pub is_used : List (Option (List ℕ)) → List ℕ → Bool
 is_used names name = list_any (λ used. option_map_or (λ n. bytes_eq n name) used false) names
 
--- `names` with one more
+-- `names` with `name` appended, or the fault of line `number`
 abbrev pub with_new_name : ℕ → List (Option (List ℕ)) → List ℕ → Result (List (Option (List ℕ))) TopoFault
 with_new_name number names name =
     if is_used names name then Err (Name number)
     else (if nat_lt (length names) 1024 then Ok (names ++ Some name ∷ []) else Err (TooManyNodes number))
 
--- a link stands below a node
+-- `names` if there is a node above the link of line `number`, else the line's fault
 abbrev pub below_node : ℕ → List (Option (List ℕ)) → Result (List (Option (List ℕ))) TopoFault
 below_node number [] = Err (Syntax number)
 below_node number (name ∷ names) = Ok (name ∷ names)
 
--- `names` with the name in a line
+-- `names` with the name in a line, if it has one, or the line's fault
 abbrev pub with_name : ℕ → List (Option (List ℕ)) → Option TopologyLine → Result (List (Option (List ℕ))) TopoFault
 with_name number names None = Err (Syntax number)
 with_name number names (Some line.Empty) = Ok names
 with_name number names (Some (line.Node node)) = node_of number node >>= λ n. with_new_name number names n.name
 with_name number names (Some (line.Link link)) = below_node number names
 
--- `names` with the names in lines, which are numbered from `number` on
+-- `names` with the names in lines, or the first fault; the lines count from `number`
 abbrev pub with_names : ℕ → List (Option (List ℕ)) → List (List ℕ) → Result (List (Option (List ℕ))) TopoFault
 with_names number names [] = Ok names
 with_names number names (line ∷ later) =

@@ -17,7 +17,7 @@ node_words node =
     ∷ codes "guid" ∷ (codes "0x" ++ guid_text node.guid)
     ∷ (if is_switch node.kind then codes "cap" ∷ decimal node.cap ∷ [] else [])
 
--- the name of the node `id`
+-- the name of the node `id`, empty if there is none
 abbrev pub name_at : List Node → ℕ → List ℕ
 name_at nodes id = option_map_or (λ node. node.name) (slice_get nodes id) []
 
@@ -43,7 +43,7 @@ topology_text t = lines_text (lines_from t 0 t.nodes)
 abbrev pub IsInOrder : List Cable → Type 0
 IsInOrder links = AllPairs (λ x y. x.one.node ≤ y.one.node) links
 
--- a topology whose links stand in the order of their first ends' nodes is read from its text as it is
+-- the text of a topology is read as that topology, if its links stand in the order of their first ends' nodes
 abbrev pub PrintedTopologiesAreRead : Type 0
 PrintedTopologiesAreRead = (t : Layout) → IsTopology t → IsInOrder t.links → topology_of (topology_text t) ≡ Ok t
 

@@ -18,7 +18,7 @@ use Rattle.topo_file.specs.TopologyLine.{line_of}
 use Rattle.fabric_model.specs.Cables.{is_same_port, other_end}
 use Rattle.topo_file.specs.Topology.{Layout, id_of}
 
--- the value goes to `next`, and a fault stays
+-- `next` of the value, or the fault
 infixl 10 ◌>>=◌
 abbrev pub ◌>>=◌ : {A B : Type 0} → Result A TopoFault → (A → Result B TopoFault) → Result B TopoFault
 (Ok value) >>= next = next value
@@ -33,7 +33,7 @@ pub record Lines : Type 0 where
 abbrev pub is_beyond : NodeLine → ℕ → Bool
 is_beyond node ports = if is_switch node.kind then false else nat_le (2 ^ 64) (node.guid + ports)
 
--- the node in the line `number`
+-- the node in the line `number`, or the line's fault
 abbrev pub node_with : ℕ → NodeLine → Option ℕ → Option ℕ → Result Node TopoFault
 node_with number node (Some ports) (Some cap) =
     if is_beyond node ports then Err (GuidRange number)
@@ -44,18 +44,18 @@ node_with number node None cap = Err (Ports number)
 abbrev pub node_of : ℕ → NodeLine → Result Node TopoFault
 node_of number node = node_with number node node.ports node.cap
 
--- `nodes` with one more
+-- `nodes` with `node` appended, or the fault of line `number`
 abbrev pub with_node : ℕ → List Node → Node → Result (List Node) TopoFault
 with_node number nodes node =
     if is_some (id_of nodes node.name) then Err (Name number)
     else (if nat_lt (length nodes) 1024 then Ok (nodes ++ node ∷ []) else Err (TooManyNodes number))
 
--- the links with one more, below the last of the nodes; a fault if there is no node
+-- the links with the link of line `number` appended, below the last node; a fault if there is no node
 abbrev pub with_link_line : ℕ → ℕ → List LinkAt → LinkLine → Result (List LinkAt) TopoFault
 with_link_line number zero links link = Err (Syntax number)
 with_link_line number (suc last) links link = Ok (links ++ record { line = number; node = last; link = link } ∷ [])
 
--- the lines before, with what the line `number` adds
+-- the lines before, with what the line `number` adds, or its fault
 abbrev pub with_line : ℕ → Lines → Option TopologyLine → Result Lines TopoFault
 with_line number before None = Err (Syntax number)
 with_line number before (Some line.Empty) = Ok before
@@ -64,7 +64,7 @@ with_line number before (Some (line.Node node)) =
 with_line number before (Some (line.Link link)) =
     with_link_line number (length before.nodes) before.links link >>= λ links. Ok (record before { links = links })
 
--- the lines before, with what lines add that are numbered from `number` on
+-- the lines before, with what the lines add, or the first fault; the lines count from `number`
 abbrev pub with_lines : ℕ → Lines → List (List ℕ) → Result Lines TopoFault
 with_lines number before [] = Ok before
 with_lines number before (line ∷ later) =
@@ -90,7 +90,7 @@ link_to nodes at None = Err (Peer at.line)
 link_to nodes at (Some id) =
     link_between at.line (port_at nodes at.node at.link.port) (port_at nodes id at.link.peer_port)
 
--- the link in a line
+-- the link in a line, or the line's fault
 abbrev pub link_of : List Node → LinkAt → Result Cable TopoFault
 link_of nodes at = link_to nodes at (id_of nodes at.link.peer)
 
@@ -98,23 +98,23 @@ link_of nodes at = link_to nodes at (id_of nodes at.link.peer)
 abbrev pub is_end : NodePort → Option NodePort → Bool
 is_end p found = option_map_or (is_same_port p) found false
 
--- `links` with one more, unless it is there already
+-- `links` with `link` appended, unless it is there already; a fault if one of its ports has another link
 abbrev pub with_link : ℕ → List Cable → Cable → Result (List Cable) TopoFault
 with_link number links link =
     if is_end link.other (other_end links link.one) then Ok links
     else (if is_some (other_end links link.one)
     || is_some (other_end links link.other) then Err (Linked number) else Ok (links ++ link ∷ []))
 
--- `links` with those in the lines
+-- `links` with the links in the lines appended, each once, or the first fault
 abbrev pub with_links : List Node → List Cable → List LinkAt → Result (List Cable) TopoFault
 with_links nodes links [] = Ok links
 with_links nodes links (at ∷ later) = link_of nodes at >>= with_link at.line links >>= λ now. with_links nodes now later
 
--- the topology of the lines
+-- the topology of the lines, or the first fault of a link
 abbrev pub topology_in : Lines → Result Layout TopoFault
 topology_in told = with_links told.nodes [] told.links >>= λ links. Ok (record { nodes = told.nodes; links = links })
 
--- the nodes and the links of all lines
+-- the nodes and the links of all lines, or the first fault
 abbrev pub nodes_of_lines : List (List ℕ) → Result Lines TopoFault
 nodes_of_lines lines = with_lines 1 (record { nodes = []; links = [] }) lines
 

@@ -1,23 +1,23 @@
--- What a call returns that may refuse its text, and what is said of a fault: its line, and a word.
+-- What a call that may refuse its text returns, and what is written about a fault: its line and a word.
 use Rattle.std.specs.Prelude.{◌≡◌, ℕ, List, Option, None, Some, Result, Ok, Err, ◌++◌, codes, decimal}
 use Rattle.topo_file.specs.declared.fault.TopoFault.{TopoFault}
 use Rattle.topo_file.specs.declared.fault.TopoFault.TheVariants.{Syntax, Name, Ports, Peer, Port, Linked, GuidRange, TooManyNodes, Memory}
 
--- the fault is the text's first one, or memory was refused
+-- the fault is what the text says, or lack of memory
 abbrev pub IsRefused : {T : Type 0} → TopoFault → Result T TopoFault → Type 0
 IsRefused Memory told = Unit {0}
 IsRefused fault told = told ≡ Err fault
 
--- a call returns exactly `told`, a value as `seen` shows it or the first fault, unless memory was refused
+-- the result is `told`, a value as `seen` shows it or the first fault, unless memory ran out
 abbrev pub ReadsAs : {S T : Type 0} → (S → T) → Result S TopoFault → Result T TopoFault → Type 0
 ReadsAs seen (Ok value) told = told ≡ Ok (seen value)
 ReadsAs seen (Err fault) told = IsRefused fault told
 
--- a call returns exactly `told`, a value or the first fault, unless memory was refused
+-- the result is `told`, a value or the first fault, unless memory ran out
 abbrev pub Reads : {T : Type 0} → Result T TopoFault → Result T TopoFault → Type 0
 Reads result told = ReadsAs (λ value. value) result told
 
--- what is said of the fault, without its line
+-- what is written about the fault, without its line
 abbrev pub fault_word : TopoFault → List ℕ
 fault_word (Syntax line) = codes "syntax"
 fault_word (Name line) = codes "name"

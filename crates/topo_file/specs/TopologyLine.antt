@@ -17,7 +17,8 @@ kind_of word =
     if bytes_eq word (codes "Switch") then Some Switch else (if bytes_eq word (codes "Hca")
     || bytes_eq word (codes "Ca") then Some ChannelAdapter else None)
 
--- the size of a switch's table: 1024, or the number behind 'cap'; an adapter has none
+-- the size of a node's table: for a switch 1024, or the number after 'cap', inside it None if out of range; for an
+-- adapter 0
 abbrev pub cap_of : NodeType → List (List ℕ) → Option (Option ℕ)
 cap_of Switch [] = Some (Some 1024)
 cap_of Switch (word ∷ cap ∷ []) = if bytes_eq word (codes "cap") then count_of 0xC000 cap else None

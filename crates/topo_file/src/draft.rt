@@ -11,7 +11,7 @@ use fabric_model::NodeId;
 use std::alloc::Global;
 use std::marker::Model;
 
-/// A link with the number of its line and the node that the line stands below.
+/// A link with the number of its line, and the node above that line.
 #[derive(Drop)]
 pub(crate) struct LinkAt {
     pub(crate) line: usize,
@@ -61,7 +61,7 @@ impl Draft {
         }
     }
 
-    /// Adds a link, from the line `number`.
+    /// Adds the link of line `number`, below the last node.
     fn with_link(self, number: usize, link: LinkLine) -> Result<Self, TopoFault>
         ensures { Reads result (with_line number self (Some (TopologyLine.Link link))) }
     {
@@ -79,7 +79,7 @@ impl Draft {
     }
 }
 
-/// Builds the node of a line.
+/// Builds the node of line `number`, or returns the line's fault.
 pub(crate) fn node(number: usize, line: NodeLine) -> Result<Node, TopoFault>
     ensures { result ≡ node_of number line }
 {

@@ -4,13 +4,12 @@ use std::alloc::{AllocError, AllocFailed};
 use std::error::Error;
 use std::fmt;
 
-/// Why a text is not a topology, in the order of checks: first each line in turn, then each link in turn. Lines count
-/// from 1.
+/// Why a text is not a topology. First each line is checked in turn, then each link in turn. Lines count from 1.
 #[derive(Clone, Copy, Debug, PartialEq, Eq)]
 pub enum TopoFault {
-    /// The line is not one of the grammar, or is a link above all nodes.
+    /// The line is not in the grammar, or is a link above all nodes.
     Syntax { line: usize },
-    /// Another node has this name.
+    /// A node above has this name.
     Name { line: usize },
     /// A port count is not from 1 to 254, or a forwarding table's size is not from 1 to 49,152.
     Ports { line: usize },
@@ -24,7 +23,7 @@ pub enum TopoFault {
     GuidRange { line: usize },
     /// The node is the 1,025th.
     TooManyNodes { line: usize },
-    /// Memory was refused.
+    /// Memory ran out.
     Memory,
 }
 

@@ -11,10 +11,10 @@ use crate::nodes::MAX_NODES;
 use arrayvec::ArrayVec;
 use text_words::{NodeName, split_line};
 
-/// The names of the nodes so far. None of the slots is `None`.
+/// The names of the nodes so far. No slot is `None`.
 type Names = ArrayVec<Option<NodeName>, MAX_NODES>;
 
-/// Returns the first fault of a text's lines, except for those of its links. Takes a walk over the names for each node.
+/// Returns the first fault of a text's lines, except for faults of its links. Walks the names for each node.
 pub(crate) fn first_line_fault(text: &[u8]) -> Option<TopoFault>
     ensures { result ≡ first_line_fault text.now }
 {

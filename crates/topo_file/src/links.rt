@@ -16,7 +16,7 @@ use std::marker::Model;
 #[derive(Drop)]
 pub(crate) struct Links {
     links: Vec<Cable>,
-    /// The port at the other end of the link in a port.
+    /// For each port that has a link, the port at the other end.
     across: BTreeMap<(NodeId, PortNum), NodePort>,
 }
 
@@ -105,7 +105,7 @@ fn key(port: NodePort) -> (NodeId, PortNum)
     (port.node, port.port)
 }
 
-/// Builds the link of a line.
+/// Builds the link of a line, or returns the line's fault.
 fn link(nodes: &Nodes, at: &LinkAt) -> Result<Cable, TopoFault>
     ensures { Reads result (link_of nodes.now at.now) }
 {

@@ -19,7 +19,7 @@ pub(crate) const MAX_NODES: usize = 1024;
 #[derive(Drop)]
 pub(crate) struct Nodes {
     nodes: Vec<Node>,
-    /// The id of the node with a name.
+    /// The id of each node, by name.
     ids: BTreeMap<NodeName, NodeId>,
 }
 
@@ -88,7 +88,7 @@ impl Nodes {
         })
     }
 
-    /// Adds the node of a line.
+    /// Appends the node of a line. Returns an error if its name is taken, or there are 1,024 nodes already.
     pub(crate) fn with(self, line: usize, node: Node) -> Result<Self, TopoFault>
         ensures { Reads result (with_node line self node) }
     {

@@ -103,9 +103,9 @@ impl Topology {
 ///
 /// # Errors
 ///
-/// Returns the first fault. Lack of memory is returned only if no line has a fault other than that of its link: whether
-/// a link's peer and ports exist and are free is checked by indexes, which take memory. Once memory is refused, the
-/// lines are checked without any, by a walk over at most 1,024 names for each node.
+/// Returns the first fault, or `Memory` if memory runs out and no line has a fault other than that of its link: whether
+/// a link's peer and ports exist and are free is checked by indexes, which take memory. If memory runs out, the lines
+/// are checked again without any, by a walk over at most 1,024 names for each node.
 pub fn parse(alloc: Global, text: &str) -> Result<Topology, TopoFault>
     ensures reads { Reads result (topology_of text.now) }
     ensures memory { result ≡ Err TopoFault.Memory → first_line_fault text.now ≡ None }
@@ -135,7 +135,7 @@ fn read_lines(alloc: Global, text: &[u8]) -> Result<Draft, TopoFault>
     Ok(draft)
 }
 
-/// Builds the topology of the lines.
+/// Builds the topology of the lines, or returns the first fault of a link.
 fn finish(alloc: Global, draft: Draft) -> Result<Topology, TopoFault>
     requires { IsDraft draft }
     ensures { Reads result (topology_in draft) }

@@ -1,5 +1,5 @@
 //! Trial loads.
-ghost use Rattle.std.specs.Prelude.{◌≡◌, ◌<◌, ◌*◌, All, IfOk, length, map, replicate, slice_index};
+ghost use Rattle.std.specs.Prelude.{◌≡◌, IfOk, length};
 ghost use Rattle.port_graph.specs.Heads.{LeadToVertices};
 ghost use Rattle.spread_labels.specs.LabelLaws.{IsSymmetric};
 ghost use Rattle.trial_loads.specs.TrialLoads.{loads_by, trial_load, trial_loads};
@@ -8,7 +8,7 @@ use crate::shares::add_packets_between;
 use balanced_choices::no_loads;
 use port_graph::Adjacency;
 use spread_labels::{
-    TARGETS, VertexKey, by_positions, greatest_of, grown_order, leaf_vertices, positions,
+    TARGETS, VertexKey, by_positions, counts_at, greatest_of, grown_order, leaf_vertices, positions,
 };
 use std::alloc::{AllocError, Global};
 
@@ -51,18 +51,6 @@ pub(crate) fn trial_loads(
     let graph = by_positions(alloc, edges, &vertices, &positions)?;
     let adapters = counts_at(alloc, adapters, &vertices)?;
     loads_by(alloc, &graph, &adapters)
-}
-
-/// Returns the numbers of adapters at these vertices.
-fn counts_at(alloc: Global, adapters: &[u16], vertices: &[usize]) -> Result<Vec<u16>, AllocError>
-    requires { All (λ vertex. vertex < length adapters.now) vertices.now }
-    ensures { IfOk result (λ found. found.items ≡ map (slice_index adapters.now) vertices.now) }
-{
-    let mut found = Vec::with_capacity(alloc, vertices.len())?;
-    for vertex in vertices {
-        found.push(adapters[*vertex])?;
-    }
-    Ok(found)
 }
 
 /// Returns what each channel carries of the packets between all adapters. Counts the packets to 64 targets at a time.

@@ -1,4 +1,4 @@
--- What is no switch of a graph has no rank and no next port.
+-- A GUID that is not a switch of the graph has no rank and no next port.
 use Rattle.std.proofs.Common.{◌≡◌, ℕ, List, [], ◌∷◌, refl, ap, ◌∙◌, Bool, false, cond}
 use Rattle.std.proofs.lemmas.Bool.{false_from_ne_true}
 use Rattle.std.specs.Prelude.{None, Some, Contains, option_and_then}

@@ -1,4 +1,4 @@
--- The wires up and down of switches that are known by their positions in an order.
+-- The wires up and down of switches, by the switches' positions in an order.
 use Rattle.std.specs.Prelude.{◌≡◌, ◌<◌, ℕ, List, map, filter, length, Contains, nat_lt, slice_index}
 use Rattle.port_graph.specs.declared.edge.Edge.{Edge}
 use Rattle.port_graph.specs.Slopes.{ups_at, downs_at}
@@ -7,19 +7,19 @@ use Rattle.subnet_view.specs.SwitchEdges.{SwitchEdges}
 use Rattle.subnet_view.specs.SwitchGraph.{switch_at}
 use Rattle.updown_routes.specs.Ranks.{slopes_of}
 
--- the switch at a position of the order, which has the switches' indices
+-- the switch at position p; the order lists the indices of the switches
 abbrev pub switch_at_position : List SwitchEdges → List ℕ → ℕ → ℕ
 switch_at_position graph order p = switch_at graph (slice_index order p)
 
--- an edge to a position, as an edge to the GUID of the switch there
+-- the edge with the position of its end replaced by the GUID of the switch there
 abbrev pub by_position : List SwitchEdges → List ℕ → Edge → Edge
 by_position graph order e = record { port = e.port; to = switch_at_position graph order e.to }
 
--- an edge to an index, as an edge to the position of that index
+-- the edge with the index of its end replaced by its position
 abbrev pub at_position : List ℕ → Edge → Edge
 at_position positions e = record { port = e.port; to = slice_index positions e.to }
 
--- the edges to positions less than p; `downs_from` those to greater ones
+-- the edges to positions less than p; `downs_from` has the edges to greater ones
 abbrev pub ups_from : ℕ → List Edge → List Edge
 ups_from p edges = filter (λ e. nat_lt e.to p) edges
 

@@ -6,7 +6,7 @@ use Rattle.subnet_view.specs.Graph.{guids_of}
 use Rattle.subnet_view.specs.GraphLaws.{IsGraph}
 use Rattle.subnet_view.specs.Components.{distance, root_of}
 
--- the fewest wires from the root of a's component
+-- the fewest wires from the root of a's component to a
 abbrev pub rank_of : List SwitchEdges → ℕ → Option ℕ
 rank_of graph a = option_and_then (λ root. distance graph root a) (root_of graph a)
 
@@ -15,7 +15,7 @@ abbrev pub is_before : List SwitchEdges → ℕ → ℕ → Bool
 is_before graph a b = let ra = unwrap_or (rank_of graph a) 0 in let rb =
     unwrap_or (rank_of graph b) 0 in nat_lt ra rb || (ra == rb && nat_lt a b)
 
--- a switch's wires up, to switches before it, and down, to those after it
+-- a switch's wires up, to switches before it, and down, to switches after it
 abbrev pub slope_of : List SwitchEdges → SwitchEdges → Slope
 slope_of graph c = record {
   guid = c.guid;

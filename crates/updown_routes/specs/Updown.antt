@@ -1,4 +1,4 @@
--- Routing up and then down as a rule of routing.
+-- Up/down routing as a rule of routing.
 use Rattle.std.specs.Prelude.{List}
 use Rattle.port_graph.specs.Slopes.{cost, next_port}
 use Rattle.subnet_view.specs.SwitchEdges.{SwitchEdges}
@@ -7,7 +7,7 @@ use Rattle.subnet_view.specs.Routing.{Routing, IsRouting}
 use Rattle.updown_routes.specs.Ranks.{slopes_of}
 use Rattle.updown_routes.specs.Channels.{channel_number}
 
--- down if that leads to the target, else up; by the least port, and alike for every LID
+-- down if a walk down leads to the target, else up; by the least port, whatever the LID
 abbrev pub updown : List SwitchEdges → Routing
 updown graph = record {
   next = λ lid s t. next_port (slopes_of graph) s t;
@@ -16,6 +16,6 @@ updown graph = record {
       channel_number graph;
 }
 
--- routing up and then down is a rule of routing
+-- up/down routing is a rule of routing
 abbrev pub UpdownIsRouting : Type 0
 UpdownIsRouting = (graph : List SwitchEdges) → IsGraph graph → IsRouting graph (updown graph)

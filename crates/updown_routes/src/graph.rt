@@ -81,8 +81,8 @@ impl Graph {
         self.graph.index_of(switch)
     }
 
-    /// Returns the number of wires from the root of its component to a switch, or `None` for another GUID. Takes a
-    /// search.
+    /// Returns the fewest wires from the root of a switch's component to the switch, or `None` for another GUID. Takes
+    /// a search.
     pub fn rank(&self, switch: Guid) -> Option<usize>
         ensures { result ≡ rank_of self.now switch }
     {
@@ -90,8 +90,8 @@ impl Graph {
         self.ranks[index]
     }
 
-    /// Returns the root of each switch's component, the least GUID in it, by rising GUID of the switches. Takes a
-    /// breadth-first search for each component.
+    /// Returns, for each switch by rising GUID, the root of its component: the least GUID in it. Takes a breadth-first
+    /// search for each component.
     pub fn roots(&self, alloc: Global) -> Result<Vec<Option<Guid>>, AllocError>
         ensures { IfOk result (λ roots. roots.items ≡ map (root_of self.now) (guids_of self.now)) }
     {
@@ -106,7 +106,7 @@ impl Graph {
         &self.ranks
     }
 
-    /// Returns the edges of the switch at `index`, which lead to indices. Takes one step.
+    /// Returns the edges of the switch at `index`. Their ends are indices. Takes one step.
     pub fn edges(&self, index: usize) -> &[Edge]
         requires { index < length self.now }
         ensures edges { AreEdgesAt self.now index result.now }

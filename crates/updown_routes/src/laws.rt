@@ -31,7 +31,7 @@ pub fn costs_are_in_words()
     ensures { CostLaw }
 {}
 
-/// The cost is the down distance if there is one, and else one more than the least cost over the wires up.
+/// The cost is the down distance if there is one, and otherwise one more than the least cost over the wires up.
 pub fn costs_follow_the_wires_up()
     ensures { CostRecursion }
 {}
@@ -63,8 +63,8 @@ pub fn channels_rise_along_ways()
     ensures { ChannelLaw }
 {}
 
-/// Routing up and then down is a rule of routing: within a component it leads from each switch to each other one over
-/// as many wires as the cost, no switch comes twice, and channels rise.
+/// Up/down routing is a rule of routing: within a component it leads from each switch to each other one over as many
+/// wires as the cost, passes no switch twice, and its channels rise.
 pub fn up_and_down_is_a_routing()
     ensures { UpdownIsRouting }
 {}

@@ -7,7 +7,7 @@ use std::alloc::{AllocError, Global};
 use subnet_view::SwitchGraph;
 
 /// Computes each switch's rank, its distance from the root of its component. The root is the first switch that no
-/// earlier one reaches. Takes one search for each component.
+/// earlier one reaches. Takes one breadth-first search for each component.
 pub(crate) fn ranks(alloc: Global, graph: &SwitchGraph) -> Result<Vec<Option<usize>>, AllocError>
     ensures { IfOk result (λ ranks. ranks.items ≡ map (rank_of graph.now) (guids_of graph.now)) }
 {

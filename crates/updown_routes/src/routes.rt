@@ -13,7 +13,7 @@ use smp_bytes::{Guid, PortNum};
 use std::alloc::{AllocError, Global};
 use std::marker::Model;
 
-/// The next port of each switch of a graph to each other one.
+/// The next port of each switch of a graph towards each other switch.
 #[derive(Drop)]
 pub struct Routes<'g> {
     graph: &'g Graph,
@@ -34,7 +34,7 @@ impl<'g> Model for Routes<'g> {
 }
 
 impl<'g> Routes<'g> {
-    /// Computes the routes of a graph. For each target takes one step for each switch and each wire.
+    /// Computes the routes of a graph. Takes one step for each switch and each wire, for each target.
     pub fn of(alloc: Global, graph: &'g Graph) -> Result<Self, Refused>
         ensures { IfOk result (λ routes. routes ≡ graph.now) }
     {
@@ -46,8 +46,8 @@ impl<'g> Routes<'g> {
     }
 
     /// Returns the port by which a packet leaves a switch for another: down if a walk down leads to the target,
-    /// otherwise up. Returns `None` at the target, between components, and if one of them is no switch. Takes two
-    /// searches.
+    /// otherwise up. Returns `None` at the target, between components, and if either is not a switch of the graph.
+    /// Takes two searches.
     pub fn next_port(&self, switch: Guid, target: Guid) -> Option<PortNum>
         ensures { result ≡ next_port (slopes_of self.now) switch target }
     {
@@ -66,7 +66,7 @@ impl<'g> Routes<'g> {
     }
 }
 
-/// Returns for each target the next port of each switch, for the switches at `positions`.
+/// Returns, for each target, the next port of each switch. `positions` gives the switches.
 fn towards(
     alloc: Global,
     slopes: &UpDownEdges,

@@ -8,7 +8,7 @@ use crate::graph::Graph;
 use port_graph::{Adjacency, Edge};
 use std::alloc::{AllocError, Global};
 
-/// The wires of the switch at each position of an order. They lead to positions.
+/// The wires up and down of the switch at each position of an order. Their ends are positions.
 #[derive(Drop)]
 pub(crate) struct UpDownEdges {
     /// The wires up, to lesser positions.
@@ -18,8 +18,8 @@ pub(crate) struct UpDownEdges {
 }
 
 impl UpDownEdges {
-    /// Finds the wires up and down of each switch. `order` is by rank and then by GUID, and `positions` are its
-    /// positions.
+    /// Finds the wires up and down of each switch. `order` has the indices by rank and then by GUID, and `positions`
+    /// has the position of each index in it.
     pub(crate) fn of(
         alloc: Global,
         graph: &Graph,
@@ -41,7 +41,7 @@ impl UpDownEdges {
     }
 }
 
-/// Returns edges to indices as edges to the positions of these.
+/// Replaces the index of each edge's end by its position.
 fn to_positions(alloc: Global, edges: &[Edge], positions: &[usize]) -> Result<Vec<Edge>, AllocError>
     requires { All (λ edge. edge.to < length positions.now) edges.now }
     ensures { IfOk result (λ found. found.items ≡ map (at_position positions.now) edges.now) }

@@ -45,7 +45,7 @@ fn answer_to(agent: &mut Agent, smp: &Smp) -> Smp {
     agent.answer(smp, arrival)
 }
 
-/// Returns the answer to a LID-routed request that came to the same port.
+/// Returns the answer to a LID-routed request that came to port 3 of the switch, or to the port of the adapter.
 fn ask(agent: &mut Agent, method: u8, attribute: u16, modifier: u32, payload: &[u8; 64]) -> Smp {
     let smp = Smp::lid_routed(Method(method), AttributeId(attribute), modifier, 7, payload);
     answer_to(agent, &smp)

@@ -34,7 +34,7 @@ fn at(node: usize, port: u8) -> NodePort {
     }
 }
 
-/// Builds a directed request over at most three ports, with zeros behind the last one.
+/// Builds a directed request over at most three ports, with zeros after the last one.
 fn directed(
     method: Method,
     attribute: AttributeId,

@@ -9,8 +9,8 @@ use crate::smp::{DIRECTED_ROUTE, LID_ROUTED, PERMISSIVE_LID, Smp, VERSION};
 use crate::wire::{put_bytes, put_u8, put_u16, put_u32, put_u64};
 
 impl Smp {
-    /// Creates a request that leaves by the ports of `path`, one after the other. Every other field is 0, except the
-    /// versions, the class, HopCount and the permissive LIDs.
+    /// Creates a directed request over the ports of `path`. Every field that is not given is 0, except the versions,
+    /// the class, HopCount and the permissive LIDs.
     pub fn directed(
         method: Method,
         attribute: AttributeId,
@@ -32,7 +32,7 @@ impl Smp {
         Smp { bytes }
     }
 
-    /// Creates a request that switches forward by LID. Every other field is 0, except the versions and the class.
+    /// Creates a LID-routed request. Every field that is not given is 0, except the versions and the class.
     pub fn lid_routed(
         method: Method,
         attribute: AttributeId,

@@ -8,10 +8,10 @@ use Rattle.balanced_choices.proofs.EdgesTaken.{taken_long, without_same}
 use Rattle.balanced_choices.proofs.choosing.choose.Goals as goal
 use Rattle.balanced_choices.proofs.choosing.choose.Goals.{then-round-eq0, else-round-eq0}
 
-later : (round : ℕ) (ways : List (List Edge)) (sent order : List ℕ) (number : ℕ) (old : Chosen) → (round ≡ 0 → ⊥)
-    → choices_in round ways sent order number old ≡ new_choices ways sent order old
-later zero ways sent order number old some = absurd (some refl)
-later (suc round) ways sent order number old some = refl
+later : (round : ℕ) (ways : List (List Edge)) (sent weights order : List ℕ) (number : ℕ) (old : Chosen) → (round ≡ 0 → ⊥)
+    → choices_in round ways sent weights order number old ≡ new_choices ways sent order old
+later zero ways sent weights order number old some = absurd (some refl)
+later (suc round) ways sent weights order number old some = refl
 
 pub remove_packets-requires-clause-sent : goal.remove_packets-requires-clause-sent
 remove_packets-requires-clause-sent c =
@@ -25,13 +25,14 @@ pub returns : goal.returns
 returns c =
     let ways = c.args.ways.now in
     let sent = c.args.sent.now in
+    let weights = c.args.weights.now in
     let order = c.args.order.now in
     let choices = c.args.choices.now in
     let before : Chosen = record { choices = choices; loads = c.args.loads.now } in
     let both : List ℕ → List ℕ → Chosen = λ ks ls. record { choices = ks; loads = ls } in
     elim c.if-round-eq0.branch [
       | then-round-eq0 w ↦
-          ap (λ round. choices_in round ways sent order c.args.number before) w.if-round-eq0.true
+          ap (λ round. choices_in round ways sent weights order c.args.number before) w.if-round-eq0.true
           ∙ w.choose_in_turn.ensures ∙ (λ i. both (sym w.choices-is i) (sym w.loads-is i))
       | else-round-eq0 w ↦
           let taken : w.deref.result.now ≡ edges_taken ways choices = w.deref.ensures.value ∙ c.in_ok-taken.ensures in
@@ -40,7 +41,7 @@ returns c =
           ∙ (λ i. without_by sent (taken i) before.loads (numbers_from 0 ((ap length taken ∙ taken_long ways choices) i)))
           ∙ without_same ways choices sent before.loads (numbers_from 0 (length ways)) in
           let choice : Chosen → ℕ → ℕ = λ old p. lightest ways old.choices old.loads p in
-          later c.args.round ways sent order c.args.number before (λ none. absurd (omega (arith, none, w.if-round-eq0.false)))
+          later c.args.round ways sent weights order c.args.number before (λ none. absurd (omega (arith, none, w.if-round-eq0.false)))
           ∙ ap (λ ls. choose_each choice ways sent (both choices ls) order) (sym without)
           ∙ w.choose_lightest.ensures ∙ (λ i. both (sym w.choices-is i) (sym w.loads-is i))
     ]

@@ -8,5 +8,5 @@ abbrev pub invariant-loop-position : goal.invariant-loop-position
 invariant-loop-position l =
     let now : Chosen = record { choices = l.choices; loads = l.loads } in
     let before : Chosen = record { choices = l.fn.choices; loads = l.fn.loads } in
-    (first_choices l.ways l.sent (drop l.position-index l.order) l.number now ≡ first_choices l.ways l.sent l.order l.number before)
+    (first_choices l.ways l.sent l.weights (drop l.position-index l.order) l.number now ≡ first_choices l.ways l.sent l.weights l.order l.number before)
     × (l.taken ≡ edges_taken l.ways l.choices)

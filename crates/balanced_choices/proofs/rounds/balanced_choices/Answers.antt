@@ -25,6 +25,7 @@ pub loop-round-preserved : goal.loop-round-preserved
 loop-round-preserved c =
     let graph = c.args.graph.now in
     let sent = c.args.sent.now in
+    let weights = c.args.weights.now in
     let ds = c.args.destinations.now in
     let round = c.loop-round.round in
     let rows = c.make_round.new.choices in
@@ -32,16 +33,16 @@ loop-round-preserved c =
     let loads_long : length c.make_round.new.loads ≡ c.loop-round.loads.len = c.make_round.auto.loads ∙ c.deref_mut-in-loop-round.ensures.len in
     let choices = with_items_is c.loop-round.choices rows as_long in
     let loads = with_items_is c.loop-round.loads c.make_round.new.loads loads_long in
-    let given : with_round round graph sent ds (record { choices = map (λ w. w.items) c.deref_mut.result.now; loads = c.deref_mut-in-loop-round.result.now })
-    ≡ with_round round graph sent ds (after_rounds round graph sent ds) =
-    (λ i. with_round round graph sent ds (record {
+    let given : with_round round graph sent weights ds (record { choices = map (λ w. w.items) c.deref_mut.result.now; loads = c.deref_mut-in-loop-round.result.now })
+    ≡ with_round round graph sent weights ds (after_rounds round graph sent weights ds) =
+    (λ i. with_round round graph sent weights ds (record {
       choices = map (λ w. w.items) (c.deref_mut.ensures.value i);
       loads = c.deref_mut-in-loop-round.ensures.value i;
     }))
-    ∙ ap (with_round round graph sent ds) c.loop-round.invariant.0 in
+    ∙ ap (with_round round graph sent weights ds) c.loop-round.invariant.0 in
     let as_many : length c.deref_mut.result.now ≡ ends_of 0 ds = ap length c.deref_mut.ensures.value ∙ c.loop-round.invariant.1 in (
       (λ i. record { choices = map (λ w. w.items) (choices i); loads = loads i })
-          ∙ sym c.in_ok-make_round.ensures.balance ∙ given ∙ ap (λ k. after_rounds k graph sent ds) (sym (add-one round)),
+          ∙ sym c.in_ok-make_round.ensures.balance ∙ given ∙ ap (λ k. after_rounds k graph sent weights ds) (sym (add-one round)),
       ap length choices ∙ c.make_round.auto.choices ∙ as_many,
       subst (All (λ w. length w.items ≡ length graph)) (sym choices) c.in_ok-make_round.ensures.long,
     )
@@ -51,6 +52,7 @@ unfolding balanced_choices
 returns c =
     let graph = c.args.graph.now in
     let sent = c.args.sent.now in
+    let weights = c.args.weights.now in
     let ds = c.args.destinations.now in
     let all : c.loop-round.round ≡ 3 = omega (arith, c.loop-round.auto.round-end, c.loop-round-test.false) in
-    ap (λ b. b.choices) (c.loop-round.invariant.0 ∙ ap (λ k. after_rounds k graph sent ds) all)
+    ap (λ b. b.choices) (c.loop-round.invariant.0 ∙ ap (λ k. after_rounds k graph sent weights ds) all)

@@ -19,6 +19,7 @@ loop-first-preserved c =
     let round = c.args.round in
     let graph = c.args.graph.now in
     let sent = c.args.sent.now in
+    let weights = c.args.weights.now in
     let ds = c.args.destinations.now in
     let first = c.loop-first.first in
     let end = c.loop-first.end in
@@ -28,8 +29,8 @@ loop-first-preserved c =
     let now : Balance = record { choices = map (λ own. own.items) c.loop-first.choices; loads = c.loop-first.loads } in
     let both = part_and_rest ds first count in
     let next = c.in_ok-end.ensures.next in (
-      (λ i. with_all round graph sent (sym c.in_ok-end.ensures.balance i) (next i) rest)
-          ∙ sym (all_both round graph sent now end part rest) ∙ ap (with_all round graph sent now end) both ∙ c.loop-first.invariant.0,
+      (λ i. with_all round graph sent weights (sym c.in_ok-end.ensures.balance i) (next i) rest)
+          ∙ sym (all_both round graph sent weights now end part rest) ∙ ap (with_all round graph sent weights now end) both ∙ c.loop-first.invariant.0,
       ap (λ n. ends_of n rest) next ∙ sym (ends_both end part rest) ∙ ap (ends_of end) both ∙ c.loop-first.invariant.1,
       c.in_ok-end.ensures.long,
       omega (arith, c.min.ensures, c.loop-first-test.true),

@@ -7,7 +7,7 @@ abbrev pub invariant-loop-first : goal.invariant-loop-first
 invariant-loop-first l =
     let now : Balance = record { choices = map (λ own. own.items) l.choices; loads = l.loads } in
     let before : Balance = record { choices = map (λ own. own.items) l.fn.choices; loads = l.fn.loads } in
-    (with_all l.round l.graph l.sent now l.end (drop l.first l.destinations) ≡ with_all l.round l.graph l.sent before 0 l.destinations)
+    (with_all l.round l.graph l.sent l.weights now l.end (drop l.first l.destinations) ≡ with_all l.round l.graph l.sent l.weights before 0 l.destinations)
     × (ends_of l.end (drop l.first l.destinations) ≡ ends_of 0 l.destinations)
     × All (λ own. length own.items ≡ length l.graph) l.choices
     × (l.first ≤ length l.destinations)

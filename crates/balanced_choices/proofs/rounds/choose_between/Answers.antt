@@ -18,6 +18,7 @@ loop-end-preserved c =
     let round = c.args.round in
     let ways = c.args.ways.now in
     let sent = c.args.sent.now in
+    let weights = c.args.weights.now in
     let order = c.args.order.now in
     let rows = c.loop-end.choices in
     let end = c.loop-end.end in
@@ -34,16 +35,16 @@ loop-end-preserved c =
     let after : Chosen = record { choices = new; loads = c.choose.new.loads } in
     let it : slice_index_or all end [] ≡ c.deref_mut.result.now =
     get_or-map (λ w. w.items) rows end c.index-choices-end.result [] below ∙ sym c.deref_mut.ensures.value in
-    let chosen : choices_in round ways sent order (number + (end - first)) (record { choices = slice_index_or all end []; loads = c.loop-end.loads }) ≡ after =
-    ap (λ xs. choices_in round ways sent order (number + (end - first)) (record { choices = xs; loads = c.loop-end.loads })) it ∙ c.in_ok-choose.ensures in
-    let became : with_end round ways sent order number first now end ≡ record { choices = slice_set all end new; loads = c.choose.new.loads } =
+    let chosen : choices_in round ways sent weights order (number + (end - first)) (record { choices = slice_index_or all end []; loads = c.loop-end.loads }) ≡ after =
+    ap (λ xs. choices_in round ways sent weights order (number + (end - first)) (record { choices = xs; loads = c.loop-end.loads })) it ∙ c.in_ok-choose.ensures in
+    let became : with_end round ways sent weights order number first now end ≡ record { choices = slice_set all end new; loads = c.choose.new.loads } =
     ap (λ x. record { choices = slice_set all end x.choices; loads = x.loads }) chosen in
     let rows_then : map (λ w. w.items) (slice_set rows end next) ≡ slice_set all end new =
     map-set (λ w. w.items) rows end next ∙ ap (slice_set all end) own in
     let rest = numbers_from (end + 1) (c.args.last - (end + 1)) in (
-      ap (λ xs. with_ends round ways sent order number first (record { choices = xs; loads = c.choose.new.loads }) rest) rows_then
-          ∙ ap (λ b. with_ends round ways sent order number first b rest) (sym became)
-          ∙ sym (ap (with_ends round ways sent order number first now) (numbers_left c.args.last end c.loop-end-test.true))
+      ap (λ xs. with_ends round ways sent weights order number first (record { choices = xs; loads = c.choose.new.loads }) rest) rows_then
+          ∙ ap (λ b. with_ends round ways sent weights order number first b rest) (sym became)
+          ∙ sym (ap (with_ends round ways sent weights order number first now) (numbers_left c.args.last end c.loop-end-test.true))
           ∙ c.loop-end.invariant.0,
       All-set (λ w. length w.items ≡ length ways) rows end next
           (ap length own ∙ as_long ∙ ap length c.deref_mut.ensures.value ∙ c.loop-end.invariant.1 end c.index-choices-end.result below)

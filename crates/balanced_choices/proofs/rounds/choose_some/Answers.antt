@@ -33,6 +33,12 @@ choose_between-requires-clause-sent c =
     let f : ℕ → List Edge = λ p. picked c.loop-k.k (sets_at c.in_ok-sets.sets p) (edges_at graph p) in
     c.requires.sent ∙ sym (ap length c.in_ok-ways.ensures ∙ numbers_long f 0 (length graph))
 
+pub choose_between-requires-clause-weights : goal.choose_between-requires-clause-weights
+choose_between-requires-clause-weights c =
+    let graph = c.args.graph.now in
+    let f : ℕ → List Edge = λ p. picked c.loop-k.k (sets_at c.in_ok-sets.sets p) (edges_at graph p) in
+    c.requires.weights ∙ sym (ap length c.in_ok-ways.ensures ∙ numbers_long f 0 (length graph))
+
 pub choose_between-requires-clause-ends : goal.choose_between-requires-clause-ends
 choose_between-requires-clause-ends c =
     let ds = c.args.destinations.now in
@@ -59,6 +65,7 @@ loop-k-preserved c =
     let round = c.args.round in
     let graph = c.args.graph.now in
     let sent = c.args.sent.now in
+    let weights = c.args.weights.now in
     let ds = c.args.destinations.now in
     let k = c.loop-k.k in
     let end = c.loop-k.end in
@@ -77,12 +84,12 @@ loop-k-preserved c =
     let count : end + d.ends - end ≡ d.ends = omega arith in
     let now : Balance = record { choices = map (λ w. w.items) c.loop-k.choices; loads = c.loop-k.loads } in
     let after : Balance = record { choices = map (λ w. w.items) c.choose_between.new.choices; loads = c.choose_between.new.loads } in
-    let became : with_ends round (towards graph d.position) sent (near_first (towards graph d.position)) d.number end now (numbers_from end d.ends) ≡ after =
-    sym (λ i. with_ends round (ways i) sent (order i) d.number end now (numbers_from end (count i))) ∙ c.in_ok-choose_between.ensures.balance in
+    let became : with_ends round (towards graph d.position) sent weights (near_first (towards graph d.position)) d.number end now (numbers_from end d.ends) ≡ after =
+    sym (λ i. with_ends round (ways i) sent weights (order i) d.number end now (numbers_from end (count i))) ∙ c.in_ok-choose_between.ensures.balance in
     let rest = drop (k + 1) ds in
     let long : length c.in_ok-ways.ways ≡ length graph = ap length c.in_ok-ways.ensures ∙ numbers_long f 0 (length graph) in (
-      ap (λ b. with_all round graph sent b (end + d.ends) rest) (sym became)
-          ∙ sym (ap (with_all round graph sent now end) (drop_more ds k none c.loop-k-test.true)) ∙ c.loop-k.invariant.0,
+      ap (λ b. with_all round graph sent weights b (end + d.ends) rest) (sym became)
+          ∙ sym (ap (with_all round graph sent weights now end) (drop_more ds k none c.loop-k-test.true)) ∙ c.loop-k.invariant.0,
       sym (ends_next end ds k none c.loop-k-test.true) ∙ c.loop-k.invariant.1,
       (λ i x h. c.in_ok-choose_between.ensures.long i x h ∙ long),
     )

@@ -7,6 +7,6 @@ abbrev pub invariant-loop-k : goal.invariant-loop-k
 invariant-loop-k l =
     let now : Balance = record { choices = map (λ own. own.items) l.choices; loads = l.loads } in
     let before : Balance = record { choices = map (λ own. own.items) l.fn.choices; loads = l.fn.loads } in
-    (with_all l.round l.graph l.sent now l.end (drop l.k l.destinations) ≡ with_all l.round l.graph l.sent before l.first l.destinations)
+    (with_all l.round l.graph l.sent l.weights now l.end (drop l.k l.destinations) ≡ with_all l.round l.graph l.sent l.weights before l.first l.destinations)
     × (ends_of l.end (drop l.k l.destinations) ≡ ends_of l.first l.destinations)
     × All (λ own. length own.items ≡ length l.graph) l.choices

@@ -9,7 +9,7 @@ use Rattle.spread_labels.proofs.Numbers.{numbers_long}
 use Rattle.subnet_view.specs.SwitchEdges.{SwitchEdges}
 use Rattle.subnet_view.specs.Graph.{guids_of}
 use Rattle.subnet_view.proofs.GraphSwitches.{graph_guids, switches_rise}
-use Rattle.spread_routes.specs.LeafNumbers.{leaf_number, leaf_numbers, least_neighbours}
+use Rattle.spread_routes.specs.LeafNumbers.{leaf_number, leaf_numbers, least_neighbors}
 use Rattle.spread_labels.specs.LeafVertices.{leaf_vertices}
 use Rattle.spread_routes.specs.Adapters.{adapters_of}
 use Rattle.spread_routes.proofs.AdapterCounts.{adapters_long}
@@ -39,7 +39,7 @@ of-requires c =
 numbers_of_leaves_long : (graph : List SwitchEdges) (adapters : List ℕ) → length (guids_of graph) ≡ length (leaf_numbers graph adapters)
 numbers_of_leaves_long graph adapters =
     length-map graph (λ (s : SwitchEdges). s.guid)
-    ∙ sym (numbers_long (leaf_number (least_neighbours (by_index graph)) (leaf_vertices adapters)) 0 (length graph))
+    ∙ sym (numbers_long (leaf_number (least_neighbors (by_index graph)) (leaf_vertices adapters)) 0 (length graph))
 
 pub lid_numbers-requires : goal.lid_numbers-requires
 lid_numbers-requires c =

@@ -5,4 +5,4 @@ use Rattle.spread_routes.proofs.leaf_order.leaf_numbers.Given as goal
 
 -- the numbers so far
 abbrev pub invariant-loop-index : goal.invariant-loop-index
-invariant-loop-index l = l.numbers.items ≡ map (leaf_number l.neighbours.items l.leaves.items) (numbers_from 0 l.index)
+invariant-loop-index l = l.numbers.items ≡ map (leaf_number l.neighbors.items l.leaves.items) (numbers_from 0 l.index)

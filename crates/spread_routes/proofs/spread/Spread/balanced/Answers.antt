@@ -1,5 +1,5 @@
 -- The choices are made by positions, as the rule has them.
-use Rattle.std.proofs.Common.{ℕ, List, sym, ap, ◌∙◌, subst, length}
+use Rattle.std.proofs.Common.{ℕ, List, sym, ap, ◌∙◌, subst, length, map}
 use Rattle.std.specs.Prelude.{Some}
 use Rattle.port_graph.specs.declared.edge.Edge.{Edge}
 use Rattle.port_graph.specs.Heads.{LeadToVertices}
@@ -8,6 +8,7 @@ use Rattle.spread_routes.specs.AdapterChoices.{AdapterChoices, adapter_choices}
 use Rattle.spread_routes.specs.Spread.{Grading}
 use Rattle.spread_routes.specs.Tables.{IsByPositions}
 use Rattle.spread_routes.proofs.Ports.{lead}
+use Rattle.spread_routes.proofs.Weights.{weights_are, weights_long}
 use Rattle.spread_routes.proofs.spread.Spread.balanced.Goals as goal
 use Rattle.spread_routes.proofs.spread.Spread.balanced.Goals.{in-Some-2, in-None-2}
 
@@ -20,18 +21,34 @@ of-requires-clause-lead c =
     let is = subst (Is inside.edges inside.positions.items inside.lid_digits.items) c.self.view_is c.self.invariant in
     subst LeadToVertices (sym is.by_position) (lead c.args.self is.is_graph)
 
+pub of-requires-clause-weights : goal.of-requires-clause-weights
+of-requires-clause-weights c =
+    let inside = c.self.inside in
+    let is = subst (Is inside.edges inside.positions.items inside.lid_digits.items) c.self.view_is c.self.invariant in
+    ap length (c.deref-2.ensures.value ∙ c.in_ok-weights.ensures ∙ ap (map (λ (d : LidDigit). d.digit_weight)) c.deref.ensures.value)
+    ∙ weights_long c.args.self inside.edges inside.positions.items inside.lid_digits.items is
+
+pub of-requires-clause-leaf_numbers : goal.of-requires-clause-leaf_numbers
+of-requires-clause-leaf_numbers c =
+    let inside = c.self.inside in
+    let is = subst (Is inside.edges inside.positions.items inside.lid_digits.items) c.self.view_is c.self.invariant in
+    c.requires.leaf_numbers ∙ sym (ap length is.by_position)
+
 pub of-requires-clause-adapters : goal.of-requires-clause-adapters
 of-requires-clause-adapters c =
     let inside = c.self.inside in
     let is = subst (Is inside.edges inside.positions.items inside.lid_digits.items) c.self.view_is c.self.invariant in
-    c.requires ∙ sym (ap length is.by_position)
+    c.requires.adapters ∙ sym (ap length is.by_position)
 
 pub returns : goal.returns
 returns c =
     let inside = c.self.inside in
     let by = c.args.self in
     let is = subst (Is inside.edges inside.positions.items inside.lid_digits.items) c.self.view_is c.self.invariant in
-    let choices = c.in_ok-choices.ensures ∙ ap (λ (es : List (List Edge)). adapter_choices es c.args.adapters.items) is.by_position in
+    let numbers = c.args.leaf_numbers.now in
+    let weights = c.deref-2.ensures.value ∙ c.in_ok-weights.ensures ∙ ap (map (λ (d : LidDigit). d.digit_weight)) c.deref.ensures.value
+    ∙ weights_are by inside.edges inside.positions.items inside.lid_digits.items is in
+    let choices = c.in_ok-choices.ensures ∙ (λ i. adapter_choices (is.by_position i) (weights i) numbers c.args.adapters.items) in
     let all = ap (λ (g : Grading). record { graph = g.graph; keys = g.keys; levels = g.levels; choices = Some c.in_ok-choices.choices }) c.self.view_is
     ∙ ap (λ (ch : AdapterChoices). record { graph = by.graph; keys = by.keys; levels = by.levels; choices = Some ch }) choices in
     elim c.match-self-2.branch [

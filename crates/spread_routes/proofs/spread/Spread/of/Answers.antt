@@ -3,15 +3,17 @@ use Rattle.std.specs.Prelude.{All, IfOk, Some, slice_index}
 use Rattle.port_graph.proofs.Counts.{length_map}
 use Rattle.spread_labels.specs.Keys.{before_by}
 use Rattle.spread_labels.specs.LabelLaws.{IsSymmetric}
+use Rattle.spread_labels.specs.LeafVertices.{leaf_vertices}
+use Rattle.spread_labels.specs.Levels.{levels_of}
 use Rattle.spread_labels.specs.Orders.{order}
 use Rattle.spread_routes.specs.Rule.{by_index, by_positions, order_by_keys}
 use Rattle.spread_routes.proofs.Indices.{there_and_back}
 use Rattle.spread_routes.proofs.Names.{all_positioned}
 use Rattle.spread_routes.proofs.Positions.{are_indices, edges_are}
-use Rattle.spread_routes.specs.Spread.{Grading, adapters_there, grading_of, keys_by}
+use Rattle.spread_routes.specs.Spread.{Grading, adapters_there, grading_of, keys_by, leaf_numbers_there, weights_there}
 use Rattle.spread_routes.specs.AdapterChoices.{adapter_choices}
 use Rattle.spread_routes.specs.SwitchOrders.{order_value_of}
-use Rattle.spread_routes.proofs.KeyLists.{all_keyed, all_levelled}
+use Rattle.spread_routes.proofs.KeyLists.{all_keyed, all_levelled, all_numbered}
 use Rattle.spread_routes.proofs.Balanced.{choices_if}
 use Rattle.spread_routes.proofs.spread.Spread.of.Goals as goal
 
@@ -46,19 +48,44 @@ counts_at-requires c =
     let good = c.adjacency.ensures.is_graph in
     let keys = c.in_ok-keys.field-0.keys.items in
     let by : c.adjacency.result.now ≡ by_index graph = edges_are graph good c.adjacency.result.now c.adjacency.ensures.edges in
-    let is : c.deref-then-is_balanced.result.now ≡ order_by_keys graph keys =
-    c.deref-then-is_balanced.ensures.value ∙ c.in_ok-vertices.ensures ∙ (λ i. order (by i) (before_by (c.deref.ensures.value i))) in
-    subst (λ (x : List ℕ × ℕ). All (λ i. i < x.1) x.0) (λ i. (sym is i, sym c.requires i)) (are_indices graph keys good)
+    let is : c.deref-2-then-is_balanced.result.now ≡ order_by_keys graph keys =
+    c.deref-2-then-is_balanced.ensures.value ∙ c.in_ok-vertices.ensures ∙ (λ i. order (by i) (before_by (c.deref.ensures.value i))) in
+    let long : length c.deref-then-is_balanced.result.now ≡ length graph =
+    ap length (c.deref-then-is_balanced.ensures.value ∙ c.in_ok-leaf_numbers.ensures) ∙ all_numbered graph c.args.adapters.now in
+    subst (λ (x : List ℕ × ℕ). All (λ i. i < x.1) x.0) (λ i. (sym is i, sym long i)) (are_indices graph keys good)
 
-pub balanced-requires : goal.balanced-requires
-balanced-requires c =
+pub counts_at-2-requires : goal.counts_at-2-requires
+counts_at-2-requires c =
     let graph = c.args.graph.now in
     let good = c.adjacency.ensures.is_graph in
     let keys = c.in_ok-keys.field-0.keys.items in
     let by : c.adjacency.result.now ≡ by_index graph = edges_are graph good c.adjacency.result.now c.adjacency.ensures.edges in
-    let is : c.deref-then-is_balanced.result.now ≡ order_by_keys graph keys =
-    c.deref-then-is_balanced.ensures.value ∙ c.in_ok-vertices.ensures ∙ (λ i. order (by i) (before_by (c.deref.ensures.value i))) in
-    ap length c.in_ok-adapters.ensures ∙ length_map (slice_index c.args.adapters.now) c.deref-then-is_balanced.result.now
+    let is : c.deref-3-then-is_balanced.result.now ≡ order_by_keys graph keys =
+    c.deref-3-then-is_balanced.ensures.value ∙ c.in_ok-vertices.ensures ∙ (λ i. order (by i) (before_by (c.deref.ensures.value i))) in
+    subst (λ (x : List ℕ × ℕ). All (λ i. i < x.1) x.0) (λ i. (sym is i, sym c.requires i)) (are_indices graph keys good)
+
+-- a count for each position
+pub balanced-requires-clause-leaf_numbers : goal.balanced-requires-clause-leaf_numbers
+balanced-requires-clause-leaf_numbers c =
+    let graph = c.args.graph.now in
+    let good = c.adjacency.ensures.is_graph in
+    let keys = c.in_ok-keys.field-0.keys.items in
+    let by : c.adjacency.result.now ≡ by_index graph = edges_are graph good c.adjacency.result.now c.adjacency.ensures.edges in
+    let is : c.deref-2-then-is_balanced.result.now ≡ order_by_keys graph keys =
+    c.deref-2-then-is_balanced.ensures.value ∙ c.in_ok-vertices.ensures ∙ (λ i. order (by i) (before_by (c.deref.ensures.value i))) in
+    ap length (c.deref-4-then-is_balanced.ensures.value ∙ c.in_ok-leaf_numbers-2.ensures)
+    ∙ length_map (slice_index c.deref-then-is_balanced.result.now) c.deref-2-then-is_balanced.result.now
+    ∙ ap length is ∙ sym (all_positioned graph keys good) ∙ ap (λ (g : Grading). length (by_positions g.graph g.keys)) (sym c.in_ok-spread.ensures)
+
+pub balanced-requires-clause-adapters : goal.balanced-requires-clause-adapters
+balanced-requires-clause-adapters c =
+    let graph = c.args.graph.now in
+    let good = c.adjacency.ensures.is_graph in
+    let keys = c.in_ok-keys.field-0.keys.items in
+    let by : c.adjacency.result.now ≡ by_index graph = edges_are graph good c.adjacency.result.now c.adjacency.ensures.edges in
+    let is : c.deref-3-then-is_balanced.result.now ≡ order_by_keys graph keys =
+    c.deref-3-then-is_balanced.ensures.value ∙ c.in_ok-vertices.ensures ∙ (λ i. order (by i) (before_by (c.deref.ensures.value i))) in
+    ap length c.in_ok-adapters.ensures ∙ length_map (slice_index c.args.adapters.now) c.deref-3-then-is_balanced.result.now
     ∙ ap length is ∙ sym (all_positioned graph keys good) ∙ ap (λ (g : Grading). length (by_positions g.graph g.keys)) (sym c.in_ok-spread.ensures)
 
 pub returns-then-is_balanced : goal.returns-then-is_balanced
@@ -68,26 +95,33 @@ returns-then-is_balanced c =
     let adapters = c.args.adapters.now in
     let order_value = order_value_of c.args.order.now in
     let keys = c.in_ok-keys.ensures.keys in
+    let levels = c.in_ok-keys.ensures.levels in
+    let now = keys_by graph adapters order_value in
     let by : c.adjacency.result.now ≡ by_index graph = edges_are graph good c.adjacency.result.now c.adjacency.ensures.edges in
-    let is : c.deref-then-is_balanced.result.now ≡ order_by_keys graph c.in_ok-keys.field-0.keys.items =
-    c.deref-then-is_balanced.ensures.value ∙ c.in_ok-vertices.ensures ∙ (λ i. order (by i) (before_by (c.deref.ensures.value i))) in
-    let there : c.in_ok-adapters.adapters.items ≡ adapters_there graph (keys_by graph adapters order_value) adapters =
-    c.in_ok-adapters.ensures ∙ ap (map (slice_index adapters)) (is ∙ ap (order_by_keys graph) keys) in
-    let all : record c.in_ok-spread.spread {
-      choices = Some (adapter_choices (by_positions c.in_ok-spread.spread.graph c.in_ok-spread.spread.keys) c.in_ok-adapters.adapters.items);
-    } ≡ grading_of graph adapters order_value =
-    ap (λ (g : Grading). record {
+    let grown : c.in_ok-vertices.vertices.items ≡ order_by_keys graph c.in_ok-keys.field-0.keys.items =
+    c.in_ok-vertices.ensures ∙ (λ i. order (by i) (before_by (c.deref.ensures.value i))) in
+    let numbers : c.deref-4-then-is_balanced.result.now ≡ leaf_numbers_there graph now adapters =
+    c.deref-4-then-is_balanced.ensures.value ∙ c.in_ok-leaf_numbers-2.ensures
+    ∙ (λ i. map (slice_index ((c.deref-then-is_balanced.ensures.value ∙ c.in_ok-leaf_numbers.ensures) i))
+    ((c.deref-2-then-is_balanced.ensures.value ∙ grown ∙ ap (order_by_keys graph) keys) i)) in
+    let there : c.in_ok-adapters.adapters.items ≡ adapters_there graph now adapters =
+    c.in_ok-adapters.ensures
+    ∙ ap (map (slice_index adapters)) (c.deref-3-then-is_balanced.ensures.value ∙ grown ∙ ap (order_by_keys graph) keys) in
+    let balanced : Grading → Grading = λ g. record {
       graph = g.graph;
       keys = g.keys;
       levels = g.levels;
-      choices = Some (adapter_choices (by_positions g.graph g.keys) c.in_ok-adapters.adapters.items);
-    })
-    c.in_ok-spread.ensures
+      choices = Some (adapter_choices (by_positions g.graph g.keys) (weights_there g.graph g.keys g.levels) c.deref-4-then-is_balanced.result.now
+          c.in_ok-adapters.adapters.items);
+    } in
+    let all : balanced c.in_ok-spread.spread ≡ grading_of graph adapters order_value =
+    ap balanced c.in_ok-spread.ensures
     ∙ (λ i. record {
       graph = graph;
       keys = keys i;
-      levels = c.in_ok-keys.ensures.levels i;
-      choices = ((λ j. Some (adapter_choices (by_positions graph (keys j)) (there j)))
-          ∙ choices_if graph (keys_by graph adapters order_value) adapters order_value (sym c.is_balanced.ensures ∙ c.if-is_balanced.true)) i;
+      levels = levels i;
+      choices = ((λ j. Some (adapter_choices (by_positions graph (keys j)) (weights_there graph (keys j) (levels j)) (numbers j) (there j)))
+          ∙ choices_if graph now (levels_of (by_index graph) (leaf_vertices adapters)) adapters order_value
+              (sym c.is_balanced.ensures ∙ c.if-is_balanced.true)) i;
     }) in
     subst (λ (g : Grading). IfOk c.balanced.result (λ s. s ≡ g)) all c.balanced.ensures

@@ -1,6 +1,6 @@
 use Rattle.std.proofs.Common.{◌≡◌, length, map, take}
 use Rattle.spread_routes.specs.LeafNumbers.{least_head}
-use Rattle.spread_routes.proofs.leaf_order.least_neighbours.Given as goal
+use Rattle.spread_routes.proofs.leaf_order.least_neighbors.Given as goal
 
 -- the vertices so far
 abbrev pub invariant-loop-vertex : goal.invariant-loop-vertex
