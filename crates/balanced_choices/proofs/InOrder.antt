@@ -35,7 +35,7 @@ passing old xs p b is = append_assoc old xs (p ∷ []) ∙ ap (λ t. old ++ (xs 
 pub failing : (old xs : List ℕ) (p : ℕ) (b : Bool) → b ≡ false → old ++ xs ≡ old ++ (xs ++ cond b (p ∷ []) [])
 failing old xs p b is = ap (λ l. old ++ l) (sym (append-nil xs)) ∙ ap (λ t. old ++ (xs ++ cond t (p ∷ []) [])) (sym is)
 
-all_reversed : (P : ℕ → Type 0) (xs : List ℕ) → All P xs → All P (reverse xs)
+pub all_reversed : (P : ℕ → Type 0) (xs : List ℕ) → All P xs → All P (reverse xs)
 all_reversed P [] all = all
 all_reversed P (x ∷ xs) all =
     let rest : All P xs = λ i d h. all (suc i) d (omega (arith, h)) in

@@ -4,7 +4,7 @@
 
 mod choosing;
 mod evenness;
-mod first_loads;
+mod first_choice_loads;
 pub mod laws;
 mod loads;
 mod rounds;
@@ -12,6 +12,6 @@ mod taken;
 mod ways;
 
 pub use evenness::are_even;
-pub use first_loads::first_loads;
+pub use first_choice_loads::first_loads;
 pub use loads::{PORTS, no_loads};
 pub use rounds::{Destination, balanced_choices};

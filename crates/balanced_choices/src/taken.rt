@@ -1,5 +1,6 @@
 //! The edges that positions take, by their choices.
-ghost use Rattle.std.specs.Prelude.{◌≡◌, IfOk, slice_index};
+ghost use Rattle.std.specs.Prelude.{◌≡◌, IfOk, slice_get, slice_index};
+ghost use Rattle.port_graph.specs.Heads.{edges_at};
 ghost use Rattle.balanced_choices.specs.EdgesTaken.{edges_taken};
 ghost use Rattle.balanced_choices.specs.Loads.{edge_taken};
 
@@ -25,7 +26,14 @@ pub(crate) fn edges_taken(
 pub(crate) fn edge_taken(ways: &Adjacency, choices: &[u8], position: usize) -> Option<Edge>
     ensures { result ≡ edge_taken ways.now choices.now position }
 {
-    match ways.at(position).get(choice_at(choices, position)) {
+    edge_with(ways, position, choice_at(choices, position))
+}
+
+/// Returns the candidate of a position with this number, if there is one.
+pub(crate) fn edge_with(ways: &Adjacency, position: usize, number: usize) -> Option<Edge>
+    ensures { result ≡ slice_get (edges_at ways.now position) number }
+{
+    match ways.at(position).get(number) {
         Some(edge) => Some(*edge),
         None => None,
     }

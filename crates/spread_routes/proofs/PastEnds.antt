@@ -1,11 +1,13 @@
 -- What is found at an index past the last one, and sums that stop.
-use Rattle.std.proofs.Common.{◌≡◌, ◌<◌, ◌≤◌, ◌+◌, ℕ, List, [], min, inl, inr, sym, ap, ◌∙◌, arith, length, map}
+use Rattle.std.proofs.Common.{◌≡◌, ◌<◌, ◌≤◌, ◌+◌, ℕ, List, [], min, inl, inr, sym, ap, ◌∙◌, arith, length}
 use Rattle.std.proofs.lemmas.Bool.{cases_lt}
 use Rattle.std.proofs.lemmas.List.{get_or_past}
 use Rattle.std.proofs.lemmas.List.Elements.{All-map}
 use Rattle.std.specs.Prelude.{All, slice_index_or}
 use Rattle.balanced_choices.specs.declared.rounds.Destination.{Destination}
-use Rattle.spread_routes.specs.AdapterChoices.{destination}
+use Rattle.spread_labels.specs.LeafVertices.{leaf_vertices}
+use Rattle.spread_labels.proofs.LeafVertices.{leaves_within}
+use Rattle.spread_routes.specs.AdapterChoices.{destination, destinations}
 
 least : (n m : ℕ) → n < m → min n m ≡ n
 least n m h = omega arith
@@ -24,8 +26,7 @@ there_or_past xs n m long =
 pub stopped : (a b m : ℕ) → min (min a m + b) m ≡ min (a + b) m
 stopped a b m = grind arith
 
--- the destinations are where the leaf switches are
-pub all_destinations : (leaf_numbers adapters : List ℕ) (n : ℕ) (leaves : List ℕ) → All (λ leaf. leaf < n) leaves
-    → All (λ (d : Destination). d.position < n) (map (destination leaf_numbers adapters) leaves)
-all_destinations leaf_numbers adapters n leaves each =
-    All-map (λ (d : Destination). d.position < n) (destination leaf_numbers adapters) leaves each
+-- the destinations are positions
+pub all_destinations : (leaf_numbers adapters : List ℕ) → All (λ (d : Destination). d.position < length adapters) (destinations leaf_numbers adapters)
+all_destinations leaf_numbers adapters =
+    All-map (λ (d : Destination). d.position < length adapters) (destination leaf_numbers adapters) (leaf_vertices adapters) (leaves_within adapters)

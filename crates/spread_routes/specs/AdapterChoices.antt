@@ -1,17 +1,22 @@
--- Which candidate a packet takes by balanced loads: for each adapter each position chooses one, and the LIDs that are
--- attached at a position share the choices for the adapters there.
+-- Which candidate a packet takes by balanced loads: for each adapter each position takes one, in turn or by counted loads,
+-- and the LIDs that are attached at a position share the routes to the adapters there.
 use Rattle.std.specs.Prelude.{ℕ, ◌+◌, ◌*◌, ◌==◌, List, [], map, slice_index, slice_index_or, sum_by, take, if◌then◌else◌}
+use Rattle.std.specs.Prelude.{Option, None, Some}
 use Rattle.port_graph.specs.declared.edge.Edge.{Edge}
 use Rattle.spread_labels.specs.LeafVertices.{leaf_vertices}
 use Rattle.spread_labels.specs.Levels.{greatest}
-use Rattle.balanced_choices.specs.BalancedChoices.{balanced_choices, in_turn}
+use Rattle.balanced_choices.specs.BalancedChoices.{are_even, balanced_choices, digits_from, in_turn}
+use Rattle.balanced_choices.specs.FirstLoads.{first_loads}
 use Rattle.balanced_choices.specs.declared.rounds.Destination.{Destination}
 
--- how many adapters each position has, and for each adapter, position by position, the number of the candidate that each
--- position takes
+-- how routes towards adapters are chosen: by what first choices go by, the digit weight, the leaf number and the number of
+-- adapters of each position; and if these do not balance loads, for each adapter, position by position, the number of the
+-- candidate that each position takes
 pub record AdapterChoices : Type 0 where
+  pub weights : List ℕ
+  pub leaf_numbers : List ℕ
   pub adapters : List ℕ
-  pub choices : List (List ℕ)
+  pub counted : Option (List (List ℕ))
 
 -- the number of the first adapter at position q: how many adapters there are before
 abbrev pub first_at : List ℕ → ℕ → ℕ
@@ -21,26 +26,49 @@ first_at adapters q = sum_by (λ n. n) (take q adapters)
 abbrev pub adapter_of : List ℕ → ℕ → ℕ → ℕ
 adapter_of adapters lid q = first_at adapters q + in_turn (slice_index adapters q) lid
 
--- the number of the candidate that a LID with this number takes at position p towards position q; 0 if there are no
--- adapters at q
-abbrev pub choice_towards : AdapterChoices → ℕ → ℕ → ℕ → ℕ
-choice_towards by lid p q =
-    if slice_index by.adapters q == 0 then 0
-    else slice_index (slice_index_or by.choices (adapter_of by.adapters lid q) []) p
+-- the number of the first end at position q: each leaf takes as many numbers as the most adapters that a position has
+abbrev pub first_number : List ℕ → List ℕ → ℕ → ℕ
+first_number leaf_numbers adapters q = slice_index leaf_numbers q * greatest 0 adapters
 
--- position q as a destination, given the leaf number of each position: its ends are its adapters, and each leaf takes as
--- many numbers as the most adapters that a position has
+-- the number of the end at position q whose choices are those of a LID with this number
+abbrev pub end_number : AdapterChoices → ℕ → ℕ → ℕ
+end_number by lid q = first_number by.leaf_numbers by.adapters q + in_turn (slice_index by.adapters q) lid
+
+-- the number of the candidate that a LID with this number takes at position p towards position q: the first choice, counted
+-- round by who takes it, or the one that was made; 0 if there are no adapters at q
+abbrev pub choice_with : Option (List (List ℕ)) → AdapterChoices → ℕ → ℕ → ℕ → ℕ
+choice_with None by lid p q = digits_from (slice_index by.weights p) (end_number by lid q) + p
+choice_with (Some choices) by lid p q =
+    if slice_index by.adapters q == 0 then 0
+    else slice_index (slice_index_or choices (adapter_of by.adapters lid q) []) p
+
+-- the choice of a LID with this number at position p towards position q
+abbrev pub choice_towards : AdapterChoices → ℕ → ℕ → ℕ → ℕ
+choice_towards by lid p q = choice_with by.counted by lid p q
+
+-- position q as a destination, given the leaf number of each position: its ends are its adapters
 abbrev pub destination : List ℕ → List ℕ → ℕ → Destination
 destination leaf_numbers adapters q = record {
   position = q;
   ends = slice_index adapters q;
-  number = slice_index leaf_numbers q * greatest 0 adapters;
+  number = first_number leaf_numbers adapters q;
 }
 
--- the balanced choices of a graph by positions, if each adapter sends a packet to each; position p begins with digits of
--- numbers from weight `weights[p]` on
+-- the positions with adapters as destinations
+abbrev pub destinations : List ℕ → List ℕ → List Destination
+destinations leaf_numbers adapters = map (destination leaf_numbers adapters) (leaf_vertices adapters)
+
+-- the choices if each adapter sends a packet to each: those in turn if their loads are even, and balanced ones otherwise
+abbrev pub counted_if_uneven : List (List Edge) → List ℕ → List ℕ → List Destination → Option (List (List ℕ))
+counted_if_uneven graph adapters weights ds =
+    if are_even graph (first_loads graph adapters weights ds) then None
+    else Some (balanced_choices graph adapters weights ds)
+
+-- how routes are chosen in a graph by positions
 unfoldable pub adapter_choices : List (List Edge) → List ℕ → List ℕ → List ℕ → AdapterChoices
 adapter_choices graph weights leaf_numbers adapters = record {
+  weights = weights;
+  leaf_numbers = leaf_numbers;
   adapters = adapters;
-  choices = balanced_choices graph adapters weights (map (destination leaf_numbers adapters) (leaf_vertices adapters));
+  counted = counted_if_uneven graph adapters weights (destinations leaf_numbers adapters);
 }

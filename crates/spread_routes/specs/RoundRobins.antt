@@ -5,7 +5,7 @@ use Rattle.spread_routes.specs.declared.round_robin.RoundRobin.{RoundRobin}
 -- `start` and the LIDs behind it with one digit, `weight` of them, have the turn `choice`
 pub record IsTurn (turn : RoundRobin) : Type 0 where
   pub weight : 0 < turn.weight
-  pub offset : turn.offset < 2 ^ 16
+  pub offset : turn.offset < 2 ^ 63
   pub count : 0 < turn.count
   pub whole : turn.start ≡ turn.start / turn.weight * turn.weight
   pub choice : turn.choice ≡ (turn.start / turn.weight + turn.offset) % turn.count

@@ -1,86 +1,137 @@
 //! Choices of candidates by which the loads of channels are balanced.
-ghost use Rattle.std.specs.Prelude.{◌≡◌, ◌<◌, ◌-◌, ◌*◌, ◌^◌, All, IfOk, length, map, min, slice_index};
+ghost use Rattle.std.specs.Prelude.{◌≡◌, ◌<◌, ◌≤◌, ◌-◌, ◌%◌, ◌^◌, All, IfOk, IsTrue, is_some, length, map, max, min};
+ghost use Rattle.std.specs.Prelude.{slice_index};
+ghost use Rattle.std.specs.Option.{option_map};
 ghost use Rattle.port_graph.specs.Heads.{LeadToVertices};
 ghost use Rattle.spread_labels.specs.Orders.{numbers_from};
 ghost use Rattle.balanced_choices.specs.BalancedChoices.{in_turn};
-ghost use Rattle.spread_routes.specs.AdapterChoices.{adapter_choices, adapter_of, choice_towards, destination, first_at};
+ghost use Rattle.spread_routes.specs.AdapterChoices.{adapter_choices, adapter_of, choice_towards, counted_if_uneven};
+ghost use Rattle.spread_routes.specs.AdapterChoices.{destinations, end_number, first_at};
+ghost use Rattle.spread_routes.specs.RoundRobins.{IsTurn};
 
 use crate::adapters::most_adapters;
-use balanced_choices::{Destination, balanced_choices};
+use crate::round_robin::RoundRobin;
+use balanced_choices::{Destination, are_even, balanced_choices, first_loads};
 use port_graph::Adjacency;
 use spread_labels::leaf_vertices;
 use std::alloc::{AllocError, Global};
 use std::marker::Model;
 
-/// For each adapter, the candidates that switches take towards it.
+/// How routes towards adapters are chosen among candidates.
 #[derive(Drop)]
 pub(crate) struct AdapterChoices {
+    /// The digit weight of each position.
+    weights: Vec<usize>,
+    /// The leaf number of each position.
+    leaf_numbers: Vec<u16>,
     /// The number of adapters at each position.
     adapters: Vec<u16>,
+    /// The most adapters at one position.
+    most: u16,
     /// The number of the first adapter at each position, as far as 64 bits go.
     firsts: Vec<usize>,
-    /// For each adapter, position by position, the number of the candidate that each position takes.
-    choices: Vec<Vec<u8>>,
+    /// For each adapter, position by position, the number of the candidate that each position takes, if first choices do
+    /// not balance loads.
+    counted: Option<Vec<Vec<u8>>>,
 }
 
 impl Model for AdapterChoices {
     ghost use Rattle.std.specs.Prelude.{◌≡◌, ◌-◌, ◌^◌, length, map, min};
+    ghost use Rattle.std.specs.Option.{option_map};
+    ghost use Rattle.spread_labels.specs.Levels.{greatest};
     ghost use Rattle.spread_labels.specs.Orders.{numbers_from};
     ghost use Rattle.spread_routes.specs.AdapterChoices.{AdapterChoices as AdapterChoicesValue, first_at};
 
     ghost Value = { AdapterChoicesValue };
 
     ghost view = { λ a. record {
+      weights = a.weights.items;
+      leaf_numbers = a.leaf_numbers.items;
       adapters = a.adapters.items;
-      choices = map (λ own. own.items) a.choices.items;
+      counted = option_map (λ choices. map (λ own. own.items) choices.items) a.counted;
     } };
 
-    ghost invariant = { λ a. a.firsts.items
-        ≡ map (λ q. min (first_at a.adapters.items q) (2 ^ 64 - 1)) (numbers_from 0 (length a.adapters.items)) };
+    ghost invariant = { λ a. (a.firsts.items
+        ≡ map (λ q. min (first_at a.adapters.items q) (2 ^ 64 - 1)) (numbers_from 0 (length a.adapters.items)))
+        × (a.most ≡ greatest 0 a.adapters.items) };
 }
 
 impl AdapterChoices {
     /// Balances the loads of a graph by positions, if each adapter sends a packet to each. `weights`, `leaf_numbers` and
     /// `adapters` have the digit weight, the leaf number and the number of adapters of each position. Takes what
-    /// `balanced_choices` takes.
+    /// `first_loads` takes, and if these loads are not even what `balanced_choices` takes besides.
     pub(crate) fn of(
         alloc: Global,
         edges: &Adjacency,
-        weights: &[usize],
-        leaf_numbers: &[u16],
+        weights: Vec<usize>,
+        leaf_numbers: Vec<u16>,
         adapters: Vec<u16>,
     ) -> Result<Self, AllocError>
         requires lead { LeadToVertices edges.now }
-        requires weights { length weights.now ≡ length edges.now }
-        requires leaf_numbers { length leaf_numbers.now ≡ length edges.now }
+        requires weights { length weights.items ≡ length edges.now }
+        requires leaf_numbers { length leaf_numbers.items ≡ length edges.now }
         requires adapters { length adapters.items ≡ length edges.now }
         ensures { IfOk result (λ found. found
-            ≡ adapter_choices edges.now weights.now leaf_numbers.now adapters.items) }
+            ≡ adapter_choices edges.now weights.items leaf_numbers.items adapters.items) }
     {
         let sent = sent(alloc, &adapters)?;
-        let leaves = leaf_vertices(alloc, &adapters)?;
-        let destinations = destinations(alloc, leaf_numbers, &adapters, &leaves)?;
+        let destinations = destinations(alloc, &leaf_numbers, &adapters)?;
+        let counted = counted_if_uneven(alloc, edges, &sent, &weights, &destinations)?;
         let firsts = firsts(alloc, &adapters)?;
-        let choices = balanced_choices(alloc, edges, &sent, weights, &destinations)?;
+        let most = most_adapters(&adapters);
         Ok(AdapterChoices {
+            weights,
+            leaf_numbers,
             adapters,
+            most,
             firsts,
-            choices,
+            counted,
         })
     }
 
+    /// Returns whether choices were made by counted loads.
+    pub(crate) fn are_counted(&self) -> bool
+        ensures { result ≡ is_some self.now.counted }
+    {
+        self.counted.is_some()
+    }
+
     /// Returns the number of the candidate that a LID with this number takes at the position `own` towards the position
-    /// `target`; 0 if there are no adapters at `target`.
+    /// `target`; 0 if there are no adapters at `target`. Choices were made by counted loads.
     pub(crate) fn towards(&self, number: usize, own: usize, target: usize) -> usize
+        requires { IsTrue (is_some self.now.counted) }
         ensures { result ≡ choice_towards self.now number own target }
     {
         if self.count_at(target) == 0 {
             return 0;
         }
-        match self.choices.get(self.adapter_of(number, target)) {
-            Some(choices) => choice_at(choices, own),
+        match &self.counted {
+            Some(counted) => match counted.get(self.adapter_of(number, target)) {
+                Some(choices) => choice_at(choices, own),
+                None => 0,
+            },
             None => 0,
         }
+    }
+
+    /// Returns the turns of ends among `count` candidates at the position `own`.
+    pub(crate) fn turn(&self, own: usize, count: usize) -> RoundRobin
+        requires { (0 < count) × (count < 2 ^ 63) }
+        ensures turn { IsTurn result }
+        ensures count { result.count ≡ count }
+        ensures offset { result.offset ≡ own % count }
+        ensures weight { result.weight ≡ max (slice_index self.now.weights own) 1 }
+    {
+        RoundRobin::at(self.weight_at(own).max(1), own % count, count, 0)
+    }
+
+    /// Returns the number of the end at a position whose routes a LID with this number takes.
+    pub(crate) fn end_number(&self, number: usize, position: usize) -> usize
+        ensures number { result ≡ end_number self.now number position }
+        ensures small { result < 2 ^ 33 }
+    {
+        let first = self.leaf_number_at(position) * usize::from(self.most);
+        first + in_turn(self.count_at(position), number)
     }
 
     /// Returns the number of the adapter at a position whose choices are those of a LID with this number, as far as 64
@@ -95,10 +146,32 @@ impl AdapterChoices {
 
     /// Returns the number of adapters at a position; 0 past the last.
     fn count_at(&self, position: usize) -> usize
-        ensures { result ≡ slice_index self.now.adapters position }
+        ensures count { result ≡ slice_index self.now.adapters position }
+        ensures small { result < 2 ^ 16 }
     {
         match self.adapters.get(position) {
             Some(count) => usize::from(*count),
+            None => 0,
+        }
+    }
+
+    /// Returns the digit weight of a position; 0 past the last.
+    fn weight_at(&self, position: usize) -> usize
+        ensures { result ≡ slice_index self.now.weights position }
+    {
+        match self.weights.get(position) {
+            Some(weight) => *weight,
+            None => 0,
+        }
+    }
+
+    /// Returns the leaf number of a position; 0 past the last.
+    fn leaf_number_at(&self, position: usize) -> usize
+        ensures number { result ≡ slice_index self.now.leaf_numbers position }
+        ensures small { result < 2 ^ 16 }
+    {
+        match self.leaf_numbers.get(position) {
+            Some(number) => usize::from(*number),
             None => 0,
         }
     }
@@ -106,7 +179,8 @@ impl AdapterChoices {
 
 /// Returns `number`, counted round among `count`; 0 if `count` is 0.
 fn in_turn(count: usize, number: usize) -> usize
-    ensures { result ≡ in_turn count number }
+    ensures turn { result ≡ in_turn count number }
+    ensures within { result ≤ count }
 {
     if count == 0 { 0 } else { number % count }
 }
@@ -132,28 +206,51 @@ fn sent(alloc: Global, adapters: &[u16]) -> Result<Vec<usize>, AllocError>
     Ok(sent)
 }
 
-/// Returns the destinations at `leaves`, each with as many ends as it has adapters, and as many numbers as the most
-/// adapters that a position has, from its leaf number times these on.
+/// Returns the positions with adapters as destinations. Each has as many ends as it has adapters, and as many numbers as
+/// the most adapters that a position has, from its leaf number times these on.
 fn destinations(
     alloc: Global,
     leaf_numbers: &[u16],
     adapters: &[u16],
-    leaves: &[usize],
 ) -> Result<Vec<Destination>, AllocError>
-    requires leaf_numbers { length leaf_numbers.now ≡ length adapters.now }
-    requires leaves { All (λ leaf. leaf < length adapters.now) leaves.now }
-    ensures { IfOk result (λ found. found.items ≡ map (destination leaf_numbers.now adapters.now) leaves.now) }
+    requires { length leaf_numbers.now ≡ length adapters.now }
+    ensures are { IfOk result (λ found. found.items ≡ destinations leaf_numbers.now adapters.now) }
+    ensures positions { IfOk result (λ found. All (λ d. d.position < length adapters.now) found.items) }
 {
     let most = most_adapters(adapters);
+    let leaves = leaf_vertices(alloc, adapters)?;
     let mut found = Vec::with_capacity(alloc, leaves.len())?;
-    for leaf in leaves {
+    for leaf in &leaves {
         found.push(Destination {
             position: *leaf,
-            ends: usize::from(adapters[*leaf]),
+            ends: adapters[*leaf],
             number: u32::from(leaf_numbers[*leaf]) * u32::from(most),
         })?;
     }
     Ok(found)
+}
+
+/// Returns balanced choices, or `None` if the loads by first choices are even.
+fn counted_if_uneven(
+    alloc: Global,
+    edges: &Adjacency,
+    sent: &[usize],
+    weights: &[usize],
+    destinations: &[Destination],
+) -> Result<Option<Vec<Vec<u8>>>, AllocError>
+    requires lead { LeadToVertices edges.now }
+    requires sent { length sent.now ≡ length edges.now }
+    requires weights { length weights.now ≡ length edges.now }
+    requires destinations { All (λ d. d.position < length edges.now) destinations.now }
+    ensures { IfOk result (λ counted. option_map (λ choices. map (λ own. own.items) choices.items) counted
+        ≡ counted_if_uneven edges.now sent.now weights.now destinations.now) }
+{
+    let loads = first_loads(alloc, edges, sent, weights, destinations)?;
+    if are_even(edges, &loads) {
+        return Ok(None);
+    }
+    let choices = balanced_choices(alloc, edges, sent, weights, destinations)?;
+    Ok(Some(choices))
 }
 
 /// Returns the number of the first adapter at each position, as far as 64 bits go.

@@ -1,5 +1,6 @@
 //! How packets leave a switch towards others.
-ghost use Rattle.std.specs.Prelude.{◌≡◌, ◌<◌, ◌^◌, [], All, OnOk, length, map, slice_index, slice_index_or};
+ghost use Rattle.std.specs.Prelude.{◌≡◌, ◌<◌, ◌^◌, [], All, IsTrue, None, OnOk, is_some};
+ghost use Rattle.std.specs.Prelude.{length, map, slice_index, slice_index_or};
 ghost use Rattle.std.specs.Prelude.{unwrap_or};
 ghost use Rattle.spread_labels.specs.TargetSets.{EachTarget};
 ghost use Rattle.spread_labels.specs.MarkSets.{picked};
@@ -125,24 +126,16 @@ impl<'s> Exits<'s> {
             write_none(entries, lids, none);
             return;
         }
-        match self.choices {
-            Some(choices) => write_chosen(
-                entries,
-                lids,
-                numbers,
-                ports,
-                choices,
-                self.own,
-                self.position_of(target),
-            ),
-            None => write_ports(
-                entries,
-                lids,
-                numbers,
-                ports,
-                &self.lid_digit,
-                self.higher.has(target),
-            ),
+        let Some(choices) = self.choices else {
+            let is_higher = self.higher.has(target);
+            write_ports(entries, lids, numbers, ports, &self.lid_digit, is_higher);
+            return;
+        };
+        let target = self.position_of(target);
+        if choices.are_counted() {
+            write_chosen(entries, lids, numbers, ports, choices, self.own, target);
+        } else {
+            write_in_turn(entries, lids, numbers, ports, choices, self.own, target);
         }
     }
 
@@ -158,7 +151,7 @@ impl<'s> Exits<'s> {
 }
 
 /// Writes for each LID the port of `ports` that it takes by its choice at the position `own` towards the position
-/// `target`.
+/// `target`. Choices were made by counted loads.
 fn write_chosen(
     entries: &mut [u8],
     lids: &[Lid],
@@ -168,6 +161,7 @@ fn write_chosen(
     own: usize,
     target: usize,
 )
+    requires counted { IsTrue (is_some choices.now.counted) }
     requires ports { 0 < length ports.now }
     requires lids { All (λ lid. lid < length entries.old) lids.now }
     requires numbers { length numbers.now ≡ length entries.old }
@@ -179,6 +173,33 @@ fn write_chosen(
         let lid = usize::from(lid.number());
         let choice = choices.towards(number_of(numbers, lid), own, target);
         entries[lid] = ports[choice % ports.len()].number();
+    }
+}
+
+/// Writes for each LID the port of `ports` that it takes by its first choice at the position `own` towards the position
+/// `target`.
+fn write_in_turn(
+    entries: &mut [u8],
+    lids: &[Lid],
+    numbers: &[u16],
+    ports: &[PortNum],
+    choices: &AdapterChoices,
+    own: usize,
+    target: usize,
+)
+    requires counted { choices.now.counted ≡ None }
+    requires ports { 0 < length ports.now }
+    requires lids { All (λ lid. lid < length entries.old) lids.now }
+    requires numbers { length numbers.now ≡ length entries.old }
+    ensures { entries.new ≡ with_entries
+        (λ lid. port_turn ports.now (choice_towards choices.now (slice_index numbers.now lid) own target))
+        entries.old lids.now }
+{
+    let mut turn = choices.turn(own, ports.len());
+    for lid in lids {
+        let lid = usize::from(lid.number());
+        turn.go_to(choices.end_number(number_of(numbers, lid), target));
+        entries[lid] = ports[turn.choice()].number();
     }
 }
 

@@ -22,9 +22,9 @@ impl RoundRobin {
     /// Returns the turn of `lid`.
     pub(crate) fn at(weight: usize, offset: usize, count: usize, lid: usize) -> Self
         requires weight { 0 < weight }
-        requires offset { offset < 2 ^ 16 }
+        requires offset { offset < 2 ^ 63 }
         requires count { 0 < count }
-        requires lid { lid < 2 ^ 16 }
+        requires lid { lid < 2 ^ 63 }
         ensures turn { IsTurn result }
         ensures weight { result.weight ≡ weight }
         ensures offset { result.offset ≡ offset }
@@ -44,7 +44,7 @@ impl RoundRobin {
     /// Goes to the turn of another LID.
     pub(crate) fn go_to(&mut self, lid: usize)
         requires turn { IsTurn self.old }
-        requires lid { lid < 2 ^ 16 }
+        requires lid { lid < 2 ^ 63 }
         ensures turn { IsTurn self.new }
         ensures same { IsOfSame self.old self.new }
         ensures choice { self.new.choice ≡ (lid / self.old.weight + self.old.offset) % self.old.count }

@@ -111,7 +111,7 @@ impl<'g> Spread<'g> {
             let leaf_numbers = leaf_numbers(alloc, graph, adapters)?;
             let leaf_numbers = counts_at(alloc, &leaf_numbers, &vertices)?;
             let adapters = counts_at(alloc, adapters, &vertices)?;
-            spread.balanced(alloc, &leaf_numbers, adapters)
+            spread.balanced(alloc, leaf_numbers, adapters)
         } else {
             Ok(spread)
         }
@@ -121,18 +121,18 @@ impl<'g> Spread<'g> {
     fn balanced(
         self,
         alloc: Global,
-        leaf_numbers: &[u16],
+        leaf_numbers: Vec<u16>,
         adapters: Vec<u16>,
     ) -> Result<Self, AllocError>
-        requires leaf_numbers { length leaf_numbers.now ≡ length (by_positions self.graph self.keys) }
+        requires leaf_numbers { length leaf_numbers.items ≡ length (by_positions self.graph self.keys) }
         requires adapters { length adapters.items ≡ length (by_positions self.graph self.keys) }
         ensures { IfOk result (λ spread. spread ≡ record self.entry {
           choices = Some (adapter_choices (by_positions self.entry.graph self.entry.keys)
-              (weights_there self.entry.graph self.entry.keys self.entry.levels) leaf_numbers.now adapters.items);
+              (weights_there self.entry.graph self.entry.keys self.entry.levels) leaf_numbers.items adapters.items);
         }) }
     {
         let weights = weights_of(alloc, &self.lid_digits)?;
-        let choices = AdapterChoices::of(alloc, &self.edges, &weights, leaf_numbers, adapters)?;
+        let choices = AdapterChoices::of(alloc, &self.edges, weights, leaf_numbers, adapters)?;
         Ok(Spread {
             choices: Some(choices),
             ..self

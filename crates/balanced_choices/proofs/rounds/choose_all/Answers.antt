@@ -40,5 +40,5 @@ pub returns-clause-balance : goal.returns-clause-balance
 returns-clause-balance c =
     let now : Balance = record { choices = map (λ own. own.items) c.loop-first.choices; loads = c.loop-first.loads } in
     sym c.loop-first.invariant.0
-    ∙ ap (with_all c.args.round c.args.graph.now c.args.sent.now now c.loop-first.end)
+    ∙ ap (with_all c.args.round c.args.graph.now c.args.sent.now c.args.weights.now now c.loop-first.end)
     (drop_all c.loop-first.first c.args.destinations.now c.loop-first-test.false)

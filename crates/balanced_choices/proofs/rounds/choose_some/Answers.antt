@@ -8,7 +8,7 @@ use Rattle.spread_labels.specs.MarkSets.{picked, sets_at}
 use Rattle.spread_labels.specs.Orders.{numbers_from}
 use Rattle.spread_labels.proofs.Numbers.{numbers_long}
 use Rattle.balanced_choices.specs.declared.rounds.Destination.{Destination}
-use Rattle.balanced_choices.specs.BalancedChoices.{Balance, near_first, towards, with_all, with_ends}
+use Rattle.balanced_choices.specs.BalancedChoices.{Balance, ends_of, near_first, towards, with_all, with_ends}
 use Rattle.balanced_choices.proofs.EachEnd.{ends_least, ends_next, ways_are}
 use Rattle.balanced_choices.proofs.rounds.choose_some.Goals as goal
 
@@ -25,7 +25,7 @@ overflow_add-next c =
     let none : Destination = record { position = 0; ends = 0; number = 0 } in
     let next = ends_next c.loop-k.end ds k none c.loop-k-test.true in
     let most = ends_least (c.loop-k.end + (get_or ds k none).ends) (drop (k + 1) ds) in
-    omega (arith, next, most, c.loop-k.invariant.1, c.requires.small)
+    omega (arith, next, most, c.loop-k.invariant.1, c.requires.small, c.from.ensures)
 
 pub choose_between-requires-clause-sent : goal.choose_between-requires-clause-sent
 choose_between-requires-clause-sent c =
@@ -46,7 +46,7 @@ choose_between-requires-clause-ends c =
     let none : Destination = record { position = 0; ends = 0; number = 0 } in
     let next = ends_next c.loop-k.end ds k none c.loop-k-test.true in
     let most = ends_least (c.loop-k.end + (get_or ds k none).ends) (drop (k + 1) ds) in
-    (omega arith, omega (arith, next, most, c.loop-k.invariant.1, c.requires.ends, c.loop-k.auto.choices))
+    (omega arith, omega (arith, next, most, c.loop-k.invariant.1, c.requires.ends, c.loop-k.auto.choices, c.from.ensures))
 
 pub choose_between-requires-clause-choices : goal.choose_between-requires-clause-choices
 choose_between-requires-clause-choices c =
@@ -81,15 +81,16 @@ loop-k-preserved c =
     c.in_ok-ways.ensures ∙ ways_are graph targets c.in_ok-sets.sets k d.position c.in_ok-sets.ensures below target in
     let order : c.deref-in-loop-k.result.now ≡ near_first (towards graph d.position) =
     c.deref-in-loop-k.ensures.value ∙ c.in_ok-order.ensures.order ∙ ap near_first ways in
-    let count : end + d.ends - end ≡ d.ends = omega arith in
+    let count : end + c.from.result - end ≡ d.ends = omega (arith, c.from.ensures) in
+    let next : end + c.from.result ≡ end + d.ends = ap (λ n. end + n) c.from.ensures in
     let now : Balance = record { choices = map (λ w. w.items) c.loop-k.choices; loads = c.loop-k.loads } in
     let after : Balance = record { choices = map (λ w. w.items) c.choose_between.new.choices; loads = c.choose_between.new.loads } in
     let became : with_ends round (towards graph d.position) sent weights (near_first (towards graph d.position)) d.number end now (numbers_from end d.ends) ≡ after =
     sym (λ i. with_ends round (ways i) sent weights (order i) d.number end now (numbers_from end (count i))) ∙ c.in_ok-choose_between.ensures.balance in
     let rest = drop (k + 1) ds in
     let long : length c.in_ok-ways.ways ≡ length graph = ap length c.in_ok-ways.ensures ∙ numbers_long f 0 (length graph) in (
-      ap (λ b. with_all round graph sent weights b (end + d.ends) rest) (sym became)
+      (λ i. with_all round graph sent weights (sym became i) (next i) rest)
           ∙ sym (ap (with_all round graph sent weights now end) (drop_more ds k none c.loop-k-test.true)) ∙ c.loop-k.invariant.0,
-      sym (ends_next end ds k none c.loop-k-test.true) ∙ c.loop-k.invariant.1,
+      ap (λ n. ends_of n rest) next ∙ sym (ends_next end ds k none c.loop-k-test.true) ∙ c.loop-k.invariant.1,
       (λ i x h. c.in_ok-choose_between.ensures.long i x h ∙ long),
     )

@@ -12,6 +12,7 @@ loop-destination-preserved c =
     let own : List ℕ = replicate c.args.positions 0 in
     let none : Destination = record { position = 0; ends = 0; number = 0 } in
     let d = get_or ds i none in
-    c.in_ok-push_choices.ensures ∙ ap (λ (xs : List (List ℕ)). xs ++ replicate d.ends own) c.loop-destination.invariant
+    c.in_ok-push_choices.ensures
+    ∙ (λ j. c.loop-destination.invariant j ++ replicate (c.from.ensures j) own)
     ∙ replicate-append-replicate (ends_of 0 (take i ds)) d.ends own
     ∙ ap (λ n. replicate n own) (sym (ends_more 0 ds i none c.loop-destination-test.true))

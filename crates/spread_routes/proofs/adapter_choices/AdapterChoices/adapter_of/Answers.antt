@@ -9,7 +9,7 @@ use Rattle.spread_routes.proofs.adapter_choices.AdapterChoices.adapter_of.Goals 
 pub index-requires : goal.index-requires
 index-requires c =
     let held = c.self.inside.adapters.items in
-    let long = ap length c.self.invariant ∙ numbers_long (λ q. min (first_at held q) (2 ^ 64 - 1)) 0 (length held) in
+    let long = ap length c.self.invariant.0 ∙ numbers_long (λ q. min (first_at held q) (2 ^ 64 - 1)) 0 (length held) in
     omega (arith, c.requires, long, ap (λ (v : AdapterChoices). length v.adapters) c.self.view_is)
 
 pub returns : goal.returns
@@ -21,7 +21,7 @@ returns c =
     let is : held ≡ counts = ap (λ (v : AdapterChoices). v.adapters) c.self.view_is in
     let within : p < length held = omega (arith, c.requires, ap length is) in
     let first : c.index.result.now ≡ min (first_at counts p) most =
-    c.index.ensures ∙ ap (λ (xs : List ℕ). get_or xs p c.index.result.now) c.self.invariant
+    c.index.ensures ∙ ap (λ (xs : List ℕ). get_or xs p c.index.result.now) c.self.invariant.0
     ∙ made_at (λ q. min (first_at held q) most) (length held) p c.index.result.now within ∙ ap (λ ns. min (first_at ns p) most) is in
     let turn : c.in_turn-turn.result ≡ in_turn (get_or counts p 0) c.args.number =
     c.in_turn-turn.ensures ∙ ap (λ n. in_turn n c.args.number) c.count_at.ensures in

@@ -25,7 +25,7 @@ pub of-requires-clause-weights : goal.of-requires-clause-weights
 of-requires-clause-weights c =
     let inside = c.self.inside in
     let is = subst (Is inside.edges inside.positions.items inside.lid_digits.items) c.self.view_is c.self.invariant in
-    ap length (c.deref-2.ensures.value ∙ c.in_ok-weights.ensures ∙ ap (map (λ (d : LidDigit). d.digit_weight)) c.deref.ensures.value)
+    ap length (c.in_ok-weights.ensures ∙ ap (map (λ (d : LidDigit). d.digit_weight)) c.deref.ensures.value)
     ∙ weights_long c.args.self inside.edges inside.positions.items inside.lid_digits.items is
 
 pub of-requires-clause-leaf_numbers : goal.of-requires-clause-leaf_numbers
@@ -45,8 +45,8 @@ returns c =
     let inside = c.self.inside in
     let by = c.args.self in
     let is = subst (Is inside.edges inside.positions.items inside.lid_digits.items) c.self.view_is c.self.invariant in
-    let numbers = c.args.leaf_numbers.now in
-    let weights = c.deref-2.ensures.value ∙ c.in_ok-weights.ensures ∙ ap (map (λ (d : LidDigit). d.digit_weight)) c.deref.ensures.value
+    let numbers = c.args.leaf_numbers.items in
+    let weights = c.in_ok-weights.ensures ∙ ap (map (λ (d : LidDigit). d.digit_weight)) c.deref.ensures.value
     ∙ weights_are by inside.edges inside.positions.items inside.lid_digits.items is in
     let choices = c.in_ok-choices.ensures ∙ (λ i. adapter_choices (is.by_position i) (weights i) numbers c.args.adapters.items) in
     let all = ap (λ (g : Grading). record { graph = g.graph; keys = g.keys; levels = g.levels; choices = Some c.in_ok-choices.choices }) c.self.view_is

@@ -73,7 +73,7 @@ balanced-requires-clause-leaf_numbers c =
     let by : c.adjacency.result.now ≡ by_index graph = edges_are graph good c.adjacency.result.now c.adjacency.ensures.edges in
     let is : c.deref-2-then-is_balanced.result.now ≡ order_by_keys graph keys =
     c.deref-2-then-is_balanced.ensures.value ∙ c.in_ok-vertices.ensures ∙ (λ i. order (by i) (before_by (c.deref.ensures.value i))) in
-    ap length (c.deref-4-then-is_balanced.ensures.value ∙ c.in_ok-leaf_numbers-2.ensures)
+    ap length (c.in_ok-leaf_numbers-2.ensures)
     ∙ length_map (slice_index c.deref-then-is_balanced.result.now) c.deref-2-then-is_balanced.result.now
     ∙ ap length is ∙ sym (all_positioned graph keys good) ∙ ap (λ (g : Grading). length (by_positions g.graph g.keys)) (sym c.in_ok-spread.ensures)
 
@@ -100,8 +100,8 @@ returns-then-is_balanced c =
     let by : c.adjacency.result.now ≡ by_index graph = edges_are graph good c.adjacency.result.now c.adjacency.ensures.edges in
     let grown : c.in_ok-vertices.vertices.items ≡ order_by_keys graph c.in_ok-keys.field-0.keys.items =
     c.in_ok-vertices.ensures ∙ (λ i. order (by i) (before_by (c.deref.ensures.value i))) in
-    let numbers : c.deref-4-then-is_balanced.result.now ≡ leaf_numbers_there graph now adapters =
-    c.deref-4-then-is_balanced.ensures.value ∙ c.in_ok-leaf_numbers-2.ensures
+    let numbers : c.in_ok-leaf_numbers-2.leaf_numbers-2.items ≡ leaf_numbers_there graph now adapters =
+    c.in_ok-leaf_numbers-2.ensures
     ∙ (λ i. map (slice_index ((c.deref-then-is_balanced.ensures.value ∙ c.in_ok-leaf_numbers.ensures) i))
     ((c.deref-2-then-is_balanced.ensures.value ∙ grown ∙ ap (order_by_keys graph) keys) i)) in
     let there : c.in_ok-adapters.adapters.items ≡ adapters_there graph now adapters =
@@ -111,7 +111,7 @@ returns-then-is_balanced c =
       graph = g.graph;
       keys = g.keys;
       levels = g.levels;
-      choices = Some (adapter_choices (by_positions g.graph g.keys) (weights_there g.graph g.keys g.levels) c.deref-4-then-is_balanced.result.now
+      choices = Some (adapter_choices (by_positions g.graph g.keys) (weights_there g.graph g.keys g.levels) c.in_ok-leaf_numbers-2.leaf_numbers-2.items
           c.in_ok-adapters.adapters.items);
     } in
     let all : balanced c.in_ok-spread.spread ≡ grading_of graph adapters order_value =

@@ -4,13 +4,15 @@ ghost use Rattle.port_graph.specs.Heads.{LeadToVertices};
 ghost use Rattle.spread_labels.specs.Orders.{numbers_from};
 ghost use Rattle.balanced_choices.specs.declared.ways.Change.TheVariants.{Add};
 ghost use Rattle.balanced_choices.specs.BalancedChoices.{near_first};
-ghost use Rattle.balanced_choices.specs.FirstLoads.{Passing, first_loads, loads_with_all, loads_with_ends, passed_on};
+ghost use Rattle.balanced_choices.specs.FirstLoads.{first_edge, first_loads, loads_with_all, loads_with_ends};
+ghost use Rattle.balanced_choices.specs.FirstLoads.{passed_on, with_passed};
 ghost use Rattle.balanced_choices.specs.Loads.{with_changes};
 
 use crate::choosing::{first_choice, near_first};
 use crate::loads::{PORTS, no_loads};
 use crate::rounds::{Destination, positions_of, ways_towards};
-use port_graph::Adjacency;
+use crate::taken::edge_with;
+use port_graph::{Adjacency, Edge};
 use spread_labels::{CandidateSets, TARGETS};
 use std::alloc::{AllocError, Global};
 
@@ -126,21 +128,41 @@ fn pass_on(
         ≡ record { had = had.new; loads = loads.new } }
 {
     for position in order {
-        let packets = had[*position];
-        let choice = usize::from(first_choice(ways, weights, number, *position));
-        if let Some(edge) = ways.at(*position).get(choice) {
-            add_at(had, edge.to, packets);
-            let channel = PORTS * *position + usize::from(edge.port.number());
-            add_at(loads, channel, packets);
+        if let Some(edge) = first_edge(ways, weights, number, *position) {
+            pass_by(edge, *position, had, loads);
         }
     }
+}
+
+/// Returns the edge that a position takes at first towards the end with this number, if there is one.
+fn first_edge(ways: &Adjacency, weights: &[usize], number: usize, position: usize) -> Option<Edge>
+    requires position { position < length ways.now }
+    requires weights { length weights.now ≡ length ways.now }
+    requires number { number + length ways.now < 2 ^ 64 }
+    ensures { result ≡ first_edge ways.now weights.now number position }
+{
+    let choice = first_choice(ways, weights, number, position);
+    edge_with(ways, position, usize::from(choice))
+}
+
+/// Lets a position pass on what it has had by this edge.
+fn pass_by(edge: Edge, position: usize, had: &mut [usize], loads: &mut [usize])
+    requires position { position < length had.old }
+    requires loads { length loads.old ≡ 256 * length had.old }
+    ensures { with_passed position (record { had = had.old; loads = loads.old }) edge
+        ≡ record { had = had.new; loads = loads.new } }
+{
+    let packets = had[position];
+    add_at(had, edge.to, packets);
+    let channel = PORTS * position + usize::from(edge.port.number());
+    add_at(loads, channel, packets);
 }
 
 /// Adds packets to the number at an index, if there is one.
 fn add_at(numbers: &mut [usize], index: usize, packets: usize)
     ensures { numbers.new ≡ with_changes (Add packets) numbers.old (index ∷ []) }
 {
-    if let Some(number) = numbers.get_mut(index) {
-        *number = number.saturating_add(packets);
+    if index < numbers.len() {
+        numbers[index] = numbers[index].saturating_add(packets);
     }
 }

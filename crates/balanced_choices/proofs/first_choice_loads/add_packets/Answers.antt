@@ -1,0 +1,70 @@
+use Rattle.std.proofs.Common.{◌≡◌, ◌<◌, ◌+◌, ◌*◌, ℕ, List, All, sym, ap, subst, ◌∙◌, arith, drop, get_or, length, map}
+use Rattle.std.proofs.lemmas.List.{drop_more, get_or-map, with_items_is}
+use Rattle.std.proofs.lemmas.List.Elements.{All-map}
+use Rattle.std.specs.Prelude.{reverse}
+use Rattle.port_graph.proofs.Counts.{length_map}
+use Rattle.port_graph.specs.declared.edge.Edge.{Edge}
+use Rattle.port_graph.specs.Heads.{edges_at}
+use Rattle.spread_labels.specs.MarkSets.{picked, sets_at}
+use Rattle.spread_labels.specs.Orders.{numbers_from}
+use Rattle.spread_labels.proofs.Numbers.{numbers_long}
+use Rattle.balanced_choices.specs.declared.rounds.Destination.{Destination}
+use Rattle.balanced_choices.specs.BalancedChoices.{towards}
+use Rattle.balanced_choices.specs.FirstLoads.{loads_with_all, loads_with_ends}
+use Rattle.balanced_choices.proofs.EachEnd.{ways_are}
+use Rattle.balanced_choices.proofs.first_choice_loads.add_packets.Goals as goal
+
+pub towards-requires-clause-vertices : goal.towards-requires-clause-vertices
+towards-requires-clause-vertices c =
+    let P : ℕ → Type 0 = λ t. t < length c.args.graph.now in
+    subst (All P) (sym (c.deref.ensures.value ∙ c.in_ok-targets.ensures))
+    (All-map P (λ (d : Destination). d.position) c.args.destinations.now c.requires.destinations)
+
+pub add_packets_to-requires-clause-sent : goal.add_packets_to-requires-clause-sent
+add_packets_to-requires-clause-sent c =
+    let graph = c.args.graph.now in
+    let f : ℕ → List Edge = λ p. picked c.loop-k.k (sets_at c.in_ok-sets.sets p) (edges_at graph p) in
+    c.requires.sent ∙ sym (ap length c.in_ok-ways.ensures ∙ numbers_long f 0 (length graph))
+
+pub add_packets_to-requires-clause-weights : goal.add_packets_to-requires-clause-weights
+add_packets_to-requires-clause-weights c =
+    let graph = c.args.graph.now in
+    let f : ℕ → List Edge = λ p. picked c.loop-k.k (sets_at c.in_ok-sets.sets p) (edges_at graph p) in
+    c.requires.weights ∙ sym (ap length c.in_ok-ways.ensures ∙ numbers_long f 0 (length graph))
+
+pub add_packets_to-requires-clause-had : goal.add_packets_to-requires-clause-had
+add_packets_to-requires-clause-had c =
+    let graph = c.args.graph.now in
+    let f : ℕ → List Edge = λ p. picked c.loop-k.k (sets_at c.in_ok-sets.sets p) (edges_at graph p) in
+    ap length c.deref_mut.ensures.value ∙ c.loop-k.invariant.1 ∙ sym (ap length c.in_ok-ways.ensures ∙ numbers_long f 0 (length graph))
+
+pub add_packets_to-requires-clause-loads : goal.add_packets_to-requires-clause-loads
+add_packets_to-requires-clause-loads c =
+    let graph = c.args.graph.now in
+    let f : ℕ → List Edge = λ p. picked c.loop-k.k (sets_at c.in_ok-sets.sets p) (edges_at graph p) in
+    c.loop-k.auto.loads ∙ c.requires.loads ∙ ap (λ n. 256 * n) (sym (ap length c.in_ok-ways.ensures ∙ numbers_long f 0 (length graph)))
+
+pub loop-k-preserved : goal.loop-k-preserved
+loop-k-preserved c =
+    let graph = c.args.graph.now in
+    let sent = c.args.sent.now in
+    let weights = c.args.weights.now in
+    let ds = c.args.destinations.now in
+    let k = c.loop-k.k in
+    let none : Destination = record { position = 0; ends = 0; number = 0 } in
+    let d = get_or ds k none in
+    let targets = c.deref.result.now in
+    let all : targets ≡ map (λ x. x.position) ds = c.deref.ensures.value ∙ c.in_ok-targets.ensures in
+    let below : k < length targets = omega (arith, c.loop-k-test.true, ap length all ∙ length_map (λ (x : Destination). x.position) ds) in
+    let target : get_or targets k 0 ≡ d.position =
+    ap (λ ts. get_or ts k 0) all ∙ get_or-map (λ (x : Destination). x.position) ds k none 0 c.loop-k-test.true in
+    let ways : c.in_ok-ways.ways ≡ towards graph d.position =
+    c.in_ok-ways.ensures ∙ ways_are graph targets c.in_ok-sets.sets k d.position c.in_ok-sets.ensures below target in
+    let numbers = numbers_from d.number d.ends in
+    let had = c.add_packets_to.new.had in
+    let as_long : length had ≡ c.loop-k.had.len = c.add_packets_to.auto.had ∙ c.deref_mut.ensures.len in (
+      ap (λ l. loads_with_all graph sent weights l (drop (k + 1) ds))
+          (c.add_packets_to.ensures ∙ ap (λ w. loads_with_ends w sent weights c.loop-k.loads numbers) ways)
+          ∙ sym (ap (loads_with_all graph sent weights c.loop-k.loads) (drop_more ds k none c.loop-k-test.true)) ∙ c.loop-k.invariant.0,
+      ap length (with_items_is c.loop-k.had had as_long) ∙ c.add_packets_to.auto.had ∙ ap length c.deref_mut.ensures.value ∙ c.loop-k.invariant.1,
+    )
