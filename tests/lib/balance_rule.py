@@ -102,11 +102,12 @@ class Choices:
         # Each leaf switch takes as many numbers as the most adapters that a switch has, by its leaf number.
         most = max(adapters.values(), default=0)
         leaf_numbers = spread_rule.leaf_numbers_of(graph, leaves)
-        self.first_numbers = {leaf: leaf_numbers[leaf] * most for leaf in leaves}
+        self.first_numbers = {switch: leaf_numbers[switch] * most for switch in graph}
         levels = spread_rule.levels_of(graph, leaves)
         weights = spread_rule.weights_of(graph, levels)
         self.weights = {switch: weights[levels[switch]] for switch in graph}
         self.loads = collections.Counter()
+        self.are_counted = False
         self.taken = {(leaf, own): dict.fromkeys(graph, 0) for leaf in leaves for own in range(adapters[leaf])}
 
     def candidates(self, target: int) -> dict[int, list[Edge]]:
@@ -149,20 +150,22 @@ class Choices:
         ]
         return peaks.index(min(peaks)) if peaks else 0
 
+    def first_choice(self, switch: int, target: int, own: int) -> int:
+        """Returns the number that a switch takes at first towards adapter `own` of a target."""
+        return (self.first_numbers[target] + own) // self.weights[switch] + self.positions[switch]
+
     def choose(
         self, exits: dict[int, list[Edge]], order: list[int], target: int, own: int, is_first: bool
     ) -> None:
         """Makes the choices for adapter `own` of a target: in turn, or anew by the loads of all others."""
         taken = self.taken[target, own]
-        number = self.first_numbers[target] + own
         if not is_first:
             for switch in self.graph:
                 self.add(exits, taken, switch, -1)
         for switch in order:
             if is_first:
                 count = len(exits[switch])
-                digits = number // self.weights[switch]
-                taken[switch] = (digits + self.positions[switch]) % count if count else 0
+                taken[switch] = self.first_choice(switch, target, own) % count if count else 0
             else:
                 taken[switch] = self.lightest(exits, taken, switch)
             self.add(exits, taken, switch)
@@ -172,17 +175,21 @@ class Choices:
         for number in range(3):
             if number > 0 and is_even(self.loads, self.graph):
                 return
-            for target in self.first_numbers:
+            self.are_counted = number > 0
+            for target in self.in_order:
+                if not self.adapters[target]:
+                    continue
                 exits = self.candidates(target)
                 order = self.near_first(exits)
                 for own in range(self.adapters[target]):
                     self.choose(exits, order, target, own, number == 0)
 
     def of(self, number: int, switch: int, target: int) -> int:
-        """Returns the number of the candidate that a LID with this number takes at a switch towards a target."""
-        if not self.adapters[target]:
-            return 0
-        return self.taken[target, number % self.adapters[target]][switch]
+        """Returns the number of the candidate that a LID with this number takes at a switch towards a target, to be
+        counted round."""
+        if self.adapters[target]:
+            return self.taken[target, number % self.adapters[target]][switch]
+        return 0 if self.are_counted else self.first_choice(switch, target, 0)
 
 
 def tables(
