@@ -23,7 +23,7 @@ use Rattle.subnet_view.proofs.UsableSwitches.{switches_law, usable_law}
 use Rattle.subnet_view.proofs.WireLaws.{wire_law}
 use Rattle.audit.specs.Fabrics.{IsSeen, IsSeenIn}
 use Rattle.held_tables.specs.Switches.{index_in}
-use Rattle.plan_file.specs.Held.{HeldPlan}
+use Rattle.held_tables.specs.Held.{HeldPlan}
 
 -- a list that contains a number has an index for it
 pub index_there : (guids : List ℕ) (g : ℕ) → Contains guids g → index_in guids g ≡ None → ⊥

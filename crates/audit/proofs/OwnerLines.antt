@@ -4,10 +4,10 @@ use Rattle.std.specs.Prelude.{map, filter, Contains, ◌==◌}
 use Rattle.std.proofs.lemmas.Bool.{eqb-true, eq-eqb}
 use Rattle.subnet_view.specs.declared.end_port.EndPort.{EndPort}
 use Rattle.subnet_view.proofs.Members.{contains_here, contains_later, contains_cases, contains_none}
-use Rattle.plan_file.specs.declared.held.HeldLid.{HeldLid}
+use Rattle.held_tables.specs.declared.held.HeldLid.{HeldLid}
 use Rattle.held_tables.specs.Tables.{holders, is_owner, is_same_end, lines_of, owners_of}
 use Rattle.held_tables.proofs.Once.{once_from, once_has}
-use Rattle.plan_file.specs.Held.{HeldPlan}
+use Rattle.held_tables.specs.Held.{HeldPlan}
 use Rattle.audit.proofs.Judged.{same_ends, same_itself}
 
 pub record LineOf (lids : List HeldLid) (lid : ℕ) (e : EndPort) : Type 0 where

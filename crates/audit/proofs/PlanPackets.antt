@@ -31,9 +31,9 @@ use Rattle.lft_blocks.proofs.RulesRoute.{lids_are_routed}
 use Rattle.lft_blocks.specs.Entries.{attachment_of}
 use Rattle.lft_blocks.proofs.HeldEntries.{entry_of as planned_entry, entry_by_attachment}
 use Rattle.lft_blocks.proofs.AttachmentSwitches.{attachment_is_switch}
-use Rattle.plan_file.specs.declared.held.HeldLid.{HeldLid}
-use Rattle.plan_file.specs.Held.{HeldPlan}
-use Rattle.plan_file.proofs.PlanRanges.{wire_small}
+use Rattle.held_tables.specs.declared.held.HeldLid.{HeldLid}
+use Rattle.held_tables.specs.Held.{HeldPlan}
+use Rattle.held_tables.proofs.PlanRanges.{wire_small}
 use Rattle.audit.specs.declared.end.Cause.{Cause}
 use Rattle.audit.specs.declared.end.Cause.TheVariants.{NoLink, Foreign}
 use Rattle.audit.specs.declared.end.End.TheVariants.{Taken, Lost}
@@ -46,7 +46,7 @@ use Rattle.held_tables.specs.Tables.{entry_for, is_owner, owners_of}
 use Rattle.audit.specs.WalkEnds.{after, onward}
 use Rattle.audit.proofs.FabricParts.{index_there}
 use Rattle.audit.proofs.OwnerLines.{owner_line, line_owner}
-use Rattle.plan_file.proofs.OwnedLids.{line_owned}
+use Rattle.held_tables.proofs.OwnedLids.{line_owned}
 use Rattle.held_tables.proofs.HeldPlans.{made, entry_counts}
 use Rattle.held_tables.proofs.HeldTables.{get_mapped}
 use Rattle.audit.proofs.PlanSteps.{contains_at, index_is, no_wire_at_0}

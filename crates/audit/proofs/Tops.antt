@@ -10,7 +10,7 @@ use Rattle.std.proofs.lemmas.List.Recursion.{max_push}
 use Rattle.std.proofs.Math.Nat.{le-max_left, le-max_right}
 use Rattle.subnet_view.specs.Reading.{Cells, switches}
 use Rattle.lid_assign.specs.Lids.{greatest}
-use Rattle.plan_file.specs.Held.{HeldPlan}
+use Rattle.held_tables.specs.Held.{HeldPlan}
 use Rattle.held_tables.specs.declared.far_end.Far.TheVariants.{Nothing}
 use Rattle.held_tables.specs.declared.audited_switch.AuditedSwitch.{AuditedSwitch}
 use Rattle.audit.specs.Edges.{edge_by, edge_to, edges_of, greatest_top}

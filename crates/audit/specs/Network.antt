@@ -6,9 +6,9 @@ use Rattle.std.specs.Coded.{Coded, code_by, coded×}
 use Rattle.std.specs.Prelude.{refl}
 use Rattle.fact_store.specs.View.{Facts}
 use Rattle.fact_store.specs.Coded.{facts_code}
-use Rattle.plan_file.specs.contracts.held.Held as held
-use Rattle.plan_file.specs.declared.held.HeldLid.{HeldLid}
-use Rattle.plan_file.specs.Held.{HeldPlan}
+use Rattle.held_tables.specs.contracts.held.Held as held
+use Rattle.held_tables.specs.declared.held.HeldLid.{HeldLid}
+use Rattle.held_tables.specs.Held.{HeldPlan}
 use Rattle.held_tables.specs.Tables.{lines_of, number_of}
 use Rattle.held_tables.specs.Chains.{AreChains}
 use Rattle.held_tables.specs.Owners.{AreOwners}

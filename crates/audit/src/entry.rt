@@ -3,8 +3,7 @@ ghost use Rattle.std.specs.Prelude.{◌≡◌};
 ghost use Rattle.held_tables.specs.Tables.{block_at, entry_at, entry_for, is_block_of};
 
 use crate::next_hops::counted;
-use held_tables::{index_of, top_at};
-use plan_file::{Held, HeldBlock};
+use held_tables::{Held, HeldBlock, index_of, top_at};
 use smp_bytes::{Guid, Lid, NO_ENTRY};
 
 /// Returns the switch's effective entry for `lid`: 255 for LID 0 and above the top.

@@ -21,10 +21,9 @@ use crate::switch_step::SwitchStep;
 use crate::walk_ends::ends;
 use fact_store::{Refused, Store};
 use held_tables::{
-    AuditedSwitch, Chains, Far, Owner, Sender, all_begin, block_chains, block_rows, firsts,
-    is_sole_owner, is_told_twice, lid_owners, lines_of, nodes, owners_of, sources,
+    AuditedSwitch, Chains, Far, Held, HeldLid, Owner, Sender, all_begin, block_chains, block_rows,
+    firsts, is_sole_owner, is_told_twice, lid_owners, lines_of, nodes, owners_of, sources,
 };
-use plan_file::{Held, HeldLid};
 use port_graph::Edge;
 use smp_bytes::{Guid, Lid};
 use std::alloc::{AllocError, Global};

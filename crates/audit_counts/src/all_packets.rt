@@ -14,7 +14,7 @@ use crate::packet_tally::PacketTally;
 use crate::sent_packet::SentPacket;
 use crate::site::{Census, Site, census_of, index_of, joined_adapters, joined_count, site_in};
 use audit::{Blocks, Deliveries, Network};
-use plan_file::HeldLid;
+use held_tables::HeldLid;
 use std::alloc::{AllocError, Global};
 
 /// The counts of packets, and the lines whose packets are all delivered.

@@ -9,7 +9,7 @@ use crate::first_few::FirstFew;
 use audit::{Network, is_same_end};
 use fact_gaps::{unjoined_ports, unusable_nodes};
 use fact_store::{Refused, Store};
-use plan_file::{Held, HeldLid};
+use held_tables::{Held, HeldLid};
 use smp_bytes::Guid;
 use std::alloc::{AllocError, Global};
 use subnet_view::{EndPort, end_ports, is_end_port, is_usable, switches};

@@ -23,7 +23,7 @@ use Rattle.subnet_view.specs.Wires.{across, attached}
 use Rattle.subnet_view.specs.Agreement.{Part, IsEndPortIn, IsPortNamed}
 use Rattle.subnet_view.proofs.EndPortList.{end_ports_law}
 use Rattle.subnet_view.proofs.WireLaws.{wire_law}
-use Rattle.plan_file.specs.Held.{HeldPlan}
+use Rattle.held_tables.specs.Held.{HeldPlan}
 use Rattle.subnet_view.specs.Graph.{graph_of}
 use Rattle.subnet_view.specs.Components.{root_of}
 use Rattle.subnet_view.proofs.Components.{rooted, same_root}

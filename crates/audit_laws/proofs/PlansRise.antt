@@ -25,10 +25,10 @@ use Rattle.lft_blocks.proofs.AttachmentSwitches.{attachment_is_switch}
 use Rattle.lft_blocks.specs.Rules.{RuleValue, routing_by}
 use Rattle.lft_blocks.proofs.RulesRoute.{rules_are_routings}
 use Rattle.lft_blocks.specs.Plan.{plan_of, lid_routing}
-use Rattle.plan_file.specs.Held.{HeldPlan, nothing_held}
-use Rattle.plan_file.specs.Printed.{held_plan}
-use Rattle.plan_file.proofs.NextPorts.{next_has_cost}
-use Rattle.plan_file.proofs.PlanRanges.{wire_small}
+use Rattle.held_tables.specs.Held.{HeldPlan, nothing_held}
+use Rattle.held_tables.specs.PlanTables.{held_plan}
+use Rattle.held_tables.proofs.NextPorts.{next_has_cost}
+use Rattle.held_tables.proofs.PlanRanges.{wire_small}
 use Rattle.audit.specs.Edges.{edge_by}
 use Rattle.held_tables.specs.Switches.{row_of}
 use Rattle.held_tables.specs.Tables.{counted, entry_for, top_of as top_held}

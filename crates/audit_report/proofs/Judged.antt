@@ -9,9 +9,9 @@ use Rattle.subnet_view.specs.EndPorts.{end_ports}
 use Rattle.subnet_view.specs.Reading.{Cells}
 use Rattle.subnet_view.proofs.Members.{contains_here, contains_later, contains_cases, contains_none, contains_filter, contains-from_filter, list_any_true, list_any_at}
 use Rattle.subnet_view.proofs.Apart.{contains_map, contains-from_map}
-use Rattle.plan_file.specs.declared.held.HeldLid.{HeldLid}
-use Rattle.plan_file.specs.Held.{HeldPlan}
-use Rattle.plan_file.proofs.Lists.{in_lists, from_lists}
+use Rattle.held_tables.specs.declared.held.HeldLid.{HeldLid}
+use Rattle.held_tables.specs.Held.{HeldPlan}
+use Rattle.held_tables.proofs.Lists.{in_lists, from_lists}
 use Rattle.audit.specs.declared.end.End.TheVariants.{Taken}
 use Rattle.audit.specs.Network.{Seen}
 use Rattle.audit.specs.NextHops.{end_for, is_at}

@@ -20,7 +20,7 @@ use audit::{Cause, End, Network};
 use audit_counts::{Causes, FirstFew, PacketTally, Pairs, SentPacket, Unmatched};
 use audit_ways::{Figures, WayFigures};
 use byte_io::{Sink, WriteFault, write_guid, write_number, write_port};
-use plan_file::HeldLid;
+use held_tables::HeldLid;
 use smp_bytes::{Guid, Lid, PortNum};
 use subnet_view::EndPort;
 

@@ -14,7 +14,7 @@ use audit_channels::{ChannelOrder, channel_order};
 use audit_counts::{PacketSurvey, PacketTally, Unmatched, disputed, sites, survey};
 use audit_ways::{Figures, WayFigures, figures_of_ways_told};
 use fact_store::{Refused, Store};
-use plan_file::Held;
+use held_tables::Held;
 use std::alloc::{AllocError, Global};
 use std::marker::Model;
 

@@ -10,7 +10,7 @@ ghost use Rattle.audit_ways.specs.Ways.{is_adapter, reaches, reaches_if};
 
 use crate::channel_loads::load_channel;
 use audit::{Ends, Far, Network, is_same_end};
-use plan_file::HeldLid;
+use held_tables::HeldLid;
 use std::alloc::{AllocError, Global};
 use subnet_view::EndPort;
 

@@ -22,9 +22,9 @@ use Rattle.subnet_view.proofs.GraphSwitches.{graph_guids}
 use Rattle.spread_labels.specs.Orders.{at_position, position_of}
 use Rattle.spread_labels.proofs.ByPositions.{position_less}
 use Rattle.spread_routes.proofs.Indices.{wire_at}
-use Rattle.plan_file.specs.declared.held.HeldLid.{HeldLid}
-use Rattle.plan_file.specs.Held.{HeldPlan}
-use Rattle.plan_file.proofs.PlanRanges.{wire_small}
+use Rattle.held_tables.specs.declared.held.HeldLid.{HeldLid}
+use Rattle.held_tables.specs.Held.{HeldPlan}
+use Rattle.held_tables.proofs.PlanRanges.{wire_small}
 use Rattle.held_tables.specs.declared.far_end.Far.TheVariants.{Nothing, Switch}
 use Rattle.held_tables.specs.Switches.{far_at, far_of, far_to, row_of}
 use Rattle.held_tables.specs.Tables.{entry_for, owners_of, top_of}

@@ -17,10 +17,10 @@ use Rattle.lft_blocks.specs.Entries.{block_count}
 use Rattle.lft_blocks.specs.Plan.{SwitchTable}
 use Rattle.lft_blocks.proofs.AttachmentTables.{switches_rise}
 use Rattle.lft_blocks.proofs.BlockLaws.{made_at}
-use Rattle.plan_file.specs.declared.held.HeldBlock.{HeldBlock}
-use Rattle.plan_file.specs.declared.held.HeldSwitch.{HeldSwitch}
-use Rattle.plan_file.specs.Held.{HeldPlan}
-use Rattle.plan_file.specs.Printed.{blocks_of}
+use Rattle.held_tables.specs.declared.held.HeldBlock.{HeldBlock}
+use Rattle.held_tables.specs.declared.held.HeldSwitch.{HeldSwitch}
+use Rattle.held_tables.specs.Held.{HeldPlan}
+use Rattle.held_tables.specs.PlanTables.{blocks_of}
 use Rattle.held_tables.specs.Switches.{index_in}
 use Rattle.held_tables.specs.Tables.{counted, entry_at, entry_for, entry_of, index_of, is_block_of, top_at, top_of}
 use Rattle.held_tables.specs.Tables.{entry_in as entry_in_block}

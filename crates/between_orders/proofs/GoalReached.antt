@@ -15,8 +15,8 @@ use Rattle.subnet_view.proofs.GraphSwitches.{graph_guids, switch_usable}
 use Rattle.spread_labels.specs.Orders.{at_position, position_of, positioned_edge}
 use Rattle.spread_labels.proofs.Growing.{contains_at as vertex_at}
 use Rattle.spread_routes.proofs.Indices.{edge_there, index_of_switch}
-use Rattle.plan_file.specs.declared.held.HeldLid.{HeldLid}
-use Rattle.plan_file.specs.Held.{HeldPlan}
+use Rattle.held_tables.specs.declared.held.HeldLid.{HeldLid}
+use Rattle.held_tables.specs.Held.{HeldPlan}
 use Rattle.held_tables.specs.Switches.{row_of}
 use Rattle.held_tables.specs.Tables.{entry_for, owners_of, top_of}
 use Rattle.held_tables.proofs.HeldTables.{within_length}

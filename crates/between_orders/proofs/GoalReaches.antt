@@ -9,8 +9,8 @@ use Rattle.subnet_view.specs.Reading.{switches}
 use Rattle.subnet_view.specs.Graph.{graph_of}
 use Rattle.subnet_view.proofs.Graphs.{graph_law}
 use Rattle.spread_routes.proofs.Indices.{leads_below, there_and_back}
-use Rattle.plan_file.specs.declared.held.HeldLid.{HeldLid}
-use Rattle.plan_file.specs.Held.{HeldPlan}
+use Rattle.held_tables.specs.declared.held.HeldLid.{HeldLid}
+use Rattle.held_tables.specs.Held.{HeldPlan}
 use Rattle.audit.specs.declared.switch_step.SwitchStep.{SwitchStep}
 use Rattle.audit.specs.NextHops.{switch_step}
 use Rattle.audit.proofs.Judged.{same_itself}

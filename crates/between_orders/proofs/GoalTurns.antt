@@ -20,7 +20,7 @@ use Rattle.subnet_view.proofs.Graphs.{edge_is_wire, graph_law}
 use Rattle.subnet_view.proofs.GraphSwitches.{graph_guids}
 use Rattle.spread_labels.specs.Orders.{at_position, position_of}
 use Rattle.spread_routes.proofs.Indices.{index_of_switch, wire_at}
-use Rattle.plan_file.specs.Held.{HeldPlan}
+use Rattle.held_tables.specs.Held.{HeldPlan}
 use Rattle.held_tables.specs.Tables.{entry_for, owners_of}
 use Rattle.audit.specs.declared.next_hop.NextHop.{NextHop}
 use Rattle.audit.specs.declared.next_hop.NextHop.TheVariants.{To, Ends}

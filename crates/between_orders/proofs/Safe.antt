@@ -11,7 +11,7 @@ use Rattle.subnet_view.specs.Graph.{graph_of, guids_of}
 use Rattle.subnet_view.specs.GraphLaws.{IsGraph, IsSwitch}
 use Rattle.subnet_view.proofs.Graphs.{graph_law}
 use Rattle.subnet_view.proofs.GraphSwitches.{graph_guids}
-use Rattle.plan_file.specs.Held.{HeldPlan}
+use Rattle.held_tables.specs.Held.{HeldPlan}
 use Rattle.spread_labels.specs.declared.vertex_key.VertexKey.{VertexKey}
 use Rattle.spread_labels.specs.Keys.{before_by}
 use Rattle.spread_labels.specs.Orders.{grown_behind, next_placed, numbers_from, position_of, without}

@@ -9,7 +9,7 @@ use crate::goal::tables_between;
 use crate::orders::orders;
 use audit::Network;
 use fact_store::{Refused, Store};
-use plan_file::Held;
+use held_tables::Held;
 use std::alloc::{AllocError, Global};
 use subnet_view::{SwitchGraph, Wires};
 

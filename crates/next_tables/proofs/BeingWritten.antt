@@ -14,7 +14,7 @@ use Rattle.fact_store.specs.View.{Facts, cells_of}
 use Rattle.subnet_view.specs.Reading.{Cells, switches}
 use Rattle.subnet_view.specs.Agreement.{Part, IsEndPortIn}
 use Rattle.subnet_view.proofs.UsableSwitches.{switches_law, usable_law}
-use Rattle.plan_file.specs.Held.{HeldPlan}
+use Rattle.held_tables.specs.Held.{HeldPlan}
 use Rattle.audit.specs.declared.end.End.TheVariants.{Lost}
 use Rattle.held_tables.specs.declared.far_end.Far.TheVariants.{Nothing}
 use Rattle.audit.specs.declared.next_hop.NextHop.TheVariants.{Ends}

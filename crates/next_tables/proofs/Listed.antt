@@ -5,8 +5,8 @@ use Rattle.std.specs.List.{list_all, zip}
 use Rattle.smp_bytes.proofs.Members.{contains_here, contains_later, list_all_at, list_all_true}
 use Rattle.subnet_view.specs.declared.end_port.EndPort.{EndPort}
 use Rattle.subnet_view.specs.Reading.{Cells, switches}
-use Rattle.plan_file.specs.declared.held.HeldLid.{HeldLid}
-use Rattle.plan_file.specs.Held.{HeldPlan}
+use Rattle.held_tables.specs.declared.held.HeldLid.{HeldLid}
+use Rattle.held_tables.specs.Held.{HeldPlan}
 use Rattle.audit.specs.declared.next_hop.NextHop.{NextHop}
 use Rattle.audit.specs.declared.switch_step.SwitchStep.{SwitchStep}
 use Rattle.audit.specs.WalkEnds.{HaveEnded, after, end_of, onward}

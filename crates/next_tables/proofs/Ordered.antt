@@ -14,8 +14,8 @@ use Rattle.fact_store.specs.View.{Facts, cells_of}
 use Rattle.subnet_view.specs.declared.end_port.EndPort.{EndPort}
 use Rattle.subnet_view.specs.Reading.{Cells, switches}
 use Rattle.lft_blocks.proofs.AttachmentTables.{switches_rise}
-use Rattle.plan_file.specs.declared.held.HeldLid.{HeldLid}
-use Rattle.plan_file.specs.Held.{HeldPlan}
+use Rattle.held_tables.specs.declared.held.HeldLid.{HeldLid}
+use Rattle.held_tables.specs.Held.{HeldPlan}
 use Rattle.held_tables.specs.Switches.{index_in}
 use Rattle.held_tables.specs.Tables.{entry_for}
 use Rattle.audit.specs.declared.next_hop.NextHop.{NextHop}

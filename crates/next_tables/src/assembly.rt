@@ -6,8 +6,8 @@ ghost use Rattle.next_tables.specs.Assembled.{all_blocks, block_in, entry_in, mo
 ghost use Rattle.next_tables.specs.NextTables.{next_switch};
 
 use audit::Network;
+use held_tables::{Held, HeldBlock, HeldSwitch};
 use lft_blocks::block_count;
-use plan_file::{Held, HeldBlock, HeldSwitch};
 use smp_bytes::{Lid, NO_ENTRY};
 use std::alloc::{AllocError, Global};
 

@@ -9,7 +9,7 @@ use crate::columns::columns;
 use crate::fault::StepFault;
 use crate::step_rule::StepRule;
 use audit::Network;
-use plan_file::{Held, HeldLid};
+use held_tables::{Held, HeldLid};
 use smp_bytes::Lid;
 use std::alloc::{AllocError, Global};
 

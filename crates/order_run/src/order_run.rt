@@ -13,7 +13,7 @@ ghost use Rattle.order_run.specs.OrderRun.{HasTold, IsOrderFault, IsTelling, tol
 use audit::Network;
 use byte_io::{Sink, Source};
 use fact_store::Store;
-use plan_file::Held;
+use held_tables::Held;
 use sm_cli::{Fault, read_tables_and_files, write_order};
 use smp_bytes::{Generation, Guid};
 use std::alloc::{AllocError, Global};

@@ -20,9 +20,9 @@ use Rattle.lid_assign.specs.Lids.{IsNoRoom, lids, owner_of, top_of}
 use Rattle.lft_blocks.specs.Entries.{attachment_of, port_to}
 use Rattle.lft_blocks.specs.Rules.{RuleValue}
 use Rattle.lft_blocks.proofs.RulesRoute.{lids_are_routed}
-use Rattle.plan_file.specs.declared.held.HeldLid.{HeldLid}
-use Rattle.plan_file.specs.Held.{HeldPlan, nothing_held}
-use Rattle.plan_file.proofs.NextPorts.{lid_has_cost}
+use Rattle.held_tables.specs.declared.held.HeldLid.{HeldLid}
+use Rattle.held_tables.specs.Held.{HeldPlan, nothing_held}
+use Rattle.held_tables.proofs.NextPorts.{lid_has_cost}
 use Rattle.held_tables.proofs.HeldPlans.{made, entry_counts}
 use Rattle.held_tables.specs.Tables.{entry_for}
 use Rattle.audit.specs.declared.end.End.TheVariants.{Taken}

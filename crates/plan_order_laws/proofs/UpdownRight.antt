@@ -17,8 +17,8 @@ use Rattle.subnet_view.proofs.Graphs.{graph_law, wire_is_edge}
 use Rattle.subnet_view.proofs.GraphSwitches.{graph_guids, switch_usable}
 use Rattle.lft_blocks.specs.Rules.{up_and_down}
 use Rattle.lft_blocks.specs.Plan.{plan_of}
-use Rattle.plan_file.specs.Held.{HeldPlan}
-use Rattle.plan_file.specs.Printed.{held_plan}
+use Rattle.held_tables.specs.Held.{HeldPlan}
+use Rattle.held_tables.specs.PlanTables.{held_plan}
 use Rattle.updown_routes.specs.Ranks.{is_before}
 use Rattle.updown_routes.specs.Channels.{component_size, position_of, channel_number}
 use Rattle.updown_routes.proofs.Before.{before_trans, not_before_itself}

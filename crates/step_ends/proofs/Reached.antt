@@ -32,8 +32,8 @@ use Rattle.lid_assign.specs.Lids.{IsNoRoom, Given, has_number, lids, owner_of, t
 use Rattle.lid_assign.proofs.LidLaws.{lids_law}
 use Rattle.lft_blocks.specs.Entries.{attachment_of}
 use Rattle.lft_blocks.specs.Rules.{RuleValue}
-use Rattle.plan_file.specs.declared.held.HeldLid.{HeldLid}
-use Rattle.plan_file.specs.Held.{HeldPlan, nothing_held}
+use Rattle.held_tables.specs.declared.held.HeldLid.{HeldLid}
+use Rattle.held_tables.specs.Held.{HeldPlan, nothing_held}
 use Rattle.held_tables.specs.declared.far_end.Far.{Far}
 use Rattle.held_tables.specs.declared.far_end.Far.TheVariants.{Nothing, Port, Switch}
 use Rattle.held_tables.specs.Switches.{far_at, far_of, far_to, index_in, row_of}
@@ -51,7 +51,7 @@ use Rattle.audit.proofs.FabricParts.{index_there}
 use Rattle.audit.proofs.Judged.{same_itself}
 use Rattle.audit.proofs.OwnerLines.{owner_line}
 use Rattle.audit.proofs.PlanPackets.{from_switch}
-use Rattle.plan_file.proofs.OwnedLids.{line_owned}
+use Rattle.held_tables.proofs.OwnedLids.{line_owned}
 use Rattle.audit.proofs.PlanSteps.{contains_at, index_is}
 use Rattle.next_tables.specs.Next.{step_at}
 use Rattle.next_tables.proofs.Entries.{at_mapped, member}

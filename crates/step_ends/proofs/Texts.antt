@@ -6,9 +6,9 @@ use Rattle.subnet_view.specs.Reading.{switches}
 use Rattle.lid_assign.specs.Lids.{IsNoRoom}
 use Rattle.lft_blocks.specs.Plan.{PlanValue, plan_of}
 use Rattle.lft_blocks.specs.Rules.{RuleValue}
-use Rattle.plan_file.specs.Held.{HeldPlan}
-use Rattle.plan_file.specs.Reading.{held_of}
-use Rattle.plan_file.specs.TablesText.{next_text}
+use Rattle.held_tables.specs.Held.{HeldPlan}
+use Rattle.tables_file.specs.Reading.{held_of}
+use Rattle.tables_file.specs.TablesText.{next_text}
 use Rattle.audit.specs.declared.end.End.TheVariants.{Taken}
 use Rattle.audit.specs.declared.next_hop.NextHop.{NextHop}
 use Rattle.audit.specs.declared.next_hop.NextHop.TheVariants.{To, Ends}

@@ -6,7 +6,7 @@ use Rattle.held_tables.specs.declared.owners.Owner.{Owner}
 use Rattle.audit.specs.BlockWalks.{AreDelivered}
 use Rattle.audit.specs.Deliveries.{AreDeliveries}
 use Rattle.audit.specs.Network.{Seen}
-use Rattle.plan_file.specs.declared.held.HeldLid.{HeldLid}
+use Rattle.held_tables.specs.declared.held.HeldLid.{HeldLid}
 use Rattle.held_tables.specs.Blocks.{AreBlocks}
 use Rattle.held_tables.specs.Owners.{AreOwners}
 use Rattle.audit.proofs.ToOwners.{are_deliveries}
