@@ -10,7 +10,7 @@ use Rattle.fact_store.specs.View.{Facts, cells_of}
 use Rattle.subnet_view.specs.Reading.{Cells, switches}
 use Rattle.subnet_view.specs.Agreement.{Part, IsEndPortIn}
 use Rattle.held_tables.specs.Held.{HeldPlan}
-use Rattle.audit.specs.Fabrics.{IsSeenIn}
+use Rattle.packet_walks.specs.Fabrics.{IsSeenIn}
 use Rattle.held_tables.specs.Switches.{index_in}
 use Rattle.audit_channels.specs.Waiting.{RiseOnWays}
 

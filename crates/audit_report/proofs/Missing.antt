@@ -25,7 +25,7 @@ use Rattle.held_tables.specs.PlanTables.{held_plan, with_top}
 use Rattle.held_tables.proofs.OwnedLids.{owner_at, owner_listed}
 use Rattle.held_tables.specs.Tables.{is_same_end}
 use Rattle.held_tables.proofs.HeldPlans.{made}
-use Rattle.audit.proofs.Judged.{same_ends, same_itself}
+use Rattle.packet_walks.proofs.Judged.{same_ends, same_itself}
 use Rattle.audit_counts.specs.declared.unmatched.Unmatched.{Unmatched}
 use Rattle.audit_report.specs.Passing.{EachHasTables, EachHoldsLid, EachNodeIsKnown, HoldsLid, HoldsTables, IsWholeFor}
 use Rattle.audit_counts.specs.FirstFew.{Listed}

@@ -15,13 +15,13 @@ use Rattle.held_tables.specs.Held.{HeldPlan}
 use Rattle.port_graph.specs.declared.edge.Edge.{Edge}
 use Rattle.held_tables.specs.declared.far_end.Far.{Far}
 use Rattle.held_tables.specs.declared.far_end.Far.TheVariants.{Nothing, Switch, Port}
-use Rattle.audit.specs.Edges.{edge_by, edges_of}
+use Rattle.packet_walks.specs.Edges.{edge_by, edges_of}
 use Rattle.held_tables.specs.Switches.{far_at, far_of, far_to, index_in, row_of, sender_of, switch_over}
-use Rattle.audit.specs.declared.end.End.{End}
+use Rattle.packet_walks.specs.declared.end.End.{End}
 use Rattle.held_tables.specs.declared.senders.Sender.{Sender}
-use Rattle.audit.specs.NextHops.{AreBrought, end_for, is_at}
+use Rattle.packet_walks.specs.NextHops.{AreBrought, end_for, is_at}
 use Rattle.held_tables.specs.Tables.{entry_for}
-use Rattle.audit.proofs.InTime.{found_at}
+use Rattle.packet_walks.proofs.InTime.{found_at}
 use Rattle.port_graph.proofs.Counts.{length_map}
 use Rattle.audit_ways.specs.declared.way_tally.WayTally.{WayTally}
 use Rattle.audit_ways.specs.declared.sender_groups.Groups.{Groups}

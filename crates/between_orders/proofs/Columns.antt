@@ -8,8 +8,8 @@ use Rattle.subnet_view.specs.Reading.{Cells, switches}
 use Rattle.held_tables.specs.Held.{HeldPlan}
 use Rattle.held_tables.specs.Blocks.{AreBlocks}
 use Rattle.held_tables.specs.Tables.{owners_of}
-use Rattle.audit.specs.declared.switch_step.SwitchStep.{SwitchStep}
-use Rattle.audit.specs.NextHops.{switch_step}
+use Rattle.packet_walks.specs.declared.switch_step.SwitchStep.{SwitchStep}
+use Rattle.packet_walks.specs.NextHops.{switch_step}
 use Rattle.two_orders.specs.declared.labels.Sides.{Sides}
 use Rattle.two_orders.specs.Labels.{labels_from}
 use Rattle.two_orders.specs.TwoOrders.{TwoOrders}

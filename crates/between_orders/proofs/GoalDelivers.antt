@@ -28,15 +28,15 @@ use Rattle.held_tables.proofs.PlanRanges.{wire_small}
 use Rattle.held_tables.specs.declared.far_end.Far.TheVariants.{Nothing, Switch}
 use Rattle.held_tables.specs.Switches.{far_at, far_of, far_to, row_of}
 use Rattle.held_tables.specs.Tables.{entry_for, owners_of, top_of}
-use Rattle.audit.specs.declared.end.End.{End}
-use Rattle.audit.specs.declared.end.End.TheVariants.{Taken}
-use Rattle.audit.specs.declared.next_hop.NextHop.{NextHop}
-use Rattle.audit.specs.declared.next_hop.NextHop.TheVariants.{To, Ends}
-use Rattle.audit.specs.declared.switch_step.SwitchStep.{SwitchStep}
-use Rattle.audit.specs.NextHops.{by_entry, cause_of, next_hops_of, over, switch_step}
-use Rattle.audit.specs.WalkEnds.{after}
-use Rattle.audit.proofs.Judged.{at_is}
-use Rattle.audit.proofs.PlanSteps.{contains_at, no_wire_at_0}
+use Rattle.packet_walks.specs.declared.end.End.{End}
+use Rattle.packet_walks.specs.declared.end.End.TheVariants.{Taken}
+use Rattle.packet_walks.specs.declared.next_hop.NextHop.{NextHop}
+use Rattle.packet_walks.specs.declared.next_hop.NextHop.TheVariants.{To, Ends}
+use Rattle.packet_walks.specs.declared.switch_step.SwitchStep.{SwitchStep}
+use Rattle.packet_walks.specs.NextHops.{by_entry, cause_of, next_hops_of, over, switch_step}
+use Rattle.packet_walks.specs.WalkEnds.{after}
+use Rattle.packet_walks.proofs.Judged.{at_is}
+use Rattle.packet_walks.proofs.PlanSteps.{contains_at, no_wire_at_0}
 use Rattle.next_tables.specs.Assembled.{most_blocks}
 use Rattle.next_tables.specs.ByOrder.{IsOrder, position_at, switch_at}
 use Rattle.next_tables.specs.Next.{step_at}

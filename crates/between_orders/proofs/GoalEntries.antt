@@ -25,11 +25,11 @@ use Rattle.held_tables.specs.Switches.{index_in}
 use Rattle.held_tables.specs.Tables.{counted, entry_at, entry_for, entry_of, index_of, is_block_of, top_at, top_of}
 use Rattle.held_tables.specs.Tables.{entry_in as entry_in_block}
 use Rattle.held_tables.proofs.HeldTables.{block_found, slice_mapped, within_length}
-use Rattle.audit.proofs.FabricParts.{index_there}
-use Rattle.audit.proofs.PlanSteps.{contains_at}
-use Rattle.audit.proofs.Tops.{entry_above}
-use Rattle.audit.specs.declared.switch_step.SwitchStep.{SwitchStep}
-use Rattle.audit.specs.NextHops.{switch_step}
+use Rattle.packet_walks.proofs.FabricParts.{index_there}
+use Rattle.packet_walks.proofs.PlanSteps.{contains_at}
+use Rattle.packet_walks.proofs.Tops.{entry_above}
+use Rattle.packet_walks.specs.declared.switch_step.SwitchStep.{SwitchStep}
+use Rattle.packet_walks.specs.NextHops.{switch_step}
 use Rattle.next_tables.specs.Assembled.{all_blocks, block_in, entry_in, some_blocks, tables_with}
 use Rattle.next_tables.specs.ByOrder.{switch_at}
 use Rattle.next_tables.specs.NextTables.{next_switch, next_top}

@@ -20,15 +20,15 @@ use Rattle.held_tables.specs.Held.{HeldPlan}
 use Rattle.held_tables.specs.Switches.{row_of}
 use Rattle.held_tables.specs.Tables.{entry_for, owners_of, top_of}
 use Rattle.held_tables.proofs.HeldTables.{within_length}
-use Rattle.audit.specs.declared.end.Cause.{Cause}
-use Rattle.audit.specs.declared.end.Cause.TheVariants.{AboveTop, NoEntry, NoLink, NoPort}
-use Rattle.audit.specs.declared.end.End.TheVariants.{Taken}
-use Rattle.audit.specs.declared.next_hop.NextHop.{NextHop}
-use Rattle.audit.specs.declared.next_hop.NextHop.TheVariants.{To, Ends}
-use Rattle.audit.specs.NextHops.{by_entry, cause_of, next_hops_of}
-use Rattle.audit.specs.WalkEnds.{after}
-use Rattle.audit.proofs.Ended.{after_ended}
-use Rattle.audit.proofs.PlanSteps.{contains_at, leaves}
+use Rattle.packet_walks.specs.declared.end.Cause.{Cause}
+use Rattle.packet_walks.specs.declared.end.Cause.TheVariants.{AboveTop, NoEntry, NoLink, NoPort}
+use Rattle.packet_walks.specs.declared.end.End.TheVariants.{Taken}
+use Rattle.packet_walks.specs.declared.next_hop.NextHop.{NextHop}
+use Rattle.packet_walks.specs.declared.next_hop.NextHop.TheVariants.{To, Ends}
+use Rattle.packet_walks.specs.NextHops.{by_entry, cause_of, next_hops_of}
+use Rattle.packet_walks.specs.WalkEnds.{after}
+use Rattle.packet_walks.proofs.Ended.{after_ended}
+use Rattle.packet_walks.proofs.PlanSteps.{contains_at, leaves}
 use Rattle.subnet_view.specs.Reading.{port_count_of}
 use Rattle.next_tables.specs.ByOrder.{AreRight, IsOrder, Leads, position_at, switch_at}
 use Rattle.next_tables.specs.Next.{step_at}

@@ -11,9 +11,9 @@ use Rattle.subnet_view.proofs.Graphs.{graph_law}
 use Rattle.spread_routes.proofs.Indices.{leads_below, there_and_back}
 use Rattle.held_tables.specs.declared.held.HeldLid.{HeldLid}
 use Rattle.held_tables.specs.Held.{HeldPlan}
-use Rattle.audit.specs.declared.switch_step.SwitchStep.{SwitchStep}
-use Rattle.audit.specs.NextHops.{switch_step}
-use Rattle.audit.proofs.Judged.{same_itself}
+use Rattle.packet_walks.specs.declared.switch_step.SwitchStep.{SwitchStep}
+use Rattle.packet_walks.specs.NextHops.{switch_step}
+use Rattle.packet_walks.proofs.Judged.{same_itself}
 use Rattle.next_tables.specs.ByOrder.{switch_at}
 use Rattle.next_tables.specs.Next.{step_at}
 use Rattle.next_tables.proofs.Entries.{at_mapped}

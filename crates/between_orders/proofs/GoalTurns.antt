@@ -22,10 +22,10 @@ use Rattle.spread_labels.specs.Orders.{at_position, position_of}
 use Rattle.spread_routes.proofs.Indices.{index_of_switch, wire_at}
 use Rattle.held_tables.specs.Held.{HeldPlan}
 use Rattle.held_tables.specs.Tables.{entry_for, owners_of}
-use Rattle.audit.specs.declared.next_hop.NextHop.{NextHop}
-use Rattle.audit.specs.declared.next_hop.NextHop.TheVariants.{To, Ends}
-use Rattle.audit.proofs.PlanSteps.{leaves}
-use Rattle.audit.specs.NextHops.{switch_step}
+use Rattle.packet_walks.specs.declared.next_hop.NextHop.{NextHop}
+use Rattle.packet_walks.specs.declared.next_hop.NextHop.TheVariants.{To, Ends}
+use Rattle.packet_walks.proofs.PlanSteps.{leaves}
+use Rattle.packet_walks.specs.NextHops.{switch_step}
 use Rattle.held_tables.proofs.HeldTables.{within_length}
 use Rattle.next_tables.proofs.Steps.{at_index}
 use Rattle.next_tables.specs.Assembled.{most_blocks, tables_with}

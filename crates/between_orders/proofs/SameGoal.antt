@@ -10,8 +10,8 @@ use Rattle.held_tables.specs.declared.held.HeldLid.{HeldLid}
 use Rattle.held_tables.specs.Held.{HeldPlan}
 use Rattle.held_tables.specs.Tables.{entry_for}
 use Rattle.held_tables.proofs.HeldTables.{within_length}
-use Rattle.audit.specs.declared.next_hop.NextHop.{NextHop}
-use Rattle.audit.specs.declared.next_hop.NextHop.TheVariants.{To, Ends}
+use Rattle.packet_walks.specs.declared.next_hop.NextHop.{NextHop}
+use Rattle.packet_walks.specs.declared.next_hop.NextHop.TheVariants.{To, Ends}
 use Rattle.next_tables.specs.ByOrder.{IsNextByOrder, IsTriedByOrder, comes_down, goes_up, is_down, is_up, leads_in, may_change, none_comes_down, none_goes_up, switch_at}
 use Rattle.next_tables.specs.ByOrder.{tried, tried_at, tried_entry, turns_well}
 use Rattle.next_tables.specs.Next.{comes_to, delivers, step_at}

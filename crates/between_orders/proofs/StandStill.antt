@@ -10,7 +10,7 @@ use Rattle.held_tables.specs.Held.{HeldPlan}
 use Rattle.std.specs.List.{find}
 use Rattle.held_tables.specs.Tables.{entry_for}
 use Rattle.held_tables.proofs.HeldTables.{within_length}
-use Rattle.audit.specs.declared.next_hop.NextHop.TheVariants.{To}
+use Rattle.packet_walks.specs.declared.next_hop.NextHop.TheVariants.{To}
 use Rattle.next_tables.specs.ByOrder.{position_at, switch_at, tried}
 use Rattle.next_tables.specs.Next.{comes_to, step_at}
 use Rattle.next_tables.proofs.Hops.{none_to, to_same}

@@ -7,9 +7,9 @@ use Rattle.subnet_view.specs.Reading.{Cells, switches}
 use Rattle.held_tables.specs.Held.{HeldPlan}
 use Rattle.held_tables.specs.declared.held.HeldLid.{HeldLid}
 use Rattle.held_tables.specs.Tables.{entry_for, owners_of, top_of}
-use Rattle.audit.specs.declared.end.End.TheVariants.{Taken}
-use Rattle.audit.specs.declared.next_hop.NextHop.TheVariants.{Ends}
-use Rattle.audit.specs.NextHops.{switch_step}
+use Rattle.packet_walks.specs.declared.end.End.TheVariants.{Taken}
+use Rattle.packet_walks.specs.declared.next_hop.NextHop.TheVariants.{Ends}
+use Rattle.packet_walks.specs.NextHops.{switch_step}
 use Rattle.next_tables.specs.ByOrder.{AreRight, IsNextByOrder, IsOrder, position_at, switch_at}
 use Rattle.next_tables.specs.Next.{step_at}
 use Rattle.next_tables.specs.NextTables.{IsKept, by_order, next_tables}

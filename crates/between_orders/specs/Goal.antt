@@ -7,10 +7,10 @@ use Rattle.subnet_view.specs.declared.end_port.EndPort.{EndPort}
 use Rattle.subnet_view.specs.Reading.{Cells, switches}
 use Rattle.held_tables.specs.Held.{HeldPlan}
 use Rattle.held_tables.specs.Tables.{owners_of}
-use Rattle.audit.specs.declared.next_hop.NextHop.{NextHop}
-use Rattle.audit.specs.declared.next_hop.NextHop.TheVariants.{To, Ends}
-use Rattle.audit.specs.declared.switch_step.SwitchStep.{SwitchStep}
-use Rattle.audit.specs.NextHops.{is_at, switch_step}
+use Rattle.packet_walks.specs.declared.next_hop.NextHop.{NextHop}
+use Rattle.packet_walks.specs.declared.next_hop.NextHop.TheVariants.{To, Ends}
+use Rattle.packet_walks.specs.declared.switch_step.SwitchStep.{SwitchStep}
+use Rattle.packet_walks.specs.NextHops.{is_at, switch_step}
 use Rattle.next_tables.specs.Assembled.{most_blocks, tables_with}
 use Rattle.next_tables.specs.SwitchSteps.{Both}
 use Rattle.two_orders.specs.declared.labels.Sides.{Sides}

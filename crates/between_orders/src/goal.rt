@@ -9,9 +9,9 @@ ghost use Rattle.between_orders.specs.Goal.{first_label, fits, port_of, tables_b
 ghost use Rattle.two_orders.specs.Labels.{labels_from, leads_on};
 
 use crate::labelled::Labelled;
-use audit::{Blocks, Network, NextHop, SwitchStep, is_at};
 use held_tables::Held;
 use next_tables::{first_owner, most_blocks, no_entries, tables_with};
+use packet_walks::{Blocks, Network, NextHop, SwitchStep, is_at};
 use port_graph::{Adjacency, Edge};
 use smp_bytes::{Lid, NO_ENTRY};
 use std::alloc::{AllocError, Global};

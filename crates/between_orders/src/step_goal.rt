@@ -7,9 +7,9 @@ ghost use Rattle.between_orders.specs.Between.{IsGoal, goal_of};
 
 use crate::goal::tables_between;
 use crate::orders::orders;
-use audit::Network;
 use fact_store::{Refused, Store};
 use held_tables::Held;
+use packet_walks::Network;
 use std::alloc::{AllocError, Global};
 use subnet_view::{SwitchGraph, Wires};
 

@@ -21,7 +21,7 @@ use Rattle.held_tables.specs.declared.held.HeldSwitch.{HeldSwitch}
 use Rattle.held_tables.specs.declared.held.HeldBlock.{HeldBlock}
 use Rattle.held_tables.specs.Held.{HeldPlan}
 use Rattle.held_tables.specs.Tables.{counted, entry_for, entry_of, holders, is_owner, top_of}
-use Rattle.audit.specs.Fabrics.{HoldsTablesIn, IsSeen, IsSeenIn}
+use Rattle.packet_walks.specs.Fabrics.{HoldsTablesIn, IsSeen, IsSeenIn}
 
 -- the fabric and its tables ------------------------------------------------------------------------------
 

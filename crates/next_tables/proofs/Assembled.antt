@@ -14,7 +14,7 @@ use Rattle.held_tables.specs.declared.held.HeldBlock.{HeldBlock}
 use Rattle.held_tables.specs.declared.held.HeldSwitch.{HeldSwitch}
 use Rattle.held_tables.specs.Held.{HeldPlan}
 use Rattle.held_tables.specs.PlanTables.{blocks_from, blocks_of}
-use Rattle.audit.specs.Edges.{greatest_top}
+use Rattle.packet_walks.specs.Edges.{greatest_top}
 use Rattle.held_tables.specs.Tables.{top_of}
 use Rattle.held_tables.proofs.HeldTables.{get_mapped, within_length}
 use Rattle.held_tables.proofs.Mapped.{mapped_more}

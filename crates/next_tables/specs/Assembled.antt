@@ -7,7 +7,7 @@ use Rattle.held_tables.specs.declared.held.HeldBlock.{HeldBlock}
 use Rattle.held_tables.specs.declared.held.HeldSwitch.{HeldSwitch}
 use Rattle.held_tables.specs.Held.{HeldPlan}
 use Rattle.held_tables.specs.PlanTables.{blocks_from}
-use Rattle.audit.specs.Edges.{greatest_top}
+use Rattle.packet_walks.specs.Edges.{greatest_top}
 use Rattle.next_tables.specs.NextTables.{next_switch}
 
 -- the entry of the switch at `index` for `lid`, 255 if there is none

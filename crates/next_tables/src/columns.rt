@@ -3,14 +3,14 @@ ghost use Rattle.std.specs.Prelude.{◌≡◌, ◌↔◌, ◌==◌, ◌≤◌, �
 ghost use Rattle.std.specs.List.{range_with_len};
 ghost use Rattle.fact_store.specs.View.{cells_of};
 ghost use Rattle.subnet_view.specs.Reading.{switches};
-ghost use Rattle.audit.specs.Deliveries.{AreDeliveries};
+ghost use Rattle.packet_walks.specs.Deliveries.{AreDeliveries};
 ghost use Rattle.held_tables.specs.Blocks.{AreBlocks};
 ghost use Rattle.next_tables.specs.NextTables.{by_order, column_of, keeper, kept_by, settled_first, value_of};
 
 use crate::next_entries::next_entries;
 use crate::ordered_entries::ordered_entries;
 use crate::step_rule::StepRule;
-use audit::{Blocks, Deliveries, Network, is_same_end};
+use packet_walks::{Blocks, Deliveries, Network, is_same_end};
 use smp_bytes::{Lid, NO_ENTRY};
 use std::alloc::{AllocError, Global};
 use subnet_view::EndPort;

@@ -1,12 +1,12 @@
 //! The next entries of the switches for a LID that one end port alone holds, both in the held tables and in the plan.
 ghost use Rattle.std.specs.Prelude.{◌≡◌, ◌↔◌, IfOk, IsTrue};
-ghost use Rattle.audit.specs.WalkEnds.{HaveEnded};
+ghost use Rattle.packet_walks.specs.WalkEnds.{HaveEnded};
 ghost use Rattle.next_tables.specs.SwitchSteps.{agreed_by, agreed_of, arrives_by, chosen_by, hops_of};
 ghost use Rattle.next_tables.specs.SwitchSteps.{mending_by, mending_of};
 ghost use Rattle.next_tables.specs.SwitchSteps.{is_whole, next_by, next_of, patch_by, patch_entry_by};
 
-use audit::walk_ends::{end_of, ends, is_to, onward};
-use audit::{Cause, End, NextHop, SwitchStep, is_at};
+use packet_walks::walk_ends::{end_of, ends, is_to, onward};
+use packet_walks::{Cause, End, NextHop, SwitchStep, is_at};
 use std::alloc::{AllocError, Global};
 use subnet_view::EndPort;
 

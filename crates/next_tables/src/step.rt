@@ -8,8 +8,8 @@ use crate::assembly::{most_blocks, tables_with};
 use crate::columns::columns;
 use crate::fault::StepFault;
 use crate::step_rule::StepRule;
-use audit::Network;
 use held_tables::{Held, HeldLid};
+use packet_walks::Network;
 use smp_bytes::Lid;
 use std::alloc::{AllocError, Global};
 

@@ -22,8 +22,8 @@ use Rattle.spread_routes.specs.Spread.{keys_by, spread_by}
 use Rattle.spread_labels.specs.Ways.{channel_number}
 use Rattle.held_tables.specs.Tables.{entry_for, top_of as top_held}
 use Rattle.held_tables.proofs.HeldPlans.{made}
-use Rattle.audit.proofs.PlanSteps.{leaves}
-use Rattle.audit.proofs.Tops.{none_above}
+use Rattle.packet_walks.proofs.PlanSteps.{leaves}
+use Rattle.packet_walks.proofs.Tops.{none_above}
 use Rattle.audit_channels.specs.Waiting.{WaitsFor}
 use Rattle.audit_laws.proofs.PlansRise.{rise_in_turn}
 use Rattle.next_tables.proofs.Steps.{at_index}

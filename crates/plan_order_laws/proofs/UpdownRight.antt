@@ -25,7 +25,7 @@ use Rattle.updown_routes.proofs.Before.{before_trans, not_before_itself}
 use Rattle.updown_routes.proofs.Ranks.{before_total}
 use Rattle.plan_order.specs.PlanOrder.{rank_position}
 use Rattle.lid_assign.specs.Lids.{IsNoRoom}
-use Rattle.audit.proofs.PlanSteps.{leaves}
+use Rattle.packet_walks.proofs.PlanSteps.{leaves}
 use Rattle.held_tables.specs.Tables.{entry_for}
 use Rattle.next_tables.proofs.Entries.{member}
 use Rattle.next_tables.proofs.Steps.{at_index}

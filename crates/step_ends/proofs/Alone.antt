@@ -19,8 +19,8 @@ use Rattle.held_tables.specs.Owners.{is_sole}
 use Rattle.held_tables.specs.Tables.{is_owner, is_same_end, owners_of}
 use Rattle.held_tables.proofs.HeldPlans.{made}
 use Rattle.held_tables.proofs.Once.{sole_owners_are_alone}
-use Rattle.audit.proofs.Judged.{same_itself}
-use Rattle.audit.proofs.OwnerLines.{owner_line}
+use Rattle.packet_walks.proofs.Judged.{same_itself}
+use Rattle.packet_walks.proofs.OwnerLines.{owner_line}
 use Rattle.step_ends.proofs.Last.{EachAlone}
 use Rattle.step_ends.proofs.Reached.{owner_listed}
 

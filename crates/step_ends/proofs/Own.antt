@@ -35,14 +35,14 @@ use Rattle.held_tables.proofs.OwnedLids.{line_owned, owner_listed as owner_has_l
 use Rattle.tables_file.proofs.TablesText.{tables_are_text}
 use Rattle.held_tables.specs.Tables.{entry_for, is_owner, owners_of, top_of}
 use Rattle.held_tables.proofs.HeldPlans.{entry_counts, made, top_of_switch}
-use Rattle.audit.specs.declared.end.End.TheVariants.{Taken}
-use Rattle.audit.specs.declared.next_hop.NextHop.TheVariants.{To, Ends}
-use Rattle.audit.specs.NextHops.{next_hops_of}
-use Rattle.audit.specs.WalkEnds.{after}
-use Rattle.audit.proofs.Judged.{same_itself}
-use Rattle.audit.proofs.OwnerLines.{line_owner, owner_line}
-use Rattle.audit.proofs.PlanPackets.{attachment_there, from_switch}
-use Rattle.audit.proofs.PlanSteps.{contains_at}
+use Rattle.packet_walks.specs.declared.end.End.TheVariants.{Taken}
+use Rattle.packet_walks.specs.declared.next_hop.NextHop.TheVariants.{To, Ends}
+use Rattle.packet_walks.specs.NextHops.{next_hops_of}
+use Rattle.packet_walks.specs.WalkEnds.{after}
+use Rattle.packet_walks.proofs.Judged.{same_itself}
+use Rattle.packet_walks.proofs.OwnerLines.{line_owner, owner_line}
+use Rattle.packet_walks.proofs.PlanPackets.{attachment_there, from_switch}
+use Rattle.packet_walks.proofs.PlanSteps.{contains_at}
 use Rattle.next_tables.specs.NextTables.{StepRuleValue, next_at, next_switch, next_table, next_tables, next_top}
 use Rattle.next_run.specs.RunNext.{step_rule}
 use Rattle.next_tables.proofs.Whole.{entry_next, top_next}

@@ -39,20 +39,20 @@ use Rattle.held_tables.specs.declared.far_end.Far.TheVariants.{Nothing, Port, Sw
 use Rattle.held_tables.specs.Switches.{far_at, far_of, far_to, index_in, row_of}
 use Rattle.held_tables.specs.Tables.{entry_for, is_owner, owners_of}
 use Rattle.held_tables.proofs.HeldPlans.{made}
-use Rattle.audit.specs.declared.end.Cause.{Cause}
-use Rattle.audit.specs.declared.end.Cause.TheVariants.{Foreign}
-use Rattle.audit.specs.declared.end.End.TheVariants.{Lost, Taken}
-use Rattle.audit.specs.declared.next_hop.NextHop.{NextHop}
-use Rattle.audit.specs.declared.next_hop.NextHop.TheVariants.{To, Ends}
-use Rattle.audit.specs.NextHops.{at_port, by_entry, cause_of, next_hops_of, over}
-use Rattle.audit.specs.WalkEnds.{after}
-use Rattle.audit.proofs.Ended.{after_ended}
-use Rattle.audit.proofs.FabricParts.{index_there}
-use Rattle.audit.proofs.Judged.{same_itself}
-use Rattle.audit.proofs.OwnerLines.{owner_line}
-use Rattle.audit.proofs.PlanPackets.{from_switch}
+use Rattle.packet_walks.specs.declared.end.Cause.{Cause}
+use Rattle.packet_walks.specs.declared.end.Cause.TheVariants.{Foreign}
+use Rattle.packet_walks.specs.declared.end.End.TheVariants.{Lost, Taken}
+use Rattle.packet_walks.specs.declared.next_hop.NextHop.{NextHop}
+use Rattle.packet_walks.specs.declared.next_hop.NextHop.TheVariants.{To, Ends}
+use Rattle.packet_walks.specs.NextHops.{at_port, by_entry, cause_of, next_hops_of, over}
+use Rattle.packet_walks.specs.WalkEnds.{after}
+use Rattle.packet_walks.proofs.Ended.{after_ended}
+use Rattle.packet_walks.proofs.FabricParts.{index_there}
+use Rattle.packet_walks.proofs.Judged.{same_itself}
+use Rattle.packet_walks.proofs.OwnerLines.{owner_line}
+use Rattle.packet_walks.proofs.PlanPackets.{from_switch}
 use Rattle.held_tables.proofs.OwnedLids.{line_owned}
-use Rattle.audit.proofs.PlanSteps.{contains_at, index_is}
+use Rattle.packet_walks.proofs.PlanSteps.{contains_at, index_is}
 use Rattle.next_tables.specs.Next.{step_at}
 use Rattle.next_tables.proofs.Entries.{at_mapped, member}
 use Rattle.next_tables.proofs.Mixtures.{in_range}

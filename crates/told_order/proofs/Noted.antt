@@ -14,7 +14,7 @@ use Rattle.held_tables.specs.declared.far_end.Far.{Far}
 use Rattle.held_tables.specs.declared.far_end.Far.TheVariants.{Nothing, Switch, Port}
 use Rattle.held_tables.specs.Switches.{far_by, row_of}
 use Rattle.held_tables.specs.Tables.{entry_for}
-use Rattle.audit.specs.Edges.{edges_of}
+use Rattle.packet_walks.specs.Edges.{edges_of}
 use Rattle.audit_channels.specs.Columns.{number_of}
 use Rattle.audit_channels.specs.Orders.{Follows}
 use Rattle.audit_channels.specs.Waiting.{AreWaits, WaitsFor}

@@ -4,8 +4,8 @@ use Rattle.std.specs.Prelude.{drop, map, replicate, slice_get}
 use Rattle.fact_store.specs.View.{Facts, cells_of}
 use Rattle.subnet_view.specs.Reading.{switches}
 use Rattle.subnet_view.specs.declared.end_port.EndPort.{EndPort}
-use Rattle.audit.proofs.Brought.{if_ok}
-use Rattle.audit.specs.NextHops.{switch_step}
+use Rattle.packet_walks.proofs.Brought.{if_ok}
+use Rattle.packet_walks.specs.NextHops.{switch_step}
 use Rattle.next_tables.proofs.ByLid.{first_of, none_first}
 use Rattle.between_orders.specs.Goal.{column_between, entries_towards}
 use Rattle.between_orders.proofs.Columns.{nobodys, owned}

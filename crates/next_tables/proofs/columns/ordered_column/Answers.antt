@@ -4,9 +4,9 @@ use Rattle.std.specs.Prelude.{drop, map, replicate, slice_get}
 use Rattle.fact_store.specs.View.{Facts, cells_of}
 use Rattle.subnet_view.specs.Reading.{switches}
 use Rattle.subnet_view.specs.declared.end_port.EndPort.{EndPort}
-use Rattle.audit.proofs.Brought.{if_ok}
-use Rattle.audit.specs.Deliveries.{ComeToOwner}
-use Rattle.audit.specs.NextHops.{switch_step}
+use Rattle.packet_walks.proofs.Brought.{if_ok}
+use Rattle.packet_walks.specs.Deliveries.{ComeToOwner}
+use Rattle.packet_walks.specs.NextHops.{switch_step}
 use Rattle.held_tables.specs.Tables.{entry_for}
 use Rattle.next_tables.specs.NextTables.{by_order, column_of}
 use Rattle.next_tables.specs.OrderedEntries.{ordered_of}

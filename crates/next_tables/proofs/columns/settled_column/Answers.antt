@@ -5,10 +5,10 @@ use Rattle.std.proofs.lemmas.Bool.{eqb-true, eqb-false}
 use Rattle.std.proofs.lemmas.List.{nil_from_length}
 use Rattle.fact_store.specs.View.{Facts, cells_of}
 use Rattle.subnet_view.specs.Reading.{switches}
-use Rattle.audit.specs.Deliveries.{ComeToOwner}
-use Rattle.audit.specs.NextHops.{switch_step}
+use Rattle.packet_walks.specs.Deliveries.{ComeToOwner}
+use Rattle.packet_walks.specs.NextHops.{switch_step}
 use Rattle.held_tables.specs.Tables.{entry_for}
-use Rattle.audit.proofs.Brought.{if_ok}
+use Rattle.packet_walks.proofs.Brought.{if_ok}
 use Rattle.next_tables.specs.NextTables.{column_of, keeper, settled_first}
 use Rattle.next_tables.specs.SwitchSteps.{next_of}
 use Rattle.next_tables.proofs.ByLid.{nobodys, kept, others, settled}

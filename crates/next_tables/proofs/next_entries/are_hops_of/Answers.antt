@@ -1,9 +1,9 @@
 -- They agree at each index.
 use Rattle.std.proofs.Common.{◌∙◌, ◌<◌, below_more, length, refl, sym, arith}
 use Rattle.std.proofs.lemmas.List.{ext_get_or, get_or-map, get_or_default, length-map}
-use Rattle.audit.specs.declared.next_hop.NextHop.TheVariants.{To}
+use Rattle.packet_walks.specs.declared.next_hop.NextHop.TheVariants.{To}
 use Rattle.next_tables.specs.SwitchSteps.{hops_of}
-use Rattle.audit.specs.declared.switch_step.SwitchStep.{SwitchStep}
+use Rattle.packet_walks.specs.declared.switch_step.SwitchStep.{SwitchStep}
 use Rattle.next_tables.proofs.next_entries.are_hops_of.Goals as goal
 
 pub loop-index-preserved : goal.loop-index-preserved

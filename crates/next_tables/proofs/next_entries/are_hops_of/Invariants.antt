@@ -1,7 +1,7 @@
 -- They agree so far.
 use Rattle.std.proofs.Common.{◌≡◌, ◌<◌, ℕ}
 use Rattle.std.specs.Prelude.{slice_index_or}
-use Rattle.audit.specs.declared.next_hop.NextHop.TheVariants.{To}
+use Rattle.packet_walks.specs.declared.next_hop.NextHop.TheVariants.{To}
 use Rattle.next_tables.specs.SwitchSteps.{hops_of}
 use Rattle.next_tables.proofs.next_entries.are_hops_of.Given as goal
 

@@ -1,6 +1,6 @@
 -- By where the three walks end.
 use Rattle.std.proofs.Common.{◌≡◌, ◌∙◌, [], refl, sym}
-use Rattle.audit.proofs.Brought.{if_ok}
+use Rattle.packet_walks.proofs.Brought.{if_ok}
 use Rattle.next_tables.specs.SwitchSteps.{agreed_of, arrives_by, chosen_by, hops_of, next_of}
 use Rattle.next_tables.proofs.Listed.{next_is, next_is_whole}
 use Rattle.next_tables.proofs.next_entries.entries_by.Goals as goal
