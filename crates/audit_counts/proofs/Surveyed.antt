@@ -12,10 +12,10 @@ use Rattle.subnet_view.specs.EndPorts.{end_ports}
 use Rattle.subnet_view.specs.Reading.{Cells}
 use Rattle.held_tables.specs.declared.held.HeldLid.{HeldLid}
 use Rattle.held_tables.specs.Held.{HeldPlan}
-use Rattle.packet_walks.specs.declared.end.End.{End}
-use Rattle.packet_walks.specs.declared.end.End.TheVariants.{Taken}
+use Rattle.packet_walks.specs.declared.packet_end.End.{End}
+use Rattle.packet_walks.specs.declared.packet_end.End.TheVariants.{Taken}
 use Rattle.held_tables.specs.Blocks.{AreBlocks}
-use Rattle.packet_walks.specs.NextHops.{AreBrought, LineArrives, end_for, is_at}
+use Rattle.packet_walks.specs.HopsByTables.{AreBrought, LineArrives, end_for, is_at}
 use Rattle.held_tables.specs.Tables.{is_owner, lines_of}
 use Rattle.packet_walks.proofs.Arrivals.{all_there}
 use Rattle.packet_walks.proofs.InTime.{end_found, found_at}

@@ -32,9 +32,9 @@ use Rattle.subnet_view.proofs.Joined.{HasAttachment, LiesAt, Meets, apart, by_wi
 use Rattle.subnet_view.proofs.PartWires.{IsTold, known_type, switch_at_index, switch_known, switch_port, switch_usable}
 use Rattle.subnet_view.proofs.GraphSwitches.{usable_switch}
 use Rattle.lft_blocks.specs.Entries.{attachment_of}
-use Rattle.packet_walks.specs.declared.end.End.TheVariants.{Taken}
+use Rattle.packet_walks.specs.declared.packet_end.End.TheVariants.{Taken}
 use Rattle.packet_walks.specs.Fabrics.{EndsAs, IsSeenIn}
-use Rattle.packet_walks.specs.NextHops.{IsBrought, is_at}
+use Rattle.packet_walks.specs.HopsByTables.{IsBrought, is_at}
 use Rattle.packet_walks.proofs.Elsewhere.{not_there}
 use Rattle.packet_walks.proofs.Judged.{same_itself}
 use Rattle.packet_walks.proofs.OwnerLines.{owner_line}

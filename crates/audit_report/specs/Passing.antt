@@ -14,9 +14,9 @@ use Rattle.held_tables.specs.contracts.held.Held as held_plan
 use Rattle.held_tables.specs.declared.held.HeldLid.{HeldLid}
 use Rattle.held_tables.specs.declared.held.HeldSwitch.{HeldSwitch}
 use Rattle.held_tables.specs.Held.{HeldPlan}
-use Rattle.packet_walks.specs.declared.end.End.TheVariants.{Taken}
+use Rattle.packet_walks.specs.declared.packet_end.End.TheVariants.{Taken}
 use Rattle.packet_walks.specs.Network.{Seen}
-use Rattle.packet_walks.specs.NextHops.{IsBrought}
+use Rattle.packet_walks.specs.HopsByTables.{IsBrought}
 use Rattle.audit_channels.specs.Waiting.{RiseOnWays, WaitInCycle}
 use Rattle.audit_ways.specs.declared.figures.Figures.{Figures}
 use Rattle.audit_ways.specs.declared.ways.WayFigures.{WayFigures}

@@ -17,9 +17,9 @@ use Rattle.held_tables.specs.declared.far_end.Far.{Far}
 use Rattle.held_tables.specs.declared.far_end.Far.TheVariants.{Nothing, Switch, Port}
 use Rattle.packet_walks.specs.Edges.{edge_by, edges_of}
 use Rattle.held_tables.specs.Switches.{far_at, far_of, far_to, index_in, row_of, sender_of, switch_over}
-use Rattle.packet_walks.specs.declared.end.End.{End}
+use Rattle.packet_walks.specs.declared.packet_end.End.{End}
 use Rattle.held_tables.specs.declared.senders.Sender.{Sender}
-use Rattle.packet_walks.specs.NextHops.{AreBrought, end_for, is_at}
+use Rattle.packet_walks.specs.HopsByTables.{AreBrought, end_for, is_at}
 use Rattle.held_tables.specs.Tables.{entry_for}
 use Rattle.packet_walks.proofs.InTime.{found_at}
 use Rattle.port_graph.proofs.Counts.{length_map}

@@ -16,10 +16,10 @@ use Rattle.subnet_view.proofs.EndPortOrder.{port_total}
 use Rattle.subnet_view.proofs.Members.{contains_filter, list_any_at}
 use Rattle.held_tables.specs.declared.held.HeldLid.{HeldLid}
 use Rattle.held_tables.specs.Held.{HeldPlan}
-use Rattle.packet_walks.specs.declared.end.End.{End}
+use Rattle.packet_walks.specs.declared.packet_end.End.{End}
 use Rattle.held_tables.specs.declared.far_end.Far.{Far}
 use Rattle.held_tables.specs.Switches.{far_of, switch_over}
-use Rattle.packet_walks.specs.NextHops.{AreBrought, end_for, is_at}
+use Rattle.packet_walks.specs.HopsByTables.{AreBrought, end_for, is_at}
 use Rattle.held_tables.specs.Tables.{is_owner, is_same_end}
 use Rattle.packet_walks.proofs.Arrivals.{all_there}
 use Rattle.packet_walks.proofs.InTime.{found_at}

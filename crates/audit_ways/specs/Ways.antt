@@ -10,12 +10,12 @@ use Rattle.subnet_view.specs.EndPorts.{end_ports}
 use Rattle.subnet_view.specs.Reading.{Cells, switches}
 use Rattle.held_tables.specs.declared.held.HeldLid.{HeldLid}
 use Rattle.held_tables.specs.Held.{HeldPlan}
-use Rattle.packet_walks.specs.declared.end.End.{End}
+use Rattle.packet_walks.specs.declared.packet_end.End.{End}
 use Rattle.held_tables.specs.declared.far_end.Far.{Far}
 use Rattle.held_tables.specs.declared.far_end.Far.TheVariants.{Nothing, Switch, Port}
 use Rattle.packet_walks.specs.Edges.{edges_of}
 use Rattle.held_tables.specs.Switches.{far_by, far_of}
-use Rattle.packet_walks.specs.NextHops.{end_for, is_at}
+use Rattle.packet_walks.specs.HopsByTables.{end_for, is_at}
 use Rattle.held_tables.specs.Tables.{is_owner, is_same_end, lines_of}
 use Rattle.audit_ways.specs.declared.ways.WayFigures.{WayFigures}
 use Rattle.audit_ways.specs.Figures.{figures_of}

@@ -28,8 +28,8 @@ use Rattle.held_tables.proofs.HeldTables.{block_found, slice_mapped, within_leng
 use Rattle.packet_walks.proofs.FabricParts.{index_there}
 use Rattle.packet_walks.proofs.PlanSteps.{contains_at}
 use Rattle.packet_walks.proofs.Tops.{entry_above}
-use Rattle.packet_walks.specs.declared.switch_step.SwitchStep.{SwitchStep}
-use Rattle.packet_walks.specs.NextHops.{switch_step}
+use Rattle.packet_walks.specs.declared.next_hop.SwitchStep.{SwitchStep}
+use Rattle.packet_walks.specs.HopsByTables.{switch_step}
 use Rattle.next_tables.specs.Assembled.{all_blocks, block_in, entry_in, some_blocks, tables_with}
 use Rattle.next_tables.specs.ByOrder.{switch_at}
 use Rattle.next_tables.specs.NextTables.{next_switch, next_top}
@@ -40,7 +40,7 @@ use Rattle.next_tables.proofs.Steps.{at_index}
 use Rattle.next_tables.proofs.Whole.{position_mapped}
 use Rattle.two_orders.specs.declared.labels.Sides.{Sides}
 use Rattle.two_orders.specs.TwoOrders.{TwoOrders}
-use Rattle.between_orders.specs.Goal.{entries_towards, entry_between, labels_towards}
+use Rattle.between_orders.specs.TablesBetween.{entries_towards, entry_between, labels_towards}
 
 -- the blocks are those of these tables
 abbrev table_of : List (List ℕ) → ℕ → HeldSwitch → SwitchTable

@@ -20,13 +20,13 @@ use Rattle.held_tables.specs.Held.{HeldPlan}
 use Rattle.held_tables.specs.Switches.{row_of}
 use Rattle.held_tables.specs.Tables.{entry_for, owners_of, top_of}
 use Rattle.held_tables.proofs.HeldTables.{within_length}
-use Rattle.packet_walks.specs.declared.end.Cause.{Cause}
-use Rattle.packet_walks.specs.declared.end.Cause.TheVariants.{AboveTop, NoEntry, NoLink, NoPort}
-use Rattle.packet_walks.specs.declared.end.End.TheVariants.{Taken}
+use Rattle.packet_walks.specs.declared.packet_end.Cause.{Cause}
+use Rattle.packet_walks.specs.declared.packet_end.Cause.TheVariants.{AboveTop, NoEntry, NoLink, NoPort}
+use Rattle.packet_walks.specs.declared.packet_end.End.TheVariants.{Taken}
 use Rattle.packet_walks.specs.declared.next_hop.NextHop.{NextHop}
 use Rattle.packet_walks.specs.declared.next_hop.NextHop.TheVariants.{To, Ends}
-use Rattle.packet_walks.specs.NextHops.{by_entry, cause_of, next_hops_of}
-use Rattle.packet_walks.specs.WalkEnds.{after}
+use Rattle.packet_walks.specs.HopsByTables.{by_entry, cause_of, next_hops_of}
+use Rattle.packet_walks.specs.EndsBySwitch.{after}
 use Rattle.packet_walks.proofs.Ended.{after_ended}
 use Rattle.packet_walks.proofs.PlanSteps.{contains_at, leaves}
 use Rattle.subnet_view.specs.Reading.{port_count_of}
@@ -47,7 +47,7 @@ use Rattle.two_orders.specs.LabelLaws.{grown_twice}
 use Rattle.two_orders.specs.Labels.{label_at}
 use Rattle.two_orders.specs.TwoOrders.{TwoOrders}
 use Rattle.between_orders.specs.BetweenLaws.{AreGoalSteps, GoalEndsRight, GoalIsReached, IsGoalLine, labels_of_line}
-use Rattle.between_orders.specs.Goal.{arrives, entry_with, tables_between}
+use Rattle.between_orders.specs.TablesBetween.{arrives, entry_with, tables_between}
 use Rattle.between_orders.specs.Orders.{edges_in}
 use Rattle.between_orders.proofs.Agreement.{p_same}
 use Rattle.between_orders.proofs.GoalDelivers.{arrives_is, entry_is, goes_on_to}

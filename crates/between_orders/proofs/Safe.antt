@@ -33,7 +33,7 @@ use Rattle.two_orders.specs.Growth.{grown_by, key_of, positions_in}
 use Rattle.two_orders.specs.Trees.{tree}
 use Rattle.two_orders.specs.TwoOrders.{TwoOrders, two_orders}
 use Rattle.between_orders.specs.Between.{Goal, IsGoalBetween, goal_between}
-use Rattle.between_orders.specs.Goal.{tables_between}
+use Rattle.between_orders.specs.TablesBetween.{tables_between}
 use Rattle.between_orders.specs.BetweenLaws.{GoalsAreSafe, GoalsFollowTheRule, next_towards}
 use Rattle.between_orders.specs.Orders.{edges_in, orders_by, told_positions}
 use Rattle.between_orders.proofs.GoalTurns.{goal_turns_well}

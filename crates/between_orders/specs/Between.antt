@@ -3,7 +3,7 @@ use Rattle.std.specs.Prelude.{◌≡◌, ℕ, List, Option, None, Some}
 use Rattle.subnet_view.specs.Reading.{Cells}
 use Rattle.held_tables.specs.Held.{HeldPlan}
 use Rattle.between_orders.specs.declared.step_goal.StepGoal.{StepGoal}
-use Rattle.between_orders.specs.Goal.{tables_between}
+use Rattle.between_orders.specs.TablesBetween.{tables_between}
 use Rattle.between_orders.specs.Orders.{AreOrders, edges_in}
 use Rattle.two_orders.specs.TwoOrders.{TwoOrders}
 

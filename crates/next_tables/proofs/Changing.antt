@@ -3,11 +3,11 @@
 use Rattle.std.proofs.Common.{◌≡◌, ℕ, zero, suc, ◌+◌, ◌<◌, ◌≤◌, List, length, Some, sym, ap, ◌∙◌, arith, inl, inr, ◌⊎◌}
 use Rattle.std.proofs.lemmas.Option.{same_Some}
 use Rattle.subnet_view.specs.declared.end_port.EndPort.{EndPort}
-use Rattle.packet_walks.specs.declared.end.End.{End}
-use Rattle.packet_walks.specs.declared.end.End.TheVariants.{Taken}
+use Rattle.packet_walks.specs.declared.packet_end.End.{End}
+use Rattle.packet_walks.specs.declared.packet_end.End.TheVariants.{Taken}
 use Rattle.packet_walks.specs.declared.next_hop.NextHop.{NextHop}
 use Rattle.packet_walks.specs.declared.next_hop.NextHop.TheVariants.{To, Ends}
-use Rattle.packet_walks.specs.WalkEnds.{after, end_of}
+use Rattle.packet_walks.specs.EndsBySwitch.{after, end_of}
 use Rattle.packet_walks.proofs.Ended.{after_ended}
 use Rattle.packet_walks.proofs.InTime.{one_end, ends_in_time}
 use Rattle.next_tables.proofs.Mixtures.{at, Comes, Agreed, Choice, Mending, led, in_range, lost_not}

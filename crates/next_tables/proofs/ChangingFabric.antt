@@ -11,7 +11,7 @@ use Rattle.held_tables.specs.Tables.{owners_of}
 use Rattle.packet_walks.specs.declared.next_hop.NextHop.{NextHop}
 use Rattle.packet_walks.specs.declared.next_hop.NextHop.TheVariants.{To}
 use Rattle.packet_walks.specs.Fabrics.{IsSeenIn}
-use Rattle.packet_walks.specs.NextHops.{next_hops_of}
+use Rattle.packet_walks.specs.HopsByTables.{next_hops_of}
 use Rattle.packet_walks.proofs.Told.{IsClosed, joined_closed}
 use Rattle.next_tables.specs.Next.{IsNext}
 use Rattle.next_tables.specs.NextTables.{next_tables, settled_first}

@@ -9,15 +9,15 @@ use Rattle.subnet_view.specs.Reading.{Cells, switches}
 use Rattle.subnet_view.proofs.Members.{contains_here, contains_later}
 use Rattle.held_tables.specs.declared.held.HeldLid.{HeldLid}
 use Rattle.held_tables.specs.Held.{HeldPlan}
-use Rattle.packet_walks.specs.declared.end.Cause.TheVariants.{NoEntry}
-use Rattle.packet_walks.specs.declared.end.End.{End}
-use Rattle.packet_walks.specs.declared.end.End.TheVariants.{Taken, Lost}
+use Rattle.packet_walks.specs.declared.packet_end.Cause.TheVariants.{NoEntry}
+use Rattle.packet_walks.specs.declared.packet_end.End.{End}
+use Rattle.packet_walks.specs.declared.packet_end.End.TheVariants.{Taken, Lost}
 use Rattle.packet_walks.specs.declared.next_hop.NextHop.{NextHop}
 use Rattle.packet_walks.specs.declared.next_hop.NextHop.TheVariants.{To, Ends}
 use Rattle.held_tables.specs.Switches.{row_of}
 use Rattle.held_tables.specs.Tables.{owners_of, entry_for}
-use Rattle.packet_walks.specs.WalkEnds.{after, end_of, is_to}
-use Rattle.packet_walks.specs.NextHops.{by_entry, cause_of, is_at, next_hops_of}
+use Rattle.packet_walks.specs.EndsBySwitch.{after, end_of, is_to}
+use Rattle.packet_walks.specs.HopsByTables.{by_entry, cause_of, is_at, next_hops_of}
 use Rattle.packet_walks.proofs.InTime.{one_end, ends_in_time}
 use Rattle.packet_walks.proofs.Judged.{at_is, same_itself}
 use Rattle.next_tables.specs.Next.{step_at, comes_to, agreed_at, agreed, leads_on, delivers, patch_entry, patch_at, mending_at, mending, mends, next_entry, IsNext}

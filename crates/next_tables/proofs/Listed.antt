@@ -8,9 +8,9 @@ use Rattle.subnet_view.specs.Reading.{Cells, switches}
 use Rattle.held_tables.specs.declared.held.HeldLid.{HeldLid}
 use Rattle.held_tables.specs.Held.{HeldPlan}
 use Rattle.packet_walks.specs.declared.next_hop.NextHop.{NextHop}
-use Rattle.packet_walks.specs.declared.switch_step.SwitchStep.{SwitchStep}
-use Rattle.packet_walks.specs.WalkEnds.{HaveEnded, after, end_of, onward}
-use Rattle.packet_walks.specs.NextHops.{is_at, next_hops_of, switch_step}
+use Rattle.packet_walks.specs.declared.next_hop.SwitchStep.{SwitchStep}
+use Rattle.packet_walks.specs.EndsBySwitch.{HaveEnded, after, end_of, onward}
+use Rattle.packet_walks.specs.HopsByTables.{is_at, next_hops_of, switch_step}
 use Rattle.packet_walks.proofs.InTime.{one_end, ends_in_time}
 use Rattle.next_tables.specs.Next.{comes_to, agreed, mending, next_entry}
 use Rattle.next_tables.specs.SwitchSteps.{agreed_by, agreed_of, arrives_by, chosen_by, hops_of, is_whole, mending_by, mending_of, mends_of, next_by, next_of, patch_entry_by}

@@ -33,7 +33,7 @@ use Rattle.next_tables.specs.Next.{comes_to, delivers, leads_on, mends, next_ent
 use Rattle.next_tables.specs.NextTables.{StepRuleValue, by_order, if_owned, index_at, keeper, next_at, next_block, next_for, next_switch, next_table, next_tables, next_top, ordered_for, settled_first}
 use Rattle.next_tables.specs.NextText.{NextTextsAreRead, StepTextsAreRead}
 use Rattle.held_tables.specs.Tables.{owners_of}
-use Rattle.packet_walks.specs.WalkEnds.{is_to}
+use Rattle.packet_walks.specs.EndsBySwitch.{is_to}
 
 -- what all have, each has
 each_of : {X : Type 0} (P : X → Type 0) (xs : List X) (k : ℕ) (x : X) → AllByRecursion P xs → slice_get xs k ≡ Some x → P x

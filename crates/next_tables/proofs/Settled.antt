@@ -12,13 +12,13 @@ use Rattle.subnet_view.specs.declared.end_port.EndPort.{EndPort}
 use Rattle.subnet_view.specs.Reading.{Cells, switches}
 use Rattle.held_tables.specs.declared.held.HeldLid.{HeldLid}
 use Rattle.held_tables.specs.Held.{HeldPlan}
-use Rattle.packet_walks.specs.declared.end.End.TheVariants.{Taken}
+use Rattle.packet_walks.specs.declared.packet_end.End.TheVariants.{Taken}
 use Rattle.packet_walks.specs.declared.next_hop.NextHop.{NextHop}
 use Rattle.packet_walks.specs.declared.next_hop.NextHop.TheVariants.{To, Ends}
 use Rattle.packet_walks.specs.Deliveries.{ComeToOwner}
-use Rattle.packet_walks.specs.NextHops.{is_at, next_hops_of}
+use Rattle.packet_walks.specs.HopsByTables.{is_at, next_hops_of}
 use Rattle.held_tables.specs.Tables.{entry_for, is_same_end, owners_of}
-use Rattle.packet_walks.specs.WalkEnds.{after, end_of, onward}
+use Rattle.packet_walks.specs.EndsBySwitch.{after, end_of, onward}
 use Rattle.packet_walks.proofs.Ended.{after_ended}
 use Rattle.packet_walks.proofs.InTime.{ends_in_time, one_end}
 use Rattle.packet_walks.proofs.Judged.{same_itself}

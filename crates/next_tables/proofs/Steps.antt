@@ -7,15 +7,15 @@ use Rattle.subnet_view.specs.declared.end_port.EndPort.{EndPort}
 use Rattle.subnet_view.specs.Reading.{Cells, switches}
 use Rattle.held_tables.specs.declared.held.HeldLid.{HeldLid}
 use Rattle.held_tables.specs.Held.{HeldPlan}
-use Rattle.packet_walks.specs.declared.end.Cause.TheVariants.{NoEntry}
-use Rattle.packet_walks.specs.declared.end.End.{End}
-use Rattle.packet_walks.specs.declared.end.End.TheVariants.{Taken, Lost}
+use Rattle.packet_walks.specs.declared.packet_end.Cause.TheVariants.{NoEntry}
+use Rattle.packet_walks.specs.declared.packet_end.End.{End}
+use Rattle.packet_walks.specs.declared.packet_end.End.TheVariants.{Taken, Lost}
 use Rattle.packet_walks.specs.declared.next_hop.NextHop.{NextHop}
 use Rattle.packet_walks.specs.declared.next_hop.NextHop.TheVariants.{To, Ends}
 use Rattle.held_tables.specs.Switches.{sender_of}
 use Rattle.held_tables.specs.Tables.{owners_of, entry_for}
-use Rattle.packet_walks.specs.WalkEnds.{after, is_to}
-use Rattle.packet_walks.specs.NextHops.{first_hop, next_hops_of}
+use Rattle.packet_walks.specs.EndsBySwitch.{after, is_to}
+use Rattle.packet_walks.specs.HopsByTables.{first_hop, next_hops_of}
 use Rattle.packet_walks.proofs.Ended.{after_ended}
 use Rattle.held_tables.proofs.HeldTables.{within_length}
 use Rattle.next_tables.specs.Next.{step_at, agreed_at, agreed, mending, IsNext}

@@ -29,7 +29,7 @@ use Rattle.next_tables.specs.Assembled.{all_blocks}
 use Rattle.next_tables.specs.NextTables.{IsKept, StepRuleValue, by_order, column_of, if_owned, index_at, keeper, next_at, next_block, next_for, next_switch, next_table, next_tables, next_top, ordered_for, settled_first}
 use Rattle.held_tables.specs.declared.held.HeldBlock.{HeldBlock}
 use Rattle.packet_walks.specs.Edges.{greatest_top}
-use Rattle.packet_walks.specs.WalkEnds.{is_to}
+use Rattle.packet_walks.specs.EndsBySwitch.{is_to}
 use Rattle.next_tables.proofs.Assembled.{all_are}
 
 -- the index in a list of what is made of another

@@ -11,7 +11,7 @@ use Rattle.packet_walks.specs.declared.next_hop.NextHop.{NextHop}
 use Rattle.packet_walks.specs.declared.next_hop.NextHop.TheVariants.{To, Ends}
 use Rattle.held_tables.specs.Switches.{far_by, row_of}
 use Rattle.held_tables.specs.Tables.{owners_of, entry_for}
-use Rattle.packet_walks.specs.NextHops.{is_at}
+use Rattle.packet_walks.specs.HopsByTables.{is_at}
 use Rattle.next_tables.specs.Next.{step_at, comes_to, delivers}
 
 -- `q` gives each usable switch, by its index, a position

@@ -14,11 +14,11 @@ use Rattle.subnet_view.specs.Reading.{Cells, switches}
 use Rattle.subnet_view.specs.Agreement.{Part, IsEndPortIn, IsPortNamed}
 use Rattle.held_tables.specs.declared.held.HeldLid.{HeldLid}
 use Rattle.held_tables.specs.Held.{HeldPlan}
-use Rattle.packet_walks.specs.declared.end.Cause.{Cause}
-use Rattle.packet_walks.specs.declared.end.End.TheVariants.{Taken, Lost}
+use Rattle.packet_walks.specs.declared.packet_end.Cause.{Cause}
+use Rattle.packet_walks.specs.declared.packet_end.End.TheVariants.{Taken, Lost}
 use Rattle.packet_walks.specs.declared.next_hop.NextHop.TheVariants.{Ends}
 use Rattle.packet_walks.specs.Fabrics.{IsSeenIn}
-use Rattle.packet_walks.specs.NextHops.{IsBrought}
+use Rattle.packet_walks.specs.HopsByTables.{IsBrought}
 use Rattle.held_tables.specs.Tables.{counted, entry_for, entry_of, top_of}
 use Rattle.next_tables.specs.Next.{step_at}
 use Rattle.next_tables.specs.NextTables.{IsKept, StepRuleValue, next_tables, settled_first}

@@ -4,14 +4,14 @@ use Rattle.subnet_view.specs.declared.end_port.EndPort.{EndPort}
 use Rattle.subnet_view.specs.Reading.{Cells, switches}
 use Rattle.held_tables.specs.declared.held.HeldLid.{HeldLid}
 use Rattle.held_tables.specs.Held.{HeldPlan}
-use Rattle.packet_walks.specs.declared.end.Cause.TheVariants.{NoEntry}
-use Rattle.packet_walks.specs.declared.end.End.TheVariants.{Taken, Lost}
+use Rattle.packet_walks.specs.declared.packet_end.Cause.TheVariants.{NoEntry}
+use Rattle.packet_walks.specs.declared.packet_end.End.TheVariants.{Taken, Lost}
 use Rattle.packet_walks.specs.declared.next_hop.NextHop.{NextHop}
 use Rattle.packet_walks.specs.declared.next_hop.NextHop.TheVariants.{Ends}
 use Rattle.held_tables.specs.Switches.{row_of}
 use Rattle.held_tables.specs.Tables.{owners_of, entry_for}
-use Rattle.packet_walks.specs.WalkEnds.{after, end_of, is_to}
-use Rattle.packet_walks.specs.NextHops.{by_entry, cause_of, is_at, next_hops_of}
+use Rattle.packet_walks.specs.EndsBySwitch.{after, end_of, is_to}
+use Rattle.packet_walks.specs.HopsByTables.{by_entry, cause_of, is_at, next_hops_of}
 
 -- the next hop of switch `g` for `lid` by `tables`
 abbrev pub step_at : Cells → HeldPlan → ℕ → ℕ → NextHop

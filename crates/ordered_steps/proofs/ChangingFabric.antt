@@ -8,11 +8,11 @@ use Rattle.subnet_view.specs.Reading.{switches}
 use Rattle.subnet_view.specs.Agreement.{Part}
 use Rattle.held_tables.specs.declared.held.HeldLid.{HeldLid}
 use Rattle.held_tables.specs.Held.{HeldPlan}
-use Rattle.packet_walks.specs.declared.end.End.TheVariants.{Taken}
+use Rattle.packet_walks.specs.declared.packet_end.End.TheVariants.{Taken}
 use Rattle.packet_walks.specs.declared.next_hop.NextHop.{NextHop}
 use Rattle.packet_walks.specs.declared.next_hop.NextHop.TheVariants.{To}
 use Rattle.packet_walks.specs.Fabrics.{IsSeenIn}
-use Rattle.packet_walks.specs.NextHops.{next_hops_of}
+use Rattle.packet_walks.specs.HopsByTables.{next_hops_of}
 use Rattle.packet_walks.proofs.Told.{IsClosed, joined_closed}
 use Rattle.next_tables.specs.ByOrder.{switch_at, channel_number}
 use Rattle.next_tables.specs.Next.{step_at}

@@ -11,12 +11,12 @@ use Rattle.subnet_view.specs.declared.end_port.EndPort.{EndPort}
 use Rattle.subnet_view.specs.Reading.{Cells, switches}
 use Rattle.held_tables.specs.declared.held.HeldLid.{HeldLid}
 use Rattle.held_tables.specs.Held.{HeldPlan}
-use Rattle.packet_walks.specs.declared.end.End.{End}
-use Rattle.packet_walks.specs.declared.end.End.TheVariants.{Taken}
+use Rattle.packet_walks.specs.declared.packet_end.End.{End}
+use Rattle.packet_walks.specs.declared.packet_end.End.TheVariants.{Taken}
 use Rattle.packet_walks.specs.declared.next_hop.NextHop.TheVariants.{To, Ends}
 use Rattle.held_tables.specs.Tables.{owners_of, entry_for}
-use Rattle.packet_walks.specs.WalkEnds.{IsEndOf}
-use Rattle.packet_walks.specs.NextHops.{IsBrought, next_hops_of}
+use Rattle.packet_walks.specs.EndsBySwitch.{IsEndOf}
+use Rattle.packet_walks.specs.HopsByTables.{IsBrought, next_hops_of}
 use Rattle.next_tables.specs.Mixtures.{IsBroughtBy, IsLoose, IsMixed, RiseInStep, WaitOnMixed}
 use Rattle.next_tables.specs.Next.{step_at}
 use Rattle.next_tables.specs.NextTables.{IsKept, by_order, next_tables, ordered_for}

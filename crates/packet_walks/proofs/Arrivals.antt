@@ -6,19 +6,19 @@ use Rattle.std.proofs.lemmas.Bool.{and_parts, lt-ltb, le-ltb, ltb-false, ltb-tru
 use Rattle.std.proofs.lemmas.List.{length-map}
 use Rattle.std.proofs.lemmas.List.Sums.{AllPass-from_list_all, fails_before_first, position_or_len_is}
 use Rattle.subnet_view.specs.declared.end_port.EndPort.{EndPort}
-use Rattle.packet_walks.specs.declared.end.End.{End}
-use Rattle.packet_walks.specs.declared.end.End.TheVariants.{Taken}
+use Rattle.packet_walks.specs.declared.packet_end.End.{End}
+use Rattle.packet_walks.specs.declared.packet_end.End.TheVariants.{Taken}
 use Rattle.held_tables.specs.declared.far_end.Far.{Far}
 use Rattle.held_tables.specs.declared.far_end.Far.TheVariants.{Nothing, Switch, Port}
 use Rattle.held_tables.specs.declared.senders.Sender.{Sender}
 use Rattle.packet_walks.specs.declared.next_hop.NextHop.{NextHop}
 use Rattle.packet_walks.specs.declared.next_hop.NextHop.TheVariants.{To, Ends}
 use Rattle.held_tables.specs.Owners.{is_sole}
-use Rattle.packet_walks.specs.Ends.{AreEnds, all_come, arrivals, comes_by, end_from}
+use Rattle.packet_walks.specs.EndsBySender.{AreEnds, all_come, arrivals, comes_by, end_from}
 use Rattle.held_tables.specs.Switches.{all_begin, first_by, first_switch, is_among}
-use Rattle.packet_walks.specs.NextHops.{is_at, sent}
+use Rattle.packet_walks.specs.HopsByTables.{is_at, sent}
 use Rattle.held_tables.specs.Tables.{is_owner, is_same_end}
-use Rattle.packet_walks.specs.WalkEnds.{end_of, onward}
+use Rattle.packet_walks.specs.EndsBySwitch.{end_of, onward}
 use Rattle.packet_walks.proofs.Judged.{same_ends}
 
 -- the result of a function on an element, and on none

@@ -8,7 +8,7 @@ use Rattle.subnet_view.specs.EndPorts.{end_ports}
 use Rattle.held_tables.specs.declared.held.HeldSwitch.{HeldSwitch}
 use Rattle.held_tables.specs.declared.held.HeldLid.{HeldLid}
 use Rattle.held_tables.specs.Held.{HeldPlan}
-use Rattle.packet_walks.specs.declared.end.End.{End}
+use Rattle.packet_walks.specs.declared.packet_end.End.{End}
 use Rattle.held_tables.specs.declared.chains.Chains.{Chains}
 use Rattle.held_tables.specs.declared.senders.Sender.{Sender}
 use Rattle.held_tables.specs.declared.audited_switch.AuditedSwitch.{AuditedSwitch}
@@ -18,9 +18,9 @@ use Rattle.held_tables.specs.declared.owners.Owner.{Owner}
 use Rattle.held_tables.specs.Switches.{row_of, node_of, sender_of}
 use Rattle.packet_walks.specs.Network.{IsNetwork}
 use Rattle.held_tables.specs.Blocks.{AreBlocks}
-use Rattle.packet_walks.specs.NextHops.{by_entry, cause_of, next_hops_of, entry_among, next_hop_by, next_hop_of, node_entry, first_hop, switch_step, switch_step_by, switch_step_of, AreBrought}
+use Rattle.packet_walks.specs.HopsByTables.{by_entry, cause_of, next_hops_of, entry_among, next_hop_by, next_hop_of, node_entry, first_hop, switch_step, switch_step_by, switch_step_of, AreBrought}
 use Rattle.held_tables.specs.Tables.{owners_of, index_of, top_of, block_at, entry_in, entry_at, entry_for, counted}
-use Rattle.packet_walks.specs.WalkEnds.{onward, end_of, IsEndOf, HaveEnded}
+use Rattle.packet_walks.specs.EndsBySwitch.{onward, end_of, IsEndOf, HaveEnded}
 
 pub if_ok : {T E : Type 0} (P Q : T → Type 0) (r : Result T E) → IfOk r P → ((x : T) → P x → Q x) → IfOk r Q
 if_ok P Q (Ok x) h f = f x h

@@ -9,8 +9,8 @@ use Rattle.fabric_model.specs.Forwarding.{Standing, sent_from, arrived_at, cours
 use Rattle.fabric_model.proofs.Forwarded.{packets_end_once}
 use Rattle.subnet_view.specs.declared.end_port.EndPort.{EndPort}
 use Rattle.subnet_view.specs.Agreement.{IsPortNamed}
-use Rattle.packet_walks.specs.declared.end.End.{End}
-use Rattle.packet_walks.specs.declared.end.End.TheVariants.{Taken, Lost}
+use Rattle.packet_walks.specs.declared.packet_end.End.{End}
+use Rattle.packet_walks.specs.declared.packet_end.End.TheVariants.{Taken, Lost}
 use Rattle.packet_walks.specs.Fabrics.{EndsAs}
 use Rattle.packet_walks.proofs.Told.{into_is}
 

@@ -6,7 +6,7 @@ use Rattle.std.proofs.lemmas.List.{get_or-set_other, length-set, take_all}
 use Rattle.std.proofs.lemmas.Grind.{get_or-set_at}
 use Rattle.packet_walks.specs.declared.next_hop.NextHop.{NextHop}
 use Rattle.packet_walks.specs.declared.next_hop.NextHop.TheVariants.{To, Ends}
-use Rattle.packet_walks.specs.WalkEnds.{onward, after, IsEndOf, is_to, end_of, HaveEnded, AreFurther, IsFurther}
+use Rattle.packet_walks.specs.EndsBySwitch.{onward, after, IsEndOf, is_to, end_of, HaveEnded, AreFurther, IsFurther}
 use Rattle.packet_walks.proofs.Ended.{after_add, earlier, head_less, head_same, none_left, one, one_most, past, stays_ended, tos, tos_count}
 
 -- each walk has reached what `jumps` says, in at least one step

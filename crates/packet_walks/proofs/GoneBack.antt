@@ -6,16 +6,16 @@ use Rattle.std.proofs.lemmas.Grind.{get_or-set_at}
 use Rattle.std.proofs.lemmas.List.{get_or-set_other, length-replicate, length-set}
 use Rattle.std.proofs.lemmas.Option.{same_Some}
 use Rattle.subnet_view.specs.declared.end_port.EndPort.{EndPort}
-use Rattle.packet_walks.specs.declared.block_walks.Exit.{Exit}
-use Rattle.packet_walks.specs.declared.end.End.{End}
-use Rattle.packet_walks.specs.declared.end.End.TheVariants.{Taken}
+use Rattle.packet_walks.specs.declared.block_deliveries.Exit.{Exit}
+use Rattle.packet_walks.specs.declared.packet_end.End.{End}
+use Rattle.packet_walks.specs.declared.packet_end.End.TheVariants.{Taken}
 use Rattle.packet_walks.specs.declared.lid_set.LidSet.{LidSet}
 use Rattle.packet_walks.specs.declared.next_hop.NextHop.{NextHop}
 use Rattle.packet_walks.specs.declared.next_hop.NextHop.TheVariants.{To, Ends}
 use Rattle.packet_walks.specs.BlockWalks.{AreSeen, ComeFromEach, Comes, IsWithExit, IsWithHop, arrived_if, arrived_more, back_by, back_over, back_times, from_each, in_each, lids_at}
 use Rattle.packet_walks.specs.LidSets.{both, either, has, no_lids, with_lid}
-use Rattle.packet_walks.specs.NextHops.{is_at}
-use Rattle.packet_walks.specs.WalkEnds.{IsEndOf, after, onward}
+use Rattle.packet_walks.specs.HopsByTables.{is_at}
+use Rattle.packet_walks.specs.EndsBySwitch.{IsEndOf, after, onward}
 use Rattle.packet_walks.proofs.Judged.{at_is}
 use Rattle.packet_walks.proofs.LidBits.{both_has, either_has, none_has, with_has}
 

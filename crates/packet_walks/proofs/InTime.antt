@@ -7,13 +7,13 @@ use Rattle.subnet_view.specs.declared.end_port.EndPort.{EndPort}
 use Rattle.subnet_view.specs.Reading.{Cells, switches}
 use Rattle.subnet_view.specs.EndPorts.{end_ports}
 use Rattle.held_tables.specs.Held.{HeldPlan}
-use Rattle.packet_walks.specs.declared.end.End.{End}
+use Rattle.packet_walks.specs.declared.packet_end.End.{End}
 use Rattle.packet_walks.specs.declared.next_hop.NextHop.{NextHop}
 use Rattle.packet_walks.specs.declared.next_hop.NextHop.TheVariants.{To, Ends}
 use Rattle.held_tables.specs.Switches.{row_of, sender_of}
 use Rattle.held_tables.specs.Tables.{owners_of, entry_for}
-use Rattle.packet_walks.specs.WalkEnds.{onward, after, IsEndOf, is_to, end_of, HaveEnded, AreAfter}
-use Rattle.packet_walks.specs.NextHops.{by_entry, cause_of, next_hops_of, first_hop, AreBrought, IsBrought, end_for, EndsAreFound}
+use Rattle.packet_walks.specs.EndsBySwitch.{onward, after, IsEndOf, is_to, end_of, HaveEnded, AreAfter}
+use Rattle.packet_walks.specs.HopsByTables.{by_entry, cause_of, next_hops_of, first_hop, AreBrought, IsBrought, end_for, EndsAreFound}
 use Rattle.packet_walks.proofs.Ended.{after_add, after_ended, within, past, long, tos, tos_less, stays_ended, same_left, over_none, have_ended, GoOn}
 
 -- one end ------------------------------------------------------------------------------

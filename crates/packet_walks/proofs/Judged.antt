@@ -9,10 +9,10 @@ use Rattle.subnet_view.specs.EndPorts.{end_ports, is_end_port}
 use Rattle.subnet_view.proofs.EndPortList.{end_ports_law}
 use Rattle.subnet_view.proofs.WireLaws.{end_port_law}
 use Rattle.subnet_view.proofs.Members.{contains_here, contains_later, list_any_true, list_any_at}
-use Rattle.packet_walks.specs.declared.end.End.{End}
-use Rattle.packet_walks.specs.declared.end.End.TheVariants.{Taken, Lost}
+use Rattle.packet_walks.specs.declared.packet_end.End.{End}
+use Rattle.packet_walks.specs.declared.packet_end.End.TheVariants.{Taken, Lost}
 use Rattle.subnet_view.proofs.Components.{same_tests}
-use Rattle.packet_walks.specs.NextHops.{is_at}
+use Rattle.packet_walks.specs.HopsByTables.{is_at}
 use Rattle.held_tables.specs.Tables.{is_owner, is_same_end}
 
 pub same_ends : (e x : EndPort) → is_same_end e x ≡ true → x ≡ e

@@ -34,16 +34,16 @@ use Rattle.lft_blocks.proofs.AttachmentSwitches.{attachment_is_switch}
 use Rattle.held_tables.specs.declared.held.HeldLid.{HeldLid}
 use Rattle.held_tables.specs.Held.{HeldPlan}
 use Rattle.held_tables.proofs.PlanRanges.{wire_small}
-use Rattle.packet_walks.specs.declared.end.Cause.{Cause}
-use Rattle.packet_walks.specs.declared.end.Cause.TheVariants.{NoLink, Foreign}
-use Rattle.packet_walks.specs.declared.end.End.TheVariants.{Taken, Lost}
+use Rattle.packet_walks.specs.declared.packet_end.Cause.{Cause}
+use Rattle.packet_walks.specs.declared.packet_end.Cause.TheVariants.{NoLink, Foreign}
+use Rattle.packet_walks.specs.declared.packet_end.End.TheVariants.{Taken, Lost}
 use Rattle.held_tables.specs.declared.far_end.Far.TheVariants.{Nothing}
 use Rattle.packet_walks.specs.declared.next_hop.NextHop.{NextHop}
 use Rattle.packet_walks.specs.declared.next_hop.NextHop.TheVariants.{To, Ends}
 use Rattle.held_tables.specs.Switches.{far_at, far_to, far_of, row_of, index_in}
-use Rattle.packet_walks.specs.NextHops.{at_port, over, cause_of, by_entry, next_hops_of, sent, IsBrought}
+use Rattle.packet_walks.specs.HopsByTables.{at_port, over, cause_of, by_entry, next_hops_of, sent, IsBrought}
 use Rattle.held_tables.specs.Tables.{entry_for, is_owner, owners_of}
-use Rattle.packet_walks.specs.WalkEnds.{after, onward}
+use Rattle.packet_walks.specs.EndsBySwitch.{after, onward}
 use Rattle.packet_walks.proofs.FabricParts.{index_there}
 use Rattle.packet_walks.proofs.OwnerLines.{owner_line, line_owner}
 use Rattle.held_tables.proofs.OwnedLids.{line_owned}

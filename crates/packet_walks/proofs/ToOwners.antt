@@ -11,7 +11,7 @@ use Rattle.subnet_view.specs.Reading.{Cells, switches}
 use Rattle.held_tables.specs.declared.held.HeldLid.{HeldLid}
 use Rattle.held_tables.specs.Held.{HeldPlan}
 use Rattle.held_tables.specs.declared.audited_switch.AuditedSwitch.{AuditedSwitch}
-use Rattle.packet_walks.specs.declared.end.End.TheVariants.{Taken}
+use Rattle.packet_walks.specs.declared.packet_end.End.TheVariants.{Taken}
 use Rattle.held_tables.specs.declared.far_end.Far.{Far}
 use Rattle.held_tables.specs.declared.far_end.Far.TheVariants.{Nothing, Switch, Port}
 use Rattle.packet_walks.specs.declared.lid_set.LidSet.{LidSet}
@@ -25,10 +25,10 @@ use Rattle.packet_walks.specs.Deliveries.{AreDeliveries, ComeToOwner}
 use Rattle.packet_walks.specs.LidSets.{has}
 use Rattle.held_tables.specs.Switches.{all_begin, first_by, first_switch, is_among, node_of, sender_of}
 use Rattle.held_tables.specs.Blocks.{AreBlocks}
-use Rattle.packet_walks.specs.NextHops.{IsBrought, LineArrives, next_hop_of, next_hops_of, sent}
+use Rattle.packet_walks.specs.HopsByTables.{IsBrought, LineArrives, next_hop_of, next_hops_of, sent}
 use Rattle.held_tables.specs.Owners.{AreOwners, owner_among, sole_among, is_sole}
 use Rattle.held_tables.specs.Tables.{holders, is_owner, is_same_end, lines_of, owners_of}
-use Rattle.packet_walks.specs.WalkEnds.{IsEndOf}
+use Rattle.packet_walks.specs.EndsBySwitch.{IsEndOf}
 use Rattle.packet_walks.proofs.Arrivals.{sole_owner}
 use Rattle.packet_walks.proofs.Brought.{steps_are}
 use Rattle.packet_walks.proofs.Judged.{same_ends, same_itself}

@@ -5,15 +5,15 @@ use Rattle.std.proofs.lemmas.Option.{same_Some}
 use Rattle.port_graph.specs.declared.edge.Edge.{Edge}
 use Rattle.subnet_view.specs.declared.end_port.EndPort.{EndPort}
 use Rattle.held_tables.specs.declared.audited_switch.AuditedSwitch.{AuditedSwitch}
-use Rattle.packet_walks.specs.declared.end.Cause.{Cause}
-use Rattle.packet_walks.specs.declared.end.End.{End}
-use Rattle.packet_walks.specs.declared.end.End.TheVariants.{Taken}
+use Rattle.packet_walks.specs.declared.packet_end.Cause.{Cause}
+use Rattle.packet_walks.specs.declared.packet_end.End.{End}
+use Rattle.packet_walks.specs.declared.packet_end.End.TheVariants.{Taken}
 use Rattle.held_tables.specs.declared.far_end.Far.{Far}
 use Rattle.held_tables.specs.declared.far_end.Far.TheVariants.{Nothing, Switch, Port}
 use Rattle.packet_walks.specs.declared.next_hop.NextHop.TheVariants.{To, Ends}
 use Rattle.packet_walks.specs.Edges.{edge_by, edge_to, switch_by}
 use Rattle.held_tables.specs.Switches.{switch_over}
-use Rattle.packet_walks.specs.NextHops.{cause_by, next_hop_by, over}
+use Rattle.packet_walks.specs.HopsByTables.{cause_by, next_hop_by, over}
 
 abbrev Stays : Option Edge
 Stays = None

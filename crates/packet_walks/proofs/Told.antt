@@ -20,19 +20,19 @@ use Rattle.subnet_view.specs.Reading.{Cells, switches}
 use Rattle.subnet_view.specs.Wires.{across}
 use Rattle.subnet_view.specs.Agreement.{Part, WholeFabric, IsEndPortIn, IsPortNamed}
 use Rattle.held_tables.specs.Held.{HeldPlan}
-use Rattle.packet_walks.specs.declared.end.Cause.{Cause}
-use Rattle.packet_walks.specs.declared.end.Cause.TheVariants.{NoLink, Foreign}
-use Rattle.packet_walks.specs.declared.end.End.{End}
-use Rattle.packet_walks.specs.declared.end.End.TheVariants.{Taken, Lost}
+use Rattle.packet_walks.specs.declared.packet_end.Cause.{Cause}
+use Rattle.packet_walks.specs.declared.packet_end.Cause.TheVariants.{NoLink, Foreign}
+use Rattle.packet_walks.specs.declared.packet_end.End.{End}
+use Rattle.packet_walks.specs.declared.packet_end.End.TheVariants.{Taken, Lost}
 use Rattle.held_tables.specs.declared.far_end.Far.{Far}
 use Rattle.held_tables.specs.declared.far_end.Far.TheVariants.{Nothing}
 use Rattle.packet_walks.specs.declared.next_hop.NextHop.{NextHop}
 use Rattle.packet_walks.specs.declared.next_hop.NextHop.TheVariants.{To, Ends}
 use Rattle.packet_walks.specs.Fabrics.{IsSeenIn, EndsAs, PacketsEndAsTold, PacketsEndAsToldInParts}
 use Rattle.held_tables.specs.Switches.{index_in, far_at, far_to, far_of, row_of, sender_of}
-use Rattle.packet_walks.specs.NextHops.{IsBrought, at_port, over, cause_of, by_entry, next_hops_of, sent, first_hop}
+use Rattle.packet_walks.specs.HopsByTables.{IsBrought, at_port, over, cause_of, by_entry, next_hops_of, sent, first_hop}
 use Rattle.held_tables.specs.Tables.{owners_of, is_owner, entry_for}
-use Rattle.packet_walks.specs.WalkEnds.{onward, after, IsEndOf}
+use Rattle.packet_walks.specs.EndsBySwitch.{onward, after, IsEndOf}
 use Rattle.packet_walks.proofs.FabricParts.{InFabric, as_part, seen_whole, vertex_part, switch_end, listed, indexed, wire_told, told_wire}
 use Rattle.packet_walks.proofs.FarRows.{has, lacks, no_far, no_port, row_at}
 

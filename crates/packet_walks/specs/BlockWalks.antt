@@ -2,17 +2,17 @@
 use Rattle.std.specs.Prelude.{◌≡◌, ◌⊎◌, ◌<◌, ◌+◌, ◌*◌, ℕ, zero, suc, Bool, true, List, [], ◌∷◌, ◌++◌, Option, None, Some, length, map, slice_get, slice_index_or, slice_set, if◌then◌else◌}
 use Rattle.subnet_view.specs.declared.end_port.EndPort.{EndPort}
 use Rattle.held_tables.specs.declared.audited_switch.AuditedSwitch.{AuditedSwitch}
-use Rattle.packet_walks.specs.declared.block_walks.Exit.{Exit}
-use Rattle.packet_walks.specs.declared.end.End.TheVariants.{Taken}
+use Rattle.packet_walks.specs.declared.block_deliveries.Exit.{Exit}
+use Rattle.packet_walks.specs.declared.packet_end.End.TheVariants.{Taken}
 use Rattle.packet_walks.specs.declared.lid_set.LidSet.{LidSet}
 use Rattle.packet_walks.specs.declared.next_hop.NextHop.{NextHop}
 use Rattle.packet_walks.specs.declared.next_hop.NextHop.TheVariants.{To, Ends}
 use Rattle.held_tables.specs.declared.owners.Owner.{Owner}
 use Rattle.held_tables.specs.declared.owners.Owner.TheVariants.{Several}
 use Rattle.packet_walks.specs.LidSets.{both, either, has, no_lids, with_lid}
-use Rattle.packet_walks.specs.NextHops.{is_at, next_hop_of}
+use Rattle.packet_walks.specs.HopsByTables.{is_at, next_hop_of}
 use Rattle.held_tables.specs.Owners.{sole_among}
-use Rattle.packet_walks.specs.WalkEnds.{IsEndOf, onward}
+use Rattle.packet_walks.specs.EndsBySwitch.{IsEndOf, onward}
 
 -- the only end port that holds the LID at `index` of the block `number`
 abbrev pub target_at : List Owner → ℕ → ℕ → Option EndPort

@@ -3,13 +3,13 @@ use Rattle.std.specs.Prelude.{◌≡◌, ◌<◌, ◌/◌, ◌%◌, ◌==◌, �
 use Rattle.subnet_view.specs.declared.end_port.EndPort.{EndPort}
 use Rattle.subnet_view.specs.Reading.{Cells, switches}
 use Rattle.held_tables.specs.Held.{HeldPlan}
-use Rattle.packet_walks.specs.declared.deliveries.Deliveries.{Deliveries}
-use Rattle.packet_walks.specs.declared.end.End.TheVariants.{Taken}
+use Rattle.packet_walks.specs.declared.block_deliveries.Deliveries.{Deliveries}
+use Rattle.packet_walks.specs.declared.packet_end.End.TheVariants.{Taken}
 use Rattle.packet_walks.specs.declared.next_hop.NextHop.TheVariants.{To}
 use Rattle.packet_walks.specs.LidSets.{has}
-use Rattle.packet_walks.specs.NextHops.{next_hops_of}
+use Rattle.packet_walks.specs.HopsByTables.{next_hops_of}
 use Rattle.held_tables.specs.Tables.{owners_of}
-use Rattle.packet_walks.specs.WalkEnds.{IsEndOf}
+use Rattle.packet_walks.specs.EndsBySwitch.{IsEndOf}
 
 -- `lid` is one of the deliveries
 abbrev pub is_delivered : Deliveries → ℕ → Bool

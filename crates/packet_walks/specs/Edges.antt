@@ -8,7 +8,7 @@ use Rattle.held_tables.specs.declared.far_end.Far.{Far}
 use Rattle.held_tables.specs.declared.far_end.Far.TheVariants.{Nothing, Switch, Port}
 use Rattle.held_tables.specs.declared.audited_switch.AuditedSwitch.{AuditedSwitch}
 use Rattle.held_tables.specs.Switches.{row_of, switch_over}
-use Rattle.packet_walks.specs.NextHops.{node_entry}
+use Rattle.packet_walks.specs.HopsByTables.{node_entry}
 use Rattle.held_tables.specs.Tables.{entry_for, top_of}
 
 -- the edge by `port`, if its wire leads to a usable switch

@@ -2,7 +2,7 @@
 ghost use Rattle.std.specs.Prelude.{◌≡◌};
 ghost use Rattle.held_tables.specs.Tables.{block_at, entry_at, entry_for, is_block_of};
 
-use crate::next_hops::counted;
+use crate::hops_by_tables::counted;
 use held_tables::{Held, HeldBlock, index_of, top_at};
 use smp_bytes::{Guid, Lid, NO_ENTRY};
 

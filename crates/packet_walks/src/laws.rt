@@ -1,6 +1,6 @@
 //! Laws of where packets end by the held tables.
 ghost use Rattle.packet_walks.specs.Fabrics.{PacketsEndAsTold, PacketsEndAsToldInParts};
-ghost use Rattle.packet_walks.specs.NextHops.{EndsAreFound};
+ghost use Rattle.packet_walks.specs.HopsByTables.{EndsAreFound};
 ghost use Rattle.held_tables.specs.Owners.{SoleOwnersAreAlone};
 
 /// A packet has exactly one end: where it is after as many steps as there are usable switches, or a loop for ever if it

@@ -8,17 +8,16 @@ ghost use Rattle.packet_walks.specs.Deliveries.{AreDeliveries};
 ghost use Rattle.packet_walks.specs.Edges.{edges_of, greatest_top};
 ghost use Rattle.held_tables.specs.Switches.{far_by, node_of, sender_of};
 ghost use Rattle.held_tables.specs.Blocks.{AreBlocks};
-ghost use Rattle.packet_walks.specs.NextHops.{AreBrought, LineArrives, entry_by, switch_step};
+ghost use Rattle.packet_walks.specs.HopsByTables.{AreBrought, LineArrives, entry_by, switch_step};
 ghost use Rattle.held_tables.specs.Owners.{AreOwners, is_told_twice, is_sole};
 ghost use Rattle.held_tables.specs.Tables.{entry_for, lines_of, owners_of, top_of};
 
-use crate::block_walks::delivered;
-use crate::deliveries::Deliveries;
-use crate::ends::Ends;
+use crate::block_deliveries::{Deliveries, delivered};
+use crate::ends_by_sender::Ends;
+use crate::ends_by_switch::ends;
 use crate::entry::entry_for;
-use crate::next_hops::{edges, entries, steps, switch_steps};
-use crate::switch_step::SwitchStep;
-use crate::walk_ends::ends;
+use crate::hops_by_tables::{edges, entries, steps, switch_steps};
+use crate::next_hop::SwitchStep;
 use fact_store::{Refused, Store};
 use held_tables::{
     AuditedSwitch, Chains, Far, Held, HeldLid, Owner, Sender, all_begin, block_chains, block_rows,

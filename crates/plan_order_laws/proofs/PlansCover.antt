@@ -25,11 +25,11 @@ use Rattle.held_tables.specs.Held.{HeldPlan, nothing_held}
 use Rattle.held_tables.proofs.NextPorts.{lid_has_cost}
 use Rattle.held_tables.proofs.HeldPlans.{made, entry_counts}
 use Rattle.held_tables.specs.Tables.{entry_for}
-use Rattle.packet_walks.specs.declared.end.End.TheVariants.{Taken}
+use Rattle.packet_walks.specs.declared.packet_end.End.TheVariants.{Taken}
 use Rattle.packet_walks.specs.declared.next_hop.NextHop.{NextHop}
 use Rattle.packet_walks.specs.declared.next_hop.NextHop.TheVariants.{To, Ends}
-use Rattle.packet_walks.specs.NextHops.{next_hops_of}
-use Rattle.packet_walks.specs.WalkEnds.{after}
+use Rattle.packet_walks.specs.HopsByTables.{next_hops_of}
+use Rattle.packet_walks.specs.EndsBySwitch.{after}
 use Rattle.packet_walks.proofs.Ended.{after_ended}
 use Rattle.next_tables.specs.Next.{step_at}
 use Rattle.next_tables.proofs.Entries.{at_mapped, member}

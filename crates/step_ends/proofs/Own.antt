@@ -35,10 +35,10 @@ use Rattle.held_tables.proofs.OwnedLids.{line_owned, owner_listed as owner_has_l
 use Rattle.tables_file.proofs.TablesText.{tables_are_text}
 use Rattle.held_tables.specs.Tables.{entry_for, is_owner, owners_of, top_of}
 use Rattle.held_tables.proofs.HeldPlans.{entry_counts, made, top_of_switch}
-use Rattle.packet_walks.specs.declared.end.End.TheVariants.{Taken}
+use Rattle.packet_walks.specs.declared.packet_end.End.TheVariants.{Taken}
 use Rattle.packet_walks.specs.declared.next_hop.NextHop.TheVariants.{To, Ends}
-use Rattle.packet_walks.specs.NextHops.{next_hops_of}
-use Rattle.packet_walks.specs.WalkEnds.{after}
+use Rattle.packet_walks.specs.HopsByTables.{next_hops_of}
+use Rattle.packet_walks.specs.EndsBySwitch.{after}
 use Rattle.packet_walks.proofs.Judged.{same_itself}
 use Rattle.packet_walks.proofs.OwnerLines.{line_owner, owner_line}
 use Rattle.packet_walks.proofs.PlanPackets.{attachment_there, from_switch}

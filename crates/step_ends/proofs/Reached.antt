@@ -39,13 +39,13 @@ use Rattle.held_tables.specs.declared.far_end.Far.TheVariants.{Nothing, Port, Sw
 use Rattle.held_tables.specs.Switches.{far_at, far_of, far_to, index_in, row_of}
 use Rattle.held_tables.specs.Tables.{entry_for, is_owner, owners_of}
 use Rattle.held_tables.proofs.HeldPlans.{made}
-use Rattle.packet_walks.specs.declared.end.Cause.{Cause}
-use Rattle.packet_walks.specs.declared.end.Cause.TheVariants.{Foreign}
-use Rattle.packet_walks.specs.declared.end.End.TheVariants.{Lost, Taken}
+use Rattle.packet_walks.specs.declared.packet_end.Cause.{Cause}
+use Rattle.packet_walks.specs.declared.packet_end.Cause.TheVariants.{Foreign}
+use Rattle.packet_walks.specs.declared.packet_end.End.TheVariants.{Lost, Taken}
 use Rattle.packet_walks.specs.declared.next_hop.NextHop.{NextHop}
 use Rattle.packet_walks.specs.declared.next_hop.NextHop.TheVariants.{To, Ends}
-use Rattle.packet_walks.specs.NextHops.{at_port, by_entry, cause_of, next_hops_of, over}
-use Rattle.packet_walks.specs.WalkEnds.{after}
+use Rattle.packet_walks.specs.HopsByTables.{at_port, by_entry, cause_of, next_hops_of, over}
+use Rattle.packet_walks.specs.EndsBySwitch.{after}
 use Rattle.packet_walks.proofs.Ended.{after_ended}
 use Rattle.packet_walks.proofs.FabricParts.{index_there}
 use Rattle.packet_walks.proofs.Judged.{same_itself}

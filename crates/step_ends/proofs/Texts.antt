@@ -9,11 +9,11 @@ use Rattle.lft_blocks.specs.Rules.{RuleValue}
 use Rattle.held_tables.specs.Held.{HeldPlan}
 use Rattle.tables_file.specs.Reading.{held_of}
 use Rattle.tables_file.specs.TablesText.{next_text}
-use Rattle.packet_walks.specs.declared.end.End.TheVariants.{Taken}
+use Rattle.packet_walks.specs.declared.packet_end.End.TheVariants.{Taken}
 use Rattle.packet_walks.specs.declared.next_hop.NextHop.{NextHop}
 use Rattle.packet_walks.specs.declared.next_hop.NextHop.TheVariants.{To, Ends}
-use Rattle.packet_walks.specs.NextHops.{next_hops_of}
-use Rattle.packet_walks.specs.WalkEnds.{after, end_of}
+use Rattle.packet_walks.specs.HopsByTables.{next_hops_of}
+use Rattle.packet_walks.specs.EndsBySwitch.{after, end_of}
 use Rattle.packet_walks.proofs.InTime.{ends_in_time, one_end}
 use Rattle.next_tables.specs.Next.{step_at}
 use Rattle.next_tables.proofs.NextText.{step_texts_are_read}

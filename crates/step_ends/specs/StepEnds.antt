@@ -11,10 +11,10 @@ use Rattle.held_tables.specs.Held.{HeldPlan}
 use Rattle.held_tables.specs.PlanTables.{held_plan}
 use Rattle.tables_file.specs.Reading.{held_of}
 use Rattle.held_tables.specs.Tables.{owners_of, top_of}
-use Rattle.packet_walks.specs.declared.end.End.TheVariants.{Taken}
+use Rattle.packet_walks.specs.declared.packet_end.End.TheVariants.{Taken}
 use Rattle.packet_walks.specs.declared.next_hop.NextHop.TheVariants.{To, Ends}
-use Rattle.packet_walks.specs.NextHops.{next_hops_of}
-use Rattle.packet_walks.specs.WalkEnds.{after}
+use Rattle.packet_walks.specs.HopsByTables.{next_hops_of}
+use Rattle.packet_walks.specs.EndsBySwitch.{after}
 use Rattle.next_tables.specs.NextTables.{IsKept}
 use Rattle.next_tables.specs.StepLaws.{stepped as settled}
 use Rattle.ordered_steps.specs.Rightness.{are_right}

@@ -7,7 +7,7 @@ use Rattle.packet_walks.specs.Deliveries.{ComeToOwner, is_delivered}
 use Rattle.held_tables.specs.Owners.{is_sole}
 use Rattle.held_tables.specs.Switches.{node_of}
 use Rattle.packet_walks.specs.Network.{Seen}
-use Rattle.packet_walks.specs.NextHops.{LineArrives}
+use Rattle.packet_walks.specs.HopsByTables.{LineArrives}
 use Rattle.held_tables.specs.Tables.{owners_of}
 use Rattle.packet_walks.proofs.ToOwners.{all_come}
 use Rattle.packet_walks.proofs.network.Network.all_arrive.Goals as goal

@@ -3,14 +3,14 @@ use Rattle.std.proofs.Common.{◌≡◌, ◌∙◌, length, sym, subst, ap}
 use Rattle.std.proofs.lemmas.List.{length-map}
 use Rattle.std.specs.Prelude.{IfOk, map}
 use Rattle.fact_store.specs.View.{cells_of}
-use Rattle.packet_walks.specs.Ends.{end_from}
+use Rattle.packet_walks.specs.EndsBySender.{end_from}
 use Rattle.held_tables.specs.declared.audited_switch.AuditedSwitch.{AuditedSwitch}
 use Rattle.packet_walks.specs.declared.next_hop.NextHop.{NextHop}
 use Rattle.held_tables.specs.Switches.{all_begin, first_switch}
 use Rattle.packet_walks.specs.Network.{Seen}
 use Rattle.held_tables.specs.Blocks.{AreBlocks}
 use Rattle.held_tables.specs.Tables.{holders}
-use Rattle.packet_walks.specs.NextHops.{AreBrought, next_hop_of}
+use Rattle.packet_walks.specs.HopsByTables.{AreBrought, next_hop_of}
 use Rattle.packet_walks.proofs.Brought.{brought_is, if_ok}
 use Rattle.packet_walks.proofs.network.Network.ends.Goals as goal
 

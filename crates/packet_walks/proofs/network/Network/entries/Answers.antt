@@ -5,7 +5,7 @@ use Rattle.fact_store.specs.View.{cells_of}
 use Rattle.subnet_view.specs.Reading.{switches}
 use Rattle.packet_walks.specs.Network.{Seen}
 use Rattle.held_tables.specs.Blocks.{AreBlocks}
-use Rattle.packet_walks.specs.NextHops.{node_entry}
+use Rattle.packet_walks.specs.HopsByTables.{node_entry}
 use Rattle.held_tables.specs.Tables.{entry_for}
 use Rattle.packet_walks.proofs.Brought.{entries_are, if_ok}
 use Rattle.packet_walks.proofs.network.Network.entries.Goals as goal

@@ -6,7 +6,7 @@ use Rattle.subnet_view.specs.Reading.{switches}
 use Rattle.packet_walks.specs.Network.{Seen}
 use Rattle.held_tables.specs.Blocks.{AreBlocks}
 use Rattle.held_tables.specs.Tables.{holders}
-use Rattle.packet_walks.specs.NextHops.{switch_step, switch_step_of}
+use Rattle.packet_walks.specs.HopsByTables.{switch_step, switch_step_of}
 use Rattle.packet_walks.proofs.Brought.{switch_steps_are, if_ok}
 use Rattle.packet_walks.proofs.network.Network.switch_steps.Goals as goal
 
