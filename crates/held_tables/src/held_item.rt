@@ -24,7 +24,7 @@ impl Model for HeldRange {
     ghost inverse = { λ r. record { first = r.first; lmc = r.lmc } };
 }
 
-/// What a line without a fault says.
+/// What a line of a text of tables says.
 #[derive(Clone, Copy)]
 pub enum HeldItem {
     Nothing,
