@@ -5,7 +5,7 @@ use Rattle.audit_channels.specs.Orders.{GoesOn, IsCycle, IsOrder, IsShortest}
 use Rattle.audit_channels.specs.declared.order.ChannelOrder.{ChannelOrder}
 use Rattle.audit_channels.specs.declared.order.ChannelOrder.TheVariants.{Rises, Cycle}
 use Rattle.subnet_view.specs.Reading.{Cells}
-use Rattle.plan_file.specs.Held.{HeldPlan}
+use Rattle.held_tables.specs.Held.{HeldPlan}
 use Rattle.audit_channels.specs.Waiting.{AreWaits, RiseOnWays, WaitOn, WaitInCycle, IsOrderOf, IsShortestOf, NeverBoth}
 
 module _ (cells : Cells) (held : HeldPlan) (waits : List (List ℕ)) (are : AreWaits cells held waits) where

@@ -11,10 +11,10 @@ use Rattle.audit_channels.specs.Orders.{Follows}
 use Rattle.audit_channels.specs.Columns.{TakesInTurn, IsWithColumn}
 use Rattle.audit_channels.proofs.Columns.{within}
 use Rattle.subnet_view.specs.Reading.{Cells, switches}
-use Rattle.plan_file.specs.Held.{HeldPlan}
-use Rattle.audit.specs.Edges.{edges_of, greatest_top}
+use Rattle.held_tables.specs.Held.{HeldPlan}
+use Rattle.packet_walks.specs.Edges.{edges_of, greatest_top}
 use Rattle.held_tables.specs.Blocks.{AreBlocks}
-use Rattle.audit.proofs.Tops.{none_above}
+use Rattle.packet_walks.proofs.Tops.{none_above}
 use Rattle.audit_channels.specs.Waiting.{WaitsFor, AreWaits, IsAdded}
 
 -- a product that fits

@@ -8,8 +8,8 @@ use Rattle.audit_channels.specs.Columns.{TakesInTurn}
 use Rattle.audit_channels.specs.declared.order.ChannelOrder.{ChannelOrder}
 use Rattle.audit_channels.specs.declared.order.ChannelOrder.TheVariants.{Rises, Cycle}
 use Rattle.subnet_view.specs.Reading.{Cells, switches}
-use Rattle.plan_file.specs.Held.{HeldPlan}
-use Rattle.audit.specs.Edges.{edges_of}
+use Rattle.held_tables.specs.Held.{HeldPlan}
+use Rattle.packet_walks.specs.Edges.{edges_of}
 
 -- a packet for some LID leaves a switch by `channel`, and the next switch by `next`; whether an end port holds the LID
 -- does not matter

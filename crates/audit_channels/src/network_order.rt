@@ -3,7 +3,7 @@ ghost use Rattle.fact_store.specs.View.{cells_of};
 ghost use Rattle.audit_channels.specs.Waiting.{IsOrderOf, IsShortestOf};
 
 use crate::{ChannelOrder, channel_waits, order_channels};
-use audit::Network;
+use packet_walks::Network;
 use std::alloc::{AllocError, Global};
 
 /// Returns numbers of channels that rise along the way of every packet, whether or not an end port holds its LID. If

@@ -4,7 +4,7 @@ ghost use Rattle.audit_channels.specs.Columns.{IsWithColumn};
 ghost use Rattle.audit_channels.specs.Waiting.{AreWaits, IsAdded};
 
 use crate::{Waits, add_column, is_same_column};
-use audit::Network;
+use packet_walks::Network;
 use port_graph::Edge;
 use smp_bytes::Lid;
 use std::alloc::{AllocError, Global};

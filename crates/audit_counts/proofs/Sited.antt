@@ -9,11 +9,11 @@ use Rattle.std.specs.List.{list_any, position, position_or_len}
 use Rattle.subnet_view.proofs.Apart.{contains-from_map}
 use Rattle.std.specs.Option.{option_map_or}
 use Rattle.subnet_view.proofs.Members.{contains_in, list_any_true}
-use Rattle.audit.proofs.PlanSteps.{contains_at}
+use Rattle.packet_walks.proofs.PlanSteps.{contains_at}
 use Rattle.subnet_view.specs.declared.end_port.EndPort.{EndPort}
 use Rattle.subnet_view.specs.Reading.{Cells}
 use Rattle.held_tables.specs.Tables.{is_owner, is_same_end}
-use Rattle.audit.proofs.Judged.{same_ends}
+use Rattle.packet_walks.proofs.Judged.{same_ends}
 use Rattle.audit_counts.specs.declared.site.Site.{Site}
 use Rattle.audit_ways.specs.Ways.{is_adapter}
 use Rattle.audit_counts.specs.Sites.{IsSiteOf, is_of, are_adapters, are_joined, are_joined_adapters, are_one_component, first_root, is_one_root, leads_to, site_of}

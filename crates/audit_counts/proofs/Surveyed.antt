@@ -10,16 +10,16 @@ use Rattle.std.proofs.lemmas.Option.{slice_get-get_or}
 use Rattle.subnet_view.specs.declared.end_port.EndPort.{EndPort}
 use Rattle.subnet_view.specs.EndPorts.{end_ports}
 use Rattle.subnet_view.specs.Reading.{Cells}
-use Rattle.plan_file.specs.declared.held.HeldLid.{HeldLid}
-use Rattle.plan_file.specs.Held.{HeldPlan}
-use Rattle.audit.specs.declared.end.End.{End}
-use Rattle.audit.specs.declared.end.End.TheVariants.{Taken}
+use Rattle.held_tables.specs.declared.held.HeldLid.{HeldLid}
+use Rattle.held_tables.specs.Held.{HeldPlan}
+use Rattle.packet_walks.specs.declared.packet_end.End.{End}
+use Rattle.packet_walks.specs.declared.packet_end.End.TheVariants.{Taken}
 use Rattle.held_tables.specs.Blocks.{AreBlocks}
-use Rattle.audit.specs.NextHops.{AreBrought, LineArrives, end_for, is_at}
+use Rattle.packet_walks.specs.HopsByTables.{AreBrought, LineArrives, end_for, is_at}
 use Rattle.held_tables.specs.Tables.{is_owner, lines_of}
-use Rattle.audit.proofs.Arrivals.{all_there}
-use Rattle.audit.proofs.InTime.{end_found, found_at}
-use Rattle.audit.proofs.Judged.{at_contains, same_itself}
+use Rattle.packet_walks.proofs.Arrivals.{all_there}
+use Rattle.packet_walks.proofs.InTime.{end_found, found_at}
+use Rattle.packet_walks.proofs.Judged.{at_contains, same_itself}
 use Rattle.audit_ways.specs.Ways.{AllComeTo}
 use Rattle.audit_counts.specs.declared.sent_packet.SentPacket.{SentPacket}
 use Rattle.audit_counts.specs.declared.packet_tally.PacketTally.{PacketTally}

@@ -4,11 +4,11 @@ use Rattle.std.specs.List.{flat_map}
 use Rattle.subnet_view.specs.declared.end_port.EndPort.{EndPort}
 use Rattle.subnet_view.specs.EndPorts.{end_ports}
 use Rattle.subnet_view.specs.Reading.{Cells}
-use Rattle.plan_file.specs.declared.held.HeldLid.{HeldLid}
-use Rattle.plan_file.specs.Held.{HeldPlan}
-use Rattle.audit.specs.declared.end.End.{End}
-use Rattle.audit.specs.declared.end.End.TheVariants.{Taken, Lost}
-use Rattle.audit.specs.NextHops.{end_for, is_at}
+use Rattle.held_tables.specs.declared.held.HeldLid.{HeldLid}
+use Rattle.held_tables.specs.Held.{HeldPlan}
+use Rattle.packet_walks.specs.declared.packet_end.End.{End}
+use Rattle.packet_walks.specs.declared.packet_end.End.TheVariants.{Taken, Lost}
+use Rattle.packet_walks.specs.HopsByTables.{end_for, is_at}
 use Rattle.held_tables.specs.Tables.{is_owner, lines_of}
 use Rattle.audit_counts.specs.declared.sent_packet.SentPacket.{SentPacket}
 use Rattle.audit_counts.specs.Sites.{are_adapters, in_one_component}

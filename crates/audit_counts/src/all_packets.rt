@@ -2,7 +2,7 @@
 ghost use Rattle.std.specs.Prelude.{◌≡◌, ◌/◌, ◌++◌, ℕ, [], true, Contains, IfOk, List, OnOk, count_by, map};
 ghost use Rattle.fact_store.specs.View.{cells_of};
 ghost use Rattle.subnet_view.specs.EndPorts.{end_ports};
-ghost use Rattle.audit.specs.Deliveries.{AreDeliveries};
+ghost use Rattle.packet_walks.specs.Deliveries.{AreDeliveries};
 ghost use Rattle.held_tables.specs.Blocks.{AreBlocks};
 ghost use Rattle.audit_ways.specs.Ways.{AllComeTo, AreTold};
 ghost use Rattle.audit_counts.specs.declared.sent_packet.SentPacket.{SentPacket as Sent};
@@ -13,8 +13,8 @@ ghost use Rattle.audit_counts.specs.PacketTally.{IsTally, IsWithArrived};
 use crate::packet_tally::PacketTally;
 use crate::sent_packet::SentPacket;
 use crate::site::{Census, Site, census_of, index_of, joined_adapters, joined_count, site_in};
-use audit::{Blocks, Deliveries, Network};
-use plan_file::HeldLid;
+use held_tables::HeldLid;
+use packet_walks::{Blocks, Deliveries, Network};
 use std::alloc::{AllocError, Global};
 
 /// The counts of packets, and the lines whose packets are all delivered.

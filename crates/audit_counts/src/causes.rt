@@ -1,6 +1,6 @@
 ghost use Rattle.std.specs.Prelude.{◌≡◌, ◌+◌, [], OnOk};
 
-use audit::Cause;
+use packet_walks::Cause;
 use std::alloc::AllocError;
 
 /// The number of packets that are lost for each cause.

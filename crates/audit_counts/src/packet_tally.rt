@@ -5,7 +5,7 @@ use crate::causes::Causes;
 use crate::first_few::FirstFew;
 use crate::pairs::Pairs;
 use crate::sent_packet::SentPacket;
-use audit::End;
+use packet_walks::End;
 use std::alloc::{AllocError, Global};
 
 /// The number of packets and how many arrive. Of the others, the number and the first packets of each kind.

@@ -1,8 +1,8 @@
 ghost use Rattle.std.specs.Prelude.{◌≡◌};
 
 use crate::site::are_adapters;
-use audit::{End, is_same_end};
-use plan_file::HeldLid;
+use held_tables::HeldLid;
+use packet_walks::{End, is_same_end};
 use subnet_view::EndPort;
 
 /// A packet for a LID that an end port holds.

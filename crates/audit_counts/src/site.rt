@@ -11,9 +11,9 @@ ghost use Rattle.audit_counts.specs.Sites.{are_adapters, are_joined, are_joined_
 ghost use Rattle.audit_counts.specs.Sites.{are_one_component, first_root, is_one_root, leads_to, root_at};
 ghost use Rattle.audit_counts.specs.Sites.{site_of, switch_of};
 
-use audit::is_same_end;
 use audit_ways::is_adapter;
 use fact_store::{Refused, Store};
+use packet_walks::is_same_end;
 use smp_bytes::{Guid, PortNum};
 use std::alloc::{AllocError, Global};
 use subnet_view::{EndPort, SwitchGraph, Wires, end_ports, is_usable};

@@ -6,10 +6,10 @@ ghost use Rattle.audit_counts.specs.Unmatched.{tableless_among, twice, unjoined,
 ghost use Rattle.audit_counts.specs.Unmatched.{unusable};
 
 use crate::first_few::FirstFew;
-use audit::{Network, is_same_end};
 use fact_gaps::{unjoined_ports, unusable_nodes};
 use fact_store::{Refused, Store};
-use plan_file::{Held, HeldLid};
+use held_tables::{Held, HeldLid};
+use packet_walks::{Network, is_same_end};
 use smp_bytes::Guid;
 use std::alloc::{AllocError, Global};
 use subnet_view::{EndPort, end_ports, is_end_port, is_usable, switches};

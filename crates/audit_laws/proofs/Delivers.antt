@@ -23,7 +23,7 @@ use Rattle.subnet_view.specs.Wires.{across, attached}
 use Rattle.subnet_view.specs.Agreement.{Part, IsEndPortIn, IsPortNamed}
 use Rattle.subnet_view.proofs.EndPortList.{end_ports_law}
 use Rattle.subnet_view.proofs.WireLaws.{wire_law}
-use Rattle.plan_file.specs.Held.{HeldPlan}
+use Rattle.held_tables.specs.Held.{HeldPlan}
 use Rattle.subnet_view.specs.Graph.{graph_of}
 use Rattle.subnet_view.specs.Components.{root_of}
 use Rattle.subnet_view.proofs.Components.{rooted, same_root}
@@ -32,13 +32,13 @@ use Rattle.subnet_view.proofs.Joined.{HasAttachment, LiesAt, Meets, apart, by_wi
 use Rattle.subnet_view.proofs.PartWires.{IsTold, known_type, switch_at_index, switch_known, switch_port, switch_usable}
 use Rattle.subnet_view.proofs.GraphSwitches.{usable_switch}
 use Rattle.lft_blocks.specs.Entries.{attachment_of}
-use Rattle.audit.specs.declared.end.End.TheVariants.{Taken}
-use Rattle.audit.specs.Fabrics.{EndsAs, IsSeenIn}
-use Rattle.audit.specs.NextHops.{IsBrought, is_at}
-use Rattle.audit.proofs.Elsewhere.{not_there}
-use Rattle.audit.proofs.Judged.{same_itself}
-use Rattle.audit.proofs.OwnerLines.{owner_line}
-use Rattle.audit.proofs.Told.{IsClosed, joined_closed, packets_end_as_told_in_parts}
+use Rattle.packet_walks.specs.declared.packet_end.End.TheVariants.{Taken}
+use Rattle.packet_walks.specs.Fabrics.{EndsAs, IsSeenIn}
+use Rattle.packet_walks.specs.HopsByTables.{IsBrought, is_at}
+use Rattle.packet_walks.proofs.Elsewhere.{not_there}
+use Rattle.packet_walks.proofs.Judged.{same_itself}
+use Rattle.packet_walks.proofs.OwnerLines.{owner_line}
+use Rattle.packet_walks.proofs.Told.{IsClosed, joined_closed, packets_end_as_told_in_parts}
 use Rattle.held_tables.specs.Tables.{is_same_end}
 use Rattle.audit_laws.specs.Laws.{MissedPacketsMiss, PassingAuditsDeliver}
 use Rattle.audit_report.proofs.Judged.{brought}

@@ -15,12 +15,12 @@ use Rattle.subnet_view.specs.Components.{root_of}
 use Rattle.lft_blocks.specs.Rules.{RuleValue}
 use Rattle.lft_blocks.specs.Entries.{attachment_of}
 use Rattle.lft_blocks.specs.Plan.{plan_of}
-use Rattle.plan_file.specs.Held.{HeldPlan, nothing_held}
-use Rattle.plan_file.specs.Printed.{held_plan}
+use Rattle.held_tables.specs.Held.{HeldPlan, nothing_held}
+use Rattle.held_tables.specs.PlanTables.{held_plan}
 use Rattle.held_tables.specs.Tables.{is_same_end}
 use Rattle.held_tables.proofs.HeldPlans.{made}
-use Rattle.audit.proofs.Judged.{same_ends}
-use Rattle.audit.proofs.PlanPackets.{HasRoot, Meets, itself, of_root, by_wire, brought}
+use Rattle.packet_walks.proofs.Judged.{same_ends}
+use Rattle.packet_walks.proofs.PlanPackets.{HasRoot, Meets, itself, of_root, by_wire, brought}
 use Rattle.audit_report.specs.Passing.{EachArrives}
 use Rattle.audit_counts.specs.Sites.{in_one_component, root_at, is_one_root, leads_to}
 

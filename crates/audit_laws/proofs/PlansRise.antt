@@ -25,18 +25,18 @@ use Rattle.lft_blocks.proofs.AttachmentSwitches.{attachment_is_switch}
 use Rattle.lft_blocks.specs.Rules.{RuleValue, routing_by}
 use Rattle.lft_blocks.proofs.RulesRoute.{rules_are_routings}
 use Rattle.lft_blocks.specs.Plan.{plan_of, lid_routing}
-use Rattle.plan_file.specs.Held.{HeldPlan, nothing_held}
-use Rattle.plan_file.specs.Printed.{held_plan}
-use Rattle.plan_file.proofs.NextPorts.{next_has_cost}
-use Rattle.plan_file.proofs.PlanRanges.{wire_small}
-use Rattle.audit.specs.Edges.{edge_by}
+use Rattle.held_tables.specs.Held.{HeldPlan, nothing_held}
+use Rattle.held_tables.specs.PlanTables.{held_plan}
+use Rattle.held_tables.proofs.NextPorts.{next_has_cost}
+use Rattle.held_tables.proofs.PlanRanges.{wire_small}
+use Rattle.packet_walks.specs.Edges.{edge_by}
 use Rattle.held_tables.specs.Switches.{row_of}
 use Rattle.held_tables.specs.Tables.{counted, entry_for, top_of as top_held}
 use Rattle.held_tables.proofs.HeldPlans.{made, entry_counts, entry_held, top_of_switch}
-use Rattle.audit.proofs.Tops.{entry_above, no_edge_by, none_above, uncounted}
+use Rattle.packet_walks.proofs.Tops.{entry_above, no_edge_by, none_above, uncounted}
 use Rattle.audit_channels.specs.Waiting.{WaitsFor}
 use Rattle.audit_report.specs.Passing.{CanRise}
-use Rattle.audit.proofs.PlanSteps.{contains_at, of_column, leaves, on_way}
+use Rattle.packet_walks.proofs.PlanSteps.{contains_at, of_column, leaves, on_way}
 use Rattle.lft_blocks.specs.LidNumbers.{lid_numbers}
 
 -- the number of a channel: the rule's, if its wire leads somewhere

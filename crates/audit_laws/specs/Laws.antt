@@ -16,9 +16,9 @@ use Rattle.fact_gaps.specs.Gaps.{IsKnownNode, IsKnownPort, unjoined_ports}
 use Rattle.lid_assign.specs.Lids.{IsNoRoom}
 use Rattle.lft_blocks.specs.Rules.{RuleValue}
 use Rattle.lft_blocks.specs.Plan.{plan_of}
-use Rattle.plan_file.specs.Held.{HeldPlan}
-use Rattle.plan_file.specs.Printed.{held_plan}
-use Rattle.audit.specs.Fabrics.{ArrivesAt, IsSeenIn}
+use Rattle.held_tables.specs.Held.{HeldPlan}
+use Rattle.held_tables.specs.PlanTables.{held_plan}
+use Rattle.packet_walks.specs.Fabrics.{ArrivesAt, IsSeenIn}
 use Rattle.audit_counts.specs.declared.sent_packet.SentPacket.{SentPacket}
 use Rattle.audit_counts.specs.Packets.{arrives, packets_of}
 use Rattle.audit_report.specs.Passing.{EachNodeIsKnown, Passes}

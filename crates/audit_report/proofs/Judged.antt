@@ -9,20 +9,20 @@ use Rattle.subnet_view.specs.EndPorts.{end_ports}
 use Rattle.subnet_view.specs.Reading.{Cells}
 use Rattle.subnet_view.proofs.Members.{contains_here, contains_later, contains_cases, contains_none, contains_filter, contains-from_filter, list_any_true, list_any_at}
 use Rattle.subnet_view.proofs.Apart.{contains_map, contains-from_map}
-use Rattle.plan_file.specs.declared.held.HeldLid.{HeldLid}
-use Rattle.plan_file.specs.Held.{HeldPlan}
-use Rattle.plan_file.proofs.Lists.{in_lists, from_lists}
-use Rattle.audit.specs.declared.end.End.TheVariants.{Taken}
-use Rattle.audit.specs.Network.{Seen}
-use Rattle.audit.specs.NextHops.{end_for, is_at}
+use Rattle.held_tables.specs.declared.held.HeldLid.{HeldLid}
+use Rattle.held_tables.specs.Held.{HeldPlan}
+use Rattle.held_tables.proofs.Lists.{in_lists, from_lists}
+use Rattle.packet_walks.specs.declared.packet_end.End.TheVariants.{Taken}
+use Rattle.packet_walks.specs.Network.{Seen}
+use Rattle.packet_walks.specs.HopsByTables.{end_for, is_at}
 use Rattle.held_tables.specs.Tables.{is_owner, is_same_end, lines_of}
 use Rattle.held_tables.proofs.Once.{once_from, once_has}
-use Rattle.audit.proofs.InTime.{end_found, end_is}
-use Rattle.audit.proofs.Judged.{same_ends, same_itself, at_is}
+use Rattle.packet_walks.proofs.InTime.{end_found, end_is}
+use Rattle.packet_walks.proofs.Judged.{same_ends, same_itself, at_is}
 use Rattle.audit_channels.specs.Waiting.{NoneShorter}
 use Rattle.audit_channels.proofs.Orders.{never_both}
 use Rattle.audit_ways.specs.declared.ways.WayFigures.{WayFigures}
-use Rattle.audit.specs.NextHops.{IsBrought}
+use Rattle.packet_walks.specs.HopsByTables.{IsBrought}
 use Rattle.audit_counts.specs.declared.sent_packet.SentPacket.{SentPacket}
 use Rattle.audit_counts.specs.declared.packet_tally.PacketTally.{PacketTally}
 use Rattle.audit_counts.specs.declared.unmatched.Unmatched.{Unmatched}

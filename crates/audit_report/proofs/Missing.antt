@@ -18,14 +18,14 @@ use Rattle.lid_assign.proofs.LidLaws.{lids_law}
 use Rattle.lft_blocks.specs.Rules.{RuleValue}
 use Rattle.lft_blocks.specs.Entries.{attachment_of_lid, block_count, blocks}
 use Rattle.lft_blocks.specs.Plan.{SwitchTable, plan_of, lid_routing}
-use Rattle.plan_file.specs.declared.held.HeldLid.{HeldLid}
-use Rattle.plan_file.specs.declared.held.HeldSwitch.{HeldSwitch}
-use Rattle.plan_file.specs.Held.{HeldPlan, nothing_held}
-use Rattle.plan_file.specs.Printed.{held_plan, with_top}
-use Rattle.plan_file.proofs.OwnedLids.{owner_at, owner_listed}
+use Rattle.held_tables.specs.declared.held.HeldLid.{HeldLid}
+use Rattle.held_tables.specs.declared.held.HeldSwitch.{HeldSwitch}
+use Rattle.held_tables.specs.Held.{HeldPlan, nothing_held}
+use Rattle.held_tables.specs.PlanTables.{held_plan, with_top}
+use Rattle.held_tables.proofs.OwnedLids.{owner_at, owner_listed}
 use Rattle.held_tables.specs.Tables.{is_same_end}
 use Rattle.held_tables.proofs.HeldPlans.{made}
-use Rattle.audit.proofs.Judged.{same_ends, same_itself}
+use Rattle.packet_walks.proofs.Judged.{same_ends, same_itself}
 use Rattle.audit_counts.specs.declared.unmatched.Unmatched.{Unmatched}
 use Rattle.audit_report.specs.Passing.{EachHasTables, EachHoldsLid, EachNodeIsKnown, HoldsLid, HoldsTables, IsWholeFor}
 use Rattle.audit_counts.specs.FirstFew.{Listed}

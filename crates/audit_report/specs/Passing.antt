@@ -10,13 +10,13 @@ use Rattle.subnet_view.specs.EndPorts.{end_ports}
 use Rattle.subnet_view.specs.Reading.{Cells, switches}
 use Rattle.fact_gaps.specs.Gaps.{IsKnownNode}
 use Rattle.fact_gaps.specs.Named.{IsNamedNode}
-use Rattle.plan_file.specs.contracts.held.Held as held_plan
-use Rattle.plan_file.specs.declared.held.HeldLid.{HeldLid}
-use Rattle.plan_file.specs.declared.held.HeldSwitch.{HeldSwitch}
-use Rattle.plan_file.specs.Held.{HeldPlan}
-use Rattle.audit.specs.declared.end.End.TheVariants.{Taken}
-use Rattle.audit.specs.Network.{Seen}
-use Rattle.audit.specs.NextHops.{IsBrought}
+use Rattle.held_tables.specs.contracts.held.Held as held_plan
+use Rattle.held_tables.specs.declared.held.HeldLid.{HeldLid}
+use Rattle.held_tables.specs.declared.held.HeldSwitch.{HeldSwitch}
+use Rattle.held_tables.specs.Held.{HeldPlan}
+use Rattle.packet_walks.specs.declared.packet_end.End.TheVariants.{Taken}
+use Rattle.packet_walks.specs.Network.{Seen}
+use Rattle.packet_walks.specs.HopsByTables.{IsBrought}
 use Rattle.audit_channels.specs.Waiting.{RiseOnWays, WaitInCycle}
 use Rattle.audit_ways.specs.declared.figures.Figures.{Figures}
 use Rattle.audit_ways.specs.declared.ways.WayFigures.{WayFigures}

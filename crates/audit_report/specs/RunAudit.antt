@@ -3,7 +3,7 @@
 use Rattle.std.specs.Prelude.{◌↔◌, ◌⊎◌, ℕ, Bool, List, IsTrue, if◌then◌else◌}
 use Rattle.byte_io.specs.Source.{SourceState}
 use Rattle.fact_store.specs.View.{Facts, cells_of}
-use Rattle.plan_file.specs.Held.{HeldPlan}
+use Rattle.held_tables.specs.Held.{HeldPlan}
 use Rattle.audit_channels.specs.Waiting.{NoneShorter}
 use Rattle.audit_report.specs.AuditText.{audit_text}
 use Rattle.audit_report.specs.Passing.{IsCycle, PassesWithin}

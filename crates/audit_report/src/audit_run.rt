@@ -9,7 +9,7 @@ ghost use Rattle.audit_report.specs.RunAudit.{HasAudited, IsAnswerFault, IsAudit
 use crate::{Audit, write_audit};
 use byte_io::{Sink, Source};
 use fact_store::Store;
-use plan_file::Held;
+use held_tables::Held;
 use sm_cli::{Fault, read_tables_and_files};
 use smp_bytes::Generation;
 use std::alloc::Global;

@@ -16,11 +16,11 @@ ghost use Rattle.audit_report.specs.AuditText.{lost_text, missed_text, sent_text
 ghost use Rattle.audit_report.specs.AuditText.{unmatched_text};
 
 use crate::report::Audit;
-use audit::{Cause, End, Network};
 use audit_counts::{Causes, FirstFew, PacketTally, Pairs, SentPacket, Unmatched};
 use audit_ways::{Figures, WayFigures};
 use byte_io::{Sink, WriteFault, write_guid, write_number, write_port};
-use plan_file::HeldLid;
+use held_tables::HeldLid;
+use packet_walks::{Cause, End, Network};
 use smp_bytes::{Guid, Lid, PortNum};
 use subnet_view::EndPort;
 

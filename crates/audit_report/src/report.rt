@@ -9,12 +9,12 @@ ghost use Rattle.audit_counts.specs.Unmatched.{IsUnmatched};
 ghost use Rattle.audit_report.specs.Passing.{EachHasTables, EachHoldsLid, EachNodeIsKnown, IsCycle, IsFound};
 ghost use Rattle.audit_report.specs.Passing.{IsSound, IsWholeFor, Passes, PassesWithin, is_within};
 
-use audit::Network;
 use audit_channels::{ChannelOrder, channel_order};
 use audit_counts::{PacketSurvey, PacketTally, Unmatched, disputed, sites, survey};
 use audit_ways::{Figures, WayFigures, figures_of_ways_told};
 use fact_store::{Refused, Store};
-use plan_file::Held;
+use held_tables::Held;
+use packet_walks::Network;
 use std::alloc::{AllocError, Global};
 use std::marker::Model;
 

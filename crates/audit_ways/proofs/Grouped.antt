@@ -10,18 +10,18 @@ use Rattle.subnet_view.specs.declared.end_port.EndPort.{EndPort}
 use Rattle.subnet_view.specs.EndPorts.{end_ports}
 use Rattle.subnet_view.specs.Reading.{Cells, switches}
 use Rattle.subnet_view.specs.Wires.{across}
-use Rattle.plan_file.specs.declared.held.HeldLid.{HeldLid}
-use Rattle.plan_file.specs.Held.{HeldPlan}
+use Rattle.held_tables.specs.declared.held.HeldLid.{HeldLid}
+use Rattle.held_tables.specs.Held.{HeldPlan}
 use Rattle.port_graph.specs.declared.edge.Edge.{Edge}
 use Rattle.held_tables.specs.declared.far_end.Far.{Far}
 use Rattle.held_tables.specs.declared.far_end.Far.TheVariants.{Nothing, Switch, Port}
-use Rattle.audit.specs.Edges.{edge_by, edges_of}
+use Rattle.packet_walks.specs.Edges.{edge_by, edges_of}
 use Rattle.held_tables.specs.Switches.{far_at, far_of, far_to, index_in, row_of, sender_of, switch_over}
-use Rattle.audit.specs.declared.end.End.{End}
+use Rattle.packet_walks.specs.declared.packet_end.End.{End}
 use Rattle.held_tables.specs.declared.senders.Sender.{Sender}
-use Rattle.audit.specs.NextHops.{AreBrought, end_for, is_at}
+use Rattle.packet_walks.specs.HopsByTables.{AreBrought, end_for, is_at}
 use Rattle.held_tables.specs.Tables.{entry_for}
-use Rattle.audit.proofs.InTime.{found_at}
+use Rattle.packet_walks.proofs.InTime.{found_at}
 use Rattle.port_graph.proofs.Counts.{length_map}
 use Rattle.audit_ways.specs.declared.way_tally.WayTally.{WayTally}
 use Rattle.audit_ways.specs.declared.sender_groups.Groups.{Groups}

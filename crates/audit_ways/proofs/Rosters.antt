@@ -24,7 +24,7 @@ use Rattle.held_tables.specs.declared.far_end.Far.{Far}
 use Rattle.held_tables.specs.declared.senders.Sender.{Sender}
 use Rattle.held_tables.specs.Switches.{far_of, sender_of}
 use Rattle.held_tables.specs.Tables.{is_owner, is_same_end}
-use Rattle.audit.proofs.Judged.{same_ends, same_itself}
+use Rattle.packet_walks.proofs.Judged.{same_ends, same_itself}
 use Rattle.audit_ways.specs.Groups.{AreByPort, IsRoster, IsTargetAmong, LeadsTo, port_cmp, port_of}
 use Rattle.audit_ways.specs.Ways.{is_adapter, is_target}
 

@@ -14,16 +14,16 @@ use Rattle.subnet_view.specs.Reading.{Cells}
 use Rattle.subnet_view.proofs.EndPortList.{end_ports_law}
 use Rattle.subnet_view.proofs.EndPortOrder.{port_total}
 use Rattle.subnet_view.proofs.Members.{contains_filter, list_any_at}
-use Rattle.plan_file.specs.declared.held.HeldLid.{HeldLid}
-use Rattle.plan_file.specs.Held.{HeldPlan}
-use Rattle.audit.specs.declared.end.End.{End}
+use Rattle.held_tables.specs.declared.held.HeldLid.{HeldLid}
+use Rattle.held_tables.specs.Held.{HeldPlan}
+use Rattle.packet_walks.specs.declared.packet_end.End.{End}
 use Rattle.held_tables.specs.declared.far_end.Far.{Far}
 use Rattle.held_tables.specs.Switches.{far_of, switch_over}
-use Rattle.audit.specs.NextHops.{AreBrought, end_for, is_at}
+use Rattle.packet_walks.specs.HopsByTables.{AreBrought, end_for, is_at}
 use Rattle.held_tables.specs.Tables.{is_owner, is_same_end}
-use Rattle.audit.proofs.Arrivals.{all_there}
-use Rattle.audit.proofs.InTime.{found_at}
-use Rattle.audit.proofs.Judged.{same_ends, same_itself}
+use Rattle.packet_walks.proofs.Arrivals.{all_there}
+use Rattle.packet_walks.proofs.InTime.{found_at}
+use Rattle.packet_walks.proofs.Judged.{same_ends, same_itself}
 use Rattle.audit_ways.specs.declared.sender_groups.Groups.{Groups}
 use Rattle.audit_ways.specs.Groups.{AreGrouped, IsGroupedWith, adapters, by_switch, packets_at, total}
 use Rattle.audit_ways.specs.WayTally.{weighed}

@@ -8,14 +8,14 @@ use Rattle.audit_channels.specs.Columns.{number_of}
 use Rattle.subnet_view.specs.declared.end_port.EndPort.{EndPort}
 use Rattle.subnet_view.specs.EndPorts.{end_ports}
 use Rattle.subnet_view.specs.Reading.{Cells, switches}
-use Rattle.plan_file.specs.declared.held.HeldLid.{HeldLid}
-use Rattle.plan_file.specs.Held.{HeldPlan}
-use Rattle.audit.specs.declared.end.End.{End}
+use Rattle.held_tables.specs.declared.held.HeldLid.{HeldLid}
+use Rattle.held_tables.specs.Held.{HeldPlan}
+use Rattle.packet_walks.specs.declared.packet_end.End.{End}
 use Rattle.held_tables.specs.declared.far_end.Far.{Far}
 use Rattle.held_tables.specs.declared.far_end.Far.TheVariants.{Nothing, Switch, Port}
-use Rattle.audit.specs.Edges.{edges_of}
+use Rattle.packet_walks.specs.Edges.{edges_of}
 use Rattle.held_tables.specs.Switches.{far_by, far_of}
-use Rattle.audit.specs.NextHops.{end_for, is_at}
+use Rattle.packet_walks.specs.HopsByTables.{end_for, is_at}
 use Rattle.held_tables.specs.Tables.{is_owner, is_same_end, lines_of}
 use Rattle.audit_ways.specs.declared.ways.WayFigures.{WayFigures}
 use Rattle.audit_ways.specs.Figures.{figures_of}

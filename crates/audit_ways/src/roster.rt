@@ -5,7 +5,7 @@ ghost use Rattle.fact_store.specs.View.{cells_of};
 ghost use Rattle.audit_ways.specs.Groups.{AreByPort, IsRoster, IsTargetAmong, port_of};
 
 use crate::sender_groups::is_adapter;
-use audit::{Far, Network, Sender};
+use packet_walks::{Far, Network, Sender};
 use smp_bytes::{Guid, PortNum};
 use std::alloc::{AllocError, Global};
 use subnet_view::EndPort;

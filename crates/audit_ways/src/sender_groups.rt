@@ -4,13 +4,13 @@ ghost use Rattle.fact_store.specs.View.{cells_of};
 ghost use Rattle.subnet_view.specs.EndPorts.{end_ports};
 ghost use Rattle.subnet_view.specs.Reading.{switches};
 ghost use Rattle.held_tables.specs.Switches.{switch_over};
-ghost use Rattle.audit.specs.NextHops.{AreBrought};
+ghost use Rattle.packet_walks.specs.HopsByTables.{AreBrought};
 ghost use Rattle.audit_ways.specs.Groups.{AreGrouped, IsGroupedWith, IsWithin, adapters, packets_at};
 ghost use Rattle.audit_ways.specs.Ways.{is_adapter, reaches, reaches_if};
 
 use crate::channel_loads::load_channel;
-use audit::{Ends, Far, Network, is_same_end};
-use plan_file::HeldLid;
+use held_tables::HeldLid;
+use packet_walks::{Ends, Far, Network, is_same_end};
 use std::alloc::{AllocError, Global};
 use subnet_view::EndPort;
 

@@ -16,8 +16,8 @@ use crate::figures::{Figures, Total};
 use crate::roster::{roster, target_among};
 use crate::sender_groups::{Groups, group_packets, senders};
 use crate::way_tally::WayTally;
-use audit::{Blocks, Far, Network};
-use plan_file::HeldLid;
+use held_tables::HeldLid;
+use packet_walks::{Blocks, Far, Network};
 use std::alloc::{AllocError, Global};
 
 /// Figures of the packets that adapter ports send to each other's LIDs and that are delivered.

@@ -9,7 +9,7 @@ use Rattle.port_graph.specs.Heads.{LeadToVertices}
 use Rattle.subnet_view.specs.Reading.{Cells, switches}
 use Rattle.subnet_view.specs.Graph.{graph_of}
 use Rattle.subnet_view.proofs.Graphs.{graph_law}
-use Rattle.plan_file.specs.Held.{HeldPlan}
+use Rattle.held_tables.specs.Held.{HeldPlan}
 use Rattle.spread_labels.specs.Keys.{before_by}
 use Rattle.spread_labels.specs.Orders.{numbers_from, position_of}
 use Rattle.spread_labels.proofs.ByPositions.{position_less}

@@ -5,15 +5,15 @@ use Rattle.std.specs.List.{range_with_len}
 use Rattle.port_graph.specs.declared.edge.Edge.{Edge}
 use Rattle.subnet_view.specs.declared.end_port.EndPort.{EndPort}
 use Rattle.subnet_view.specs.Reading.{Cells, switches}
-use Rattle.plan_file.specs.Held.{HeldPlan}
+use Rattle.held_tables.specs.Held.{HeldPlan}
 use Rattle.held_tables.specs.Blocks.{AreBlocks}
 use Rattle.held_tables.specs.Tables.{owners_of}
-use Rattle.audit.specs.declared.switch_step.SwitchStep.{SwitchStep}
-use Rattle.audit.specs.NextHops.{switch_step}
+use Rattle.packet_walks.specs.declared.next_hop.SwitchStep.{SwitchStep}
+use Rattle.packet_walks.specs.HopsByTables.{switch_step}
 use Rattle.two_orders.specs.declared.labels.Sides.{Sides}
 use Rattle.two_orders.specs.Labels.{labels_from}
 use Rattle.two_orders.specs.TwoOrders.{TwoOrders}
-use Rattle.between_orders.specs.Goal.{column_between, column_for, entries_towards}
+use Rattle.between_orders.specs.TablesBetween.{column_between, column_for, entries_towards}
 
 -- the columns so far
 pub record SoFar (cells : Cells) (edges : List (List Edge)) (orders : TwoOrders) (held plan : HeldPlan) (count held_number plan_number : ℕ)

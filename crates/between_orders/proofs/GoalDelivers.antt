@@ -22,21 +22,21 @@ use Rattle.subnet_view.proofs.GraphSwitches.{graph_guids}
 use Rattle.spread_labels.specs.Orders.{at_position, position_of}
 use Rattle.spread_labels.proofs.ByPositions.{position_less}
 use Rattle.spread_routes.proofs.Indices.{wire_at}
-use Rattle.plan_file.specs.declared.held.HeldLid.{HeldLid}
-use Rattle.plan_file.specs.Held.{HeldPlan}
-use Rattle.plan_file.proofs.PlanRanges.{wire_small}
+use Rattle.held_tables.specs.declared.held.HeldLid.{HeldLid}
+use Rattle.held_tables.specs.Held.{HeldPlan}
+use Rattle.held_tables.proofs.PlanRanges.{wire_small}
 use Rattle.held_tables.specs.declared.far_end.Far.TheVariants.{Nothing, Switch}
 use Rattle.held_tables.specs.Switches.{far_at, far_of, far_to, row_of}
 use Rattle.held_tables.specs.Tables.{entry_for, owners_of, top_of}
-use Rattle.audit.specs.declared.end.End.{End}
-use Rattle.audit.specs.declared.end.End.TheVariants.{Taken}
-use Rattle.audit.specs.declared.next_hop.NextHop.{NextHop}
-use Rattle.audit.specs.declared.next_hop.NextHop.TheVariants.{To, Ends}
-use Rattle.audit.specs.declared.switch_step.SwitchStep.{SwitchStep}
-use Rattle.audit.specs.NextHops.{by_entry, cause_of, next_hops_of, over, switch_step}
-use Rattle.audit.specs.WalkEnds.{after}
-use Rattle.audit.proofs.Judged.{at_is}
-use Rattle.audit.proofs.PlanSteps.{contains_at, no_wire_at_0}
+use Rattle.packet_walks.specs.declared.packet_end.End.{End}
+use Rattle.packet_walks.specs.declared.packet_end.End.TheVariants.{Taken}
+use Rattle.packet_walks.specs.declared.next_hop.NextHop.{NextHop}
+use Rattle.packet_walks.specs.declared.next_hop.NextHop.TheVariants.{To, Ends}
+use Rattle.packet_walks.specs.declared.next_hop.SwitchStep.{SwitchStep}
+use Rattle.packet_walks.specs.HopsByTables.{by_entry, cause_of, next_hops_of, over, switch_step}
+use Rattle.packet_walks.specs.EndsBySwitch.{after}
+use Rattle.packet_walks.proofs.Judged.{at_is}
+use Rattle.packet_walks.proofs.PlanSteps.{contains_at, no_wire_at_0}
 use Rattle.next_tables.specs.Assembled.{most_blocks}
 use Rattle.next_tables.specs.ByOrder.{IsOrder, position_at, switch_at}
 use Rattle.next_tables.specs.Next.{step_at}
@@ -51,7 +51,7 @@ use Rattle.two_orders.specs.Labels.{both_down, goes_on, is_side, label_at, leads
 use Rattle.two_orders.specs.TwoOrders.{TwoOrders}
 use Rattle.two_orders.proofs.LabelLaws.{labelled_go_on}
 use Rattle.between_orders.specs.BetweenLaws.{GoalDelivers, IsGoalLine, labels_of_line}
-use Rattle.between_orders.specs.Goal.{arrives, column_between, column_for, entry_between, entry_to, entry_with, first_label, fits, port_of}
+use Rattle.between_orders.specs.TablesBetween.{arrives, column_between, column_for, entry_between, entry_to, entry_with, first_label, fits, port_of}
 use Rattle.between_orders.specs.Orders.{edges_in}
 use Rattle.between_orders.proofs.GoalEntries.{entry_within, index_is, pair, towards_at}
 use Rattle.between_orders.proofs.GoalTurns.{columns, find_found, goal, goal_is}

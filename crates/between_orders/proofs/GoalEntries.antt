@@ -17,19 +17,19 @@ use Rattle.lft_blocks.specs.Entries.{block_count}
 use Rattle.lft_blocks.specs.Plan.{SwitchTable}
 use Rattle.lft_blocks.proofs.AttachmentTables.{switches_rise}
 use Rattle.lft_blocks.proofs.BlockLaws.{made_at}
-use Rattle.plan_file.specs.declared.held.HeldBlock.{HeldBlock}
-use Rattle.plan_file.specs.declared.held.HeldSwitch.{HeldSwitch}
-use Rattle.plan_file.specs.Held.{HeldPlan}
-use Rattle.plan_file.specs.Printed.{blocks_of}
+use Rattle.held_tables.specs.declared.held.HeldBlock.{HeldBlock}
+use Rattle.held_tables.specs.declared.held.HeldSwitch.{HeldSwitch}
+use Rattle.held_tables.specs.Held.{HeldPlan}
+use Rattle.held_tables.specs.PlanTables.{blocks_of}
 use Rattle.held_tables.specs.Switches.{index_in}
 use Rattle.held_tables.specs.Tables.{counted, entry_at, entry_for, entry_of, index_of, is_block_of, top_at, top_of}
 use Rattle.held_tables.specs.Tables.{entry_in as entry_in_block}
 use Rattle.held_tables.proofs.HeldTables.{block_found, slice_mapped, within_length}
-use Rattle.audit.proofs.FabricParts.{index_there}
-use Rattle.audit.proofs.PlanSteps.{contains_at}
-use Rattle.audit.proofs.Tops.{entry_above}
-use Rattle.audit.specs.declared.switch_step.SwitchStep.{SwitchStep}
-use Rattle.audit.specs.NextHops.{switch_step}
+use Rattle.packet_walks.proofs.FabricParts.{index_there}
+use Rattle.packet_walks.proofs.PlanSteps.{contains_at}
+use Rattle.packet_walks.proofs.Tops.{entry_above}
+use Rattle.packet_walks.specs.declared.next_hop.SwitchStep.{SwitchStep}
+use Rattle.packet_walks.specs.HopsByTables.{switch_step}
 use Rattle.next_tables.specs.Assembled.{all_blocks, block_in, entry_in, some_blocks, tables_with}
 use Rattle.next_tables.specs.ByOrder.{switch_at}
 use Rattle.next_tables.specs.NextTables.{next_switch, next_top}
@@ -40,7 +40,7 @@ use Rattle.next_tables.proofs.Steps.{at_index}
 use Rattle.next_tables.proofs.Whole.{position_mapped}
 use Rattle.two_orders.specs.declared.labels.Sides.{Sides}
 use Rattle.two_orders.specs.TwoOrders.{TwoOrders}
-use Rattle.between_orders.specs.Goal.{entries_towards, entry_between, labels_towards}
+use Rattle.between_orders.specs.TablesBetween.{entries_towards, entry_between, labels_towards}
 
 -- the blocks are those of these tables
 abbrev table_of : List (List ℕ) → ℕ → HeldSwitch → SwitchTable

@@ -15,20 +15,20 @@ use Rattle.subnet_view.proofs.GraphSwitches.{graph_guids, switch_usable}
 use Rattle.spread_labels.specs.Orders.{at_position, position_of, positioned_edge}
 use Rattle.spread_labels.proofs.Growing.{contains_at as vertex_at}
 use Rattle.spread_routes.proofs.Indices.{edge_there, index_of_switch}
-use Rattle.plan_file.specs.declared.held.HeldLid.{HeldLid}
-use Rattle.plan_file.specs.Held.{HeldPlan}
+use Rattle.held_tables.specs.declared.held.HeldLid.{HeldLid}
+use Rattle.held_tables.specs.Held.{HeldPlan}
 use Rattle.held_tables.specs.Switches.{row_of}
 use Rattle.held_tables.specs.Tables.{entry_for, owners_of, top_of}
 use Rattle.held_tables.proofs.HeldTables.{within_length}
-use Rattle.audit.specs.declared.end.Cause.{Cause}
-use Rattle.audit.specs.declared.end.Cause.TheVariants.{AboveTop, NoEntry, NoLink, NoPort}
-use Rattle.audit.specs.declared.end.End.TheVariants.{Taken}
-use Rattle.audit.specs.declared.next_hop.NextHop.{NextHop}
-use Rattle.audit.specs.declared.next_hop.NextHop.TheVariants.{To, Ends}
-use Rattle.audit.specs.NextHops.{by_entry, cause_of, next_hops_of}
-use Rattle.audit.specs.WalkEnds.{after}
-use Rattle.audit.proofs.Ended.{after_ended}
-use Rattle.audit.proofs.PlanSteps.{contains_at, leaves}
+use Rattle.packet_walks.specs.declared.packet_end.Cause.{Cause}
+use Rattle.packet_walks.specs.declared.packet_end.Cause.TheVariants.{AboveTop, NoEntry, NoLink, NoPort}
+use Rattle.packet_walks.specs.declared.packet_end.End.TheVariants.{Taken}
+use Rattle.packet_walks.specs.declared.next_hop.NextHop.{NextHop}
+use Rattle.packet_walks.specs.declared.next_hop.NextHop.TheVariants.{To, Ends}
+use Rattle.packet_walks.specs.HopsByTables.{by_entry, cause_of, next_hops_of}
+use Rattle.packet_walks.specs.EndsBySwitch.{after}
+use Rattle.packet_walks.proofs.Ended.{after_ended}
+use Rattle.packet_walks.proofs.PlanSteps.{contains_at, leaves}
 use Rattle.subnet_view.specs.Reading.{port_count_of}
 use Rattle.next_tables.specs.ByOrder.{AreRight, IsOrder, Leads, position_at, switch_at}
 use Rattle.next_tables.specs.Next.{step_at}
@@ -47,7 +47,7 @@ use Rattle.two_orders.specs.LabelLaws.{grown_twice}
 use Rattle.two_orders.specs.Labels.{label_at}
 use Rattle.two_orders.specs.TwoOrders.{TwoOrders}
 use Rattle.between_orders.specs.BetweenLaws.{AreGoalSteps, GoalEndsRight, GoalIsReached, IsGoalLine, labels_of_line}
-use Rattle.between_orders.specs.Goal.{arrives, entry_with, tables_between}
+use Rattle.between_orders.specs.TablesBetween.{arrives, entry_with, tables_between}
 use Rattle.between_orders.specs.Orders.{edges_in}
 use Rattle.between_orders.proofs.Agreement.{p_same}
 use Rattle.between_orders.proofs.GoalDelivers.{arrives_is, entry_is, goes_on_to}

@@ -9,11 +9,11 @@ use Rattle.subnet_view.specs.Reading.{switches}
 use Rattle.subnet_view.specs.Graph.{graph_of}
 use Rattle.subnet_view.proofs.Graphs.{graph_law}
 use Rattle.spread_routes.proofs.Indices.{leads_below, there_and_back}
-use Rattle.plan_file.specs.declared.held.HeldLid.{HeldLid}
-use Rattle.plan_file.specs.Held.{HeldPlan}
-use Rattle.audit.specs.declared.switch_step.SwitchStep.{SwitchStep}
-use Rattle.audit.specs.NextHops.{switch_step}
-use Rattle.audit.proofs.Judged.{same_itself}
+use Rattle.held_tables.specs.declared.held.HeldLid.{HeldLid}
+use Rattle.held_tables.specs.Held.{HeldPlan}
+use Rattle.packet_walks.specs.declared.next_hop.SwitchStep.{SwitchStep}
+use Rattle.packet_walks.specs.HopsByTables.{switch_step}
+use Rattle.packet_walks.proofs.Judged.{same_itself}
 use Rattle.next_tables.specs.ByOrder.{switch_at}
 use Rattle.next_tables.specs.Next.{step_at}
 use Rattle.next_tables.proofs.Entries.{at_mapped}
@@ -22,7 +22,7 @@ use Rattle.two_orders.specs.LabelLaws.{AreTargets, grown_twice}
 use Rattle.two_orders.specs.Labels.{both_down, label_at}
 use Rattle.two_orders.proofs.TreeLabels.{all_get_labels}
 use Rattle.between_orders.specs.BetweenLaws.{GoalReachesAll}
-use Rattle.between_orders.specs.Goal.{arrives, first_label}
+use Rattle.between_orders.specs.TablesBetween.{arrives, first_label}
 use Rattle.between_orders.specs.Orders.{edges_in}
 use Rattle.between_orders.proofs.GoalDelivers.{goal_delivers}
 use Rattle.between_orders.proofs.Safe.{count_is, grown_is_order}

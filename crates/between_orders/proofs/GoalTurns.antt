@@ -20,12 +20,12 @@ use Rattle.subnet_view.proofs.Graphs.{edge_is_wire, graph_law}
 use Rattle.subnet_view.proofs.GraphSwitches.{graph_guids}
 use Rattle.spread_labels.specs.Orders.{at_position, position_of}
 use Rattle.spread_routes.proofs.Indices.{index_of_switch, wire_at}
-use Rattle.plan_file.specs.Held.{HeldPlan}
+use Rattle.held_tables.specs.Held.{HeldPlan}
 use Rattle.held_tables.specs.Tables.{entry_for, owners_of}
-use Rattle.audit.specs.declared.next_hop.NextHop.{NextHop}
-use Rattle.audit.specs.declared.next_hop.NextHop.TheVariants.{To, Ends}
-use Rattle.audit.proofs.PlanSteps.{leaves}
-use Rattle.audit.specs.NextHops.{switch_step}
+use Rattle.packet_walks.specs.declared.next_hop.NextHop.{NextHop}
+use Rattle.packet_walks.specs.declared.next_hop.NextHop.TheVariants.{To, Ends}
+use Rattle.packet_walks.proofs.PlanSteps.{leaves}
+use Rattle.packet_walks.specs.HopsByTables.{switch_step}
 use Rattle.held_tables.proofs.HeldTables.{within_length}
 use Rattle.next_tables.proofs.Steps.{at_index}
 use Rattle.next_tables.specs.Assembled.{most_blocks, tables_with}
@@ -39,7 +39,7 @@ use Rattle.two_orders.specs.Trees.{is_earlier}
 use Rattle.two_orders.specs.TwoOrders.{TwoOrders}
 use Rattle.two_orders.proofs.LabelLaws.{labels_turn_well}
 use Rattle.between_orders.specs.BetweenLaws.{GoalTurnsWell}
-use Rattle.between_orders.specs.Goal.{arrives, column_between, column_for, entry_between, entry_to, entry_with, fits, labels_towards, port_of, tables_between}
+use Rattle.between_orders.specs.TablesBetween.{arrives, column_between, column_for, entry_between, entry_to, entry_with, fits, labels_towards, port_of, tables_between}
 use Rattle.between_orders.specs.Orders.{edges_in}
 use Rattle.between_orders.proofs.GoalEntries.{entry_made, pair, towards_at}
 

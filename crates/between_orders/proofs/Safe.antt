@@ -11,7 +11,7 @@ use Rattle.subnet_view.specs.Graph.{graph_of, guids_of}
 use Rattle.subnet_view.specs.GraphLaws.{IsGraph, IsSwitch}
 use Rattle.subnet_view.proofs.Graphs.{graph_law}
 use Rattle.subnet_view.proofs.GraphSwitches.{graph_guids}
-use Rattle.plan_file.specs.Held.{HeldPlan}
+use Rattle.held_tables.specs.Held.{HeldPlan}
 use Rattle.spread_labels.specs.declared.vertex_key.VertexKey.{VertexKey}
 use Rattle.spread_labels.specs.Keys.{before_by}
 use Rattle.spread_labels.specs.Orders.{grown_behind, next_placed, numbers_from, position_of, without}
@@ -33,7 +33,7 @@ use Rattle.two_orders.specs.Growth.{grown_by, key_of, positions_in}
 use Rattle.two_orders.specs.Trees.{tree}
 use Rattle.two_orders.specs.TwoOrders.{TwoOrders, two_orders}
 use Rattle.between_orders.specs.Between.{Goal, IsGoalBetween, goal_between}
-use Rattle.between_orders.specs.Goal.{tables_between}
+use Rattle.between_orders.specs.TablesBetween.{tables_between}
 use Rattle.between_orders.specs.BetweenLaws.{GoalsAreSafe, GoalsFollowTheRule, next_towards}
 use Rattle.between_orders.specs.Orders.{edges_in, orders_by, told_positions}
 use Rattle.between_orders.proofs.GoalTurns.{goal_turns_well}

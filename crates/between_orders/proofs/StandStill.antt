@@ -5,12 +5,12 @@ use Rattle.fact_store.specs.View.{AreInRange, Facts, cells_of}
 use Rattle.port_graph.specs.declared.edge.Edge.{Edge}
 use Rattle.port_graph.specs.Heads.{edges_at}
 use Rattle.subnet_view.specs.Reading.{Cells, switches}
-use Rattle.plan_file.specs.declared.held.HeldLid.{HeldLid}
-use Rattle.plan_file.specs.Held.{HeldPlan}
+use Rattle.held_tables.specs.declared.held.HeldLid.{HeldLid}
+use Rattle.held_tables.specs.Held.{HeldPlan}
 use Rattle.std.specs.List.{find}
 use Rattle.held_tables.specs.Tables.{entry_for}
 use Rattle.held_tables.proofs.HeldTables.{within_length}
-use Rattle.audit.specs.declared.next_hop.NextHop.TheVariants.{To}
+use Rattle.packet_walks.specs.declared.next_hop.NextHop.TheVariants.{To}
 use Rattle.next_tables.specs.ByOrder.{position_at, switch_at, tried}
 use Rattle.next_tables.specs.Next.{comes_to, step_at}
 use Rattle.next_tables.proofs.Hops.{none_to, to_same}
@@ -22,7 +22,7 @@ use Rattle.two_orders.specs.declared.labels.Sides.{Sides}
 use Rattle.two_orders.specs.Labels.{label_at, leads_on}
 use Rattle.two_orders.specs.TwoOrders.{TwoOrders}
 use Rattle.between_orders.specs.BetweenLaws.{GoalStandsStill, IsGoalLine, labels_of_line}
-use Rattle.between_orders.specs.Goal.{arrives, entry_between, entry_with, fits, port_of, tables_between}
+use Rattle.between_orders.specs.TablesBetween.{arrives, entry_between, entry_with, fits, port_of, tables_between}
 use Rattle.between_orders.specs.Orders.{edges_in}
 use Rattle.between_orders.proofs.GoalDelivers.{entry_is, fits_to}
 use Rattle.between_orders.proofs.GoalEntries.{pair}

@@ -11,7 +11,7 @@ use Rattle.port_graph.proofs.Lists.{contains_map}
 use Rattle.subnet_view.specs.Reading.{Cells, switches}
 use Rattle.subnet_view.specs.Graph.{graph_of}
 use Rattle.subnet_view.proofs.Graphs.{graph_law}
-use Rattle.plan_file.specs.Held.{HeldPlan}
+use Rattle.held_tables.specs.Held.{HeldPlan}
 use Rattle.spread_labels.specs.LabelLaws.{IsSymmetric}
 use Rattle.spread_routes.proofs.Indices.{leads_below, there_and_back}
 use Rattle.next_tables.specs.ByOrder.{AreRight, Leads, is_bad, is_down, is_up}

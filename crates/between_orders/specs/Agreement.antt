@@ -4,7 +4,7 @@ use Rattle.fact_store.specs.View.{Facts, cells_of}
 use Rattle.port_graph.specs.Heads.{heads}
 use Rattle.port_graph.specs.Walks.{Walk}
 use Rattle.subnet_view.specs.Reading.{Cells, switches}
-use Rattle.plan_file.specs.Held.{HeldPlan}
+use Rattle.held_tables.specs.Held.{HeldPlan}
 use Rattle.next_tables.specs.ByOrder.{AreRight, Leads, position_at}
 use Rattle.ordered_steps.specs.Rightness.{are_right}
 use Rattle.told_order.specs.ToldOrder.{IsTold, position_in}

@@ -1,9 +1,9 @@
 -- The goal of a step from tables that tell an order by themselves: tables between that order and the next one.
 use Rattle.std.specs.Prelude.{◌≡◌, ℕ, List, Option, None, Some}
 use Rattle.subnet_view.specs.Reading.{Cells}
-use Rattle.plan_file.specs.Held.{HeldPlan}
+use Rattle.held_tables.specs.Held.{HeldPlan}
 use Rattle.between_orders.specs.declared.step_goal.StepGoal.{StepGoal}
-use Rattle.between_orders.specs.Goal.{tables_between}
+use Rattle.between_orders.specs.TablesBetween.{tables_between}
 use Rattle.between_orders.specs.Orders.{AreOrders, edges_in}
 use Rattle.two_orders.specs.TwoOrders.{TwoOrders}
 

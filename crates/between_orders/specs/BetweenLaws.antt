@@ -4,12 +4,12 @@ use Rattle.fact_store.specs.View.{AreInRange, Facts, cells_of}
 use Rattle.port_graph.specs.Heads.{heads}
 use Rattle.port_graph.specs.Walks.{Walk}
 use Rattle.subnet_view.specs.Reading.{Cells, switches}
-use Rattle.plan_file.specs.Held.{HeldPlan}
-use Rattle.plan_file.specs.declared.held.HeldLid.{HeldLid}
+use Rattle.held_tables.specs.Held.{HeldPlan}
+use Rattle.held_tables.specs.declared.held.HeldLid.{HeldLid}
 use Rattle.held_tables.specs.Tables.{entry_for, owners_of, top_of}
-use Rattle.audit.specs.declared.end.End.TheVariants.{Taken}
-use Rattle.audit.specs.declared.next_hop.NextHop.TheVariants.{Ends}
-use Rattle.audit.specs.NextHops.{switch_step}
+use Rattle.packet_walks.specs.declared.packet_end.End.TheVariants.{Taken}
+use Rattle.packet_walks.specs.declared.next_hop.NextHop.TheVariants.{Ends}
+use Rattle.packet_walks.specs.HopsByTables.{switch_step}
 use Rattle.next_tables.specs.ByOrder.{AreRight, IsNextByOrder, IsOrder, position_at, switch_at}
 use Rattle.next_tables.specs.Next.{step_at}
 use Rattle.next_tables.specs.NextTables.{IsKept, by_order, next_tables}
@@ -19,7 +19,7 @@ use Rattle.two_orders.specs.LabelLaws.{grown_twice}
 use Rattle.two_orders.specs.Labels.{label_at}
 use Rattle.two_orders.specs.TwoOrders.{TwoOrders}
 use Rattle.between_orders.specs.Between.{Goal, IsGoal}
-use Rattle.between_orders.specs.Goal.{labels_towards, tables_between}
+use Rattle.between_orders.specs.TablesBetween.{labels_towards, tables_between}
 use Rattle.between_orders.specs.Orders.{edges_in}
 
 -- the tables between two orders are right by both for every LID, whatever the orders, the held tables and the plan are

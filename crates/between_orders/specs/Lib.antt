@@ -1,5 +1,5 @@
 pub mod Agreement
 pub mod Between
 pub mod BetweenLaws
-pub mod Goal
+pub mod TablesBetween
 pub mod Orders

@@ -4,7 +4,7 @@ use Rattle.std.specs.List.{range_with_len}
 use Rattle.port_graph.specs.declared.edge.Edge.{Edge}
 use Rattle.subnet_view.specs.Graph.{graph_of}
 use Rattle.subnet_view.specs.Reading.{Cells}
-use Rattle.plan_file.specs.Held.{HeldPlan}
+use Rattle.held_tables.specs.Held.{HeldPlan}
 use Rattle.spread_routes.specs.Rule.{by_index}
 use Rattle.next_tables.specs.ByOrder.{position_at}
 use Rattle.ordered_steps.specs.Rightness.{are_right}

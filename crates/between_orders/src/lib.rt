@@ -2,10 +2,10 @@
 //! makes no credit loop.
 #![tactic(auto)]
 
-mod goal;
-mod labelled;
+mod label_cache;
 pub mod laws;
 mod orders;
 mod step_goal;
+mod tables_between;
 
 pub use step_goal::{StepGoal, between};

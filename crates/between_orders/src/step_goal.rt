@@ -5,11 +5,11 @@ ghost use Rattle.fact_store.specs.View.{cells_of};
 ghost use Rattle.subnet_view.specs.Reading.{switches};
 ghost use Rattle.between_orders.specs.Between.{IsGoal, goal_of};
 
-use crate::goal::tables_between;
 use crate::orders::orders;
-use audit::Network;
+use crate::tables_between::tables_between;
 use fact_store::{Refused, Store};
-use plan_file::Held;
+use held_tables::Held;
+use packet_walks::Network;
 use std::alloc::{AllocError, Global};
 use subnet_view::{SwitchGraph, Wires};
 

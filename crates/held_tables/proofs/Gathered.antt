@@ -6,8 +6,8 @@ use Rattle.std.proofs.lemmas.Grind.{get_or-set_at}
 use Rattle.std.proofs.lemmas.List.{get_or-map, get_or-set_other, length-map, length-set, reverse-append, take_all, take_more}
 use Rattle.std.proofs.lemmas.Option.{slice_get-get_or}
 use Rattle.std.specs.List.{find}
-use Rattle.plan_file.specs.declared.held.HeldBlock.{HeldBlock}
-use Rattle.plan_file.specs.Held.{HeldPlan}
+use Rattle.held_tables.specs.declared.held.HeldBlock.{HeldBlock}
+use Rattle.held_tables.specs.Held.{HeldPlan}
 use Rattle.held_tables.specs.Chains.{IsNext}
 use Rattle.held_tables.specs.Blocks.{AreBlank, AreBlocks, with_block}
 use Rattle.held_tables.specs.Tables.{is_block_of, entry_in, number_of}

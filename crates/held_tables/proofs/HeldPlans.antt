@@ -20,8 +20,8 @@ use Rattle.lft_blocks.specs.Plan.{SwitchTable, PlanValue, plan_of, tables_of, li
 use Rattle.lft_blocks.specs.PlanLaws.{HasBlock, block_of}
 use Rattle.lft_blocks.proofs.BlockLaws.{made_at}
 use Rattle.lft_blocks.proofs.HeldEntries.{planned_block, owned_to_top, owned_from_one, entry_of as planned_entry}
-use Rattle.plan_file.specs.Held.{HeldPlan}
-use Rattle.plan_file.specs.Printed.{owned_lids, blocks_of, with_top}
+use Rattle.held_tables.specs.Held.{HeldPlan}
+use Rattle.held_tables.specs.PlanTables.{owned_lids, blocks_of, with_top}
 use Rattle.held_tables.specs.Tables.{counted, index_of, entry_in, entry_at, entry_for, entry_of, top_at}
 use Rattle.held_tables.proofs.HeldTables.{found, block_found, placed, slice_mapped}
 

@@ -2,8 +2,12 @@ pub mod Chained
 pub mod Gathered
 pub mod HeldPlans
 pub mod HeldTables
+pub mod Lists
 pub mod Mapped
+pub mod NextPorts
 pub mod Once
 pub mod Owned
+pub mod OwnedLids
+pub mod PlanRanges
 pub mod SwitchIndices
 pub mod Wired

@@ -1,8 +1,8 @@
 -- The held blocks with one number, a row for each switch.
 use Rattle.std.specs.Prelude.{◌≡◌, ◌<◌, ℕ, List, [], Option, length, slice_index_or, slice_set}
 use Rattle.std.specs.Option.{option_map_or}
-use Rattle.plan_file.specs.declared.held.HeldBlock.{HeldBlock}
-use Rattle.plan_file.specs.Held.{HeldPlan}
+use Rattle.held_tables.specs.declared.held.HeldBlock.{HeldBlock}
+use Rattle.held_tables.specs.Held.{HeldPlan}
 use Rattle.held_tables.specs.Tables.{block_at, entry_in}
 
 -- `count` rows without an entry

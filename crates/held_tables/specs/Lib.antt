@@ -3,4 +3,8 @@ pub mod Owners
 pub mod Rows
 pub mod Tables
 pub mod Blocks
+pub mod Held
+pub mod HeldItem
+pub mod PlanTables
+pub mod PlanRanges
 pub mod Switches

@@ -2,8 +2,8 @@
 use Rattle.std.specs.Prelude.{◌≡◌, ◌↔◌, ◌<◌, ◌==◌, ℕ, Bool, true, false, List, [], ◌∷◌, Option, None, Some, count_by, length, nat_lt, slice_index_or, IsTrue}
 use Rattle.std.specs.List.{list_all}
 use Rattle.subnet_view.specs.declared.end_port.EndPort.{EndPort}
-use Rattle.plan_file.specs.declared.held.HeldLid.{HeldLid}
-use Rattle.plan_file.specs.Held.{HeldPlan}
+use Rattle.held_tables.specs.declared.held.HeldLid.{HeldLid}
+use Rattle.held_tables.specs.Held.{HeldPlan}
 use Rattle.held_tables.specs.Tables.{holders, is_owner, is_same_end, owners_of}
 use Rattle.held_tables.specs.declared.owners.Owner.{Owner}
 use Rattle.held_tables.specs.declared.owners.Owner.TheVariants.{Nobody, Sole, Several}

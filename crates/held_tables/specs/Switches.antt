@@ -5,7 +5,7 @@ use Rattle.std.specs.List.{list_all, position, range_with_len}
 use Rattle.subnet_view.specs.declared.end_port.EndPort.{EndPort}
 use Rattle.subnet_view.specs.Reading.{Cells, port_count_of, switches}
 use Rattle.subnet_view.specs.Wires.{across}
-use Rattle.plan_file.specs.Held.{HeldPlan}
+use Rattle.held_tables.specs.Held.{HeldPlan}
 use Rattle.held_tables.specs.Tables.{index_of, top_of}
 use Rattle.held_tables.specs.declared.audited_switch.AuditedSwitch.{AuditedSwitch}
 use Rattle.held_tables.specs.declared.far_end.Far.{Far}

@@ -5,7 +5,7 @@ ghost use Rattle.held_tables.specs.Switches.{node_of};
 ghost use Rattle.held_tables.specs.Tables.{index_of, top_at};
 
 use crate::far_ends::{FarEnds, row_of};
-use plan_file::Held;
+use crate::held::Held;
 use smp_bytes::{Guid, Lid};
 use std::alloc::{AllocError, Global};
 use subnet_view::{Wires, port_count};

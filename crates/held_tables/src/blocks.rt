@@ -4,7 +4,7 @@ ghost use Rattle.held_tables.specs.Blocks.{AreBlank, AreBlocks, with_block, with
 ghost use Rattle.held_tables.specs.Tables.{number_of};
 
 use crate::chains::{Chains, chains_of};
-use plan_file::{Held, HeldBlock};
+use crate::held::{Held, HeldBlock};
 use smp_bytes::NO_ENTRY;
 use std::alloc::{AllocError, Global};
 

@@ -7,8 +7,11 @@ mod blocks;
 mod chains;
 mod far_end;
 mod far_ends;
+mod held;
+mod held_item;
 mod lines;
 mod owners;
+mod plan_tables;
 mod senders;
 
 pub use audited_switch::{AuditedSwitch, index_of, nodes, top_at};
@@ -16,6 +19,8 @@ pub use blocks::{block_chains, block_rows};
 pub use chains::Chains;
 pub use far_end::Far;
 pub use far_ends::FarEnds;
+pub use held::{Held, HeldBlock, HeldLid, HeldSwitch};
+pub use held_item::{HeldItem, HeldRange};
 pub use lines::lines_of;
 pub use owners::{
     Owner, is_same_end, is_sole_owner, is_told_twice, lid_owners, owners_of, sole_owner,

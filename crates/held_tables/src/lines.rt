@@ -2,7 +2,7 @@
 ghost use Rattle.std.specs.Prelude.{◌≡◌, IfOk};
 ghost use Rattle.held_tables.specs.Tables.{lines_of};
 
-use plan_file::{Held, HeldLid};
+use crate::held::{Held, HeldLid};
 use std::alloc::{AllocError, Global};
 use std::collections::BTreeSet;
 

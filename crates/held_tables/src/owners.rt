@@ -4,7 +4,7 @@ ghost use Rattle.held_tables.specs.declared.owners.Owner.TheVariants.{Several};
 ghost use Rattle.held_tables.specs.Owners.{AreOwners, is_several, is_sole, is_told_twice, owner_more, sole_among};
 ghost use Rattle.held_tables.specs.Tables.{holders, is_same_end};
 
-use plan_file::HeldLid;
+use crate::held::HeldLid;
 use smp_bytes::Lid;
 use std::alloc::{AllocError, Global};
 use subnet_view::EndPort;

@@ -1,8 +1,8 @@
 //! `ibsm`: the program, which shows what InfiniBand subnet managers know and do.
 #![tactic(auto)]
 
-mod files;
 mod opener;
+mod perform;
 mod run;
 
 use std::process::ExitCode;

@@ -6,8 +6,8 @@ ghost use Rattle.next_run.specs.RunNext.{IsSaid};
 ghost use Rattle.schedule_lines.specs.Prints.{PrintsSome};
 ghost use Rattle.ibsm.specs.Ending.{IsDone, PerformsWords, SaysWhyOfWords, status_after};
 
-use crate::files::{perform_or_explain, say};
 use crate::opener::Opener;
+use crate::perform::{perform_or_explain, say};
 use byte_io::{Sink, ToWrite};
 use clap::error::ErrorKind;
 use clap::{ArgMatches, Error};

@@ -8,7 +8,7 @@ use Rattle.fabric_model.specs.FabricWalks.{IsJoinedTo}
 use Rattle.fabric_model.proofs.FabricWalks.{port_at}
 use Rattle.fact_store.specs.View.{cells_of}
 use Rattle.subnet_view.specs.Reading.{Cells, switches}
-use Rattle.plan_file.specs.declared.held.HeldLid.{HeldLid}
+use Rattle.held_tables.specs.declared.held.HeldLid.{HeldLid}
 use Rattle.lft_blocks.proofs.FabricCases.{EachIndexed, indexed_at, next}
 use Rattle.lft_blocks.proofs.Triangle.{cells, facts, facts_have, switch, tables}
 use Rattle.lft_blocks.proofs.TriangleArrives.{of_first}

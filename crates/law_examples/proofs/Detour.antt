@@ -16,12 +16,12 @@ use Rattle.subnet_view.proofs.Covered.{covers}
 use Rattle.lft_blocks.proofs.FabricCases.{EachIndexed, end_cases, end_of, indexed_at, next}
 use Rattle.lft_blocks.proofs.Triangle.{adapter, cells, facts, facts_have, switch, triangle}
 use Rattle.lft_blocks.proofs.TriangleArrives.{agrees, is_connected, is_fabric, of_first, one_end}
-use Rattle.plan_file.specs.declared.held.HeldLid.{HeldLid}
-use Rattle.plan_file.specs.declared.held.HeldSwitch.{HeldSwitch}
-use Rattle.plan_file.specs.declared.held.HeldBlock.{HeldBlock}
-use Rattle.plan_file.specs.Held.{HeldPlan}
+use Rattle.held_tables.specs.declared.held.HeldLid.{HeldLid}
+use Rattle.held_tables.specs.declared.held.HeldSwitch.{HeldSwitch}
+use Rattle.held_tables.specs.declared.held.HeldBlock.{HeldBlock}
+use Rattle.held_tables.specs.Held.{HeldPlan}
 use Rattle.held_tables.specs.Tables.{counted, entry_for, entry_of, holders, is_owner, top_of}
-use Rattle.audit.specs.Fabrics.{HoldsTablesIn, IsSeen, IsSeenIn}
+use Rattle.packet_walks.specs.Fabrics.{HoldsTablesIn, IsSeen, IsSeenIn}
 
 -- the fabric and its tables ------------------------------------------------------------------------------
 

@@ -7,10 +7,10 @@ use Rattle.fabric_model.specs.FabricWalks.{IsJoinedTo}
 use Rattle.fabric_model.specs.Forwarding.{Hop}
 use Rattle.fact_store.specs.View.{Facts, cells_of}
 use Rattle.subnet_view.specs.Agreement.{IsEndPortIn}
-use Rattle.plan_file.specs.declared.held.HeldLid.{HeldLid}
-use Rattle.plan_file.specs.Held.{HeldPlan}
+use Rattle.held_tables.specs.declared.held.HeldLid.{HeldLid}
+use Rattle.held_tables.specs.Held.{HeldPlan}
 use Rattle.held_tables.specs.Tables.{entry_for}
-use Rattle.audit.specs.Fabrics.{IsSeen, IsSeenIn}
+use Rattle.packet_walks.specs.Fabrics.{IsSeen, IsSeenIn}
 use Rattle.audit_channels.specs.Fabrics.{TakeInTurn, Travels}
 use Rattle.next_tables.specs.ChangingFabric.{IsInChange, entry_now}
 use Rattle.next_tables.specs.NextTables.{IsKept, next_tables, settled_first}

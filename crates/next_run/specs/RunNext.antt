@@ -8,9 +8,9 @@ use Rattle.subnet_view.specs.Reading.{Cells}
 use Rattle.lid_assign.specs.LidFault.{no_room}
 use Rattle.lft_blocks.specs.Plan.{plan_of}
 use Rattle.lft_blocks.specs.Rules.{RuleValue}
-use Rattle.plan_file.specs.Held.{HeldPlan}
-use Rattle.plan_file.specs.Printed.{held_plan}
-use Rattle.plan_file.specs.TablesText.{next_text}
+use Rattle.held_tables.specs.Held.{HeldPlan}
+use Rattle.held_tables.specs.PlanTables.{held_plan}
+use Rattle.tables_file.specs.TablesText.{next_text}
 use Rattle.next_tables.specs.ByOrder.{position_at}
 use Rattle.between_orders.specs.Between.{Goal, IsGoal}
 use Rattle.next_tables.specs.NextTables.{StepRuleValue, by_order, first_moved, next_tables, settled_first, value_of}

@@ -8,20 +8,21 @@ ghost use Rattle.next_run.specs.RunNext.{HasStepped, IsLoopInStep, IsNextStep, I
 ghost use Rattle.next_run.specs.RunNext.{StopsStep, fault_of_step};
 ghost use Rattle.next_tables.specs.NextTables.{first_moved, next_tables};
 ghost use Rattle.next_tables.specs.NextTables.{value_of as chosen_of};
-ghost use Rattle.plan_file.specs.Printed.{held_plan};
+ghost use Rattle.held_tables.specs.PlanTables.{held_plan};
 
 use crate::step_loop::StepLoop;
 use crate::step_rule::step_choice;
 use attr_codec::Lmc;
-use audit::Network;
 use byte_io::{Sink, Source};
 use fact_store::Store;
+use held_tables::Held;
 use lft_blocks::{Plan, Rule};
 use next_tables::{StepFault, StepRule, next_tables};
-use plan_file::{Held, write_next};
+use packet_walks::Network;
 use sm_cli::{Fault, RuleAsked, TablesAndFiles, TextFault, read_inputs};
 use smp_bytes::Generation;
 use std::alloc::{AllocError, Global};
+use tables_file::write_next;
 
 /// The options of a step.
 #[derive(Clone, Copy, Debug, PartialEq, Eq)]

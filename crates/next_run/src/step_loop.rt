@@ -6,10 +6,10 @@ ghost use Rattle.lft_blocks.specs.WritesPart.{WritesPart};
 ghost use Rattle.next_run.specs.LoopText.{lid_word, lids_line, loop_text};
 ghost use Rattle.next_run.specs.RunNext.{IsLoopInStep};
 
-use audit::Network;
 use audit_channels::ChannelOrder;
 use audit_report::write_cycle;
 use byte_io::{Sink, WriteFault, write_number};
+use packet_walks::Network;
 use smp_bytes::Lid;
 use std::alloc::{AllocError, Global};
 use step_loops::{loop_lids, step_order};

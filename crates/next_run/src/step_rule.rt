@@ -7,13 +7,13 @@ ghost use Rattle.subnet_view.specs.Reading.{switches};
 ghost use Rattle.between_orders.specs.Between.{goal_of};
 ghost use Rattle.next_run.specs.RunNext.{IsChoice, IsGoalFrom, choice_of};
 
-use audit::Network;
 use between_orders::{StepGoal, between};
 use fact_store::Store;
+use held_tables::Held;
 use lft_blocks::Rule;
 use next_tables::StepRule;
 use ordered_steps::are_right;
-use plan_file::Held;
+use packet_walks::Network;
 use plan_order::plan_positions;
 use std::alloc::{AllocError, Global};
 

@@ -10,11 +10,11 @@ use Rattle.std.proofs.lemmas.Option.{get_or_from_slice_get, same_Some, slice_get
 use Rattle.subnet_view.specs.Reading.{Cells, switches}
 use Rattle.lid_assign.specs.Lids.{greatest}
 use Rattle.lft_blocks.specs.Entries.{block_count}
-use Rattle.plan_file.specs.declared.held.HeldBlock.{HeldBlock}
-use Rattle.plan_file.specs.declared.held.HeldSwitch.{HeldSwitch}
-use Rattle.plan_file.specs.Held.{HeldPlan}
-use Rattle.plan_file.specs.Printed.{blocks_from, blocks_of}
-use Rattle.audit.specs.Edges.{greatest_top}
+use Rattle.held_tables.specs.declared.held.HeldBlock.{HeldBlock}
+use Rattle.held_tables.specs.declared.held.HeldSwitch.{HeldSwitch}
+use Rattle.held_tables.specs.Held.{HeldPlan}
+use Rattle.held_tables.specs.PlanTables.{blocks_from, blocks_of}
+use Rattle.packet_walks.specs.Edges.{greatest_top}
 use Rattle.held_tables.specs.Tables.{top_of}
 use Rattle.held_tables.proofs.HeldTables.{get_mapped, within_length}
 use Rattle.held_tables.proofs.Mapped.{mapped_more}

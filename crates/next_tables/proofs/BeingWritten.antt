@@ -14,15 +14,15 @@ use Rattle.fact_store.specs.View.{Facts, cells_of}
 use Rattle.subnet_view.specs.Reading.{Cells, switches}
 use Rattle.subnet_view.specs.Agreement.{Part, IsEndPortIn}
 use Rattle.subnet_view.proofs.UsableSwitches.{switches_law, usable_law}
-use Rattle.plan_file.specs.Held.{HeldPlan}
-use Rattle.audit.specs.declared.end.End.TheVariants.{Lost}
+use Rattle.held_tables.specs.Held.{HeldPlan}
+use Rattle.packet_walks.specs.declared.packet_end.End.TheVariants.{Lost}
 use Rattle.held_tables.specs.declared.far_end.Far.TheVariants.{Nothing}
-use Rattle.audit.specs.declared.next_hop.NextHop.TheVariants.{Ends}
-use Rattle.audit.specs.Fabrics.{IsSeenIn}
+use Rattle.packet_walks.specs.declared.next_hop.NextHop.TheVariants.{Ends}
+use Rattle.packet_walks.specs.Fabrics.{IsSeenIn}
 use Rattle.held_tables.specs.Switches.{far_of, row_of}
-use Rattle.audit.specs.NextHops.{by_entry, cause_of, over}
+use Rattle.packet_walks.specs.HopsByTables.{by_entry, cause_of, over}
 use Rattle.held_tables.specs.Tables.{owners_of, counted, entry_for, entry_of, top_of}
-use Rattle.audit.proofs.FabricParts.{usable}
+use Rattle.packet_walks.proofs.FabricParts.{usable}
 use Rattle.next_tables.specs.Next.{step_at}
 use Rattle.next_tables.specs.NextTables.{StepRuleValue, next_tables, next_top}
 use Rattle.next_tables.specs.ChangingFabric.{entry_now, IsLooseEntry, IsBeingWritten, IsInChange, WrittenTablesAreInChange}

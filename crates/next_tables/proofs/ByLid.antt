@@ -8,13 +8,13 @@ use Rattle.std.proofs.lemmas.List.FromFn.{map-range_with_len_more}
 use Rattle.fact_store.specs.View.{Facts, cells_of}
 use Rattle.subnet_view.specs.declared.end_port.EndPort.{EndPort}
 use Rattle.subnet_view.specs.Reading.{Cells, switches}
-use Rattle.plan_file.specs.declared.held.HeldLid.{HeldLid}
-use Rattle.plan_file.specs.Held.{HeldPlan}
-use Rattle.audit.specs.declared.switch_step.SwitchStep.{SwitchStep}
-use Rattle.audit.specs.declared.deliveries.Deliveries.{Deliveries}
-use Rattle.audit.specs.Deliveries.{AreDeliveries, ComeToOwner}
+use Rattle.held_tables.specs.declared.held.HeldLid.{HeldLid}
+use Rattle.held_tables.specs.Held.{HeldPlan}
+use Rattle.packet_walks.specs.declared.next_hop.SwitchStep.{SwitchStep}
+use Rattle.packet_walks.specs.declared.block_deliveries.Deliveries.{Deliveries}
+use Rattle.packet_walks.specs.Deliveries.{AreDeliveries, ComeToOwner}
 use Rattle.held_tables.specs.Blocks.{AreBlocks}
-use Rattle.audit.specs.NextHops.{switch_step}
+use Rattle.packet_walks.specs.HopsByTables.{switch_step}
 use Rattle.held_tables.specs.Tables.{owners_of, entry_for}
 use Rattle.next_tables.specs.ByOrder.{position_at}
 use Rattle.next_tables.specs.OrderedEntries.{ordered_of}

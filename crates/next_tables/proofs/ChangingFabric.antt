@@ -5,14 +5,14 @@ use Rattle.fabric_model.specs.FabricWalks.{IsJoinedTo}
 use Rattle.fact_store.specs.View.{Facts, cells_of}
 use Rattle.subnet_view.specs.Reading.{switches}
 use Rattle.subnet_view.specs.Agreement.{Part}
-use Rattle.plan_file.specs.declared.held.HeldLid.{HeldLid}
-use Rattle.plan_file.specs.Held.{HeldPlan}
+use Rattle.held_tables.specs.declared.held.HeldLid.{HeldLid}
+use Rattle.held_tables.specs.Held.{HeldPlan}
 use Rattle.held_tables.specs.Tables.{owners_of}
-use Rattle.audit.specs.declared.next_hop.NextHop.{NextHop}
-use Rattle.audit.specs.declared.next_hop.NextHop.TheVariants.{To}
-use Rattle.audit.specs.Fabrics.{IsSeenIn}
-use Rattle.audit.specs.NextHops.{next_hops_of}
-use Rattle.audit.proofs.Told.{IsClosed, joined_closed}
+use Rattle.packet_walks.specs.declared.next_hop.NextHop.{NextHop}
+use Rattle.packet_walks.specs.declared.next_hop.NextHop.TheVariants.{To}
+use Rattle.packet_walks.specs.Fabrics.{IsSeenIn}
+use Rattle.packet_walks.specs.HopsByTables.{next_hops_of}
+use Rattle.packet_walks.proofs.Told.{IsClosed, joined_closed}
 use Rattle.next_tables.specs.Next.{IsNext}
 use Rattle.next_tables.specs.NextTables.{next_tables, settled_first}
 use Rattle.next_tables.specs.ChangingFabric.{PacketsArriveWhileTablesChange}

@@ -7,19 +7,19 @@ use Rattle.std.proofs.lemmas.Option.{same_Some}
 use Rattle.subnet_view.specs.declared.end_port.EndPort.{EndPort}
 use Rattle.subnet_view.specs.Reading.{Cells, switches}
 use Rattle.subnet_view.proofs.Members.{contains_here, contains_later}
-use Rattle.plan_file.specs.declared.held.HeldLid.{HeldLid}
-use Rattle.plan_file.specs.Held.{HeldPlan}
-use Rattle.audit.specs.declared.end.Cause.TheVariants.{NoEntry}
-use Rattle.audit.specs.declared.end.End.{End}
-use Rattle.audit.specs.declared.end.End.TheVariants.{Taken, Lost}
-use Rattle.audit.specs.declared.next_hop.NextHop.{NextHop}
-use Rattle.audit.specs.declared.next_hop.NextHop.TheVariants.{To, Ends}
+use Rattle.held_tables.specs.declared.held.HeldLid.{HeldLid}
+use Rattle.held_tables.specs.Held.{HeldPlan}
+use Rattle.packet_walks.specs.declared.packet_end.Cause.TheVariants.{NoEntry}
+use Rattle.packet_walks.specs.declared.packet_end.End.{End}
+use Rattle.packet_walks.specs.declared.packet_end.End.TheVariants.{Taken, Lost}
+use Rattle.packet_walks.specs.declared.next_hop.NextHop.{NextHop}
+use Rattle.packet_walks.specs.declared.next_hop.NextHop.TheVariants.{To, Ends}
 use Rattle.held_tables.specs.Switches.{row_of}
 use Rattle.held_tables.specs.Tables.{owners_of, entry_for}
-use Rattle.audit.specs.WalkEnds.{after, end_of, is_to}
-use Rattle.audit.specs.NextHops.{by_entry, cause_of, is_at, next_hops_of}
-use Rattle.audit.proofs.InTime.{one_end, ends_in_time}
-use Rattle.audit.proofs.Judged.{at_is, same_itself}
+use Rattle.packet_walks.specs.EndsBySwitch.{after, end_of, is_to}
+use Rattle.packet_walks.specs.HopsByTables.{by_entry, cause_of, is_at, next_hops_of}
+use Rattle.packet_walks.proofs.InTime.{one_end, ends_in_time}
+use Rattle.packet_walks.proofs.Judged.{at_is, same_itself}
 use Rattle.next_tables.specs.Next.{step_at, comes_to, agreed_at, agreed, leads_on, delivers, patch_entry, patch_at, mending_at, mending, mends, next_entry, IsNext}
 use Rattle.next_tables.specs.Mixtures.{IsMixed, IsLoose}
 use Rattle.next_tables.proofs.Mixtures.{at, Comes, patch, Agreed, Emptied, Choice, Mending, Mix, Loose}

@@ -11,16 +11,16 @@ use Rattle.port_graph.specs.declared.edge.Edge.{Edge}
 use Rattle.subnet_view.specs.declared.end_port.EndPort.{EndPort}
 use Rattle.subnet_view.specs.Reading.{Cells, switches}
 use Rattle.subnet_view.specs.Wires.{across}
-use Rattle.plan_file.specs.Held.{HeldPlan}
-use Rattle.audit.specs.declared.end.Cause.{Cause}
-use Rattle.audit.specs.declared.next_hop.NextHop.TheVariants.{To, Ends}
-use Rattle.audit.specs.declared.end.End.TheVariants.{Taken}
+use Rattle.held_tables.specs.Held.{HeldPlan}
+use Rattle.packet_walks.specs.declared.packet_end.Cause.{Cause}
+use Rattle.packet_walks.specs.declared.next_hop.NextHop.TheVariants.{To, Ends}
+use Rattle.packet_walks.specs.declared.packet_end.End.TheVariants.{Taken}
 use Rattle.held_tables.specs.declared.far_end.Far.{Far}
 use Rattle.held_tables.specs.declared.far_end.Far.TheVariants.{Nothing, Switch, Port}
 use Rattle.held_tables.specs.Switches.{far_at, far_by, far_of, far_to, index_in, row_of}
 use Rattle.held_tables.specs.Tables.{owners_of, entry_for}
-use Rattle.audit.specs.NextHops.{by_entry, over, cause_of}
-use Rattle.audit.specs.Edges.{edge_by, edge_to, edges_of}
+use Rattle.packet_walks.specs.HopsByTables.{by_entry, over, cause_of}
+use Rattle.packet_walks.specs.Edges.{edge_by, edge_to, edges_of}
 use Rattle.audit_channels.specs.Columns.{number_of}
 use Rattle.held_tables.proofs.HeldTables.{within_length}
 use Rattle.next_tables.specs.Next.{step_at}

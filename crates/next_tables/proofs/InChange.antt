@@ -17,25 +17,25 @@ use Rattle.subnet_view.specs.declared.end_port.EndPort.{EndPort}
 use Rattle.subnet_view.specs.Reading.{Cells, switches}
 use Rattle.subnet_view.specs.Wires.{across}
 use Rattle.subnet_view.specs.Agreement.{Part, IsEndPortIn, IsPortNamed}
-use Rattle.plan_file.specs.declared.held.HeldLid.{HeldLid}
-use Rattle.plan_file.specs.Held.{HeldPlan}
-use Rattle.audit.specs.declared.end.Cause.{Cause}
-use Rattle.audit.specs.declared.end.Cause.TheVariants.{NoEntry, NoLink, Foreign}
-use Rattle.audit.specs.declared.end.End.TheVariants.{Taken, Lost}
+use Rattle.held_tables.specs.declared.held.HeldLid.{HeldLid}
+use Rattle.held_tables.specs.Held.{HeldPlan}
+use Rattle.packet_walks.specs.declared.packet_end.Cause.{Cause}
+use Rattle.packet_walks.specs.declared.packet_end.Cause.TheVariants.{NoEntry, NoLink, Foreign}
+use Rattle.packet_walks.specs.declared.packet_end.End.TheVariants.{Taken, Lost}
 use Rattle.held_tables.specs.declared.far_end.Far.{Far}
 use Rattle.held_tables.specs.declared.far_end.Far.TheVariants.{Nothing}
-use Rattle.audit.specs.declared.next_hop.NextHop.{NextHop}
-use Rattle.audit.specs.declared.next_hop.NextHop.TheVariants.{To, Ends}
-use Rattle.audit.specs.Fabrics.{IsSeenIn}
+use Rattle.packet_walks.specs.declared.next_hop.NextHop.{NextHop}
+use Rattle.packet_walks.specs.declared.next_hop.NextHop.TheVariants.{To, Ends}
+use Rattle.packet_walks.specs.Fabrics.{IsSeenIn}
 use Rattle.held_tables.specs.Switches.{index_in, far_at, far_to, far_of, row_of, sender_of}
-use Rattle.audit.specs.NextHops.{IsBrought, at_port, over, cause_of, by_entry, next_hops_of, sent, first_hop}
+use Rattle.packet_walks.specs.HopsByTables.{IsBrought, at_port, over, cause_of, by_entry, next_hops_of, sent, first_hop}
 use Rattle.held_tables.specs.Tables.{owners_of, is_owner, entry_for}
-use Rattle.audit.specs.WalkEnds.{after}
-use Rattle.audit.proofs.Ended.{after_ended}
-use Rattle.audit.proofs.FabricParts.{as_part, vertex_part, switch_end, listed, indexed, wire_told, told_wire}
-use Rattle.audit.proofs.FarRows.{has, lacks, no_far, no_port, row_at}
+use Rattle.packet_walks.specs.EndsBySwitch.{after}
+use Rattle.packet_walks.proofs.Ended.{after_ended}
+use Rattle.packet_walks.proofs.FabricParts.{as_part, vertex_part, switch_end, listed, indexed, wire_told, told_wire}
+use Rattle.packet_walks.proofs.FarRows.{has, lacks, no_far, no_port, row_at}
 use Rattle.held_tables.proofs.HeldTables.{within_length}
-use Rattle.audit.proofs.Told.{IsClosed}
+use Rattle.packet_walks.proofs.Told.{IsClosed}
 use Rattle.next_tables.specs.Next.{step_at}
 use Rattle.next_tables.specs.ChangingFabric.{entry_now, IsLooseEntry, IsInChange, ChangesMeanwhile, GoesMeanwhile, ArrivesMeanwhile}
 use Rattle.next_tables.proofs.Changing.{MayDo, IsOnItsWay}

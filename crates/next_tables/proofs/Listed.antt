@@ -5,13 +5,13 @@ use Rattle.std.specs.List.{list_all, zip}
 use Rattle.smp_bytes.proofs.Members.{contains_here, contains_later, list_all_at, list_all_true}
 use Rattle.subnet_view.specs.declared.end_port.EndPort.{EndPort}
 use Rattle.subnet_view.specs.Reading.{Cells, switches}
-use Rattle.plan_file.specs.declared.held.HeldLid.{HeldLid}
-use Rattle.plan_file.specs.Held.{HeldPlan}
-use Rattle.audit.specs.declared.next_hop.NextHop.{NextHop}
-use Rattle.audit.specs.declared.switch_step.SwitchStep.{SwitchStep}
-use Rattle.audit.specs.WalkEnds.{HaveEnded, after, end_of, onward}
-use Rattle.audit.specs.NextHops.{is_at, next_hops_of, switch_step}
-use Rattle.audit.proofs.InTime.{one_end, ends_in_time}
+use Rattle.held_tables.specs.declared.held.HeldLid.{HeldLid}
+use Rattle.held_tables.specs.Held.{HeldPlan}
+use Rattle.packet_walks.specs.declared.next_hop.NextHop.{NextHop}
+use Rattle.packet_walks.specs.declared.next_hop.SwitchStep.{SwitchStep}
+use Rattle.packet_walks.specs.EndsBySwitch.{HaveEnded, after, end_of, onward}
+use Rattle.packet_walks.specs.HopsByTables.{is_at, next_hops_of, switch_step}
+use Rattle.packet_walks.proofs.InTime.{one_end, ends_in_time}
 use Rattle.next_tables.specs.Next.{comes_to, agreed, mending, next_entry}
 use Rattle.next_tables.specs.SwitchSteps.{agreed_by, agreed_of, arrives_by, chosen_by, hops_of, is_whole, mending_by, mending_of, mends_of, next_by, next_of, patch_entry_by}
 

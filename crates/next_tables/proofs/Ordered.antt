@@ -14,17 +14,17 @@ use Rattle.fact_store.specs.View.{Facts, cells_of}
 use Rattle.subnet_view.specs.declared.end_port.EndPort.{EndPort}
 use Rattle.subnet_view.specs.Reading.{Cells, switches}
 use Rattle.lft_blocks.proofs.AttachmentTables.{switches_rise}
-use Rattle.plan_file.specs.declared.held.HeldLid.{HeldLid}
-use Rattle.plan_file.specs.Held.{HeldPlan}
+use Rattle.held_tables.specs.declared.held.HeldLid.{HeldLid}
+use Rattle.held_tables.specs.Held.{HeldPlan}
 use Rattle.held_tables.specs.Switches.{index_in}
 use Rattle.held_tables.specs.Tables.{entry_for}
-use Rattle.audit.specs.declared.next_hop.NextHop.{NextHop}
-use Rattle.audit.specs.declared.next_hop.NextHop.TheVariants.{To, Ends}
-use Rattle.audit.specs.declared.switch_step.SwitchStep.{SwitchStep}
-use Rattle.audit.specs.NextHops.{next_hops_of, switch_step}
-use Rattle.audit.proofs.FabricParts.{index_there}
+use Rattle.packet_walks.specs.declared.next_hop.NextHop.{NextHop}
+use Rattle.packet_walks.specs.declared.next_hop.NextHop.TheVariants.{To, Ends}
+use Rattle.packet_walks.specs.declared.next_hop.SwitchStep.{SwitchStep}
+use Rattle.packet_walks.specs.HopsByTables.{next_hops_of, switch_step}
+use Rattle.packet_walks.proofs.FabricParts.{index_there}
 use Rattle.next_tables.specs.Next.{comes_to, delivers, step_at}
-use Rattle.audit.specs.WalkEnds.{HaveEnded}
+use Rattle.packet_walks.specs.EndsBySwitch.{HaveEnded}
 use Rattle.next_tables.specs.SwitchSteps.{Both, arrives_by, hops_of}
 use Rattle.next_tables.specs.ByOrder.{comes_down, goes_up, is_down, is_same, is_up, leads_in, may_change, next_by_order, none_comes_down, none_goes_up, position_at, switch_at, tried, tried_at, turns_well}
 use Rattle.next_tables.specs.OrderedEntries as listed

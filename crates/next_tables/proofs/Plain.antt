@@ -5,17 +5,17 @@ use Rattle.std.proofs.lemmas.List.{get_or_past}
 use Rattle.std.proofs.lemmas.List.FromFn.{length-map-range_with_len}
 use Rattle.subnet_view.specs.declared.end_port.EndPort.{EndPort}
 use Rattle.subnet_view.specs.Reading.{Cells}
-use Rattle.audit.specs.declared.end.Cause.{Cause}
-use Rattle.audit.specs.declared.end.Cause.TheVariants.{NoEntry}
-use Rattle.audit.specs.declared.end.End.{End}
-use Rattle.audit.specs.declared.end.End.TheVariants.{Taken, Lost}
+use Rattle.packet_walks.specs.declared.packet_end.Cause.{Cause}
+use Rattle.packet_walks.specs.declared.packet_end.Cause.TheVariants.{NoEntry}
+use Rattle.packet_walks.specs.declared.packet_end.End.{End}
+use Rattle.packet_walks.specs.declared.packet_end.End.TheVariants.{Taken, Lost}
 use Rattle.held_tables.specs.declared.far_end.Far.{Far}
 use Rattle.held_tables.specs.declared.far_end.Far.TheVariants.{Nothing, Switch, Port}
-use Rattle.audit.specs.declared.next_hop.NextHop.{NextHop}
-use Rattle.audit.specs.declared.next_hop.NextHop.TheVariants.{To, Ends}
+use Rattle.packet_walks.specs.declared.next_hop.NextHop.{NextHop}
+use Rattle.packet_walks.specs.declared.next_hop.NextHop.TheVariants.{To, Ends}
 use Rattle.held_tables.specs.Switches.{far_of, row_of}
-use Rattle.audit.specs.WalkEnds.{after, onward, is_to}
-use Rattle.audit.specs.NextHops.{by_entry, over}
+use Rattle.packet_walks.specs.EndsBySwitch.{after, onward, is_to}
+use Rattle.packet_walks.specs.HopsByTables.{by_entry, over}
 use Rattle.next_tables.specs.Mixtures.{after_by}
 
 abbrev pub dropped : ℕ → NextHop

@@ -10,18 +10,18 @@ use Rattle.fact_store.specs.View.{Facts, cells_of}
 use Rattle.lft_blocks.proofs.AttachmentTables.{switches_rise}
 use Rattle.subnet_view.specs.declared.end_port.EndPort.{EndPort}
 use Rattle.subnet_view.specs.Reading.{Cells, switches}
-use Rattle.plan_file.specs.declared.held.HeldLid.{HeldLid}
-use Rattle.plan_file.specs.Held.{HeldPlan}
-use Rattle.audit.specs.declared.end.End.TheVariants.{Taken}
-use Rattle.audit.specs.declared.next_hop.NextHop.{NextHop}
-use Rattle.audit.specs.declared.next_hop.NextHop.TheVariants.{To, Ends}
-use Rattle.audit.specs.Deliveries.{ComeToOwner}
-use Rattle.audit.specs.NextHops.{is_at, next_hops_of}
+use Rattle.held_tables.specs.declared.held.HeldLid.{HeldLid}
+use Rattle.held_tables.specs.Held.{HeldPlan}
+use Rattle.packet_walks.specs.declared.packet_end.End.TheVariants.{Taken}
+use Rattle.packet_walks.specs.declared.next_hop.NextHop.{NextHop}
+use Rattle.packet_walks.specs.declared.next_hop.NextHop.TheVariants.{To, Ends}
+use Rattle.packet_walks.specs.Deliveries.{ComeToOwner}
+use Rattle.packet_walks.specs.HopsByTables.{is_at, next_hops_of}
 use Rattle.held_tables.specs.Tables.{entry_for, is_same_end, owners_of}
-use Rattle.audit.specs.WalkEnds.{after, end_of, onward}
-use Rattle.audit.proofs.Ended.{after_ended}
-use Rattle.audit.proofs.InTime.{ends_in_time, one_end}
-use Rattle.audit.proofs.Judged.{same_itself}
+use Rattle.packet_walks.specs.EndsBySwitch.{after, end_of, onward}
+use Rattle.packet_walks.proofs.Ended.{after_ended}
+use Rattle.packet_walks.proofs.InTime.{ends_in_time, one_end}
+use Rattle.packet_walks.proofs.Judged.{same_itself}
 use Rattle.next_tables.specs.Next.{agreed, agreed_at, comes_to, delivers, leads_on, mends, next_entry, patch_entry, step_at}
 use Rattle.next_tables.specs.ByOrder.{leads_in, may_change, next_by_order, position_at, switch_at, tried, tried_at, tried_entry, turns_well}
 use Rattle.next_tables.specs.NextTables.{index_at, keeper, kept_by, ordered_for}

@@ -1,8 +1,8 @@
 -- The laws of steps, from the laws of tables that have the next entries.
 use Rattle.std.proofs.Common.{ℕ, zero, suc, ◌∙◌}
 use Rattle.subnet_view.specs.Reading.{Cells}
-use Rattle.plan_file.specs.declared.held.HeldLid.{HeldLid}
-use Rattle.plan_file.specs.Held.{HeldPlan}
+use Rattle.held_tables.specs.declared.held.HeldLid.{HeldLid}
+use Rattle.held_tables.specs.Held.{HeldPlan}
 use Rattle.next_tables.specs.Mixtures.{AreSteps}
 use Rattle.next_tables.specs.NextTables.{IsKept, next_tables, settled_first}
 use Rattle.next_tables.specs.StepLaws.{stepped, NextTablesAreSo, StepsFollowTheRule, StepsLoseNone, StepsSendNoneRound, StepsEndInThePlan, StepsHealInTwo}

@@ -5,18 +5,18 @@ use Rattle.std.proofs.lemmas.Bool.{eqb-true, eq-eqb}
 use Rattle.std.proofs.lemmas.Option.{same_Some}
 use Rattle.subnet_view.specs.declared.end_port.EndPort.{EndPort}
 use Rattle.subnet_view.specs.Reading.{Cells, switches}
-use Rattle.plan_file.specs.declared.held.HeldLid.{HeldLid}
-use Rattle.plan_file.specs.Held.{HeldPlan}
-use Rattle.audit.specs.declared.end.Cause.TheVariants.{NoEntry}
-use Rattle.audit.specs.declared.end.End.{End}
-use Rattle.audit.specs.declared.end.End.TheVariants.{Taken, Lost}
-use Rattle.audit.specs.declared.next_hop.NextHop.{NextHop}
-use Rattle.audit.specs.declared.next_hop.NextHop.TheVariants.{To, Ends}
+use Rattle.held_tables.specs.declared.held.HeldLid.{HeldLid}
+use Rattle.held_tables.specs.Held.{HeldPlan}
+use Rattle.packet_walks.specs.declared.packet_end.Cause.TheVariants.{NoEntry}
+use Rattle.packet_walks.specs.declared.packet_end.End.{End}
+use Rattle.packet_walks.specs.declared.packet_end.End.TheVariants.{Taken, Lost}
+use Rattle.packet_walks.specs.declared.next_hop.NextHop.{NextHop}
+use Rattle.packet_walks.specs.declared.next_hop.NextHop.TheVariants.{To, Ends}
 use Rattle.held_tables.specs.Switches.{sender_of}
 use Rattle.held_tables.specs.Tables.{owners_of, entry_for}
-use Rattle.audit.specs.WalkEnds.{after, is_to}
-use Rattle.audit.specs.NextHops.{first_hop, next_hops_of}
-use Rattle.audit.proofs.Ended.{after_ended}
+use Rattle.packet_walks.specs.EndsBySwitch.{after, is_to}
+use Rattle.packet_walks.specs.HopsByTables.{first_hop, next_hops_of}
+use Rattle.packet_walks.proofs.Ended.{after_ended}
 use Rattle.held_tables.proofs.HeldTables.{within_length}
 use Rattle.next_tables.specs.Next.{step_at, agreed_at, agreed, mending, IsNext}
 use Rattle.next_tables.specs.Mixtures.{after_by, IsMixed, IsLoose, NoneIsLost, NoneGoesRound, AreSteps, EndInThePlan, StillIsThePlan, HealInTwo, NextDeliverOrDrop}

@@ -11,25 +11,25 @@ use Rattle.subnet_view.specs.Reading.{Cells, switches}
 use Rattle.lft_blocks.specs.Entries.{block_count}
 use Rattle.lft_blocks.specs.Plan.{SwitchTable}
 use Rattle.lft_blocks.proofs.BlockLaws.{made_at}
-use Rattle.plan_file.specs.declared.held.HeldLid.{HeldLid}
-use Rattle.plan_file.specs.declared.held.HeldSwitch.{HeldSwitch}
-use Rattle.plan_file.specs.Held.{HeldPlan}
-use Rattle.plan_file.specs.Printed.{blocks_of}
+use Rattle.held_tables.specs.declared.held.HeldLid.{HeldLid}
+use Rattle.held_tables.specs.declared.held.HeldSwitch.{HeldSwitch}
+use Rattle.held_tables.specs.Held.{HeldPlan}
+use Rattle.held_tables.specs.PlanTables.{blocks_of}
 use Rattle.held_tables.specs.Switches.{index_in}
 use Rattle.held_tables.specs.Tables.{counted, entry_at, entry_for, entry_in, entry_of, index_of, owners_of, top_at, top_of}
-use Rattle.audit.proofs.FabricParts.{index_there}
+use Rattle.packet_walks.proofs.FabricParts.{index_there}
 use Rattle.held_tables.proofs.HeldTables.{block_found, slice_mapped}
-use Rattle.audit.proofs.Judged.{same_itself}
-use Rattle.audit.proofs.PlanSteps.{index_is}
-use Rattle.audit.proofs.Tops.{entry_above}
-use Rattle.audit.specs.declared.next_hop.NextHop.TheVariants.{To}
+use Rattle.packet_walks.proofs.Judged.{same_itself}
+use Rattle.packet_walks.proofs.PlanSteps.{index_is}
+use Rattle.packet_walks.proofs.Tops.{entry_above}
+use Rattle.packet_walks.specs.declared.next_hop.NextHop.TheVariants.{To}
 use Rattle.next_tables.specs.ByOrder.{may_change, position_at, tried}
 use Rattle.next_tables.specs.Next.{IsNext, comes_to, delivers, leads_on, mends, next_entry, step_at}
 use Rattle.next_tables.specs.Assembled.{all_blocks}
 use Rattle.next_tables.specs.NextTables.{IsKept, StepRuleValue, by_order, column_of, if_owned, index_at, keeper, next_at, next_block, next_for, next_switch, next_table, next_tables, next_top, ordered_for, settled_first}
-use Rattle.plan_file.specs.declared.held.HeldBlock.{HeldBlock}
-use Rattle.audit.specs.Edges.{greatest_top}
-use Rattle.audit.specs.WalkEnds.{is_to}
+use Rattle.held_tables.specs.declared.held.HeldBlock.{HeldBlock}
+use Rattle.packet_walks.specs.Edges.{greatest_top}
+use Rattle.packet_walks.specs.EndsBySwitch.{is_to}
 use Rattle.next_tables.proofs.Assembled.{all_are}
 
 -- the index in a list of what is made of another

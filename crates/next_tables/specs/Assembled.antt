@@ -3,11 +3,11 @@ use Rattle.std.specs.Prelude.{ℕ, suc, ◌+◌, ◌*◌, List, [], ◌∷◌, �
 use Rattle.std.specs.List.{range_with_len}
 use Rattle.subnet_view.specs.Reading.{Cells, switches}
 use Rattle.lft_blocks.specs.Entries.{block_count}
-use Rattle.plan_file.specs.declared.held.HeldBlock.{HeldBlock}
-use Rattle.plan_file.specs.declared.held.HeldSwitch.{HeldSwitch}
-use Rattle.plan_file.specs.Held.{HeldPlan}
-use Rattle.plan_file.specs.Printed.{blocks_from}
-use Rattle.audit.specs.Edges.{greatest_top}
+use Rattle.held_tables.specs.declared.held.HeldBlock.{HeldBlock}
+use Rattle.held_tables.specs.declared.held.HeldSwitch.{HeldSwitch}
+use Rattle.held_tables.specs.Held.{HeldPlan}
+use Rattle.held_tables.specs.PlanTables.{blocks_from}
+use Rattle.packet_walks.specs.Edges.{greatest_top}
 use Rattle.next_tables.specs.NextTables.{next_switch}
 
 -- the entry of the switch at `index` for `lid`, 255 if there is none

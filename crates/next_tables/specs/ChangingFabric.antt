@@ -12,13 +12,13 @@ use Rattle.fact_store.specs.View.{Facts, cells_of}
 use Rattle.subnet_view.specs.declared.end_port.EndPort.{EndPort}
 use Rattle.subnet_view.specs.Reading.{Cells, switches}
 use Rattle.subnet_view.specs.Agreement.{Part, IsEndPortIn, IsPortNamed}
-use Rattle.plan_file.specs.declared.held.HeldLid.{HeldLid}
-use Rattle.plan_file.specs.Held.{HeldPlan}
-use Rattle.audit.specs.declared.end.Cause.{Cause}
-use Rattle.audit.specs.declared.end.End.TheVariants.{Taken, Lost}
-use Rattle.audit.specs.declared.next_hop.NextHop.TheVariants.{Ends}
-use Rattle.audit.specs.Fabrics.{IsSeenIn}
-use Rattle.audit.specs.NextHops.{IsBrought}
+use Rattle.held_tables.specs.declared.held.HeldLid.{HeldLid}
+use Rattle.held_tables.specs.Held.{HeldPlan}
+use Rattle.packet_walks.specs.declared.packet_end.Cause.{Cause}
+use Rattle.packet_walks.specs.declared.packet_end.End.TheVariants.{Taken, Lost}
+use Rattle.packet_walks.specs.declared.next_hop.NextHop.TheVariants.{Ends}
+use Rattle.packet_walks.specs.Fabrics.{IsSeenIn}
+use Rattle.packet_walks.specs.HopsByTables.{IsBrought}
 use Rattle.held_tables.specs.Tables.{counted, entry_for, entry_of, top_of}
 use Rattle.next_tables.specs.Next.{step_at}
 use Rattle.next_tables.specs.NextTables.{IsKept, StepRuleValue, next_tables, settled_first}

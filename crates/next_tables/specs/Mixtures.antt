@@ -4,18 +4,18 @@ use Rattle.port_graph.specs.declared.edge.Edge.{Edge}
 use Rattle.audit_channels.specs.Columns.{TakesAcross}
 use Rattle.subnet_view.specs.declared.end_port.EndPort.{EndPort}
 use Rattle.subnet_view.specs.Reading.{Cells, switches}
-use Rattle.plan_file.specs.declared.held.HeldLid.{HeldLid}
-use Rattle.plan_file.specs.Held.{HeldPlan}
-use Rattle.audit.specs.declared.end.Cause.{Cause}
-use Rattle.audit.specs.declared.end.End.{End}
-use Rattle.audit.specs.declared.end.End.TheVariants.{Taken, Lost}
-use Rattle.audit.specs.declared.next_hop.NextHop.{NextHop}
-use Rattle.audit.specs.declared.next_hop.NextHop.TheVariants.{To, Ends}
-use Rattle.audit.specs.Edges.{edges_of}
+use Rattle.held_tables.specs.declared.held.HeldLid.{HeldLid}
+use Rattle.held_tables.specs.Held.{HeldPlan}
+use Rattle.packet_walks.specs.declared.packet_end.Cause.{Cause}
+use Rattle.packet_walks.specs.declared.packet_end.End.{End}
+use Rattle.packet_walks.specs.declared.packet_end.End.TheVariants.{Taken, Lost}
+use Rattle.packet_walks.specs.declared.next_hop.NextHop.{NextHop}
+use Rattle.packet_walks.specs.declared.next_hop.NextHop.TheVariants.{To, Ends}
+use Rattle.packet_walks.specs.Edges.{edges_of}
 use Rattle.held_tables.specs.Switches.{sender_of}
 use Rattle.held_tables.specs.Tables.{owners_of, entry_for}
-use Rattle.audit.specs.WalkEnds.{IsEndOf, after, onward}
-use Rattle.audit.specs.NextHops.{IsBrought, first_hop, next_hops_of}
+use Rattle.packet_walks.specs.EndsBySwitch.{IsEndOf, after, onward}
+use Rattle.packet_walks.specs.HopsByTables.{IsBrought, first_hop, next_hops_of}
 use Rattle.next_tables.specs.Next.{step_at, IsNext}
 
 -- `mixed` has for `lid`, at each switch, the entry of `held` or of `next`

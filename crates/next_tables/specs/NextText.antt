@@ -4,11 +4,12 @@ use Rattle.fact_store.specs.View.{Facts, cells_of, AreInRange}
 use Rattle.lid_assign.specs.Lids.{IsNoRoom}
 use Rattle.lft_blocks.specs.Plan.{PlanValue, plan_of}
 use Rattle.lft_blocks.specs.Rules.{RuleValue}
-use Rattle.plan_file.specs.Held.{HeldPlan}
-use Rattle.plan_file.specs.Printed.{IsPlanInRange, held_plan}
-use Rattle.plan_file.specs.PrintedTables.{IsHeldInRange, Says}
-use Rattle.plan_file.specs.Reading.{held_of}
-use Rattle.plan_file.specs.TablesText.{next_text}
+use Rattle.held_tables.specs.Held.{HeldPlan}
+use Rattle.held_tables.specs.PlanRanges.{IsPlanInRange}
+use Rattle.held_tables.specs.PlanTables.{held_plan}
+use Rattle.tables_file.specs.PrintedTables.{IsHeldInRange, Says}
+use Rattle.tables_file.specs.Reading.{held_of}
+use Rattle.tables_file.specs.TablesText.{next_text}
 use Rattle.next_tables.specs.NextTables.{StepRuleValue, next_tables}
 
 -- the text of the next tables towards a plan is read as the next tables

@@ -2,10 +2,10 @@
 use Rattle.std.specs.Prelude.{ℕ, ◌==◌, ◌&&◌, ◌||◌, not, Bool, true, false, List, length, map, slice_index_or, if◌then◌else◌, Some}
 use Rattle.std.specs.List.{enumerate_from, list_any, range_with_len, zip}
 use Rattle.subnet_view.specs.declared.end_port.EndPort.{EndPort}
-use Rattle.audit.specs.declared.next_hop.NextHop.{NextHop}
-use Rattle.audit.specs.declared.next_hop.NextHop.TheVariants.{To, Ends}
-use Rattle.audit.specs.declared.switch_step.SwitchStep.{SwitchStep}
-use Rattle.audit.specs.NextHops.{is_at}
+use Rattle.packet_walks.specs.declared.next_hop.NextHop.{NextHop}
+use Rattle.packet_walks.specs.declared.next_hop.NextHop.TheVariants.{To, Ends}
+use Rattle.packet_walks.specs.declared.next_hop.SwitchStep.{SwitchStep}
+use Rattle.packet_walks.specs.HopsByTables.{is_at}
 use Rattle.next_tables.specs.Next.{comes_to}
 use Rattle.next_tables.specs.ByOrder.{comes_down, goes_up, is_down, is_up, position_at}
 use Rattle.next_tables.specs.SwitchSteps.{Both, hops_of}

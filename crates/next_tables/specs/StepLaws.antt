@@ -2,14 +2,14 @@
 use Rattle.std.specs.Prelude.{◌≡◌, ◌≤◌, ℕ, zero, suc, Contains, Some, slice_get}
 use Rattle.subnet_view.specs.declared.end_port.EndPort.{EndPort}
 use Rattle.subnet_view.specs.Reading.{Cells, switches}
-use Rattle.plan_file.specs.declared.held.HeldLid.{HeldLid}
-use Rattle.plan_file.specs.Held.{HeldPlan}
-use Rattle.audit.specs.declared.end.End.{End}
-use Rattle.audit.specs.declared.end.End.TheVariants.{Taken}
-use Rattle.audit.specs.declared.next_hop.NextHop.TheVariants.{To, Ends}
+use Rattle.held_tables.specs.declared.held.HeldLid.{HeldLid}
+use Rattle.held_tables.specs.Held.{HeldPlan}
+use Rattle.packet_walks.specs.declared.packet_end.End.{End}
+use Rattle.packet_walks.specs.declared.packet_end.End.TheVariants.{Taken}
+use Rattle.packet_walks.specs.declared.next_hop.NextHop.TheVariants.{To, Ends}
 use Rattle.held_tables.specs.Tables.{entry_for, owners_of, top_of}
-use Rattle.audit.specs.WalkEnds.{after}
-use Rattle.audit.specs.NextHops.{IsBrought, next_hops_of}
+use Rattle.packet_walks.specs.EndsBySwitch.{after}
+use Rattle.packet_walks.specs.HopsByTables.{IsBrought, next_hops_of}
 use Rattle.next_tables.specs.Mixtures.{IsBroughtBy, IsLoose, IsMixed}
 use Rattle.next_tables.specs.Next.{IsNext}
 use Rattle.next_tables.specs.NextTables.{IsKept, StepRuleValue, next_at, next_tables, next_top, settled_first}

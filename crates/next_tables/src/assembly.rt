@@ -5,9 +5,9 @@ ghost use Rattle.subnet_view.specs.Reading.{switches};
 ghost use Rattle.next_tables.specs.Assembled.{all_blocks, block_in, entry_in, most_blocks, some_blocks, tables_with};
 ghost use Rattle.next_tables.specs.NextTables.{next_switch};
 
-use audit::Network;
+use held_tables::{Held, HeldBlock, HeldSwitch};
 use lft_blocks::block_count;
-use plan_file::{Held, HeldBlock, HeldSwitch};
+use packet_walks::Network;
 use smp_bytes::{Lid, NO_ENTRY};
 use std::alloc::{AllocError, Global};
 

@@ -3,17 +3,17 @@
 #![tactic(auto)]
 
 mod assembly;
-mod columns;
+mod entries_by_lid;
 mod fault;
 pub mod laws;
-mod next_entries;
 mod ordered_entries;
+mod settled_entries;
 mod step;
 mod step_rule;
 mod up_down;
 
 pub use assembly::{greater, most_blocks, tables_with};
-pub use columns::{first_owner, no_entries};
+pub use entries_by_lid::{first_owner, no_entries};
 pub use fault::StepFault;
 pub use step::next_tables;
 pub use step_rule::StepRule;

@@ -8,10 +8,10 @@ ghost use Rattle.next_tables.specs.OrderedEntries.{may_change_by};
 ghost use Rattle.next_tables.specs.OrderedEntries.{entries_by, entry_by, enters, going_up_of, ordered_of, tried_by};
 ghost use Rattle.next_tables.specs.OrderedEntries.{tried_of, turns_well_by};
 
-use crate::next_entries::{arrives_by, hops};
+use crate::settled_entries::{arrives_by, hops};
 use crate::up_down::{is_down, is_up};
-use audit::walk_ends::ends;
-use audit::{NextHop, SwitchStep, is_at};
+use packet_walks::ends_by_switch::ends;
+use packet_walks::{NextHop, SwitchStep, is_at};
 use std::alloc::{AllocError, Global};
 use subnet_view::EndPort;
 

@@ -5,11 +5,11 @@ ghost use Rattle.smp_bytes.specs.Judges.{JudgesButFor};
 ghost use Rattle.next_tables.specs.NextTables.{first_moved, is_memory, moves, next_tables, step_fault, value_of};
 
 use crate::assembly::{most_blocks, tables_with};
-use crate::columns::columns;
+use crate::entries_by_lid::columns;
 use crate::fault::StepFault;
 use crate::step_rule::StepRule;
-use audit::Network;
-use plan_file::{Held, HeldLid};
+use held_tables::{Held, HeldLid};
+use packet_walks::Network;
 use smp_bytes::Lid;
 use std::alloc::{AllocError, Global};
 

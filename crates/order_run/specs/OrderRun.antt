@@ -5,7 +5,7 @@ use Rattle.std.specs.List.{range_with_len}
 use Rattle.byte_io.specs.Source.{SourceState}
 use Rattle.fact_store.specs.View.{Facts, cells_of}
 use Rattle.subnet_view.specs.Reading.{Cells, switches}
-use Rattle.plan_file.specs.Held.{HeldPlan}
+use Rattle.held_tables.specs.Held.{HeldPlan}
 use Rattle.next_tables.specs.ByOrder.{switch_at}
 use Rattle.told_order.specs.ToldOrder.{IsTold}
 use Rattle.sm_cli.specs.OrderText.{order_text}

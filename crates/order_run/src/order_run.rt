@@ -10,10 +10,10 @@ ghost use Rattle.next_tables.specs.ByOrder.{switch_at};
 ghost use Rattle.told_order.specs.ToldOrder.{IsTold};
 ghost use Rattle.order_run.specs.OrderRun.{HasTold, IsOrderFault, IsTelling, told_switches};
 
-use audit::Network;
 use byte_io::{Sink, Source};
 use fact_store::Store;
-use plan_file::Held;
+use held_tables::Held;
+use packet_walks::Network;
 use sm_cli::{Fault, read_tables_and_files, write_order};
 use smp_bytes::{Generation, Guid};
 use std::alloc::{AllocError, Global};

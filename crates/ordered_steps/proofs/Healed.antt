@@ -2,16 +2,16 @@
 use Rattle.std.proofs.Common.{ℕ, ◌*◌, ◌≤◌, ◌<◌, length, sym, ap, ◌∙◌, arith}
 use Rattle.std.proofs.lemmas.List.{length-map}
 use Rattle.subnet_view.specs.Reading.{Cells, switches}
-use Rattle.plan_file.specs.declared.held.HeldLid.{HeldLid}
-use Rattle.plan_file.specs.Held.{HeldPlan}
-use Rattle.audit.specs.declared.end.End.TheVariants.{Taken}
-use Rattle.audit.specs.declared.next_hop.NextHop.{NextHop}
-use Rattle.audit.specs.declared.next_hop.NextHop.TheVariants.{To, Ends}
+use Rattle.held_tables.specs.declared.held.HeldLid.{HeldLid}
+use Rattle.held_tables.specs.Held.{HeldPlan}
+use Rattle.packet_walks.specs.declared.packet_end.End.TheVariants.{Taken}
+use Rattle.packet_walks.specs.declared.next_hop.NextHop.{NextHop}
+use Rattle.packet_walks.specs.declared.next_hop.NextHop.TheVariants.{To, Ends}
 use Rattle.held_tables.specs.Switches.{sender_of}
 use Rattle.held_tables.specs.Tables.{owners_of}
-use Rattle.audit.specs.WalkEnds.{after}
-use Rattle.audit.specs.NextHops.{first_hop, next_hops_of}
-use Rattle.audit.proofs.Ended.{after_ended}
+use Rattle.packet_walks.specs.EndsBySwitch.{after}
+use Rattle.packet_walks.specs.HopsByTables.{first_hop, next_hops_of}
+use Rattle.packet_walks.proofs.Ended.{after_ended}
 use Rattle.next_tables.specs.Next.{step_at}
 use Rattle.next_tables.proofs.Mixtures.{Comes, in_range}
 use Rattle.next_tables.specs.ByOrder.{switch_at}

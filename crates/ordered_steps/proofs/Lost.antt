@@ -7,20 +7,20 @@ use Rattle.std.proofs.lemmas.List.FromFn.{get_or-map-range_with_len}
 use Rattle.std.proofs.lemmas.Option.{same_Some}
 use Rattle.subnet_view.specs.declared.end_port.EndPort.{EndPort}
 use Rattle.subnet_view.specs.Reading.{Cells, switches}
-use Rattle.plan_file.specs.declared.held.HeldLid.{HeldLid}
-use Rattle.plan_file.specs.Held.{HeldPlan}
-use Rattle.audit.specs.declared.end.Cause.{Cause}
-use Rattle.audit.specs.declared.end.End.{End}
-use Rattle.audit.specs.declared.end.End.TheVariants.{Taken, Lost}
-use Rattle.audit.specs.declared.next_hop.NextHop.{NextHop}
-use Rattle.audit.specs.declared.next_hop.NextHop.TheVariants.{To, Ends}
+use Rattle.held_tables.specs.declared.held.HeldLid.{HeldLid}
+use Rattle.held_tables.specs.Held.{HeldPlan}
+use Rattle.packet_walks.specs.declared.packet_end.Cause.{Cause}
+use Rattle.packet_walks.specs.declared.packet_end.End.{End}
+use Rattle.packet_walks.specs.declared.packet_end.End.TheVariants.{Taken, Lost}
+use Rattle.packet_walks.specs.declared.next_hop.NextHop.{NextHop}
+use Rattle.packet_walks.specs.declared.next_hop.NextHop.TheVariants.{To, Ends}
 use Rattle.held_tables.specs.Switches.{sender_of}
 use Rattle.held_tables.specs.Tables.{owners_of, entry_for}
-use Rattle.audit.specs.WalkEnds.{after, end_of}
-use Rattle.audit.specs.NextHops.{first_hop, is_at, next_hops_of}
-use Rattle.audit.proofs.Ended.{after_ended}
-use Rattle.audit.proofs.InTime.{one_end, ends_in_time}
-use Rattle.audit.proofs.Judged.{at_is, same_itself}
+use Rattle.packet_walks.specs.EndsBySwitch.{after, end_of}
+use Rattle.packet_walks.specs.HopsByTables.{first_hop, is_at, next_hops_of}
+use Rattle.packet_walks.proofs.Ended.{after_ended}
+use Rattle.packet_walks.proofs.InTime.{one_end, ends_in_time}
+use Rattle.packet_walks.proofs.Judged.{at_is, same_itself}
 use Rattle.next_tables.specs.Mixtures.{IsLoose, after_by}
 use Rattle.next_tables.specs.Next.{step_at, comes_to, delivers}
 use Rattle.next_tables.proofs.Entries.{at_mapped, member}

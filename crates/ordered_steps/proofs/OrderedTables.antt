@@ -4,11 +4,11 @@ use Rattle.std.specs.Prelude.{slice_get, unwrap_or}
 use Rattle.fact_store.specs.View.{Facts, cells_of}
 use Rattle.subnet_view.specs.Reading.{switches}
 use Rattle.lft_blocks.proofs.AttachmentTables.{switches_rise}
-use Rattle.plan_file.specs.Held.{HeldPlan}
+use Rattle.held_tables.specs.Held.{HeldPlan}
 use Rattle.held_tables.specs.Switches.{index_in}
 use Rattle.held_tables.specs.Tables.{owners_of}
 use Rattle.held_tables.proofs.HeldTables.{within_length}
-use Rattle.audit.proofs.PlanSteps.{contains_at}
+use Rattle.packet_walks.proofs.PlanSteps.{contains_at}
 use Rattle.next_tables.specs.ByOrder.{position_at}
 use Rattle.next_tables.specs.NextTables.{by_order, index_at, next_at, ordered_for}
 use Rattle.next_tables.proofs.Ordered.{index_own}

@@ -5,18 +5,18 @@ use Rattle.std.proofs.lemmas.List.FromFn.{get_or-map-range_with_len, length-map-
 use Rattle.std.proofs.lemmas.List.Quantifiers.{position-Some}
 use Rattle.subnet_view.specs.declared.end_port.EndPort.{EndPort}
 use Rattle.subnet_view.specs.Reading.{Cells, switches}
-use Rattle.plan_file.specs.declared.held.HeldLid.{HeldLid}
-use Rattle.plan_file.specs.Held.{HeldPlan}
-use Rattle.audit.specs.declared.end.Cause.TheVariants.{NoLink}
-use Rattle.audit.specs.declared.end.End.{End}
-use Rattle.audit.specs.declared.end.End.TheVariants.{Taken}
-use Rattle.audit.specs.declared.next_hop.NextHop.{NextHop}
-use Rattle.audit.specs.declared.next_hop.NextHop.TheVariants.{To, Ends}
+use Rattle.held_tables.specs.declared.held.HeldLid.{HeldLid}
+use Rattle.held_tables.specs.Held.{HeldPlan}
+use Rattle.packet_walks.specs.declared.packet_end.Cause.TheVariants.{NoLink}
+use Rattle.packet_walks.specs.declared.packet_end.End.{End}
+use Rattle.packet_walks.specs.declared.packet_end.End.TheVariants.{Taken}
+use Rattle.packet_walks.specs.declared.next_hop.NextHop.{NextHop}
+use Rattle.packet_walks.specs.declared.next_hop.NextHop.TheVariants.{To, Ends}
 use Rattle.held_tables.specs.Switches.{far_of, index_in, sender_of}
 use Rattle.held_tables.specs.Tables.{owners_of, entry_for, is_owner}
-use Rattle.audit.specs.WalkEnds.{after}
-use Rattle.audit.specs.NextHops.{first_hop, next_hops_of, over, sent}
-use Rattle.audit.proofs.Ended.{after_ended}
+use Rattle.packet_walks.specs.EndsBySwitch.{after}
+use Rattle.packet_walks.specs.HopsByTables.{first_hop, next_hops_of, over, sent}
+use Rattle.packet_walks.proofs.Ended.{after_ended}
 use Rattle.next_tables.specs.Mixtures.{IsMixed, after_by}
 use Rattle.next_tables.specs.Next.{step_at, comes_to}
 use Rattle.next_tables.proofs.Entries.{at_mapped}

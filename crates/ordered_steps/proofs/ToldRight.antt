@@ -8,12 +8,12 @@ use Rattle.std.proofs.lemmas.List.{length-map}
 use Rattle.port_graph.specs.declared.edge.Edge.{Edge}
 use Rattle.smp_bytes.proofs.Members.{list_all_at, list_all_true}
 use Rattle.subnet_view.specs.Reading.{Cells, switches}
-use Rattle.plan_file.specs.Held.{HeldPlan}
+use Rattle.held_tables.specs.Held.{HeldPlan}
 use Rattle.held_tables.specs.Blocks.{AreBlocks}
 use Rattle.held_tables.specs.Switches.{row_of}
 use Rattle.held_tables.specs.Tables.{entry_for}
-use Rattle.audit.specs.Edges.{edge_by, edges_of, greatest_top}
-use Rattle.audit.proofs.Tops.{none_above}
+use Rattle.packet_walks.specs.Edges.{edge_by, edges_of, greatest_top}
+use Rattle.packet_walks.proofs.Tops.{none_above}
 use Rattle.next_tables.specs.ByOrder.{AreRight, Leads, is_bad, is_down, is_up, switch_at}
 use Rattle.next_tables.proofs.Hops.{column_at, edge_is, leads_within}
 use Rattle.ordered_steps.specs.Rightness.{RightnessIsTold, are_right, goes_well, is_right_column, leaves_up}

@@ -4,9 +4,9 @@ use Rattle.std.specs.Prelude.{◌/◌, slice_index_or, nat_lt, not, ◌==◌, �
 use Rattle.std.proofs.lemmas.List.FromFn.{get_or-map-range_with_len}
 use Rattle.port_graph.specs.declared.edge.Edge.{Edge}
 use Rattle.subnet_view.specs.Reading.{Cells, switches}
-use Rattle.plan_file.specs.Held.{HeldPlan}
+use Rattle.held_tables.specs.Held.{HeldPlan}
 use Rattle.held_tables.specs.Switches.{far_by}
-use Rattle.audit.specs.Edges.{edges_of}
+use Rattle.packet_walks.specs.Edges.{edges_of}
 use Rattle.audit_channels.specs.Columns.{number_of}
 use Rattle.next_tables.specs.Mixtures.{TakesBy, WaitsInStep}
 use Rattle.next_tables.proofs.Waits.{no_cycle_in_step}

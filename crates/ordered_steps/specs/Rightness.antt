@@ -4,8 +4,8 @@ use Rattle.std.specs.List.{list_all, range_with_len}
 use Rattle.std.specs.Option.{option_map_or}
 use Rattle.port_graph.specs.declared.edge.Edge.{Edge}
 use Rattle.subnet_view.specs.Reading.{Cells}
-use Rattle.plan_file.specs.Held.{HeldPlan}
-use Rattle.audit.specs.Edges.{edges_of, greatest_top}
+use Rattle.held_tables.specs.Held.{HeldPlan}
+use Rattle.packet_walks.specs.Edges.{edges_of, greatest_top}
 use Rattle.next_tables.specs.ByOrder.{AreRight, is_down, is_up}
 
 -- packets leave the switch at index j by a channel up

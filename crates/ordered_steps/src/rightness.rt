@@ -4,9 +4,9 @@ ghost use Rattle.fact_store.specs.View.{cells_of};
 ghost use Rattle.next_tables.specs.ByOrder.{position_at};
 ghost use Rattle.ordered_steps.specs.Rightness.{are_right, goes_well, is_right_column, leaves_up};
 
-use audit::Network;
 use audit_channels::edge_of;
 use next_tables::{is_down, is_up};
+use packet_walks::Network;
 use port_graph::Edge;
 use smp_bytes::Lid;
 use std::alloc::{AllocError, Global};

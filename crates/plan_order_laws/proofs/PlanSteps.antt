@@ -12,8 +12,8 @@ use Rattle.spread_routes.specs.SwitchOrders.{OrderValue}
 use Rattle.lft_blocks.specs.Plan.{plan_of}
 use Rattle.lft_blocks.specs.Rules.{order_of, spread_in, up_and_down}
 use Rattle.plan_order.specs.PlanOrder.{rank_position}
-use Rattle.plan_file.specs.Held.{HeldPlan}
-use Rattle.plan_file.specs.Printed.{held_plan}
+use Rattle.held_tables.specs.Held.{HeldPlan}
+use Rattle.held_tables.specs.PlanTables.{held_plan}
 use Rattle.next_tables.specs.ByOrder.{AreApart, AreRight, IsOrder, switch_at}
 use Rattle.next_tables.proofs.Entries.{at_mapped, member}
 use Rattle.next_tables.proofs.Hops.{leads_at, leads_within, to_within, to_wired}

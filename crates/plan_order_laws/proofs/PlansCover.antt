@@ -20,17 +20,17 @@ use Rattle.lid_assign.specs.Lids.{IsNoRoom, lids, owner_of, top_of}
 use Rattle.lft_blocks.specs.Entries.{attachment_of, port_to}
 use Rattle.lft_blocks.specs.Rules.{RuleValue}
 use Rattle.lft_blocks.proofs.RulesRoute.{lids_are_routed}
-use Rattle.plan_file.specs.declared.held.HeldLid.{HeldLid}
-use Rattle.plan_file.specs.Held.{HeldPlan, nothing_held}
-use Rattle.plan_file.proofs.NextPorts.{lid_has_cost}
+use Rattle.held_tables.specs.declared.held.HeldLid.{HeldLid}
+use Rattle.held_tables.specs.Held.{HeldPlan, nothing_held}
+use Rattle.held_tables.proofs.NextPorts.{lid_has_cost}
 use Rattle.held_tables.proofs.HeldPlans.{made, entry_counts}
 use Rattle.held_tables.specs.Tables.{entry_for}
-use Rattle.audit.specs.declared.end.End.TheVariants.{Taken}
-use Rattle.audit.specs.declared.next_hop.NextHop.{NextHop}
-use Rattle.audit.specs.declared.next_hop.NextHop.TheVariants.{To, Ends}
-use Rattle.audit.specs.NextHops.{next_hops_of}
-use Rattle.audit.specs.WalkEnds.{after}
-use Rattle.audit.proofs.Ended.{after_ended}
+use Rattle.packet_walks.specs.declared.packet_end.End.TheVariants.{Taken}
+use Rattle.packet_walks.specs.declared.next_hop.NextHop.{NextHop}
+use Rattle.packet_walks.specs.declared.next_hop.NextHop.TheVariants.{To, Ends}
+use Rattle.packet_walks.specs.HopsByTables.{next_hops_of}
+use Rattle.packet_walks.specs.EndsBySwitch.{after}
+use Rattle.packet_walks.proofs.Ended.{after_ended}
 use Rattle.next_tables.specs.Next.{step_at}
 use Rattle.next_tables.proofs.Entries.{at_mapped, member}
 use Rattle.next_tables.proofs.Mixtures.{in_range}
@@ -40,7 +40,7 @@ use Rattle.ordered_steps.specs.StepLaws.{DeliverFrom}
 use Rattle.plan_order_laws.specs.PlanLaws.{PlansCover}
 use Rattle.next_tables.proofs.Hops.{none_taken, none_to, placed}
 use Rattle.plan_order_laws.proofs.PlanOrders.{in_one, is_switch}
-use Rattle.audit.proofs.PlanPackets.{attachment_there, from_switch, owned}
+use Rattle.packet_walks.proofs.PlanPackets.{attachment_there, from_switch, owned}
 use Rattle.plan_order_laws.proofs.UpdownRight.{same_component}
 use Rattle.lft_blocks.specs.Plan.{lid_routing}
 

@@ -7,9 +7,9 @@ use Rattle.lid_assign.specs.Lids.{IsNoRoom}
 use Rattle.lft_blocks.specs.Plan.{plan_of}
 use Rattle.lft_blocks.specs.Rules.{RuleValue, routing_by}
 use Rattle.plan_order.specs.PlanOrder.{positions_by}
-use Rattle.plan_file.specs.declared.held.HeldLid.{HeldLid}
-use Rattle.plan_file.specs.Held.{HeldPlan}
-use Rattle.plan_file.specs.Printed.{held_plan}
+use Rattle.held_tables.specs.declared.held.HeldLid.{HeldLid}
+use Rattle.held_tables.specs.Held.{HeldPlan}
+use Rattle.held_tables.specs.PlanTables.{held_plan}
 use Rattle.held_tables.specs.Tables.{entry_for, owners_of}
 use Rattle.next_tables.specs.ByOrder.{AreApart, AreRight, IsNextByOrder, IsOrder, IsWired, Leads, numbers_by, position_at, switch_at}
 use Rattle.next_tables.specs.Mixtures.{RiseInStep}

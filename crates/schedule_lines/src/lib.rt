@@ -2,14 +2,16 @@
 #![tactic(auto)]
 
 mod asked;
-mod lines;
+mod line_parts;
+mod manager_lines;
+mod ping_lines;
 mod refusals;
 mod run_fault;
 mod shown;
 mod tables;
 
 pub use asked::{ask_manager, waiting};
-pub use lines::{write_flight, write_ping};
+pub use ping_lines::{write_flight, write_ping};
 pub use refusals::{refuse_fabric, refuse_manager};
 pub use run_fault::RunFault;
 pub use shown::{show_manager, show_trap};

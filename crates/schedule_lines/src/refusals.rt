@@ -6,7 +6,7 @@ ghost use Rattle.sm_manager.specs.Fault.{manager_fault_name};
 ghost use Rattle.schedule_lines.specs.Prints.{PrintsUnless};
 ghost use Rattle.schedule_lines.specs.Refusals.{refusal_line};
 
-use crate::lines::write_between;
+use crate::line_parts::write_between;
 use crate::run_fault::RunFault;
 use byte_io::{Sink, WriteFault};
 use fabric_sim::FabricFault;

@@ -5,7 +5,7 @@ ghost use Rattle.schedule_lines.specs.Lines.{name_of, trap_text};
 ghost use Rattle.schedule_lines.specs.Prints.{PrintsUnless};
 ghost use Rattle.sm_manager.specs.Plans.{plan_fault};
 
-use crate::lines::{write_progress, write_silent, write_state, write_trap, write_written};
+use crate::manager_lines::{write_progress, write_silent, write_state, write_trap, write_written};
 use crate::refusals::refuse_manager;
 use crate::run_fault::RunFault;
 use byte_io::Sink;

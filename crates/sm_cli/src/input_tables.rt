@@ -9,11 +9,12 @@ use crate::inputs::InputReader;
 use crate::text_fault::TextFault;
 use byte_io::Source;
 use fact_store::Store;
-use plan_file::{Held, parse};
+use held_tables::Held;
 use record_file::read_whole;
 use smp_bytes::{Generation, Guid};
 use std::alloc::Global;
 use subnet_view::is_usable;
+use tables_file::parse;
 
 /// What a text of tables and the files after it say.
 #[derive(Drop)]

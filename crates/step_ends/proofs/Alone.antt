@@ -11,16 +11,16 @@ use Rattle.subnet_view.proofs.Members.{contains_here, contains_none, list_any_tr
 use Rattle.lid_assign.specs.Lids.{IsNoRoom, lids, owner_of, top_of}
 use Rattle.lft_blocks.specs.Plan.{plan_of}
 use Rattle.lft_blocks.specs.Rules.{RuleValue}
-use Rattle.plan_file.specs.declared.held.HeldLid.{HeldLid}
-use Rattle.plan_file.specs.Held.{HeldPlan, nothing_held}
-use Rattle.plan_file.specs.Printed.{held_plan}
-use Rattle.plan_file.proofs.OwnedLids.{line_owned}
+use Rattle.held_tables.specs.declared.held.HeldLid.{HeldLid}
+use Rattle.held_tables.specs.Held.{HeldPlan, nothing_held}
+use Rattle.held_tables.specs.PlanTables.{held_plan}
+use Rattle.held_tables.proofs.OwnedLids.{line_owned}
 use Rattle.held_tables.specs.Owners.{is_sole}
 use Rattle.held_tables.specs.Tables.{is_owner, is_same_end, owners_of}
 use Rattle.held_tables.proofs.HeldPlans.{made}
 use Rattle.held_tables.proofs.Once.{sole_owners_are_alone}
-use Rattle.audit.proofs.Judged.{same_itself}
-use Rattle.audit.proofs.OwnerLines.{owner_line}
+use Rattle.packet_walks.proofs.Judged.{same_itself}
+use Rattle.packet_walks.proofs.OwnerLines.{owner_line}
 use Rattle.step_ends.proofs.Last.{EachAlone}
 use Rattle.step_ends.proofs.Reached.{owner_listed}
 

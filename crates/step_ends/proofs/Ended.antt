@@ -5,18 +5,18 @@ use Rattle.std.proofs.lemmas.Bool.{eq-eqb}
 use Rattle.std.proofs.lemmas.Option.{slice_get-get_or}
 use Rattle.subnet_view.specs.declared.end_port.EndPort.{EndPort}
 use Rattle.subnet_view.specs.Reading.{Cells, switches}
-use Rattle.plan_file.specs.declared.held.HeldLid.{HeldLid}
-use Rattle.plan_file.specs.Held.{HeldPlan}
+use Rattle.held_tables.specs.declared.held.HeldLid.{HeldLid}
+use Rattle.held_tables.specs.Held.{HeldPlan}
 use Rattle.held_tables.specs.Tables.{entry_for, is_same_end, owners_of, top_of}
 use Rattle.held_tables.proofs.HeldTables.{within_length}
-use Rattle.audit.specs.declared.end.End.TheVariants.{Taken}
-use Rattle.audit.specs.declared.next_hop.NextHop.{NextHop}
-use Rattle.audit.specs.declared.next_hop.NextHop.TheVariants.{To, Ends}
-use Rattle.audit.specs.NextHops.{next_hops_of}
-use Rattle.audit.specs.WalkEnds.{after}
-use Rattle.audit.proofs.Ended.{after_ended}
-use Rattle.audit.proofs.Judged.{same_ends}
-use Rattle.audit.proofs.PlanSteps.{contains_at}
+use Rattle.packet_walks.specs.declared.packet_end.End.TheVariants.{Taken}
+use Rattle.packet_walks.specs.declared.next_hop.NextHop.{NextHop}
+use Rattle.packet_walks.specs.declared.next_hop.NextHop.TheVariants.{To, Ends}
+use Rattle.packet_walks.specs.HopsByTables.{next_hops_of}
+use Rattle.packet_walks.specs.EndsBySwitch.{after}
+use Rattle.packet_walks.proofs.Ended.{after_ended}
+use Rattle.packet_walks.proofs.Judged.{same_ends}
+use Rattle.packet_walks.proofs.PlanSteps.{contains_at}
 use Rattle.next_tables.specs.Next.{agreed, agreed_at, comes_to, step_at}
 use Rattle.next_tables.specs.NextTables.{IsKept, keeper, kept_by, next_at, next_for, next_tables, settled_first}
 use Rattle.next_tables.specs.StepLaws.{stepped}

@@ -3,13 +3,13 @@ use Rattle.std.proofs.Common.{◌≡◌, ◌≤◌, ℕ, zero, suc, true, false,
 use Rattle.std.specs.Prelude.{slice_get}
 use Rattle.subnet_view.specs.declared.end_port.EndPort.{EndPort}
 use Rattle.subnet_view.specs.Reading.{Cells, switches}
-use Rattle.plan_file.specs.Held.{HeldPlan}
+use Rattle.held_tables.specs.Held.{HeldPlan}
 use Rattle.held_tables.specs.Tables.{entry_for, owners_of}
-use Rattle.audit.specs.declared.end.End.TheVariants.{Taken}
-use Rattle.audit.specs.declared.next_hop.NextHop.TheVariants.{To, Ends}
-use Rattle.audit.specs.NextHops.{next_hops_of}
-use Rattle.audit.specs.WalkEnds.{after}
-use Rattle.audit.proofs.PlanSteps.{contains_at}
+use Rattle.packet_walks.specs.declared.packet_end.End.TheVariants.{Taken}
+use Rattle.packet_walks.specs.declared.next_hop.NextHop.TheVariants.{To, Ends}
+use Rattle.packet_walks.specs.HopsByTables.{next_hops_of}
+use Rattle.packet_walks.specs.EndsBySwitch.{after}
+use Rattle.packet_walks.proofs.PlanSteps.{contains_at}
 use Rattle.next_tables.specs.Next.{comes_to}
 use Rattle.next_tables.specs.NextTables.{keeper, next_at, next_for, settled_first}
 use Rattle.next_tables.specs.StepLaws.{stepped}

@@ -8,11 +8,11 @@ use Rattle.lid_assign.specs.Lids.{IsNoRoom}
 use Rattle.lft_blocks.specs.Plan.{plan_of}
 use Rattle.lft_blocks.specs.Rules.{RuleValue}
 use Rattle.plan_order.specs.PlanOrder.{positions_by}
-use Rattle.plan_file.specs.declared.held.HeldLid.{HeldLid}
-use Rattle.plan_file.specs.Held.{HeldPlan}
-use Rattle.plan_file.specs.Printed.{held_plan}
+use Rattle.held_tables.specs.declared.held.HeldLid.{HeldLid}
+use Rattle.held_tables.specs.Held.{HeldPlan}
+use Rattle.held_tables.specs.PlanTables.{held_plan}
 use Rattle.held_tables.specs.Tables.{entry_for, owners_of}
-use Rattle.audit.proofs.PlanSteps.{contains_at}
+use Rattle.packet_walks.proofs.PlanSteps.{contains_at}
 use Rattle.next_tables.specs.ByOrder.{AreRight, IsNextByOrder, position_at}
 use Rattle.next_tables.specs.NextTables.{IsKept, by_order, index_at, next_at, next_tables, ordered_for}
 use Rattle.next_tables.proofs.Whole.{entry_next, owners_next}

@@ -32,27 +32,27 @@ use Rattle.lid_assign.specs.Lids.{IsNoRoom, Given, has_number, lids, owner_of, t
 use Rattle.lid_assign.proofs.LidLaws.{lids_law}
 use Rattle.lft_blocks.specs.Entries.{attachment_of}
 use Rattle.lft_blocks.specs.Rules.{RuleValue}
-use Rattle.plan_file.specs.declared.held.HeldLid.{HeldLid}
-use Rattle.plan_file.specs.Held.{HeldPlan, nothing_held}
+use Rattle.held_tables.specs.declared.held.HeldLid.{HeldLid}
+use Rattle.held_tables.specs.Held.{HeldPlan, nothing_held}
 use Rattle.held_tables.specs.declared.far_end.Far.{Far}
 use Rattle.held_tables.specs.declared.far_end.Far.TheVariants.{Nothing, Port, Switch}
 use Rattle.held_tables.specs.Switches.{far_at, far_of, far_to, index_in, row_of}
 use Rattle.held_tables.specs.Tables.{entry_for, is_owner, owners_of}
 use Rattle.held_tables.proofs.HeldPlans.{made}
-use Rattle.audit.specs.declared.end.Cause.{Cause}
-use Rattle.audit.specs.declared.end.Cause.TheVariants.{Foreign}
-use Rattle.audit.specs.declared.end.End.TheVariants.{Lost, Taken}
-use Rattle.audit.specs.declared.next_hop.NextHop.{NextHop}
-use Rattle.audit.specs.declared.next_hop.NextHop.TheVariants.{To, Ends}
-use Rattle.audit.specs.NextHops.{at_port, by_entry, cause_of, next_hops_of, over}
-use Rattle.audit.specs.WalkEnds.{after}
-use Rattle.audit.proofs.Ended.{after_ended}
-use Rattle.audit.proofs.FabricParts.{index_there}
-use Rattle.audit.proofs.Judged.{same_itself}
-use Rattle.audit.proofs.OwnerLines.{owner_line}
-use Rattle.audit.proofs.PlanPackets.{from_switch}
-use Rattle.plan_file.proofs.OwnedLids.{line_owned}
-use Rattle.audit.proofs.PlanSteps.{contains_at, index_is}
+use Rattle.packet_walks.specs.declared.packet_end.Cause.{Cause}
+use Rattle.packet_walks.specs.declared.packet_end.Cause.TheVariants.{Foreign}
+use Rattle.packet_walks.specs.declared.packet_end.End.TheVariants.{Lost, Taken}
+use Rattle.packet_walks.specs.declared.next_hop.NextHop.{NextHop}
+use Rattle.packet_walks.specs.declared.next_hop.NextHop.TheVariants.{To, Ends}
+use Rattle.packet_walks.specs.HopsByTables.{at_port, by_entry, cause_of, next_hops_of, over}
+use Rattle.packet_walks.specs.EndsBySwitch.{after}
+use Rattle.packet_walks.proofs.Ended.{after_ended}
+use Rattle.packet_walks.proofs.FabricParts.{index_there}
+use Rattle.packet_walks.proofs.Judged.{same_itself}
+use Rattle.packet_walks.proofs.OwnerLines.{owner_line}
+use Rattle.packet_walks.proofs.PlanPackets.{from_switch}
+use Rattle.held_tables.proofs.OwnedLids.{line_owned}
+use Rattle.packet_walks.proofs.PlanSteps.{contains_at, index_is}
 use Rattle.next_tables.specs.Next.{step_at}
 use Rattle.next_tables.proofs.Entries.{at_mapped, member}
 use Rattle.next_tables.proofs.Mixtures.{in_range}

@@ -7,9 +7,9 @@ use Rattle.subnet_view.specs.Reading.{Cells, switches}
 use Rattle.lid_assign.specs.Lids.{IsNoRoom}
 use Rattle.lft_blocks.specs.Rules.{RuleValue}
 use Rattle.plan_order.specs.PlanOrder.{positions_by}
-use Rattle.plan_file.specs.Held.{HeldPlan}
+use Rattle.held_tables.specs.Held.{HeldPlan}
 use Rattle.held_tables.specs.Tables.{top_of}
-use Rattle.audit.proofs.PlanSteps.{contains_at}
+use Rattle.packet_walks.proofs.PlanSteps.{contains_at}
 use Rattle.next_tables.specs.NextTables.{by_order, next_tables, settled_first}
 use Rattle.next_tables.specs.StepLaws.{stepped as settled}
 use Rattle.next_tables.proofs.Whole.{entry_next, top_next}

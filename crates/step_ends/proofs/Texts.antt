@@ -6,15 +6,15 @@ use Rattle.subnet_view.specs.Reading.{switches}
 use Rattle.lid_assign.specs.Lids.{IsNoRoom}
 use Rattle.lft_blocks.specs.Plan.{PlanValue, plan_of}
 use Rattle.lft_blocks.specs.Rules.{RuleValue}
-use Rattle.plan_file.specs.Held.{HeldPlan}
-use Rattle.plan_file.specs.Reading.{held_of}
-use Rattle.plan_file.specs.TablesText.{next_text}
-use Rattle.audit.specs.declared.end.End.TheVariants.{Taken}
-use Rattle.audit.specs.declared.next_hop.NextHop.{NextHop}
-use Rattle.audit.specs.declared.next_hop.NextHop.TheVariants.{To, Ends}
-use Rattle.audit.specs.NextHops.{next_hops_of}
-use Rattle.audit.specs.WalkEnds.{after, end_of}
-use Rattle.audit.proofs.InTime.{ends_in_time, one_end}
+use Rattle.held_tables.specs.Held.{HeldPlan}
+use Rattle.tables_file.specs.Reading.{held_of}
+use Rattle.tables_file.specs.TablesText.{next_text}
+use Rattle.packet_walks.specs.declared.packet_end.End.TheVariants.{Taken}
+use Rattle.packet_walks.specs.declared.next_hop.NextHop.{NextHop}
+use Rattle.packet_walks.specs.declared.next_hop.NextHop.TheVariants.{To, Ends}
+use Rattle.packet_walks.specs.HopsByTables.{next_hops_of}
+use Rattle.packet_walks.specs.EndsBySwitch.{after, end_of}
+use Rattle.packet_walks.proofs.InTime.{ends_in_time, one_end}
 use Rattle.next_tables.specs.Next.{step_at}
 use Rattle.next_tables.proofs.NextText.{step_texts_are_read}
 use Rattle.next_run.specs.RunNext.{step_rule, stepped}

@@ -6,15 +6,15 @@ use Rattle.lid_assign.specs.Lids.{IsNoRoom, lids, top_of as greatest_of}
 use Rattle.lft_blocks.specs.Plan.{plan_of}
 use Rattle.lft_blocks.specs.PlanText.{plan_text}
 use Rattle.lft_blocks.specs.Rules.{RuleValue}
-use Rattle.plan_file.specs.declared.held.HeldLid.{HeldLid}
-use Rattle.plan_file.specs.Held.{HeldPlan}
-use Rattle.plan_file.specs.Printed.{held_plan}
-use Rattle.plan_file.specs.Reading.{held_of}
+use Rattle.held_tables.specs.declared.held.HeldLid.{HeldLid}
+use Rattle.held_tables.specs.Held.{HeldPlan}
+use Rattle.held_tables.specs.PlanTables.{held_plan}
+use Rattle.tables_file.specs.Reading.{held_of}
 use Rattle.held_tables.specs.Tables.{owners_of, top_of}
-use Rattle.audit.specs.declared.end.End.TheVariants.{Taken}
-use Rattle.audit.specs.declared.next_hop.NextHop.TheVariants.{To, Ends}
-use Rattle.audit.specs.NextHops.{next_hops_of}
-use Rattle.audit.specs.WalkEnds.{after}
+use Rattle.packet_walks.specs.declared.packet_end.End.TheVariants.{Taken}
+use Rattle.packet_walks.specs.declared.next_hop.NextHop.TheVariants.{To, Ends}
+use Rattle.packet_walks.specs.HopsByTables.{next_hops_of}
+use Rattle.packet_walks.specs.EndsBySwitch.{after}
 use Rattle.next_tables.specs.NextTables.{IsKept}
 use Rattle.next_tables.specs.StepLaws.{stepped as settled}
 use Rattle.ordered_steps.specs.Rightness.{are_right}

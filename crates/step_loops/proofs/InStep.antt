@@ -6,10 +6,10 @@ use Rattle.std.proofs.lemmas.List.{length-replicate}
 use Rattle.smp_bytes.proofs.Members.{contains_none}
 use Rattle.port_graph.specs.declared.edge.Edge.{Edge}
 use Rattle.subnet_view.specs.Reading.{Cells, switches}
-use Rattle.plan_file.specs.Held.{HeldPlan}
-use Rattle.audit.specs.Edges.{edges_of, greatest_top}
+use Rattle.held_tables.specs.Held.{HeldPlan}
+use Rattle.packet_walks.specs.Edges.{edges_of, greatest_top}
 use Rattle.held_tables.specs.Blocks.{AreBlocks}
-use Rattle.audit.proofs.Tops.{none_above}
+use Rattle.packet_walks.proofs.Tops.{none_above}
 use Rattle.audit_channels.proofs.Waiting.{blank}
 use Rattle.audit_channels.specs.Orders.{Follows, GoesOn, IsCycle, IsOrder, IsShortest}
 use Rattle.audit_channels.specs.declared.order.ChannelOrder.{ChannelOrder}

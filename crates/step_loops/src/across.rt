@@ -1,12 +1,12 @@
 //! The channels that packets for one LID take in turn while switches go over from one table to another.
 ghost use Rattle.std.specs.Prelude.{◌≡◌, ◌<◌, ◌*◌, ◌/◌, ◌^◌, [], IfOk, OnOk, length};
 ghost use Rattle.fact_store.specs.View.{cells_of};
-ghost use Rattle.audit.specs.Edges.{edges_of};
+ghost use Rattle.packet_walks.specs.Edges.{edges_of};
 ghost use Rattle.held_tables.specs.Blocks.{AreBlocks};
 ghost use Rattle.step_loops.specs.StepOrder.{IsAddedInStep, IsWithStep};
 
-use audit::{Blocks, Network};
 use audit_channels::{Waits, add_across, add_column, is_same_column};
+use packet_walks::{Blocks, Network};
 use port_graph::Edge;
 use smp_bytes::Lid;
 use std::alloc::{AllocError, Global};

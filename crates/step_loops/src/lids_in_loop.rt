@@ -6,9 +6,9 @@ ghost use Rattle.step_loops.specs.LoopLids.{AreLoopLids, AreNoted, IsNoted, Take
 ghost use Rattle.step_loops.specs.StepOrder.{WaitInCycle};
 
 use crate::across::columns_of;
-use audit::Network;
 use audit_channels::edge_of;
 use next_tables::greater;
+use packet_walks::Network;
 use port_graph::Edge;
 use smp_bytes::Lid;
 use std::alloc::{AllocError, Global};

@@ -4,9 +4,9 @@ ghost use Rattle.fact_store.specs.View.{cells_of};
 ghost use Rattle.step_loops.specs.StepOrder.{AreWaits, IsShortestInStep, IsStepOrder};
 
 use crate::across::{Columns, add_step, columns_of};
-use audit::Network;
 use audit_channels::{ChannelOrder, Waits, order_channels};
 use next_tables::greater;
+use packet_walks::Network;
 use smp_bytes::Lid;
 use std::alloc::{AllocError, Global};
 

@@ -5,7 +5,7 @@ use Rattle.std.proofs.lemmas.Bool.{cases_eq, cases_lt, eq-eqb, eqb-true}
 use Rattle.spread_labels.specs.Orders.{position_of}
 use Rattle.spread_labels.proofs.ByPositions.{position_at, position_less}
 use Rattle.subnet_view.specs.Reading.{Cells, switches}
-use Rattle.plan_file.specs.Held.{HeldPlan}
+use Rattle.held_tables.specs.Held.{HeldPlan}
 use Rattle.next_tables.specs.ByOrder.{AreRight}
 use Rattle.two_orders.specs.Agreement.{AgreesUpTo, AreVertices}
 use Rattle.two_orders.specs.Growth.{number_at}

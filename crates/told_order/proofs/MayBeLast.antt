@@ -5,7 +5,7 @@ use Rattle.std.specs.List.{list_any}
 use Rattle.std.proofs.lemmas.Bool.{and_from, and_parts}
 use Rattle.subnet_view.specs.Reading.{Cells}
 use Rattle.subnet_view.proofs.Members.{list_any_at, list_any_true}
-use Rattle.plan_file.specs.Held.{HeldPlan}
+use Rattle.held_tables.specs.Held.{HeldPlan}
 use Rattle.told_order.specs.declared.turns.SwitchTurn.{SwitchTurn}
 use Rattle.told_order.specs.Turns.{AreTurns, IsTurn}
 use Rattle.told_order.specs.Last.{IsLastBy, NoneFromBy, may_be_last, turns_in}

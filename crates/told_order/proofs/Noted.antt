@@ -9,12 +9,12 @@ use Rattle.std.proofs.lemmas.List.Elements.{Contains-append_left, Contains-appen
 use Rattle.port_graph.specs.declared.edge.Edge.{Edge}
 use Rattle.subnet_view.specs.Reading.{Cells, switches}
 use Rattle.subnet_view.proofs.Members.{contains_here, contains_later, contains_cases, contains_none}
-use Rattle.plan_file.specs.Held.{HeldPlan}
+use Rattle.held_tables.specs.Held.{HeldPlan}
 use Rattle.held_tables.specs.declared.far_end.Far.{Far}
 use Rattle.held_tables.specs.declared.far_end.Far.TheVariants.{Nothing, Switch, Port}
 use Rattle.held_tables.specs.Switches.{far_by, row_of}
 use Rattle.held_tables.specs.Tables.{entry_for}
-use Rattle.audit.specs.Edges.{edges_of}
+use Rattle.packet_walks.specs.Edges.{edges_of}
 use Rattle.audit_channels.specs.Columns.{number_of}
 use Rattle.audit_channels.specs.Orders.{Follows}
 use Rattle.audit_channels.specs.Waiting.{AreWaits, WaitsFor}

@@ -1,7 +1,7 @@
 -- The laws of the order that tables tell.
 use Rattle.std.specs.Prelude.{◌≡◌, ◌≤◌, ◌<◌, ℕ, List, Contains, None, Some, length}
 use Rattle.subnet_view.specs.Reading.{Cells, switches}
-use Rattle.plan_file.specs.Held.{HeldPlan}
+use Rattle.held_tables.specs.Held.{HeldPlan}
 use Rattle.next_tables.specs.ByOrder.{AreApart, AreRight, IsOrder}
 use Rattle.spread_labels.specs.Orders.{position_of}
 use Rattle.two_orders.specs.Agreement.{AgreesUpTo, AreVertices}

@@ -7,7 +7,7 @@ ghost use Rattle.told_order.specs.ToldOrder.{IsTold};
 
 use crate::last::last_of;
 use crate::turns::turns;
-use audit::Network;
+use packet_walks::Network;
 use std::alloc::{AllocError, Global};
 
 /// Returns the indices (by rising GUID) of all usable switches, in an order by which no packet, for any LID, goes down

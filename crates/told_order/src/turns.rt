@@ -5,9 +5,9 @@ ghost use Rattle.subnet_view.specs.Reading.{switches};
 ghost use Rattle.audit_channels.specs.Waiting.{AreWaits};
 ghost use Rattle.told_order.specs.Turns.{AreTurns, IsWithTurns, IsWithTurn, lists_of};
 
-use audit::Network;
 use audit_channels::{Waits, channel_waits};
 use held_tables::Far;
+use packet_walks::Network;
 use std::alloc::{AllocError, Global};
 
 /// A turn at a switch: packets for some LID come from one switch and leave for another, or for the one that they came

@@ -112,10 +112,12 @@ const PEER: TopoFault = TopoFault::Peer { line: 3 };
 
 const SEAT: ScheduleFault = ScheduleFault::Seat { line: 3 };
 
-const LID: plan_file::PlanTextFault = plan_file::PlanTextFault::Line(plan_file::PlanLineFault {
-    line: 3,
-    wrong: plan_file::PlanTextError::Lid,
-});
+const LID: tables_file::PlanTextFault = tables_file::PlanTextFault::Line(
+    tables_file::PlanLineFault {
+        line: 3,
+        wrong: tables_file::PlanTextError::Lid,
+    },
+);
 
 const AGAIN: roots_file::RootsTextFault = roots_file::RootsTextFault::Line(
     roots_file::RootsLineFault {

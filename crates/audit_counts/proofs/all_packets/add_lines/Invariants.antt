@@ -1,6 +1,6 @@
 use Rattle.std.proofs.Common.{ℕ, []}
 use Rattle.fact_store.specs.View.{cells_of}
-use Rattle.audit.specs.Deliveries.{AreDeliveries}
+use Rattle.packet_walks.specs.Deliveries.{AreDeliveries}
 use Rattle.held_tables.specs.Blocks.{AreBlocks}
 use Rattle.audit_counts.specs.PacketTally.{IsTally}
 use Rattle.audit_counts.proofs.Surveyed.{AreSurveyed}

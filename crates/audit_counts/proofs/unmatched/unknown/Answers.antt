@@ -4,7 +4,7 @@ use Rattle.std.specs.Prelude.{not}
 use Rattle.std.proofs.lemmas.List.{get_or-map}
 use Rattle.port_graph.proofs.Counts.{length_map}
 use Rattle.fact_store.specs.View.{cells_of}
-use Rattle.plan_file.specs.declared.held.HeldSwitch.{HeldSwitch}
+use Rattle.held_tables.specs.declared.held.HeldSwitch.{HeldSwitch}
 use Rattle.subnet_view.specs.Reading.{is_usable}
 use Rattle.audit_counts.specs.FirstFew.{listed_of}
 use Rattle.audit_counts.proofs.Firsts.{told_more, told_same, told_all}

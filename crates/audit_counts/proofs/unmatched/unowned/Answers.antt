@@ -2,11 +2,11 @@
 use Rattle.std.proofs.Common.{◌∙◌, Bool, sym, ap, arith}
 use Rattle.std.specs.Prelude.{not}
 use Rattle.fact_store.specs.View.{cells_of}
-use Rattle.plan_file.specs.declared.held.HeldLid.{HeldLid}
+use Rattle.held_tables.specs.declared.held.HeldLid.{HeldLid}
 use Rattle.subnet_view.specs.EndPorts.{end_ports}
 use Rattle.held_tables.specs.Tables.{is_owner}
 use Rattle.audit_counts.proofs.Firsts.{told_more, told_same, told_all}
-use Rattle.audit.proofs.Judged.{listed}
+use Rattle.packet_walks.proofs.Judged.{listed}
 use Rattle.audit_counts.proofs.unmatched.unowned.Goals as goal
 use Rattle.audit_counts.proofs.unmatched.unowned.Goals.{then-not-is_end_port+in_ok-add, else-not-is_end_port}
 

@@ -8,7 +8,7 @@ use Rattle.spread_routes.specs.Rule.{by_index}
 use Rattle.spread_routes.proofs.Indices.{there_and_back}
 use Rattle.spread_routes.proofs.Positions.{edges_are}
 use Rattle.two_orders.specs.TwoOrders.{TwoOrders}
-use Rattle.between_orders.specs.Goal.{tables_between}
+use Rattle.between_orders.specs.TablesBetween.{tables_between}
 use Rattle.between_orders.specs.Orders.{AreOrders, edges_in}
 use Rattle.between_orders.proofs.step_goal.between.Goals as goal
 

@@ -1,7 +1,7 @@
 -- A line more is told where none before it tells the same.
 use Rattle.std.proofs.Common.{◌≡◌, ◌∙◌, ◌+◌, ◌++◌, ◌∷◌, [], Global, List, Vec, ap, subst, sym, take}
 use Rattle.std.proofs.lemmas.List.{take_more}
-use Rattle.plan_file.specs.declared.held.HeldLid.{HeldLid}
+use Rattle.held_tables.specs.declared.held.HeldLid.{HeldLid}
 use Rattle.held_tables.specs.Tables.{told_once}
 use Rattle.held_tables.proofs.Once.{AreKeys, keys_more, line_kept, line_left}
 use Rattle.held_tables.proofs.lines.lines_of.Goals as goal

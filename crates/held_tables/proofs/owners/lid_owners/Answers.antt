@@ -1,7 +1,7 @@
 -- A line more.
 use Rattle.std.proofs.Common.{◌+◌, ◌++◌, ◌∷◌, [], List, ap, subst, sym, ◌∙◌, ◌≡◌, take}
 use Rattle.std.proofs.lemmas.List.{take_more}
-use Rattle.plan_file.specs.declared.held.HeldLid.{HeldLid}
+use Rattle.held_tables.specs.declared.held.HeldLid.{HeldLid}
 use Rattle.held_tables.specs.Owners.{AreOwners}
 use Rattle.held_tables.proofs.Owned.{no_owners, owners_more}
 use Rattle.held_tables.proofs.owners.lid_owners.Goals as goal

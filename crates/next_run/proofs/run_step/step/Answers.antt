@@ -3,7 +3,7 @@ use Rattle.std.proofs.Common.{subst}
 use Rattle.std.specs.Io.KnownBytes.{Appends}
 use Rattle.lid_assign.specs.Lids.{Given}
 use Rattle.lft_blocks.specs.Rules.{value_of}
-use Rattle.plan_file.specs.TablesText.{next_text}
+use Rattle.tables_file.specs.TablesText.{next_text}
 use Rattle.next_run.specs.RunNext.{IsSaid}
 use Rattle.next_run.proofs.StepIs.{step_is, was_said}
 use Rattle.next_run.proofs.run_step.step.Goals as goal

@@ -4,7 +4,7 @@ use Rattle.std.specs.Prelude.{slice_get}
 use Rattle.std.specs.Option.{option_map_or}
 use Rattle.fact_store.specs.View.{Facts, cells_of}
 use Rattle.subnet_view.specs.Reading.{switches}
-use Rattle.plan_file.specs.declared.held.HeldSwitch.{HeldSwitch}
+use Rattle.held_tables.specs.declared.held.HeldSwitch.{HeldSwitch}
 use Rattle.held_tables.specs.Tables.{top_of}
 use Rattle.next_tables.proofs.Assembled.{no_switch, switch_more}
 use Rattle.next_tables.proofs.assembly.switches_with.Goals.{in-Some+in_ok-push, in_default}

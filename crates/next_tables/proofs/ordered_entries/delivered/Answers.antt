@@ -1,8 +1,8 @@
 -- By where the walks end.
 use Rattle.std.proofs.Common.{◌≡◌, ◌∙◌}
 use Rattle.std.specs.Prelude.{map}
-use Rattle.audit.proofs.Brought.{if_ok}
-use Rattle.audit.specs.declared.switch_step.SwitchStep.{SwitchStep}
+use Rattle.packet_walks.proofs.Brought.{if_ok}
+use Rattle.packet_walks.specs.declared.next_hop.SwitchStep.{SwitchStep}
 use Rattle.next_tables.specs.SwitchSteps.{arrives_by}
 use Rattle.next_tables.specs.OrderedEntries.{delivered_of}
 use Rattle.next_tables.proofs.Ordered.{delivered_is}

@@ -2,7 +2,7 @@
 use Rattle.std.proofs.Common.{◌≡◌, ◌∙◌}
 use Rattle.std.specs.Prelude.{map}
 use Rattle.std.specs.List.{enumerate_from}
-use Rattle.audit.proofs.Brought.{if_ok}
+use Rattle.packet_walks.proofs.Brought.{if_ok}
 use Rattle.next_tables.specs.SwitchSteps.{arrives_by}
 use Rattle.next_tables.specs.OrderedEntries.{entries_by, entry_by}
 use Rattle.next_tables.proofs.Ordered.{entries_are}

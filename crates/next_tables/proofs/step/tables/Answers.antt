@@ -3,7 +3,7 @@ use Rattle.std.proofs.Common.{◌≡◌, ◌∙◌, ℕ, List, Vec, Global, ap, 
 use Rattle.std.specs.Prelude.{IfOk}
 use Rattle.fact_store.specs.View.{cells_of}
 use Rattle.subnet_view.specs.Reading.{switches}
-use Rattle.plan_file.specs.Held.{HeldPlan}
+use Rattle.held_tables.specs.Held.{HeldPlan}
 use Rattle.next_tables.specs.Assembled.{all_blocks, tables_with}
 use Rattle.next_tables.specs.NextTables.{next_switch, value_of}
 use Rattle.next_tables.proofs.Whole.{put_together}

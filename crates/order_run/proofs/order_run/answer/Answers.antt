@@ -6,7 +6,7 @@ use Rattle.std.specs.List.{range_with_len}
 use Rattle.std.specs.Option.{option_map}
 use Rattle.fact_store.specs.View.{Facts, cells_of}
 use Rattle.subnet_view.specs.Reading.{switches}
-use Rattle.plan_file.specs.Held.{HeldPlan}
+use Rattle.held_tables.specs.Held.{HeldPlan}
 use Rattle.told_order.specs.ToldOrder.{IsTold}
 use Rattle.sm_cli.specs.OrderText.{order_text}
 use Rattle.order_run.specs.OrderRun.{told_switches}

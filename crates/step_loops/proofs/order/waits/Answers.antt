@@ -4,7 +4,7 @@ use Rattle.std.specs.Prelude.{Option}
 use Rattle.port_graph.specs.declared.edge.Edge.{Edge}
 use Rattle.fact_store.specs.View.{Facts, cells_of}
 use Rattle.subnet_view.specs.Reading.{switches}
-use Rattle.audit.specs.Edges.{edges_of, greatest_top}
+use Rattle.packet_walks.specs.Edges.{edges_of, greatest_top}
 use Rattle.audit_channels.proofs.Waiting.{column_long, some_is}
 use Rattle.step_loops.specs.StepOrder.{IsAddedInStep}
 use Rattle.step_loops.proofs.InStep.{none_so_far, more, all}

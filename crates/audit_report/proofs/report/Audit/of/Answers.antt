@@ -1,7 +1,7 @@
 -- What is found of the network is found of the store and the tables.
 use Rattle.std.proofs.Common.{subst}
 use Rattle.fact_store.specs.View.{cells_of}
-use Rattle.audit.specs.Network.{Seen}
+use Rattle.packet_walks.specs.Network.{Seen}
 use Rattle.audit_channels.specs.Waiting.{NoneShorter}
 use Rattle.audit_report.proofs.report.Audit.of.Goals as goal
 

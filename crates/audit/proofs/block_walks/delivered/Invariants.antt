@@ -1,6 +1,0 @@
-use Rattle.audit.specs.BlockWalks.{AreSeenBy}
-use Rattle.audit.proofs.block_walks.delivered.Given as goal
-
--- what is seen at the switches so far
-abbrev pub invariant-loop-switch : goal.invariant-loop-switch
-invariant-loop-switch l = AreSeenBy l.nodes l.owners l.rows l.number l.walks.arrived.items l.walks.exits.items

@@ -1,7 +1,0 @@
-use Rattle.std.proofs.Common.{◌≡◌, drop}
-use Rattle.audit.specs.BlockWalks.{in_each}
-use Rattle.audit.proofs.block_walks.from_each.Given as goal
-
--- by the sets that are left
-abbrev pub invariant-loop-more : goal.invariant-loop-more
-invariant-loop-more l = in_each l.lids (drop l.more-index l.later) ≡ in_each l.initial.lids l.later

@@ -1,7 +1,0 @@
-use Rattle.std.proofs.Common.{◌≡◌}
-use Rattle.audit.specs.BlockWalks.{back_times}
-use Rattle.audit.proofs.block_walks.go_back.Given as goal
-
--- after the rounds so far
-abbrev pub invariant-loop-round : goal.invariant-loop-round
-invariant-loop-round l = l.arrived.items ≡ back_times l._round l.exits l.fn.arrived.items

@@ -1,8 +1,0 @@
--- Those of the end ports so far end at the port.
-use Rattle.std.proofs.Common.{◌≡◌, ◌<◌, ℕ, true, get_or}
-use Rattle.std.specs.Prelude.{None}
-use Rattle.audit.specs.NextHops.{is_at}
-use Rattle.audit.proofs.ends.Ends.look_elsewhere.Given as goal
-
-abbrev pub invariant-loop-index : goal.invariant-loop-index
-invariant-loop-index l = (k : ℕ) → k < l.index → is_at l.self.port (get_or l.self.ends k None) ≡ true

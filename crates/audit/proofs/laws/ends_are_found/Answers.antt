@@ -1,5 +1,0 @@
-use Rattle.audit.proofs.InTime.{ends_are_found}
-use Rattle.audit.proofs.laws.ends_are_found.Goals as goal
-
-pub returns : goal.returns
-returns c = record { law = ends_are_found }

@@ -1,8 +1,0 @@
-use Rattle.std.proofs.Common.{ap, ◌==◌}
-use Rattle.std.proofs.lemmas.Nat.Bits.{shr_and_one}
-use Rattle.audit.specs.LidSets.{has}
-use Rattle.audit.proofs.lid_set.LidSet.has.Goals as goal
-
-pub returns : goal.returns
-unfolding has
-returns c = ap (λ n. n == 1) (shr_and_one c.args.self.bits c.args.index)

@@ -1,8 +1,0 @@
-use Rattle.audit.proofs.Further.{AreGoing}
-use Rattle.audit.proofs.walk_ends.ends.Given as goal
-
-abbrev pub invariant-loop-left : goal.invariant-loop-left
-invariant-loop-left l = AreGoing l.fn.steps.items l.jumps.items l.left
-
-abbrev pub decreases-loop-left : goal.decreases-loop-left
-decreases-loop-left l = l.left

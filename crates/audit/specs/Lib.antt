@@ -1,9 +1,0 @@
-pub mod BlockWalks
-pub mod Deliveries
-pub mod Ends
-pub mod Edges
-pub mod Fabrics
-pub mod LidSets
-pub mod Network
-pub mod NextHops
-pub mod WalkEnds

@@ -1,0 +1,78 @@
+-- Tables between two orders, which lead packets up and then down by both.
+use Rattle.std.specs.Prelude.{ℕ, ◌*◌, Bool, false, List, [], ◌∷◌, Option, None, Some, length, map, replicate, if◌then◌else◌}
+use Rattle.std.specs.List.{enumerate_from, find, range_with_len, zip}
+use Rattle.port_graph.specs.declared.edge.Edge.{Edge}
+use Rattle.port_graph.specs.Heads.{edges_at}
+use Rattle.subnet_view.specs.declared.end_port.EndPort.{EndPort}
+use Rattle.subnet_view.specs.Reading.{Cells, switches}
+use Rattle.held_tables.specs.Held.{HeldPlan}
+use Rattle.held_tables.specs.Tables.{owners_of}
+use Rattle.packet_walks.specs.declared.next_hop.NextHop.{NextHop}
+use Rattle.packet_walks.specs.declared.next_hop.NextHop.TheVariants.{To, Ends}
+use Rattle.packet_walks.specs.declared.next_hop.SwitchStep.{SwitchStep}
+use Rattle.packet_walks.specs.HopsByTables.{is_at, switch_step}
+use Rattle.next_tables.specs.Assembled.{most_blocks, tables_with}
+use Rattle.next_tables.specs.SwitchSteps.{Both}
+use Rattle.two_orders.specs.declared.labels.Sides.{Sides}
+use Rattle.two_orders.specs.Labels.{both_down, label_at, labels_from, leads_on}
+use Rattle.two_orders.specs.TwoOrders.{TwoOrders}
+
+-- the hop leads to the end port
+abbrev pub arrives : EndPort → NextHop → Bool
+arrives port (To j) = false
+arrives port (Ends e) = is_at port (Some e)
+
+-- the label of a switch at first: it has one, down by both orders, if its hop by the plan leads to the end port
+abbrev pub first_label : EndPort → SwitchStep → Option Sides
+first_label port plan = if arrives port plan.hop then Some both_down else None
+
+-- the hop leads on from switch i, which has the label `sides`
+abbrev pub fits : TwoOrders → List (Option Sides) → Sides → ℕ → NextHop → Bool
+fits orders labels sides i (To j) = leads_on orders labels sides i j
+fits orders labels sides i (Ends e) = false
+
+abbrev pub port_of : Option Edge → ℕ
+port_of None = 255
+port_of (Some e) = e.port
+
+-- the entry of a switch with this label: the held one if it fits; if not, the plan's if that fits; and if neither fits,
+-- the least port whose channel leads on
+abbrev pub entry_to : List (List Edge) → TwoOrders → List (Option Sides) → Sides → ℕ → Both → ℕ
+entry_to edges orders labels sides i x =
+    if fits orders labels sides i x.0.hop then x.0.entry else
+    (if fits orders labels sides i x.1.hop then x.1.entry else
+    port_of (find (λ e. leads_on orders labels sides i e.to) (edges_at edges i)))
+
+abbrev pub entry_with : List (List Edge) → TwoOrders → List (Option Sides) → Option Sides → ℕ → Both → ℕ
+entry_with edges orders labels None i x = 255
+entry_with edges orders labels (Some sides) i x = entry_to edges orders labels sides i x
+
+-- the plan's entry if that leads to the end port, else one by the label
+abbrev pub entry_between : EndPort → List (List Edge) → TwoOrders → List (Option Sides) → ℕ × Both → ℕ
+entry_between port edges orders labels x =
+    if arrives port x.1.1.hop then x.1.1.entry else entry_with edges orders labels (label_at labels x.0) x.0 x.1
+
+-- the labels of all switches towards an end port, from what each does by the plan; and their entries, from these and
+-- what each does by the held tables and by the plan
+abbrev pub labels_towards : EndPort → List (List Edge) → TwoOrders → List SwitchStep → List (Option Sides)
+labels_towards port edges orders plan = labels_from edges orders (map (first_label port) plan)
+
+unfoldable pub entries_towards : EndPort → List (List Edge) → TwoOrders → List SwitchStep → List SwitchStep → List ℕ
+entries_towards port edges orders held plan =
+    map (entry_between port edges orders (labels_towards port edges orders plan)) (enumerate_from 0 (zip held plan))
+
+-- the entries of all switches for a LID, towards the first of its owners; 255 if it has none
+abbrev pub column_for : Cells → List (List Edge) → TwoOrders → HeldPlan → HeldPlan → ℕ → List EndPort → List ℕ
+column_for cells edges orders held plan lid [] = replicate (length (switches cells)) 255
+column_for cells edges orders held plan lid (port ∷ ports) =
+    entries_towards port edges orders (map (switch_step cells held lid) (switches cells))
+    (map (switch_step cells plan lid) (switches cells))
+
+abbrev pub column_between : Cells → List (List Edge) → TwoOrders → HeldPlan → HeldPlan → ℕ → List ℕ
+column_between cells edges orders held plan lid = column_for cells edges orders held plan lid (owners_of plan lid)
+
+-- the tables between the two orders
+unfoldable pub tables_between : Cells → List (List Edge) → TwoOrders → HeldPlan → HeldPlan → HeldPlan
+tables_between cells edges orders held plan =
+    tables_with cells held plan
+    (map (column_between cells edges orders held plan) (range_with_len 0 (64 * most_blocks cells held plan)))

@@ -1,0 +1,273 @@
+//! Tables between two orders.
+ghost use Rattle.std.specs.Prelude.{◌≡◌, ◌≤◌, ◌*◌, ◌/◌, IfOk, OnOk, map};
+ghost use Rattle.std.specs.List.{enumerate_from, find, range_with_len, zip};
+ghost use Rattle.fact_store.specs.View.{cells_of};
+ghost use Rattle.port_graph.specs.Heads.{edges_at};
+ghost use Rattle.held_tables.specs.Blocks.{AreBlocks};
+ghost use Rattle.between_orders.specs.TablesBetween.{arrives, column_between, entries_towards, entry_between, entry_to};
+ghost use Rattle.between_orders.specs.TablesBetween.{first_label, fits, port_of, tables_between};
+ghost use Rattle.two_orders.specs.Labels.{labels_from, leads_on};
+
+use crate::label_cache::Labelled;
+use held_tables::Held;
+use next_tables::{first_owner, most_blocks, no_entries, tables_with};
+use packet_walks::{Blocks, Network, NextHop, SwitchStep, is_at};
+use port_graph::{Adjacency, Edge};
+use smp_bytes::{Lid, NO_ENTRY};
+use std::alloc::{AllocError, Global};
+use subnet_view::EndPort;
+use two_orders::{Orders, Sides, label_at, leads_on};
+
+/// Returns tables between two orders. A switch has its held entry if that fits, or else the plan's if that does.
+/// `edges` has the wires of each switch. For each LID takes some steps for each switch, and four for each wire if the
+/// previous LID has other targets.
+pub(crate) fn tables_between(
+    alloc: Global,
+    edges: &Adjacency,
+    orders: &Orders,
+    held: &Network,
+    plan: &Network,
+) -> Result<Held, AllocError>
+    requires facts { plan.now.facts ≡ held.now.facts }
+    ensures { IfOk result (λ goal. goal
+        ≡ tables_between (cells_of held.now.facts) edges.now orders.now held.now.held plan.now.held) }
+{
+    let columns = columns(alloc, edges, orders, held, plan, most_blocks(held, plan))?;
+    tables_with(alloc, held, plan, &columns)
+}
+
+/// Returns the entries of all usable switches for each LID of `count` blocks, from LID 0 on.
+fn columns(
+    alloc: Global,
+    edges: &Adjacency,
+    orders: &Orders,
+    held: &Network,
+    plan: &Network,
+    count: usize,
+) -> Result<Vec<Vec<u8>>, AllocError>
+    requires facts { plan.now.facts ≡ held.now.facts }
+    requires few { count ≤ 1024 }
+    ensures { IfOk result (λ columns. map (λ column. column.items) columns.items
+        ≡ map (column_between (cells_of held.now.facts) edges.now orders.now held.now.held plan.now.held)
+        (range_with_len 0 (64 * count))) }
+{
+    let mut columns = Vec::with_capacity(alloc, 64 * count)?;
+    let mut labelled = Labelled::none(alloc, edges, orders);
+    let mut held_blocks = held.blocks(alloc, 0)?;
+    let mut plan_blocks = plan.blocks(alloc, 0)?;
+    for number in 0..64 * count {
+        let lid = Lid::new(number as u16);
+        held_blocks = held.blocks_for(alloc, held_blocks, lid)?;
+        plan_blocks = plan.blocks_for(alloc, plan_blocks, lid)?;
+        let column = column(
+            alloc,
+            edges,
+            orders,
+            &mut labelled,
+            held,
+            plan,
+            &held_blocks,
+            &plan_blocks,
+            lid,
+        )?;
+        columns.push(column)?;
+    }
+    Ok(columns)
+}
+
+/// Returns the entries of all usable switches for `lid`. `labelled` has the labels of the previous LID at first, and
+/// those of `lid` in the end.
+fn column(
+    alloc: Global,
+    edges: &Adjacency,
+    orders: &Orders,
+    labelled: &mut Labelled,
+    held: &Network,
+    plan: &Network,
+    held_blocks: &Blocks,
+    plan_blocks: &Blocks,
+    lid: Lid,
+) -> Result<Vec<u8>, AllocError>
+    requires facts { plan.now.facts ≡ held.now.facts }
+    requires held { AreBlocks held.now.held held_blocks.now.number held_blocks.now.rows.items }
+    requires held_number { held_blocks.now.number ≡ lid / 64 }
+    requires plan { AreBlocks plan.now.held plan_blocks.now.number plan_blocks.now.rows.items }
+    requires plan_number { plan_blocks.now.number ≡ lid / 64 }
+    requires labels { labelled.old.labels.items ≡ labels_from edges.now orders.now labelled.old.firsts.items }
+    ensures column { IfOk result (λ column. column.items
+        ≡ column_between (cells_of held.now.facts) edges.now orders.now held.now.held plan.now.held lid) }
+    ensures labels { OnOk result (labelled.new.labels.items
+        ≡ labels_from edges.now orders.now labelled.new.firsts.items) }
+{
+    let owners = plan.owners(alloc, lid)?;
+    let Some(port) = first_owner(&owners) else {
+        return no_entries(alloc, held.switch_count());
+    };
+    let held_steps = held.switch_steps(alloc, held_blocks, lid)?;
+    let plan_steps = plan.switch_steps(alloc, plan_blocks, lid)?;
+    entries_towards(
+        alloc,
+        &port,
+        edges,
+        orders,
+        labelled,
+        &held_steps,
+        &plan_steps,
+    )
+}
+
+/// Returns the entries of all switches towards `port`, from what each switch does by the held tables and by the plan.
+/// `labelled` has the labels of the previous LID at first, and those towards `port` in the end.
+fn entries_towards(
+    alloc: Global,
+    port: &EndPort,
+    edges: &Adjacency,
+    orders: &Orders,
+    labelled: &mut Labelled,
+    held: &[SwitchStep],
+    plan: &[SwitchStep],
+) -> Result<Vec<u8>, AllocError>
+    requires labels { labelled.old.labels.items ≡ labels_from edges.now orders.now labelled.old.firsts.items }
+    ensures entries { IfOk result (λ entries. entries.items
+        ≡ entries_towards port.now edges.now orders.now held.now plan.now) }
+    ensures labels { OnOk result (labelled.new.labels.items
+        ≡ labels_from edges.now orders.now labelled.new.firsts.items) }
+{
+    let firsts = first_labels(alloc, port, plan)?;
+    labelled.relabel(alloc, edges, orders, firsts)?;
+    entries_by(alloc, port, edges, orders, &labelled.labels, held, plan)
+}
+
+/// Returns the labels at first: a switch has one if its hop by the plan leads to `port`.
+fn first_labels(
+    alloc: Global,
+    port: &EndPort,
+    plan: &[SwitchStep],
+) -> Result<Vec<Option<Sides>>, AllocError>
+    ensures { IfOk result (λ labels. labels.items ≡ map (first_label port.now) plan.now) }
+{
+    plan.iter()
+        .map(|step| first_label(port, step))
+        .collect(alloc)
+}
+
+/// Returns the label of a switch at first, from what it does by the plan.
+fn first_label(port: &EndPort, plan: &SwitchStep) -> Option<Sides>
+    ensures { result ≡ first_label port.now plan.now }
+{
+    if arrives(port, &plan.hop) {
+        Some(Sides {
+            first_up: false,
+            second_up: false,
+        })
+    } else {
+        None
+    }
+}
+
+/// Returns whether `hop` leads to `port`.
+fn arrives(port: &EndPort, hop: &NextHop) -> bool
+    ensures { result ≡ arrives port.now hop.now }
+{
+    match hop {
+        NextHop::To(_) => false,
+        NextHop::Ends(end) => is_at(port, &Some(*end)),
+    }
+}
+
+/// Returns the entry of each switch towards `port`, by the labels.
+fn entries_by(
+    alloc: Global,
+    port: &EndPort,
+    edges: &Adjacency,
+    orders: &Orders,
+    labels: &[Option<Sides>],
+    held: &[SwitchStep],
+    plan: &[SwitchStep],
+) -> Result<Vec<u8>, AllocError>
+    ensures { IfOk result (λ entries. entries.items
+        ≡ map (entry_between port.now edges.now orders.now labels.now) (enumerate_from 0 (zip held.now plan.now))) }
+{
+    held.iter()
+        .zip(plan.iter())
+        .enumerate()
+        .map(|(index, (held, plan))| entry(port, edges, orders, labels, index, held, plan))
+        .collect(alloc)
+}
+
+/// Returns the entry of the switch at `index`: the plan's if that leads to `port`, else one by its label.
+fn entry(
+    port: &EndPort,
+    edges: &Adjacency,
+    orders: &Orders,
+    labels: &[Option<Sides>],
+    index: usize,
+    held: &SwitchStep,
+    plan: &SwitchStep,
+) -> u8
+    ensures { result ≡ entry_between port.now edges.now orders.now labels.now (index, (held.now, plan.now)) }
+{
+    if arrives(port, &plan.hop) {
+        return plan.entry;
+    }
+    match label_at(labels, index) {
+        Some(sides) => entry_to(edges, orders, labels, sides, index, held, plan),
+        None => NO_ENTRY,
+    }
+}
+
+/// Returns the entry of the switch at `index` with the label `sides`: the held one if it fits; if not, the plan's if
+/// that fits; and if neither fits, the least port whose channel leads on.
+fn entry_to(
+    edges: &Adjacency,
+    orders: &Orders,
+    labels: &[Option<Sides>],
+    sides: Sides,
+    index: usize,
+    held: &SwitchStep,
+    plan: &SwitchStep,
+) -> u8
+    ensures { result ≡ entry_to edges.now orders.now labels.now sides index (held.now, plan.now) }
+{
+    if fits(orders, labels, sides, index, &held.hop) {
+        held.entry
+    } else if fits(orders, labels, sides, index, &plan.hop) {
+        plan.entry
+    } else {
+        first_port(edges.at(index), orders, labels, sides, index)
+    }
+}
+
+/// Returns whether `hop` leads on from the switch at `index`, which has the label `sides`.
+fn fits(
+    orders: &Orders,
+    labels: &[Option<Sides>],
+    sides: Sides,
+    index: usize,
+    hop: &NextHop,
+) -> bool
+    ensures { result ≡ fits orders.now labels.now sides index hop.now }
+{
+    match hop {
+        NextHop::To(to) => leads_on(orders, labels, sides, index, *to),
+        NextHop::Ends(_) => false,
+    }
+}
+
+/// Returns the port of the first edge of the switch at `index` that leads on, or 255 if none does.
+fn first_port(
+    edges: &[Edge],
+    orders: &Orders,
+    labels: &[Option<Sides>],
+    sides: Sides,
+    index: usize,
+) -> u8
+    ensures { result ≡ port_of (find (λ e. leads_on orders.now labels.now sides index e.to) edges.now) }
+{
+    for edge in edges {
+        if leads_on(orders, labels, sides, index, edge.to) {
+            return edge.port.number();
+        }
+    }
+    NO_ENTRY
+}

@@ -1,0 +1,16 @@
+-- What is held after another line.
+use Rattle.std.specs.Prelude.{◌-◌, List, [], ◌∷◌, ◌++◌, length}
+use Rattle.held_tables.specs.declared.held_item.HeldItem.{HeldItem}
+use Rattle.held_tables.specs.declared.held_item.HeldItem.TheVariants.{Nothing, Lid, Switch, Block}
+use Rattle.held_tables.specs.Held.{HeldPlan, lids_of}
+
+-- what is held, with what another line says; a block belongs to the last switch
+abbrev pub held_with : HeldPlan → HeldItem → HeldPlan
+held_with held Nothing = held
+held_with held (Lid range) = record held { lids = held.lids ++ lids_of range }
+held_with held (Switch switch) = record held { switches = held.switches ++ switch ∷ [] }
+held_with held (Block number entries) =
+    record held {
+      blocks = held.blocks
+          ++ record { switch = length held.switches - 1; number = number; entries = entries } ∷ [];
+    }

@@ -1,0 +1,47 @@
+-- What the tables of a plan hold.
+use Rattle.std.specs.Prelude.{ℕ, suc, ◌+◌, List, [], ◌∷◌, ◌++◌, map, Option}
+use Rattle.std.specs.Option.{option_map_or}
+use Rattle.std.specs.List.{enumerate_from, filter_map, flat_map}
+use Rattle.std.specs.Prelude.{option_map}
+use Rattle.subnet_view.specs.declared.end_port.EndPort.{EndPort}
+use Rattle.lid_assign.specs.Lids.{Given, lmc_of, owner_of, top_of, rising_lids}
+use Rattle.lft_blocks.specs.Plan.{SwitchTable, PlanValue}
+use Rattle.held_tables.specs.declared.held.HeldLid.{HeldLid}
+use Rattle.held_tables.specs.declared.held.HeldSwitch.{HeldSwitch}
+use Rattle.held_tables.specs.declared.held.HeldBlock.{HeldBlock}
+use Rattle.held_tables.specs.Held.{HeldPlan, LidRange, lids_of, nothing_held}
+
+-- the LIDs of the end port whose first LID is `lid`, with its LMC
+abbrev pub range_from : Given → ℕ → EndPort → LidRange
+range_from given lid port = record { first = record { lid = lid; port = port }; lmc = lmc_of given port }
+
+abbrev pub owned_range : Given → ℕ → Option LidRange
+owned_range given lid = option_map (range_from given lid) (owner_of given lid)
+
+-- the LIDs of all end ports
+abbrev pub owned_lids : Given → List HeldLid
+owned_lids given = flat_map lids_of (filter_map (owned_range given) (rising_lids given))
+
+-- the blocks of the switch at `index`, with numbers that count from `number` on
+abbrev pub blocks_from : ℕ → ℕ → List (List ℕ) → List HeldBlock
+blocks_from index number blocks =
+    map (λ x. record { switch = index; number = x.0; entries = x.1 }) (enumerate_from number blocks)
+
+-- the blocks of the switches, whose indices count from `index` on
+abbrev pub blocks_of : ℕ → List SwitchTable → List HeldBlock
+blocks_of index [] = []
+blocks_of index (table ∷ tables) = blocks_from index 0 table.blocks ++ blocks_of (suc index) tables
+
+-- the switch of a table, with the greatest LID as its top
+abbrev pub with_top : ℕ → SwitchTable → HeldSwitch
+with_top top table = record { guid = table.guid; top = top }
+
+-- the LIDs with their owners and, if there are any, the switches with their blocks and with the greatest LID as their
+-- top
+abbrev pub held_plan : PlanValue → HeldPlan
+held_plan plan =
+    option_map_or (λ top. record {
+      lids = owned_lids plan.given;
+      switches = map (with_top top) plan.tables;
+      blocks = blocks_of 0 plan.tables;
+    }) (top_of plan.given) nothing_held

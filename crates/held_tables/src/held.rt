@@ -1,0 +1,187 @@
+ghost use Rattle.std.specs.Prelude.{◌≡◌, ◌<◌, ◌++◌, IfOk, OnOk, map};
+ghost use Rattle.held_tables.specs.Held.{lids_of, nothing_held};
+ghost use Rattle.held_tables.specs.PlanTables.{blocks_of, held_plan, owned_lids, with_top};
+ghost use Rattle.held_tables.specs.HeldItem.{held_with};
+
+use crate::held_item::{HeldItem, HeldRange};
+use crate::plan_tables::{blocks_of, owned_lids, with_top};
+use attr_codec::Lmc;
+use lft_blocks::Plan;
+use smp_bytes::{Guid, Lid};
+use std::alloc::{AllocError, Global};
+use std::marker::Model;
+use subnet_view::EndPort;
+
+/// A LID and an end port that holds it.
+#[derive(Clone, Copy, Debug, PartialEq, Eq)]
+pub struct HeldLid {
+    /// From 1 to 49,151.
+    pub lid: Lid,
+    /// Its port number is at most 254.
+    pub port: EndPort,
+}
+
+/// A switch with the top of its forwarding table: the greatest LID that it forwards.
+#[derive(Clone, Copy, Debug, PartialEq, Eq)]
+pub struct HeldSwitch {
+    pub guid: Guid,
+    /// Up to 49,151.
+    pub top: Lid,
+}
+
+/// A block of a switch's forwarding table.
+#[derive(Clone, Copy, Debug, PartialEq, Eq)]
+pub struct HeldBlock {
+    /// The index of its switch, from 0, among the held switches.
+    pub switch: usize,
+    /// Up to 767: the block has the entries from LID 64 times this number on.
+    pub number: u16,
+    /// For each LID, the port by which packets leave.
+    pub entries: [u8; 64],
+}
+
+/// What a plan's text says: the LIDs that end ports hold, and the forwarding tables of switches.
+#[derive(Drop)]
+pub struct Held {
+    lids: Vec<HeldLid>,
+    switches: Vec<HeldSwitch>,
+    blocks: Vec<HeldBlock>,
+}
+
+impl Model for Held {
+    ghost use Rattle.held_tables.specs.Held.{HeldPlan};
+
+    ghost Value = { HeldPlan };
+
+    ghost view = { λ a. record {
+      lids = a.lids.items;
+      switches = a.switches.items;
+      blocks = a.blocks.items;
+    } };
+}
+
+impl Held {
+    /// Returns an empty plan.
+    pub fn new(alloc: Global) -> Self
+        ensures { result ≡ nothing_held }
+    {
+        Held {
+            lids: Vec::new(alloc),
+            switches: Vec::new(alloc),
+            blocks: Vec::new(alloc),
+        }
+    }
+
+    /// Returns the tables of a plan, as reading its text gives them: the LIDs of its end ports, and its switches, each
+    /// with the greatest LID as its top. Takes a step for each LID and each block.
+    pub fn of_plan(alloc: Global, plan: &Plan) -> Result<Self, AllocError>
+        ensures { IfOk result (λ held. held ≡ held_plan plan.now) }
+    {
+        match plan.top() {
+            Some(top) => Held::under_top(alloc, plan, top),
+            None => Ok(Held::new(alloc)),
+        }
+    }
+
+    /// Returns the tables of a plan whose greatest LID is `top`.
+    fn under_top(alloc: Global, plan: &Plan, top: Lid) -> Result<Self, AllocError>
+        ensures { IfOk result (λ held. held ≡ record {
+          lids = owned_lids plan.now.given;
+          switches = map (with_top top) plan.now.tables;
+          blocks = blocks_of 0 plan.now.tables;
+        }) }
+    {
+        let lids = owned_lids(alloc, plan.lids())?;
+        let switches = with_top(alloc, top, plan.tables())?;
+        let blocks = blocks_of(alloc, plan.tables())?;
+        Ok(Held::of(lids, switches, blocks))
+    }
+
+    /// Builds a plan's tables from LIDs with their end ports, switches and blocks.
+    pub fn of(lids: Vec<HeldLid>, switches: Vec<HeldSwitch>, blocks: Vec<HeldBlock>) -> Self
+        ensures { result ≡ record { lids = lids.items; switches = switches.items; blocks = blocks.items } }
+    {
+        Held {
+            lids,
+            switches,
+            blocks,
+        }
+    }
+
+    /// Returns the LIDs, each with an end port that holds it, by the first LID of the end port and then by end port.
+    pub fn lids(&self) -> &[HeldLid]
+        ensures { result.now ≡ self.now.lids }
+    {
+        &self.lids
+    }
+
+    /// Returns the switches, by rising GUID.
+    pub fn switches(&self) -> &[HeldSwitch]
+        ensures { result.now ≡ self.now.switches }
+    {
+        &self.switches
+    }
+
+    /// Returns the blocks, by the indices of their switches and then by their numbers.
+    pub fn blocks(&self) -> &[HeldBlock]
+        ensures { result.now ≡ self.now.blocks }
+    {
+        &self.blocks
+    }
+
+    /// Returns the tables with the content of another line added.
+    pub fn with(self, item: HeldItem) -> Result<Self, AllocError>
+        ensures { IfOk result (λ held. held ≡ held_with self item) }
+    {
+        let Held {
+            mut lids,
+            mut switches,
+            mut blocks,
+        } = self;
+        match item {
+            HeldItem::Nothing => {}
+            HeldItem::Lid(range) => push_range(&mut lids, range)?,
+            HeldItem::Switch(switch) => switches.push(switch)?,
+            HeldItem::Block(number, entries) => {
+                let switch = switches.len().saturating_sub(1);
+                blocks.push(HeldBlock {
+                    switch,
+                    number,
+                    entries,
+                })?
+            }
+        }
+        Ok(Held {
+            lids,
+            switches,
+            blocks,
+        })
+    }
+}
+
+/// Appends the LIDs of an end port.
+fn push_range(lids: &mut Vec<HeldLid>, range: HeldRange) -> Result<(), AllocError>
+    ensures { OnOk result (lids.new.items ≡ lids.old.items ++ lids_of range) }
+{
+    let HeldRange { first, lmc } = range;
+    push_lids(lids, &first, lmc)
+}
+
+/// Appends the 2^LMC LIDs of an end port, from `first` on.
+pub(crate) fn push_lids(
+    lids: &mut Vec<HeldLid>,
+    first: &HeldLid,
+    lmc: Lmc,
+) -> Result<(), AllocError>
+    requires { first.now.lid < 0xC000 }
+    ensures { OnOk result (lids.new.items
+        ≡ lids.old.items ++ lids_of (record { first = first.now; lmc = lmc })) }
+{
+    for step in 0..lmc.width() {
+        lids.push(HeldLid {
+            lid: Lid::new(first.lid.number() + step),
+            port: first.port,
+        })?;
+    }
+    Ok(())
+}

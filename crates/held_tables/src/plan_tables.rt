@@ -1,0 +1,79 @@
+//! What the tables of a plan hold.
+ghost use Rattle.std.specs.Prelude.{◌≡◌, ◌≤◌, ◌++◌, [], IfOk, OnOk, length, map};
+ghost use Rattle.std.specs.Option.{option_map_or};
+ghost use Rattle.held_tables.specs.Held.{lids_of};
+ghost use Rattle.held_tables.specs.PlanTables.{blocks_from, blocks_of, owned_lids, owned_range, with_top};
+
+use crate::held::{HeldBlock, HeldLid, HeldSwitch, push_lids};
+use lft_blocks::Table;
+use lid_assign::LidMap;
+use smp_bytes::Lid;
+use std::alloc::{AllocError, Global};
+
+/// Returns the LIDs of all end ports, by the first LID of each.
+pub(crate) fn owned_lids(alloc: Global, map: &LidMap) -> Result<Vec<HeldLid>, AllocError>
+    ensures { IfOk result (λ lids. lids.items ≡ owned_lids map.now) }
+{
+    let mut lids = Vec::new(alloc);
+    for lid in map.lids() {
+        push_owned(&mut lids, map, *lid)?;
+    }
+    Ok(lids)
+}
+
+/// Appends the LIDs of the end port whose first LID is `lid`.
+fn push_owned(lids: &mut Vec<HeldLid>, map: &LidMap, lid: Lid) -> Result<(), AllocError>
+    ensures { OnOk result (lids.new.items
+        ≡ lids.old.items ++ option_map_or lids_of (owned_range map.now lid) []) }
+{
+    match map.owner(lid) {
+        Some(port) => push_lids(lids, &HeldLid { lid, port }, map.lmc_of(&port)),
+        None => Ok(()),
+    }
+}
+
+/// Returns the switches of `tables`, each with the top `top`.
+pub(crate) fn with_top(
+    alloc: Global,
+    top: Lid,
+    tables: &[Table],
+) -> Result<Vec<HeldSwitch>, AllocError>
+    ensures { IfOk result (λ switches. switches.items ≡ map (with_top top) tables.now) }
+{
+    let mut switches = Vec::with_capacity(alloc, tables.len())?;
+    for table in tables {
+        let guid = table.guid();
+        switches.push(HeldSwitch { guid, top })?;
+    }
+    Ok(switches)
+}
+
+/// Returns the blocks of the switches, whose indices count from 0.
+pub(crate) fn blocks_of(alloc: Global, tables: &[Table]) -> Result<Vec<HeldBlock>, AllocError>
+    ensures { IfOk result (λ blocks. blocks.items ≡ blocks_of 0 tables.now) }
+{
+    let mut blocks = Vec::new(alloc);
+    for (switch, table) in tables.iter().enumerate() {
+        push_blocks(&mut blocks, switch, table.blocks())?;
+    }
+    Ok(blocks)
+}
+
+/// Appends the blocks of the switch at index `switch`, whose numbers count from 0.
+fn push_blocks(
+    blocks: &mut Vec<HeldBlock>,
+    switch: usize,
+    table: &[[u8; 64]],
+) -> Result<(), AllocError>
+    requires { length table.now ≤ 1024 }
+    ensures { OnOk result (blocks.new.items ≡ blocks.old.items ++ blocks_from switch 0 table.now) }
+{
+    for (number, entries) in table.iter().enumerate() {
+        blocks.push(HeldBlock {
+            switch,
+            number: number as u16,
+            entries: *entries,
+        })?;
+    }
+    Ok(())
+}

@@ -1,0 +1,231 @@
+//! The next entries of the switches for a LID that one end port alone holds, both in the held tables and in the plan.
+ghost use Rattle.std.specs.Prelude.{◌≡◌, ◌↔◌, IfOk, IsTrue};
+ghost use Rattle.packet_walks.specs.EndsBySwitch.{HaveEnded};
+ghost use Rattle.next_tables.specs.SwitchSteps.{agreed_by, agreed_of, arrives_by, chosen_by, hops_of};
+ghost use Rattle.next_tables.specs.SwitchSteps.{mending_by, mending_of};
+ghost use Rattle.next_tables.specs.SwitchSteps.{is_whole, next_by, next_of, patch_by, patch_entry_by};
+
+use packet_walks::ends_by_switch::{end_of, ends, is_to, onward};
+use packet_walks::{Cause, End, NextHop, SwitchStep, is_at};
+use std::alloc::{AllocError, Global};
+use subnet_view::EndPort;
+
+/// Returns the next entries of the switches, from what each switch does by the held tables and by the plan. Follows the
+/// walks from all switches once. Follows them a second time if the held tables and the plan differ, and once more if
+/// there is a switch from which neither the plan leads on nor the held tables deliver. Each time takes some steps for
+/// each switch, in proportion to the number of binary digits of the longest way's length.
+pub(crate) fn next_entries(
+    alloc: Global,
+    port: &EndPort,
+    held: &[SwitchStep],
+    plan: &[SwitchStep],
+) -> Result<Vec<u8>, AllocError>
+    ensures { IfOk result (λ entries. entries.items ≡ next_of port.now held.now plan.now) }
+{
+    let agreed = agreed(alloc, held, plan)?;
+    if are_hops_of(&agreed, held) {
+        let settled = ends(agreed);
+        return entries_by(alloc, port, &settled, &settled, held, plan);
+    }
+    let settled = ends(agreed);
+    let hops = hops(alloc, held)?;
+    let delivered = ends(hops);
+    entries_by(alloc, port, &settled, &delivered, held, plan)
+}
+
+/// Returns the next entries of the switches. `settled` has the ends of the walks by entries that are in both tables,
+/// `delivered` the ends of the walks by the held tables.
+fn entries_by(
+    alloc: Global,
+    port: &EndPort,
+    settled: &[NextHop],
+    delivered: &[NextHop],
+    held: &[SwitchStep],
+    plan: &[SwitchStep],
+) -> Result<Vec<u8>, AllocError>
+    requires settled { HaveEnded (agreed_of held.now plan.now) settled.now }
+    requires delivered { HaveEnded (hops_of held.now) delivered.now }
+    ensures { IfOk result (λ entries. entries.items ≡ next_of port.now held.now plan.now) }
+{
+    if is_whole(port, settled, delivered, held, plan) {
+        return chosen(alloc, port, settled, delivered, &[], held, plan);
+    }
+    let mending = mending(alloc, port, delivered, held, plan)?;
+    let mended = ends(mending);
+    chosen(alloc, port, settled, delivered, &mended, held, plan)
+}
+
+/// Returns whether `hops` are the next hops of the switches.
+fn are_hops_of(hops: &[NextHop], steps: &[SwitchStep]) -> bool
+    ensures { IsTrue result ↔ (hops.now ≡ hops_of steps.now) }
+{
+    if hops.len() != steps.len() {
+        return false;
+    }
+    for (index, hop) in hops.iter().enumerate() {
+        if !is_same_hop(hop, &steps[index].hop) {
+            return false;
+        }
+    }
+    true
+}
+
+/// Returns whether two next hops are equal.
+fn is_same_hop(hop: &NextHop, other: &NextHop) -> bool
+    ensures { IsTrue result ↔ (hop.now ≡ other.now) }
+{
+    *hop == *other
+}
+
+/// Returns, for each switch, its next hop if its entries in both tables are equal; a switch with different entries
+/// drops the packet.
+fn agreed(
+    alloc: Global,
+    held: &[SwitchStep],
+    plan: &[SwitchStep],
+) -> Result<Vec<NextHop>, AllocError>
+    ensures { IfOk result (λ agreed. agreed.items ≡ agreed_of held.now plan.now) }
+{
+    held.iter()
+        .zip(plan.iter())
+        .map(|(held, plan)| agreed_by(held, plan))
+        .collect(alloc)
+}
+
+/// Returns the next hop of a switch if its entries in both tables are equal; a switch with different entries drops the
+/// packet.
+fn agreed_by(held: &SwitchStep, plan: &SwitchStep) -> NextHop
+    ensures { result ≡ agreed_by (held.now, plan.now) }
+{
+    if held.entry == plan.entry {
+        plan.hop
+    } else {
+        NextHop::Ends(End::Lost(held.switch, Cause::NoEntry))
+    }
+}
+
+/// Returns the next hop of each switch.
+pub(crate) fn hops(alloc: Global, steps: &[SwitchStep]) -> Result<Vec<NextHop>, AllocError>
+    ensures { IfOk result (λ hops. hops.items ≡ hops_of steps.now) }
+{
+    steps.iter().map(|step| step.hop).collect(alloc)
+}
+
+/// Returns whether, from each switch, the plan's entry leads on or the held tables deliver the packet.
+fn is_whole(
+    port: &EndPort,
+    settled: &[NextHop],
+    delivered: &[NextHop],
+    held: &[SwitchStep],
+    plan: &[SwitchStep],
+) -> bool
+    ensures { result ≡ is_whole (arrives_by port.now settled.now) (arrives_by port.now delivered.now)
+        held.now plan.now }
+{
+    held.iter().zip(plan.iter()).all(|(held, plan)| arrives_by(port, settled, plan.hop)
+        || arrives_by(port, delivered, held.hop))
+}
+
+/// Returns the next hop of each switch while mending. `delivered` has the ends of the walks by the held tables.
+fn mending(
+    alloc: Global,
+    port: &EndPort,
+    delivered: &[NextHop],
+    held: &[SwitchStep],
+    plan: &[SwitchStep],
+) -> Result<Vec<NextHop>, AllocError>
+    ensures { IfOk result (λ mending. mending.items
+        ≡ mending_of port.now (arrives_by port.now delivered.now) held.now plan.now) }
+{
+    held.iter()
+        .zip(plan.iter())
+        .map(|(held, plan)| mending_by(port, delivered, held, plan))
+        .collect(alloc)
+}
+
+/// Returns the next hop of a switch while mending: delivery at `port` if the held tables deliver from there, the held
+/// hop if the switch forwards the packet, otherwise the plan's hop.
+fn mending_by(
+    port: &EndPort,
+    delivered: &[NextHop],
+    held: &SwitchStep,
+    plan: &SwitchStep,
+) -> NextHop
+    ensures { result ≡ mending_by port.now (arrives_by port.now delivered.now) (held.now, plan.now) }
+{
+    if arrives_by(port, delivered, held.hop) {
+        NextHop::Ends(End::Taken(*port))
+    } else {
+        patch_by(held, plan)
+    }
+}
+
+/// Returns the held hop if the switch forwards the packet, otherwise the plan's hop.
+fn patch_by(held: &SwitchStep, plan: &SwitchStep) -> NextHop
+    ensures { result ≡ patch_by (held.now, plan.now) }
+{
+    if is_to(&held.hop) { held.hop } else { plan.hop }
+}
+
+/// Returns the held entry if the switch forwards the packet, otherwise the plan's entry.
+fn patch_entry_by(held: &SwitchStep, plan: &SwitchStep) -> u8
+    ensures { result ≡ patch_entry_by (held.now, plan.now) }
+{
+    if is_to(&held.hop) {
+        held.entry
+    } else {
+        plan.entry
+    }
+}
+
+/// Returns the next entries. `settled`, `delivered` and `mended` have the ends of the walks by entries in both tables,
+/// by the held tables, and by mending.
+fn chosen(
+    alloc: Global,
+    port: &EndPort,
+    settled: &[NextHop],
+    delivered: &[NextHop],
+    mended: &[NextHop],
+    held: &[SwitchStep],
+    plan: &[SwitchStep],
+) -> Result<Vec<u8>, AllocError>
+    ensures { IfOk result (λ entries. entries.items ≡ chosen_by port.now (arrives_by port.now settled.now)
+        (arrives_by port.now delivered.now) (arrives_by port.now mended.now) held.now plan.now) }
+{
+    held.iter()
+        .zip(plan.iter())
+        .map(|(held, plan)| next_by(port, settled, delivered, mended, held, plan))
+        .collect(alloc)
+}
+
+/// Returns the next entry of a switch: the plan's if it leads on, the held one if it delivers, the mending one if that
+/// arrives, otherwise 255.
+fn next_by(
+    port: &EndPort,
+    settled: &[NextHop],
+    delivered: &[NextHop],
+    mended: &[NextHop],
+    held: &SwitchStep,
+    plan: &SwitchStep,
+) -> u8
+    ensures { result ≡ next_by port.now (arrives_by port.now settled.now)
+        (arrives_by port.now delivered.now) (arrives_by port.now mended.now) (held.now, plan.now) }
+{
+    if arrives_by(port, settled, plan.hop) {
+        plan.entry
+    } else if arrives_by(port, delivered, held.hop) {
+        held.entry
+    } else if arrives_by(port, mended, mending_by(port, delivered, held, plan)) {
+        patch_entry_by(held, plan)
+    } else {
+        255
+    }
+}
+
+/// Returns whether the walk that goes on from `step` arrives at `port`. `ends` has the ends of the walks from the
+/// switches.
+pub(crate) fn arrives_by(port: &EndPort, ends: &[NextHop], step: NextHop) -> bool
+    ensures { result ≡ arrives_by port.now ends.now step }
+{
+    is_at(port, &end_of(onward(ends, step)))
+}

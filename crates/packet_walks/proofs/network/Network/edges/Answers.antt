@@ -1,0 +1,30 @@
+-- By the network's switches, and the blocks of the LID's number.
+use Rattle.std.proofs.Common.{◌≡◌, ◌∙◌, sym, subst}
+use Rattle.std.specs.Prelude.{IfOk, map}
+use Rattle.fact_store.specs.View.{cells_of}
+use Rattle.subnet_view.specs.Reading.{switches}
+use Rattle.packet_walks.specs.Edges.{edges_of, edge_of}
+use Rattle.packet_walks.specs.Network.{Seen}
+use Rattle.held_tables.specs.Blocks.{AreBlocks}
+use Rattle.packet_walks.proofs.Brought.{edges_are, if_ok}
+use Rattle.packet_walks.proofs.network.Network.edges.Goals as goal
+
+pub returns : goal.returns
+returns c =
+    let a = c.args in
+    let inside : Seen = record { facts = c.self.inside.store.now; held = c.self.inside.held.now } in
+    let cells = cells_of inside.facts in
+    let Found : Seen → Type 0 = λ s. IfOk c.edges.result (λ found. found.items ≡ edges_of (cells_of s.facts) s.held a.lid) in
+    let Gathered : Seen → Type 0 = λ s. AreBlocks s.held a.blocks.now.number a.blocks.now.rows.items in
+    let blocks = subst Gathered (sym c.self.view_is) c.requires.held in
+    let rows = a.blocks.now.rows.items in
+    subst Found c.self.view_is
+    (if_ok
+    (λ found. found.items ≡ map (edge_of c.deref-2.result.now a.lid) c.deref.result.now)
+    (λ found. found.items ≡ edges_of cells inside.held a.lid)
+    c.edges.result
+    c.edges.ensures
+    (λ found e.
+    e ∙ (λ i. map (edge_of (c.deref-2.ensures.value i) a.lid) (c.deref.ensures.value i))
+    ∙ edges_are cells inside.held a.lid a.blocks.now.number rows blocks c.requires.number c.self.inside.nodes.items (switches cells)
+    c.self.invariant.nodes_are))

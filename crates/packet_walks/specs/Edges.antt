@@ -1,0 +1,38 @@
+-- The ports by which usable switches forward packets for a LID to each other.
+use Rattle.std.specs.Prelude.{ℕ, ◌==◌, List, Option, None, Some, map, slice_index_or, if◌then◌else◌}
+use Rattle.port_graph.specs.declared.edge.Edge.{Edge}
+use Rattle.subnet_view.specs.Reading.{Cells, switches}
+use Rattle.lid_assign.specs.Lids.{greatest}
+use Rattle.held_tables.specs.Held.{HeldPlan}
+use Rattle.held_tables.specs.declared.far_end.Far.{Far}
+use Rattle.held_tables.specs.declared.far_end.Far.TheVariants.{Nothing, Switch, Port}
+use Rattle.held_tables.specs.declared.audited_switch.AuditedSwitch.{AuditedSwitch}
+use Rattle.held_tables.specs.Switches.{row_of, switch_over}
+use Rattle.packet_walks.specs.HopsByTables.{node_entry}
+use Rattle.held_tables.specs.Tables.{entry_for, top_of}
+
+-- the edge by `port`, if its wire leads to a usable switch
+abbrev pub edge_to : ℕ → Far → Option Edge
+edge_to port Nothing = None
+edge_to port (Switch index) = Some (record { port = port; to = index })
+edge_to port (Port e) = None
+
+-- the index of the usable switch to which `entry` leads
+abbrev pub switch_by : List Far → ℕ → Option ℕ
+switch_by row entry = if entry == 0 then None else switch_over (slice_index_or row entry Nothing)
+
+-- the edge by `entry`: none at 0, where the packet stays, else by the port of the row
+abbrev pub edge_by : List Far → ℕ → Option Edge
+edge_by row entry = if entry == 0 then None else edge_to entry (slice_index_or row entry Nothing)
+
+-- the edges of the usable switches for a LID, by rising GUID
+abbrev pub edges_of : Cells → HeldPlan → ℕ → List (Option Edge)
+edges_of cells held lid = map (λ g. edge_by (row_of cells g) (entry_for held lid g)) (switches cells)
+
+-- the greatest top of a usable switch, 0 if there is none; above it no switch has an edge
+abbrev pub greatest_top : Cells → HeldPlan → ℕ
+greatest_top cells held = greatest (map (top_of held) (switches cells))
+
+-- the edge of a switch by its entry in the blocks `rows`
+abbrev pub edge_of : List (List ℕ) → ℕ → AuditedSwitch → Option Edge
+edge_of rows lid node = edge_by node.row (node_entry rows lid node)

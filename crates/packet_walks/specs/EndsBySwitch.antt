@@ -1,0 +1,52 @@
+-- Walks of packets from switch to switch, by their next hops.
+use Rattle.std.specs.Prelude.{◌≡◌, ◌⊎◌, ◌<◌, ℕ, zero, suc, Bool, true, false, List, Option, None, Some, length, slice_index_or}
+use Rattle.packet_walks.specs.declared.packet_end.End.{End}
+use Rattle.packet_walks.specs.declared.next_hop.NextHop.{NextHop}
+use Rattle.packet_walks.specs.declared.next_hop.NextHop.TheVariants.{To, Ends}
+
+-- the step after the given one, by the steps of the switches
+abbrev pub onward : List NextHop → NextHop → NextHop
+onward steps (To i) = slice_index_or steps i (To i)
+onward steps (Ends e) = Ends e
+
+-- the step that is n steps after the given one
+abbrev pub after : ℕ → List NextHop → NextHop → NextHop
+after zero steps s = s
+after (suc n) steps s = after n steps (onward steps s)
+
+-- where the walk from `s` ends; None if it goes on for ever
+abbrev pub IsEndOf : List NextHop → NextHop → Option End → Type 0
+IsEndOf steps s (Some e) = (n : ℕ) × (after n steps s ≡ Ends e)
+IsEndOf steps s None = (n : ℕ) → (i : ℕ) × (after n steps s ≡ To i)
+
+-- the step leads to a switch
+abbrev pub is_to : NextHop → Bool
+is_to (To i) = true
+is_to (Ends e) = false
+
+-- where a walk has ended; None if it has got to a switch
+abbrev pub end_of : NextHop → Option End
+end_of (To i) = None
+end_of (Ends e) = Some e
+
+-- `ends` has the ends of the walks from the switches
+pub record HaveEnded (steps ends : List NextHop) : Type 0 where
+  pub as_many : length ends ≡ length steps
+  pub ended : (s : NextHop) → IsEndOf steps s (end_of (onward ends s))
+
+-- each of `jumps` is `n` steps further than the switch itself
+pub record AreAfter (steps jumps : List NextHop) (n : ℕ) : Type 0 where
+  pub as_many : length jumps ≡ length steps
+  pub onward_is : (s : NextHop) → onward jumps s ≡ after n steps s
+
+-- the walk from switch `i` has gone on from the switch that it had got to: to where the walk from that switch had got
+-- to before, or, if that walk went on earlier in the round, to where it has got to now
+abbrev pub IsFurther : List NextHop → List NextHop → ℕ → Type 0
+IsFurther old new i =
+    (onward new (To i) ≡ onward old (onward old (To i)))
+    ⊎ ((j : ℕ) × (j < i) × (onward old (To i) ≡ To j) × (onward new (To i) ≡ onward new (To j)))
+
+-- the walks from all switches have gone on, one after the other
+pub record AreFurther (old new : List NextHop) : Type 0 where
+  pub as_many : length new ≡ length old
+  pub each : (i : ℕ) → i < length old → IsFurther old new i

@@ -1,0 +1,130 @@
+-- What becomes of a packet for a LID at each switch, and at the port that sends it.
+use Rattle.std.specs.Prelude.{◌≡◌, ◌↔◌, Bool, false, ℕ, ◌%◌, ◌==◌, List, [], Contains, Option, None, Some, length, map, nat_lt, slice_get, slice_index_or, if◌then◌else◌}
+use Rattle.std.specs.Option.{option_map_or}
+use Rattle.subnet_view.specs.declared.end_port.EndPort.{EndPort}
+use Rattle.subnet_view.specs.Reading.{Cells, is_usable, port_count_of, switches}
+use Rattle.held_tables.specs.declared.held.HeldLid.{HeldLid}
+use Rattle.held_tables.specs.Held.{HeldPlan}
+use Rattle.subnet_view.specs.EndPorts.{end_ports}
+use Rattle.packet_walks.specs.declared.packet_end.Cause.{Cause}
+use Rattle.packet_walks.specs.declared.packet_end.Cause.TheVariants.{AboveTop, NoEntry, NoPort, NoLink, Foreign}
+use Rattle.packet_walks.specs.declared.packet_end.End.{End}
+use Rattle.packet_walks.specs.declared.packet_end.End.TheVariants.{Taken, Lost}
+use Rattle.held_tables.specs.declared.far_end.Far.{Far}
+use Rattle.held_tables.specs.declared.far_end.Far.TheVariants.{Nothing, Switch, Port}
+use Rattle.held_tables.specs.declared.senders.Sender.{Sender}
+use Rattle.held_tables.specs.declared.audited_switch.AuditedSwitch.{AuditedSwitch}
+use Rattle.packet_walks.specs.declared.next_hop.NextHop.{NextHop}
+use Rattle.packet_walks.specs.declared.next_hop.NextHop.TheVariants.{To, Ends}
+use Rattle.packet_walks.specs.declared.next_hop.SwitchStep.{SwitchStep}
+use Rattle.held_tables.specs.Switches.{row_of, sender_of}
+use Rattle.held_tables.specs.Tables.{owners_of, is_owner, is_same_end, counted, entry_for, top_of}
+use Rattle.packet_walks.specs.EndsBySwitch.{IsEndOf, after, end_of}
+
+-- an adapter port takes a packet if it holds the LID; otherwise the packet is lost there
+abbrev pub at_port : List EndPort → EndPort → End
+at_port owners e = if is_owner owners e then Taken e else Lost e.node Foreign
+
+-- what becomes of a packet that leaves node `g` over the wire in a port; without a wire it is lost for `cause`
+abbrev pub over : List EndPort → ℕ → Cause → Far → NextHop
+over owners g cause Nothing = Ends (Lost g cause)
+over owners g cause (Switch index) = To index
+over owners g cause (Port e) = Ends (at_port owners e)
+
+-- why a switch with `ports` ports does not forward a packet for `lid` by its entry: the first cause that applies
+abbrev pub cause_by : ℕ → ℕ → ℕ → ℕ → Cause
+cause_by ports top lid entry =
+    if nat_lt top lid then AboveTop else
+    (if entry == 255 then NoEntry else (if nat_lt ports entry then NoPort else NoLink))
+
+-- why switch `g` of the facts does not forward a packet for `lid`
+abbrev pub cause_of : Cells → HeldPlan → ℕ → ℕ → Cause
+cause_of cells held lid g = cause_by (port_count_of cells g) (top_of held g) lid (entry_for held lid g)
+
+-- the next hop by the entry: 0 is the switch itself, and any other entry is the port by which the packet leaves
+abbrev pub by_entry : List EndPort → ℕ → Cause → List Far → ℕ → NextHop
+by_entry owners g cause row entry =
+    if entry == 0 then Ends (Taken (record { node = g; port = 0 })) else over owners g cause
+    (slice_index_or row entry Nothing)
+
+-- the next hop of each usable switch for `lid`
+abbrev pub next_hops_of : Cells → HeldPlan → ℕ → List NextHop
+next_hops_of cells held lid =
+    map (λ g. by_entry (owners_of held lid) g (cause_of cells held lid g) (row_of cells g) (entry_for held lid g))
+    (switches cells)
+
+-- the entry for `lid` in the row at `index`; 255 if there is none
+abbrev pub entry_among : List (List ℕ) → Option ℕ → ℕ → ℕ
+entry_among rows index lid = option_map_or (λ k. slice_index_or (slice_index_or rows k []) (lid % 64) 255) index 255
+
+-- the effective entry of a switch by the blocks `rows`
+abbrev pub node_entry : List (List ℕ) → ℕ → AuditedSwitch → ℕ
+node_entry rows lid node = counted lid node.top (entry_among rows node.index lid)
+
+abbrev pub next_hop_by : List EndPort → ℕ → AuditedSwitch → ℕ → NextHop
+next_hop_by owners lid node entry = by_entry owners node.guid (cause_by node.ports node.top lid entry) node.row entry
+
+abbrev pub next_hop_of : List EndPort → List (List ℕ) → ℕ → AuditedSwitch → NextHop
+next_hop_of owners rows lid node = next_hop_by owners lid node (node_entry rows lid node)
+
+-- switch `g` with its entry for `lid`, and its next hop
+abbrev pub switch_step : Cells → HeldPlan → ℕ → ℕ → SwitchStep
+switch_step cells held lid g = record {
+  switch = g;
+  entry = entry_for held lid g;
+  hop = by_entry (owners_of held lid) g (cause_of cells held lid g) (row_of cells g) (entry_for held lid g);
+}
+
+-- a switch with the given entry, and its next hop
+abbrev pub switch_step_by : List EndPort → ℕ → AuditedSwitch → ℕ → SwitchStep
+switch_step_by owners lid node entry =
+    record { switch = node.guid; entry = entry; hop = next_hop_by owners lid node entry }
+
+abbrev pub switch_step_of : List EndPort → List (List ℕ) → ℕ → AuditedSwitch → SwitchStep
+switch_step_of owners rows lid node = switch_step_by owners lid node (node_entry rows lid node)
+
+-- a switch's packet begins at the switch; an adapter port takes its own LID, and sends any other out by its port
+abbrev pub sent : List EndPort → EndPort → Option ℕ → Far → NextHop
+sent owners e (Some index) far = To index
+sent owners e None far = if is_owner owners e then Ends (Taken e) else over owners e.node NoLink far
+
+-- where the packet of `source` begins
+abbrev pub first_hop : List EndPort → Sender → NextHop
+first_hop owners source = sent owners source.port source.switch source.far
+
+-- the packet that `e` sends for `lid` ends at `end`; None if it loops for ever
+abbrev pub IsBrought : Cells → HeldPlan → ℕ → EndPort → Option End → Type 0
+IsBrought cells held lid e end =
+    IsEndOf (next_hops_of cells held lid) (first_hop (owners_of held lid) (sender_of cells e)) end
+
+-- the end of a packet after as many steps as there are switches; None if it has not ended by then
+abbrev pub end_for : Cells → HeldPlan → ℕ → EndPort → Option End
+end_for cells held lid e =
+    end_of (after (length (switches cells)) (next_hops_of cells held lid)
+    (first_hop (owners_of held lid) (sender_of cells e)))
+
+-- a packet ends as `end_for` says, and in no other way
+abbrev pub EndsAreFound : Type 0
+EndsAreFound = (cells : Cells) (held : HeldPlan) (lid : ℕ) (e : EndPort) (end : Option End)
+    → IsBrought cells held lid e end ↔ (end ≡ end_for cells held lid e)
+
+-- the entry by which usable switch `g` forwards packets for `lid`; None for another node
+abbrev pub entry_by : Cells → HeldPlan → ℕ → ℕ → Option ℕ
+entry_by cells held g lid = if is_usable cells g then Some (entry_for held lid g) else None
+
+-- `ends` has, for each end port in order, where its packet ends
+pub record AreBrought (cells : Cells) (held : HeldPlan) (lid : ℕ) (ends : List (Option End)) : Type 0 where
+  pub as_many : length ends ≡ length (end_ports cells)
+  pub brought : (k : ℕ) (e : EndPort) (end : Option End) → slice_get (end_ports cells) k ≡ Some e → slice_get ends k
+      ≡ Some end → IsBrought cells held lid e end
+
+-- the packets of all end ports for the line's LID arrive at the line's port
+abbrev pub LineArrives : Cells → HeldPlan → HeldLid → Type 0
+LineArrives cells held line =
+    (e : EndPort) → Contains (end_ports cells) e → IsBrought cells held line.lid e (Some (Taken line.port))
+
+-- a packet with this end is delivered at `e`
+abbrev pub is_at : EndPort → Option End → Bool
+is_at e None = false
+is_at e (Some (Lost g cause)) = false
+is_at e (Some (Taken x)) = is_same_end e x

@@ -1,0 +1,9 @@
+pub mod BlockWalks
+pub mod Deliveries
+pub mod EndsBySender
+pub mod Edges
+pub mod Fabrics
+pub mod LidSets
+pub mod Network
+pub mod HopsByTables
+pub mod EndsBySwitch

@@ -1,0 +1,213 @@
+//! Where packets for the LID of an end port end.
+ghost use Rattle.std.specs.Prelude.{◌≡◌, ◌&&◌, IfOk, None, length, map, not, position, slice_index_or};
+ghost use Rattle.std.specs.List.{list_all};
+ghost use Rattle.held_tables.specs.Owners.{is_sole};
+ghost use Rattle.packet_walks.specs.EndsBySender.{all_come, arrivals, comes_by, end_from};
+ghost use Rattle.held_tables.specs.Switches.{all_begin, first_switch};
+ghost use Rattle.packet_walks.specs.HopsByTables.{is_at};
+
+use crate::ends_by_switch::{end_of, onward};
+use crate::hops_by_tables::first_hop;
+use crate::next_hop::NextHop;
+use crate::packet_end::End;
+use held_tables::{Sender, is_same_end};
+use std::alloc::{AllocError, Global};
+use std::marker::Model;
+use subnet_view::EndPort;
+
+/// For each end port, in order, where its packet for the LID of `port` ends.
+#[derive(Drop)]
+pub struct Ends<'a> {
+    /// The end port whose LID the packets are for.
+    port: EndPort,
+    sources: &'a [Sender],
+    /// For each source, the index of the first switch that its packet reaches.
+    firsts: &'a [Option<usize>],
+    /// The end ports that hold the LID.
+    owners: Vec<EndPort>,
+    /// The ends of the walks from the switches.
+    walks: Vec<NextHop>,
+    /// For each switch, whether the walk from there ends at `port`.
+    arrive: Vec<bool>,
+    /// Whether no other end port holds the LID.
+    sole: bool,
+    /// Whether the other fields show that all packets end at `port`.
+    all: bool,
+}
+
+impl<'a> Model for Ends<'a> {
+    ghost use Rattle.std.specs.Prelude.{map};
+    ghost use Rattle.packet_walks.specs.EndsBySender.{AreEnds, Ended, end_from};
+
+    ghost Value = { Ended };
+
+    ghost view = { λ a. record { port = a.port; ends = map (end_from a.owners.items a.walks.items) a.sources.now } };
+
+    ghost invariant = { λ a. AreEnds a.port a.sources.now a.firsts.now a.owners.items a.walks.items
+        a.arrive.items a.sole a.all };
+}
+
+impl<'a> Ends<'a> {
+    /// Builds the ends from the owners of the LID and the ends of the walks from the switches.
+    pub(crate) fn new(
+        alloc: Global,
+        port: EndPort,
+        sources: &'a [Sender],
+        firsts: &'a [Option<usize>],
+        begin: bool,
+        owners: Vec<EndPort>,
+        walks: Vec<NextHop>,
+    ) -> Result<Self, AllocError>
+        requires firsts { firsts.now ≡ map first_switch sources.now }
+        requires begin { begin ≡ all_begin (length walks.items) firsts.now }
+        ensures { IfOk result (λ ended. (ended.port ≡ port)
+            × (ended.ends ≡ map (end_from owners.items walks.items) sources.now)) }
+    {
+        let sole = is_sole(&port, &owners);
+        let arrive = arrivals(alloc, &port, &walks)?;
+        let all = all_come(begin, &arrive, sole);
+        Ok(Ends {
+            port,
+            sources,
+            firsts,
+            owners,
+            walks,
+            arrive,
+            sole,
+            all,
+        })
+    }
+
+    /// Returns where the packet of the end port at `index` ends, or `None` if it loops for ever. Takes some steps.
+    pub fn at(&self, index: usize) -> Option<End>
+        ensures { result ≡ slice_index_or self.now.ends index None }
+    {
+        end_at(&self.owners, &self.walks, self.sources, index)
+    }
+
+    /// Returns whether the packet of the end port at `index` arrives at the port. Takes a step or two if it arrives and
+    /// no other end port holds the LID.
+    pub fn arrives(&self, index: usize) -> bool
+        ensures { result ≡ is_at self.now.port (slice_index_or self.now.ends index None) }
+    {
+        if comes_there(self.sole, self.firsts, &self.arrive, index) {
+            return true;
+        }
+        is_at(&self.port, &self.at(index))
+    }
+
+    /// Returns the index of the first end port whose packet does not end at the port, or `None` if all do. Takes one
+    /// step if all packets first reach a switch, each walk from a switch ends at the port, and no other end port holds
+    /// the LID. Otherwise takes what `arrives` does for each end port.
+    pub fn first_elsewhere(&self) -> Option<usize>
+        ensures { result ≡ position (λ end. not (is_at self.now.port end)) self.now.ends }
+    {
+        if self.all {
+            return None;
+        }
+        self.look_elsewhere()
+    }
+
+    /// Returns the index of the first end port whose packet does not end at the port, looking at each.
+    fn look_elsewhere(&self) -> Option<usize>
+        ensures { result ≡ position (λ end. not (is_at self.now.port end)) self.now.ends }
+    {
+        for index in 0..self.count() {
+            if !self.arrives(index) {
+                return Some(index);
+            }
+        }
+        None
+    }
+
+    /// Returns the number of end ports.
+    fn count(&self) -> usize
+        ensures { result ≡ length self.now.ends }
+    {
+        self.sources.len()
+    }
+}
+
+/// Returns where the packet of the source at `index` ends; `None` also if there is no such source.
+#[tactic(auto, using(crate::proofs::Arrivals::found_there, crate::proofs::Arrivals::none_there))]
+fn end_at(owners: &[EndPort], walks: &[NextHop], sources: &[Sender], index: usize) -> Option<End>
+    ensures { result ≡ slice_index_or (map (end_from owners.now walks.now) sources.now) index None }
+{
+    if index < sources.len() {
+        end_from(owners, walks, &sources[index])
+    } else {
+        None
+    }
+}
+
+/// Returns where the packet of `source` ends.
+fn end_from(owners: &[EndPort], walks: &[NextHop], source: &Sender) -> Option<End>
+    ensures { result ≡ end_from owners.now walks.now source.now }
+{
+    end_of(onward(walks, first_hop(owners, source)))
+}
+
+/// Returns whether the port alone holds the LID and the packet of the source at `index` reaches it by way of a switch.
+fn comes_there(sole: bool, firsts: &[Option<usize>], arrive: &[bool], index: usize) -> bool
+    ensures { result ≡ (sole && comes_by (slice_index_or firsts.now index None) arrive.now) }
+{
+    sole && comes_by(first_at(firsts, index), arrive)
+}
+
+/// Returns the index of the first switch that the packet of the source at `index` reaches.
+fn first_at(firsts: &[Option<usize>], index: usize) -> Option<usize>
+    ensures { result ≡ slice_index_or firsts.now index None }
+{
+    firsts.get(index).copied().flatten()
+}
+
+/// Returns whether the walk from the switch `first` ends at the port.
+fn comes_by(first: Option<usize>, arrive: &[bool]) -> bool
+    ensures { result ≡ comes_by first arrive.now }
+{
+    match first {
+        Some(index) => arrive.get(index).copied().unwrap_or(false),
+        None => false,
+    }
+}
+
+/// Returns, for each walk, whether it ends at `port`.
+fn arrivals(alloc: Global, port: &EndPort, walks: &[NextHop]) -> Result<Vec<bool>, AllocError>
+    ensures { IfOk result (λ arrive. arrive.items ≡ arrivals port.now walks.now) }
+{
+    walks
+        .iter()
+        .map(|walk| is_at(port, &end_of(*walk)))
+        .collect(alloc)
+}
+
+/// Returns whether all `owners` are `port`.
+fn is_sole(port: &EndPort, owners: &[EndPort]) -> bool
+    ensures { result ≡ is_sole port.now owners.now }
+{
+    owners.iter().all(|owner| is_same_end(port, owner))
+}
+
+/// Returns whether all packets are seen to end at the port.
+fn all_come(begin: bool, arrive: &[bool], sole: bool) -> bool
+    ensures { result ≡ all_come begin arrive.now sole }
+{
+    begin && sole && all_arrive(arrive)
+}
+
+/// Returns whether all walks end at the port.
+fn all_arrive(arrive: &[bool]) -> bool
+    ensures { result ≡ list_all (λ arrives. arrives) arrive.now }
+{
+    arrive.iter().all(|arrives| *arrives)
+}
+
+/// Returns whether a packet that ends at `end` is delivered at `port`. Takes one step.
+pub fn is_at(port: &EndPort, end: &Option<End>) -> bool
+    ensures { result ≡ is_at port.now end.now }
+{
+    match end {
+        Some(End::Taken(at)) => is_same_end(port, at),
+        _ => false,
+    }
+}

@@ -1,0 +1,67 @@
+//! The ends of walks from switch to switch, found in rounds: in each round every walk goes on from where it has got to.
+ghost use Rattle.std.specs.Prelude.{◌≡◌, count_by};
+ghost use Rattle.packet_walks.specs.EndsBySwitch.{AreFurther, HaveEnded, end_of, is_to, onward};
+
+use crate::next_hop::NextHop;
+use crate::packet_end::End;
+
+/// Returns where the walks from the switches end. A walk without an end in the result goes on for ever. A round takes a
+/// step for each switch. There are at most as many rounds as the longest walk's length has binary digits, and one more
+/// if some walk loops for ever.
+pub fn ends(steps: Vec<NextHop>) -> Vec<NextHop>
+    ensures { HaveEnded steps.items result.items }
+{
+    let mut jumps = steps;
+    let mut left = jumps.len();
+    while left > 0 {
+        let now = go_further(&mut jumps);
+        if now == left {
+            return jumps;
+        }
+        left = now;
+    }
+    jumps
+}
+
+/// Takes each walk further, one after the other. Returns how many have not ended.
+fn go_further(jumps: &mut Vec<NextHop>) -> usize
+    ensures further { AreFurther jumps.old.items jumps.new.items }
+    ensures left { result ≡ count_by is_to jumps.new.items }
+{
+    let mut left = 0;
+    for index in 0..jumps.len() {
+        let step = onward(jumps, jumps[index]);
+        jumps[index] = step;
+        if is_to(&step) {
+            left += 1;
+        }
+    }
+    left
+}
+
+/// Returns whether the step leads to a switch.
+pub fn is_to(step: &NextHop) -> bool
+    ensures { result ≡ is_to step.now }
+{
+    matches!(step, NextHop::To(_))
+}
+
+/// Returns the step after `step`, by the steps of the switches.
+pub fn onward(steps: &[NextHop], step: NextHop) -> NextHop
+    ensures { result ≡ onward steps.now step }
+{
+    match step {
+        NextHop::To(index) => steps.get(index).copied().unwrap_or(step),
+        NextHop::Ends(_) => step,
+    }
+}
+
+/// Returns the end of a walk that has got to `step`, or `None` if it has got to a switch.
+pub fn end_of(step: NextHop) -> Option<End>
+    ensures { result ≡ end_of step }
+{
+    match step {
+        NextHop::To(_) => None,
+        NextHop::Ends(end) => Some(end),
+    }
+}

@@ -1,0 +1,234 @@
+//! What becomes of packets for one LID at each switch.
+ghost use Rattle.std.specs.Prelude.{◌≡◌, IfOk, map};
+ghost use Rattle.packet_walks.specs.HopsByTables.{at_port, cause_by, entry_among, first_hop, next_hop_by, next_hop_of};
+ghost use Rattle.packet_walks.specs.HopsByTables.{node_entry, over, switch_step_of};
+ghost use Rattle.packet_walks.specs.Edges.{edge_of, switch_by};
+ghost use Rattle.held_tables.specs.Tables.{counted, is_owner};
+
+use crate::next_hop::{NextHop, SwitchStep};
+use crate::packet_end::{Cause, End};
+use held_tables::{AuditedSwitch, Far, Sender};
+use port_graph::Edge;
+use smp_bytes::{Guid, Lid, NO_ENTRY, PortNum};
+use std::alloc::{AllocError, Global};
+use subnet_view::EndPort;
+
+/// Returns whether `port` is one of `owners`.
+pub(crate) fn is_owner(owners: &[EndPort], port: &EndPort) -> bool
+    ensures { result ≡ is_owner owners.now port.now }
+{
+    owners
+        .iter()
+        .any(|owner| owner.node == port.node && owner.port == port.port)
+}
+
+/// Returns the next hop of each switch.
+pub(crate) fn steps(
+    alloc: Global,
+    nodes: &[AuditedSwitch],
+    owners: &[EndPort],
+    rows: &[[u8; 64]],
+    lid: Lid,
+) -> Result<Vec<NextHop>, AllocError>
+    ensures { IfOk result (λ steps. steps.items ≡ map (next_hop_of owners.now rows.now lid) nodes.now) }
+{
+    nodes
+        .iter()
+        .map(|node| step_at(owners, rows, lid, node))
+        .collect(alloc)
+}
+
+/// Returns the next hop of a switch.
+pub(crate) fn step_at(
+    owners: &[EndPort],
+    rows: &[[u8; 64]],
+    lid: Lid,
+    node: &AuditedSwitch,
+) -> NextHop
+    ensures { result ≡ next_hop_of owners.now rows.now lid node.now }
+{
+    step_by(owners, lid, node, entry_of(rows, lid, node))
+}
+
+/// Returns the next hop of a switch by its entry.
+fn step_by(owners: &[EndPort], lid: Lid, node: &AuditedSwitch, entry: u8) -> NextHop
+    ensures { result ≡ next_hop_by owners.now lid node.now entry }
+{
+    if entry == 0 {
+        return NextHop::Ends(End::Taken(EndPort {
+            node: node.guid,
+            port: PortNum::MANAGEMENT,
+        }));
+    }
+    match node.row.far(entry) {
+        Far::Nothing => NextHop::Ends(End::Lost(
+            node.guid,
+            cause_by(node.ports, node.top, lid, entry),
+        )),
+        Far::Switch(index) => NextHop::To(index),
+        Far::Port(port) => NextHop::Ends(at_port(owners, &port)),
+    }
+}
+
+/// Returns the entry of each switch, and its next hop.
+pub(crate) fn switch_steps(
+    alloc: Global,
+    nodes: &[AuditedSwitch],
+    owners: &[EndPort],
+    rows: &[[u8; 64]],
+    lid: Lid,
+) -> Result<Vec<SwitchStep>, AllocError>
+    ensures { IfOk result (λ steps. steps.items ≡ map (switch_step_of owners.now rows.now lid) nodes.now) }
+{
+    nodes
+        .iter()
+        .map(|node| switch_step_at(owners, rows, lid, node))
+        .collect(alloc)
+}
+
+/// Returns the entry of a switch, and its next hop.
+fn switch_step_at(
+    owners: &[EndPort],
+    rows: &[[u8; 64]],
+    lid: Lid,
+    node: &AuditedSwitch,
+) -> SwitchStep
+    ensures { result ≡ switch_step_of owners.now rows.now lid node.now }
+{
+    let entry = entry_of(rows, lid, node);
+    SwitchStep {
+        switch: node.guid,
+        entry,
+        hop: step_by(owners, lid, node, entry),
+    }
+}
+
+/// Returns why a switch with `ports` ports and this top does not forward a packet by its entry.
+fn cause_by(ports: u8, top: Lid, lid: Lid, entry: u8) -> Cause
+    ensures { result ≡ cause_by ports top lid entry }
+{
+    if top < lid {
+        Cause::AboveTop
+    } else if entry == NO_ENTRY {
+        Cause::NoEntry
+    } else if ports < entry {
+        Cause::NoPort
+    } else {
+        Cause::NoLink
+    }
+}
+
+/// Returns the entry of each switch.
+pub(crate) fn entries(
+    alloc: Global,
+    nodes: &[AuditedSwitch],
+    rows: &[[u8; 64]],
+    lid: Lid,
+) -> Result<Vec<u8>, AllocError>
+    ensures { IfOk result (λ entries. entries.items ≡ map (node_entry rows.now lid) nodes.now) }
+{
+    nodes
+        .iter()
+        .map(|node| entry_of(rows, lid, node))
+        .collect(alloc)
+}
+
+/// Returns the effective entry of a switch.
+pub(crate) fn entry_of(rows: &[[u8; 64]], lid: Lid, node: &AuditedSwitch) -> u8
+    ensures { result ≡ node_entry rows.now lid node.now }
+{
+    counted(lid, node.top, entry_among(rows, node.index, lid))
+}
+
+/// Returns the entry for `lid` in the row at `index`; 255 if there is no row.
+fn entry_among(rows: &[[u8; 64]], index: Option<usize>, lid: Lid) -> u8
+    ensures { result ≡ entry_among rows.now index lid }
+{
+    let Some(index) = index else {
+        return NO_ENTRY;
+    };
+    match rows.get(index) {
+        Some(row) => row[lid.in_block()],
+        None => NO_ENTRY,
+    }
+}
+
+/// Returns the effective entry: 255 for LID 0 and above the top, otherwise `entry`.
+pub(crate) fn counted(lid: Lid, top: Lid, entry: u8) -> u8
+    ensures { result ≡ counted lid top entry }
+{
+    if lid == Lid::NONE || top < lid {
+        NO_ENTRY
+    } else {
+        entry
+    }
+}
+
+/// Returns, for each switch, the port by which it forwards packets to another usable switch, if it does.
+pub(crate) fn edges(
+    alloc: Global,
+    nodes: &[AuditedSwitch],
+    rows: &[[u8; 64]],
+    lid: Lid,
+) -> Result<Vec<Option<Edge>>, AllocError>
+    ensures { IfOk result (λ edges. edges.items ≡ map (edge_of rows.now lid) nodes.now) }
+{
+    let mut edges = Vec::with_capacity(alloc, nodes.len())?;
+    for node in nodes {
+        let entry = entry_of(rows, lid, node);
+        match switch_by(node, entry) {
+            Some(to) => edges.push(Some(Edge {
+                port: PortNum::new(entry),
+                to,
+            }))?,
+            None => edges.push(None)?,
+        }
+    }
+    Ok(edges)
+}
+
+/// Returns the index of the usable switch to which a switch forwards packets by `entry`.
+pub(crate) fn switch_by(node: &AuditedSwitch, entry: u8) -> Option<usize>
+    ensures { result ≡ switch_by node.now.row entry }
+{
+    if entry == 0 {
+        return None;
+    }
+    node.row.switch(entry)
+}
+
+/// Returns what becomes of a packet that leaves `node` over a wire to `far`. Without a wire the packet is lost for
+/// `cause`.
+fn over(owners: &[EndPort], node: Guid, cause: Cause, far: Far) -> NextHop
+    ensures { result ≡ over owners.now node cause far }
+{
+    match far {
+        Far::Nothing => NextHop::Ends(End::Lost(node, cause)),
+        Far::Switch(index) => NextHop::To(index),
+        Far::Port(port) => NextHop::Ends(at_port(owners, &port)),
+    }
+}
+
+/// Returns what becomes of a packet that reaches an adapter port.
+fn at_port(owners: &[EndPort], port: &EndPort) -> End
+    ensures { result ≡ at_port owners.now port.now }
+{
+    if is_owner(owners, port) {
+        End::Taken(*port)
+    } else {
+        End::Lost(port.node, Cause::Foreign)
+    }
+}
+
+/// Returns where the packet of `source` begins.
+pub(crate) fn first_hop(owners: &[EndPort], source: &Sender) -> NextHop
+    ensures { result ≡ first_hop owners.now source.now }
+{
+    let Some(index) = source.switch else {
+        if is_owner(owners, &source.port) {
+            return NextHop::Ends(End::Taken(source.port));
+        }
+        return over(owners, source.port.node, Cause::NoLink, source.far);
+    };
+    NextHop::To(index)
+}

@@ -1,0 +1,20 @@
+//! Where packets get to by the forwarding tables that a subnet's switches hold, whoever wrote them.
+#![tactic(auto)]
+
+mod block_deliveries;
+mod ends_by_sender;
+pub mod ends_by_switch;
+mod entry;
+mod hops_by_tables;
+pub mod laws;
+mod lid_set;
+mod network;
+mod next_hop;
+mod packet_end;
+
+pub use block_deliveries::Deliveries;
+pub use ends_by_sender::{Ends, is_at};
+pub use held_tables::{Far, Sender, is_same_end};
+pub use network::{Blocks, Network};
+pub use next_hop::{NextHop, SwitchStep};
+pub use packet_end::{Cause, End};

@@ -1,0 +1,54 @@
+//! Some of the 64 LIDs of a block.
+ghost use Rattle.std.specs.Prelude.{◌≡◌, ◌<◌};
+ghost use Rattle.packet_walks.specs.LidSets.{both, either, has, no_lids, with_lid};
+
+/// Some of the LIDs of a block: a bit for each, at its index in the block.
+#[derive(Clone, Copy, Debug, PartialEq, Eq)]
+pub(crate) struct LidSet {
+    pub(crate) bits: u64,
+}
+
+impl LidSet {
+    /// Returns the empty set.
+    pub(crate) fn none() -> Self
+        ensures { result ≡ no_lids }
+    {
+        LidSet { bits: 0 }
+    }
+
+    /// Returns the set with the LID at `index` added.
+    pub(crate) fn with(self, index: usize) -> Self
+        requires { index < 64 }
+        ensures { result ≡ with_lid self index }
+    {
+        LidSet {
+            bits: self.bits | 1 << index,
+        }
+    }
+
+    /// Returns the LIDs that are in either set.
+    pub(crate) fn or(self, other: LidSet) -> Self
+        ensures { result ≡ either self other }
+    {
+        LidSet {
+            bits: self.bits | other.bits,
+        }
+    }
+
+    /// Returns the LIDs that are in both sets.
+    pub(crate) fn and(self, other: LidSet) -> Self
+        ensures { result ≡ both self other }
+    {
+        LidSet {
+            bits: self.bits & other.bits,
+        }
+    }
+
+    /// Returns whether the set has the LID at `index`.
+    pub(crate) fn has(self, index: usize) -> bool
+        requires { index < 64 }
+        ensures { result ≡ has self index }
+    {
+        (self.bits >> index) & 1 == 1
+    }
+}

@@ -1,0 +1,397 @@
+ghost use Rattle.std.specs.Prelude.{◌≡◌, ◌<◌, ◌/◌, IfOk, length, map, slice_get, true};
+ghost use Rattle.std.specs.Option.{option_map_or};
+ghost use Rattle.fact_store.specs.View.{cells_of};
+ghost use Rattle.subnet_view.specs.EndPorts.{end_ports};
+ghost use Rattle.lid_assign.specs.Lids.{greatest};
+ghost use Rattle.subnet_view.specs.Reading.{switches};
+ghost use Rattle.packet_walks.specs.Deliveries.{AreDeliveries};
+ghost use Rattle.packet_walks.specs.Edges.{edges_of, greatest_top};
+ghost use Rattle.held_tables.specs.Switches.{far_by, node_of, sender_of};
+ghost use Rattle.held_tables.specs.Blocks.{AreBlocks};
+ghost use Rattle.packet_walks.specs.HopsByTables.{AreBrought, LineArrives, entry_by, switch_step};
+ghost use Rattle.held_tables.specs.Owners.{AreOwners, is_told_twice, is_sole};
+ghost use Rattle.held_tables.specs.Tables.{entry_for, lines_of, owners_of, top_of};
+
+use crate::block_deliveries::{Deliveries, delivered};
+use crate::ends_by_sender::Ends;
+use crate::ends_by_switch::ends;
+use crate::entry::entry_for;
+use crate::hops_by_tables::{edges, entries, steps, switch_steps};
+use crate::next_hop::SwitchStep;
+use fact_store::{Refused, Store};
+use held_tables::{
+    AuditedSwitch, Chains, Far, Held, HeldLid, Owner, Sender, all_begin, block_chains, block_rows,
+    firsts, is_sole_owner, is_told_twice, lid_owners, lines_of, nodes, owners_of, sources,
+};
+use port_graph::Edge;
+use smp_bytes::{Guid, Lid};
+use std::alloc::{AllocError, Global};
+use std::marker::Model;
+use subnet_view::{EndPort, Wires, end_ports, is_usable, switches};
+
+/// A subnet as a view describes it, with the forwarding tables that its switches hold.
+#[derive(Drop)]
+pub struct Network<'a> {
+    store: &'a Store,
+    held: &'a Held,
+    /// The usable switches, by rising GUID.
+    nodes: Vec<AuditedSwitch>,
+    /// The end ports as senders, in their order.
+    sources: Vec<Sender>,
+    /// For each sender, the index of the first switch that its packets reach.
+    firsts: Vec<Option<usize>>,
+    /// Whether each sender's packets first reach a switch.
+    begin: bool,
+    /// For each held block, the next one with its number.
+    chains: Chains,
+    /// The held LIDs; each pair of a LID and an end port that holds it occurs once.
+    lines: Vec<HeldLid>,
+    /// Who holds each LID.
+    owners: Vec<Owner>,
+}
+
+impl<'a> Model for Network<'a> {
+    ghost use Rattle.fact_store.specs.View.{cells_of};
+    ghost use Rattle.packet_walks.specs.Network.{Seen, seen_code, IsNetwork};
+
+    ghost Value = { Seen };
+
+    ghost coded = { seen_code };
+
+    ghost view = { λ a. record { facts = a.store.now; held = a.held.now } };
+
+    ghost invariant = { λ a. IsNetwork (cells_of a.store.now) a.held.now a.nodes.items a.sources.items a.firsts.items
+        a.begin a.chains a.lines.items a.owners.items };
+}
+
+/// The held blocks with one number.
+#[derive(Drop)]
+pub struct Blocks {
+    pub(crate) number: u16,
+    /// For each held switch in order, the entries of its block.
+    pub(crate) rows: Vec<[u8; 64]>,
+}
+
+impl<'a> Network<'a> {
+    /// Builds the network of the view's usable switches and end ports, with the tables `held`. Takes three searches for
+    /// each port of a switch and each end port, and a walk over the held switches for each switch.
+    pub fn of(alloc: Global, store: &'a Store, held: &'a Held) -> Result<Self, Refused>
+        ensures facts { IfOk result (λ network. network.facts ≡ store.now) }
+        ensures held { IfOk result (λ network. network.held ≡ held.now) }
+    {
+        let (nodes, sources) = nodes_and_sources(alloc, store, held)?;
+        let firsts = firsts(alloc, &sources)?;
+        let begin = all_begin(nodes.len(), &firsts);
+        let chains = block_chains(alloc, held)?;
+        let (lines, owners) = lines_and_owners(alloc, held)?;
+        Ok(Network {
+            store,
+            held,
+            nodes,
+            sources,
+            firsts,
+            begin,
+            chains,
+            lines,
+            owners,
+        })
+    }
+
+    /// Returns the blocks `number`, which have the 64 LIDs from 64 * `number` on. Takes a step for each held switch and
+    /// each held block with this number.
+    pub fn blocks(&self, alloc: Global, number: u16) -> Result<Blocks, AllocError>
+        ensures { IfOk result (λ blocks. AreBlocks self.now.held blocks.number blocks.rows.items
+            × (blocks.number ≡ number)) }
+    {
+        let rows = block_rows(alloc, self.held, &self.chains, number)?;
+        Ok(Blocks { number, rows })
+    }
+
+    /// Returns the blocks for `lid`: `blocks` itself if it has the right number.
+    pub fn blocks_for(&self, alloc: Global, blocks: Blocks, lid: Lid) -> Result<Blocks, AllocError>
+        requires { AreBlocks self.now.held blocks.number blocks.rows.items }
+        ensures { IfOk result (λ blocks. AreBlocks self.now.held blocks.number blocks.rows.items
+            × (blocks.number ≡ lid / 64)) }
+    {
+        if blocks.number == lid.block() {
+            return Ok(blocks);
+        }
+        self.blocks(alloc, lid.block())
+    }
+
+    /// Returns where packets for the LID of `line` end, for each end port that sends one, in order; `None` if the
+    /// packet loops for ever. For each switch it takes some steps, in proportion to the number of binary digits of the
+    /// longest way's length. If several end ports hold the LID, it also walks the held LIDs.
+    pub fn ends<'s>(
+        &'s self,
+        alloc: Global,
+        blocks: &Blocks,
+        line: &HeldLid,
+    ) -> Result<Ends<'s>, AllocError>
+        requires held { AreBlocks self.now.held blocks.now.number blocks.now.rows.items }
+        requires number { blocks.now.number ≡ line.now.lid / 64 }
+        ensures { IfOk result (λ ended. AreBrought (cells_of self.now.facts) self.now.held line.now.lid ended.ends
+            × (ended.port ≡ line.now.port)) }
+    {
+        let owners = owners_of(alloc, &self.lines, &self.owners, line.lid)?;
+        let steps = steps(alloc, &self.nodes, &owners, &blocks.rows, line.lid)?;
+        let walks = ends(steps);
+        Ends::new(
+            alloc,
+            line.port,
+            &self.sources,
+            &self.firsts,
+            self.begin,
+            owners,
+            walks,
+        )
+    }
+
+    /// Returns the entry of each usable switch for `lid`, by rising GUID, and what the switch does by it. Takes a step
+    /// for each switch. If several end ports hold the LID, it also walks the held LIDs.
+    pub fn switch_steps(
+        &self,
+        alloc: Global,
+        blocks: &Blocks,
+        lid: Lid,
+    ) -> Result<Vec<SwitchStep>, AllocError>
+        requires held { AreBlocks self.now.held blocks.now.number blocks.now.rows.items }
+        requires number { blocks.now.number ≡ lid / 64 }
+        ensures { IfOk result (λ steps. steps.items
+            ≡ map (switch_step (cells_of self.now.facts) self.now.held lid) (switches (cells_of self.now.facts))) }
+    {
+        let owners = owners_of(alloc, &self.lines, &self.owners, lid)?;
+        switch_steps(alloc, &self.nodes, &owners, &blocks.rows, lid)
+    }
+
+    /// Returns the entry of each usable switch for `lid`, by rising GUID; 255 means no entry. Takes a step for each
+    /// switch.
+    pub fn entries(&self, alloc: Global, blocks: &Blocks, lid: Lid) -> Result<Vec<u8>, AllocError>
+        requires held { AreBlocks self.now.held blocks.now.number blocks.now.rows.items }
+        requires number { blocks.now.number ≡ lid / 64 }
+        ensures { IfOk result (λ entries. entries.items
+            ≡ map (entry_for self.now.held lid) (switches (cells_of self.now.facts))) }
+    {
+        entries(alloc, &self.nodes, &blocks.rows, lid)
+    }
+
+    /// Returns the LIDs of a block that exactly one end port holds and whose packets are seen to get there from every
+    /// usable switch. Takes a step for each switch and LID. In each round it also takes a step for each pair of
+    /// switches if one forwards some of these packets to the other. There are at most as many rounds as the longest way
+    /// has switches, and at most 64.
+    pub fn deliveries(&self, alloc: Global, blocks: &Blocks) -> Result<Deliveries, AllocError>
+        requires { AreBlocks self.now.held blocks.now.number blocks.now.rows.items }
+        ensures { IfOk result (AreDeliveries (cells_of self.now.facts) self.now.held) }
+    {
+        let lids = delivered(
+            alloc,
+            &self.nodes,
+            &self.owners,
+            &blocks.rows,
+            blocks.number,
+        )?;
+        Ok(Deliveries {
+            number: blocks.number,
+            lids,
+        })
+    }
+
+    /// Returns the deliveries of `blocks`: `deliveries` itself if it has the right number.
+    pub fn deliveries_for(
+        &self,
+        alloc: Global,
+        deliveries: Deliveries,
+        blocks: &Blocks,
+    ) -> Result<Deliveries, AllocError>
+        requires held { AreBlocks self.now.held blocks.now.number blocks.now.rows.items }
+        requires deliveries { AreDeliveries (cells_of self.now.facts) self.now.held deliveries }
+        ensures { IfOk result (AreDeliveries (cells_of self.now.facts) self.now.held) }
+    {
+        if deliveries.number == blocks.number {
+            return Ok(deliveries);
+        }
+        self.deliveries(alloc, blocks)
+    }
+
+    /// Returns whether all packets that end ports send to the line's LID are seen to arrive at the line's port. Takes a
+    /// step or two, unless several end ports hold the LID.
+    pub fn all_arrive(&self, deliveries: &Deliveries, line: &HeldLid) -> bool
+        requires { AreDeliveries (cells_of self.now.facts) self.now.held deliveries.now }
+        ensures { result ≡ true → LineArrives (cells_of self.now.facts) self.now.held line.now }
+    {
+        self.begin && deliveries.has(line.lid) && self.is_sole_owner(line)
+    }
+
+    /// Returns the end ports that hold `lid`. Takes a step or two if at most one does; otherwise walks the held LIDs.
+    pub fn owners(&self, alloc: Global, lid: Lid) -> Result<Vec<EndPort>, AllocError>
+        ensures { IfOk result (λ owners. owners.items ≡ owners_of self.now.held lid) }
+    {
+        owners_of(alloc, &self.lines, &self.owners, lid)
+    }
+
+    /// Returns whether no end port other than the line's holds the line's LID. Takes no memory. Takes a step or two if
+    /// at most one end port holds it; otherwise walks the held LIDs.
+    pub fn is_sole_owner(&self, line: &HeldLid) -> bool
+        ensures { result ≡ is_sole line.now.port (owners_of self.now.held line.now.lid) }
+    {
+        is_sole_owner(&self.lines, &self.owners, line)
+    }
+
+    /// Returns whether more than one port holds `lid`. Takes no memory, and a step or two if the LID is below 49152.
+    pub fn is_told_twice(&self, lid: Lid) -> bool
+        ensures { result ≡ is_told_twice (lines_of self.now.held) lid }
+    {
+        is_told_twice(&self.lines, &self.owners, lid)
+    }
+
+    /// Returns the store, whose view says what the subnet is.
+    pub fn store(&self) -> &Store
+        ensures { result.now ≡ self.now.facts }
+    {
+        self.store
+    }
+
+    /// Returns the tables that the switches hold.
+    pub fn held(&self) -> &Held
+        ensures { result.now ≡ self.now.held }
+    {
+        self.held
+    }
+
+    /// Returns the top of the usable switch at `index`, by rising GUID; 0 if there is no such switch or no top is held.
+    /// Takes one step.
+    pub fn top(&self, index: usize) -> Lid
+        ensures { result
+            ≡ option_map_or (top_of self.now.held) (slice_get (switches (cells_of self.now.facts)) index) 0 }
+    {
+        match self.nodes.get(index) {
+            Some(node) => node.top,
+            None => Lid::NONE,
+        }
+    }
+
+    /// Returns, for each usable switch by rising GUID, the port by which it forwards packets for `lid` to another
+    /// usable switch, and that switch's index; `None` if it does not. Takes a step for each switch.
+    pub fn edges(
+        &self,
+        alloc: Global,
+        blocks: &Blocks,
+        lid: Lid,
+    ) -> Result<Vec<Option<Edge>>, AllocError>
+        requires held { AreBlocks self.now.held blocks.now.number blocks.now.rows.items }
+        requires number { blocks.now.number ≡ lid / 64 }
+        ensures { IfOk result (λ edges. edges.items ≡ edges_of (cells_of self.now.facts) self.now.held lid) }
+    {
+        edges(alloc, &self.nodes, &blocks.rows, lid)
+    }
+
+    /// Returns the number of usable switches.
+    pub fn switch_count(&self) -> usize
+        ensures { result ≡ length (switches (cells_of self.now.facts)) }
+    {
+        self.nodes.len()
+    }
+
+    /// Returns the greatest top of a usable switch, or 0 if there is none. No switch forwards packets for a LID above
+    /// it to another switch. Takes a step for each switch.
+    pub fn greatest_top(&self) -> Lid
+        ensures { result ≡ greatest_top (cells_of self.now.facts) self.now.held }
+    {
+        greatest_top(&self.nodes)
+    }
+
+    /// Returns the GUID of the usable switch at `index`, by rising GUID. Takes one step.
+    pub fn switch(&self, index: usize) -> Option<Guid>
+        ensures { result ≡ slice_get (switches (cells_of self.now.facts)) index }
+    {
+        let node = self.nodes.get(index)?;
+        Some(node.guid)
+    }
+
+    /// Returns where the wire in a port of a usable switch leads. `number` is 256 times the switch's index, plus the
+    /// port. Takes one step.
+    pub fn far(&self, number: usize) -> Far
+        ensures { result ≡ far_by (cells_of self.now.facts) number }
+    {
+        match self.nodes.get(number / 256) {
+            Some(node) => node.row.far((number % 256) as u8),
+            None => Far::Nothing,
+        }
+    }
+
+    /// Returns the end ports as senders, in their order.
+    pub fn sources(&self) -> &[Sender]
+        ensures { result.now ≡ map (sender_of (cells_of self.now.facts)) (end_ports (cells_of self.now.facts)) }
+    {
+        &self.sources
+    }
+
+    /// Returns the held LIDs in the order of the lines. Each pair of a LID and an end port that holds it occurs once.
+    pub fn lids(&self) -> &[HeldLid]
+        ensures { result.now ≡ lines_of self.now.held }
+    {
+        &self.lines
+    }
+
+    /// Returns the entry by which a usable switch forwards packets for `lid` (255 means no entry), or `None` for
+    /// another node. Takes two searches, a walk over the held switches and one over their blocks.
+    pub fn entry(&self, node: Guid, lid: Lid) -> Option<u8>
+        ensures { result ≡ entry_by (cells_of self.now.facts) self.now.held node lid }
+    {
+        if !is_usable(self.store, node) {
+            return None;
+        }
+        Some(entry_for(self.held, node, lid))
+    }
+}
+
+/// Returns the usable switches by rising GUID, and the end ports as senders, in their order.
+fn nodes_and_sources(
+    alloc: Global,
+    store: &Store,
+    held: &Held,
+) -> Result<(Vec<AuditedSwitch>, Vec<Sender>), Refused>
+    ensures nodes { IfOk result (λ both.
+        both.0.items ≡ map (node_of (cells_of store.now) held.now) (switches (cells_of store.now))) }
+    ensures sources { IfOk result (λ both.
+        both.1.items ≡ map (sender_of (cells_of store.now)) (end_ports (cells_of store.now))) }
+{
+    let guids = switches(alloc, store)?;
+    let wires = Wires::of(alloc, store)?;
+    let nodes = nodes(alloc, &wires, &guids, held)?;
+    let sources = sources_of(alloc, &wires, &guids)?;
+    Ok((nodes, sources))
+}
+
+/// Returns the end ports as senders, in their order.
+fn sources_of(alloc: Global, wires: &Wires, guids: &[Guid]) -> Result<Vec<Sender>, Refused>
+    requires { guids.now ≡ switches (cells_of wires.now) }
+    ensures { IfOk result (λ sources.
+        sources.items ≡ map (sender_of (cells_of wires.now)) (end_ports (cells_of wires.now))) }
+{
+    let ports = end_ports(alloc, wires.store())?;
+    Ok(sources(alloc, wires, guids, &ports)?)
+}
+
+/// Returns the held LIDs, each pair of a LID and an end port once, and who holds each LID.
+fn lines_and_owners(alloc: Global, held: &Held) -> Result<(Vec<HeldLid>, Vec<Owner>), AllocError>
+    ensures lines { IfOk result (λ both. both.0.items ≡ lines_of held.now) }
+    ensures owners { IfOk result (λ both. AreOwners both.0.items both.1.items) }
+{
+    let lines = lines_of(alloc, held)?;
+    let owners = lid_owners(alloc, &lines)?;
+    Ok((lines, owners))
+}
+
+/// Returns the greatest top, or 0 if there are no switches.
+fn greatest_top(nodes: &[AuditedSwitch]) -> Lid
+    ensures { result ≡ greatest (map (λ node. node.top) nodes.now) }
+{
+    let mut greatest = Lid::NONE;
+    for node in nodes {
+        if greatest < node.top {
+            greatest = node.top;
+        }
+    }
+    greatest
+}

@@ -1,9 +1,0 @@
-pub mod Held
-pub mod TablesText
-pub mod TextLine
-pub mod Printed
-pub mod PrintedTables
-pub mod Reading
-pub mod Reads
-pub mod PlanTextFault
-pub mod Words

@@ -1,0 +1,8 @@
+pub mod BareGuids
+pub mod Folds
+pub mod LinesPrinted
+pub mod Passes
+pub mod Printed
+pub mod ReadRanges
+pub mod TablesText
+pub mod WordsPrinted

@@ -1,0 +1,8 @@
+pub mod TablesText
+pub mod TextLine
+pub mod Printed
+pub mod PrintedTables
+pub mod Reading
+pub mod Reads
+pub mod PlanTextFault
+pub mod Words

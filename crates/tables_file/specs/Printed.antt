@@ -1,0 +1,22 @@
+-- What the text of a plan says.
+use Rattle.std.specs.Prelude.{◌≡◌, ℕ, ◌≤◌, None}
+use Rattle.fact_store.specs.View.{Facts, cells_of, AreInRange}
+use Rattle.lid_assign.specs.Lids.{IsNoRoom}
+use Rattle.lft_blocks.specs.Rules.{RuleValue}
+use Rattle.lft_blocks.specs.Plan.{PlanValue, plan_of}
+use Rattle.lft_blocks.specs.PlanText.{plan_text}
+use Rattle.tables_file.specs.Reading.{first_fault, held_of}
+
+-- the text of a plan has no fault, and says what the plan holds
+abbrev pub IsRead : PlanValue → Type 0
+IsRead plan = (first_fault (plan_text plan) ≡ None) × (held_of (plan_text plan) ≡ held_plan plan)
+
+abbrev pub PrintedPlansAreRead : Type 0
+PrintedPlansAreRead = (plan : PlanValue) → IsPlanInRange plan → IsRead plan
+
+-- the text of a view's plan is read, by each rule and under each LMC, if the view's facts are in range and there is
+-- room for its LIDs
+abbrev pub PlansAreRead : Type 0
+PlansAreRead =
+    (rule : RuleValue) (lmc : ℕ) (facts : Facts) → lmc ≤ 7 → AreInRange facts → ¬ (IsNoRoom lmc (cells_of facts))
+    → IsRead (plan_of rule lmc (cells_of facts))

@@ -1,0 +1,43 @@
+-- What the text of tables says if the switches have tops of their own.
+use Rattle.std.specs.Prelude.{◌≡◌, ◌≤◌, ℕ, List, map, None}
+use Rattle.std.specs.List.{AllByRecursion}
+use Rattle.lft_blocks.specs.Plan.{PlanValue, SwitchTable}
+use Rattle.held_tables.specs.declared.held.HeldSwitch.{HeldSwitch}
+use Rattle.held_tables.specs.Held.{HeldPlan}
+use Rattle.held_tables.specs.PlanRanges.{IsBlock, IsPlanInRange}
+use Rattle.held_tables.specs.PlanTables.{blocks_of, owned_lids, with_top}
+use Rattle.tables_file.specs.Reading.{first_fault, held_of}
+use Rattle.tables_file.specs.TablesText.{next_text}
+
+-- the text has no fault, and says exactly `held`
+abbrev pub Says : List ℕ → HeldPlan → Type 0
+Says text held = (first_fault text ≡ None) × (held_of text ≡ held)
+
+-- a switch with its own top, by its GUID
+abbrev pub with_own_top : (ℕ → ℕ) → SwitchTable → HeldSwitch
+with_own_top top table = with_top (top table.guid) table
+
+abbrev pub AreTops : (ℕ → ℕ) → List SwitchTable → Type 0
+AreTops top tables = AllByRecursion (λ table. top table.guid ≤ 0xBFFF) tables
+
+-- the LIDs with their owners, and the switches with their tops and their blocks
+abbrev pub held_under : (ℕ → ℕ) → PlanValue → HeldPlan
+held_under top plan = record {
+  lids = owned_lids plan.given;
+  switches = map (with_own_top top) plan.tables;
+  blocks = blocks_of 0 plan.tables;
+}
+
+abbrev pub PrintedTablesAreRead : Type 0
+PrintedTablesAreRead =
+    (top : ℕ → ℕ) (plan : PlanValue) → IsPlanInRange plan → AreTops top plan.tables
+    → Says (next_text plan.given (held_under top plan)) (held_under top plan)
+
+-- tops are LIDs, and blocks have 64 entries, each a byte
+pub record IsHeldInRange (held : HeldPlan) : Type 0 where
+  pub tops : AllByRecursion (λ switch. switch.top ≤ 0xBFFF) held.switches
+  pub blocks : AllByRecursion (λ block. IsBlock block.entries) held.blocks
+
+-- the tops and blocks that a text says are in range, whatever the text is
+abbrev pub TextsAreInRange : Type 0
+TextsAreInRange = (text : List ℕ) → IsHeldInRange (held_of text)

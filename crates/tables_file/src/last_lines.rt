@@ -1,0 +1,174 @@
+ghost use Rattle.std.specs.Prelude.{◌≡◌};
+ghost use Rattle.tables_file.specs.TextLine.{line_of};
+ghost use Rattle.tables_file.specs.Reading.{start, item_of, last_lines_after};
+ghost use Rattle.tables_file.specs.Reading.{lid_with, lid_after, lid_behind, is_behind, switch_with, block_with};
+
+use crate::fault::{PlanLineFault, PlanTextError};
+use crate::line::{BlockLine, LidLine, SwitchLine, TextLine, read_line};
+use held_tables::{HeldItem, HeldLid, HeldRange, HeldSwitch};
+use smp_bytes::{Guid, Lid};
+use subnet_view::EndPort;
+
+/// The first number that is no LID of an end port.
+const LID_END: u32 = Lid::UNICAST_END as u32;
+
+/// What the order of later lines depends on, from the lines so far.
+#[derive(Clone, Copy)]
+pub(crate) struct LastLines {
+    /// The first LID of the last line of an end port.
+    pub(crate) lid: Option<HeldLid>,
+    /// The last switch.
+    pub(crate) switch: Option<Guid>,
+    /// The least number that the switch's next block may have.
+    pub(crate) block: u32,
+}
+
+impl LastLines {
+    /// Returns the state before all lines.
+    pub(crate) fn start() -> Self
+        ensures { result ≡ start }
+    {
+        LastLines {
+            lid: None,
+            switch: None,
+            block: 0,
+        }
+    }
+
+    /// Returns what the line numbered `number` says, or what is wrong with it.
+    pub(crate) fn item(&self, number: usize, line: &[u8]) -> Result<HeldItem, PlanLineFault>
+        ensures { result ≡ item_of number self.now (line_of line.now) }
+    {
+        match read_line(line) {
+            None => wrong(number, PlanTextError::Syntax),
+            Some(TextLine::Empty) => Ok(HeldItem::Nothing),
+            Some(TextLine::Lid(line)) => lid(number, self.lid, line),
+            Some(TextLine::Switch(line)) => switch(number, self.switch, line),
+            Some(TextLine::Block(line)) => self.block(number, line),
+        }
+    }
+
+    /// Returns what the line of a block says.
+    fn block(&self, number: usize, line: BlockLine) -> Result<HeldItem, PlanLineFault>
+        ensures { result ≡ block_with number self.now line.number line.entries }
+    {
+        if self.switch.is_none() {
+            return wrong(number, PlanTextError::Syntax);
+        }
+        match line.number {
+            Some(block) if u32::from(block) >= self.block => Ok(HeldItem::Block(
+                block,
+                line.entries,
+            )),
+            _ => wrong(number, PlanTextError::Block),
+        }
+    }
+
+    /// Returns the state after a line that says `item`.
+    pub(crate) fn after(&self, item: &HeldItem) -> Self
+        ensures { result ≡ last_lines_after self.now item.now }
+    {
+        match item {
+            HeldItem::Nothing => *self,
+            HeldItem::Lid(range) => LastLines {
+                lid: Some(range.first),
+                ..*self
+            },
+            HeldItem::Switch(held) => LastLines {
+                lid: self.lid,
+                switch: Some(held.guid),
+                block: 0,
+            },
+            HeldItem::Block(number, _) => LastLines {
+                block: u32::from(*number) + 1,
+                ..*self
+            },
+        }
+    }
+}
+
+/// Returns the fault `wrong` of the line numbered `line`.
+fn wrong(line: usize, wrong: PlanTextError) -> Result<HeldItem, PlanLineFault>
+    ensures { result ≡ Err (record { line = line; wrong = wrong }) }
+{
+    Err(PlanLineFault { line, wrong })
+}
+
+/// Returns what the line of a LID says, after the line of the LID `last`, if there is one.
+fn lid(number: usize, last: Option<HeldLid>, line: LidLine) -> Result<HeldItem, PlanLineFault>
+    ensures { result ≡ lid_with number last line.lid line.node line.port line.lmc }
+{
+    let Some(lid) = line.lid else {
+        return wrong(number, PlanTextError::Lid);
+    };
+    let Some(port) = line.port else {
+        return wrong(number, PlanTextError::Port);
+    };
+    let Some(lmc) = line.lmc else {
+        return wrong(number, PlanTextError::Lmc);
+    };
+    if LID_END < u32::from(lid) + u32::from(lmc.width()) {
+        return wrong(number, PlanTextError::Lid);
+    }
+    let node = line.node;
+    let first = HeldLid {
+        lid: Lid::new(lid),
+        port: EndPort { node, port },
+    };
+    lid_after(number, last, HeldRange { first, lmc })
+}
+
+/// Returns what the line of a LID says, after the line of the LID `last`, if there is one. The caller has checked that
+/// its numbers are in range.
+fn lid_after(
+    number: usize,
+    last: Option<HeldLid>,
+    range: HeldRange,
+) -> Result<HeldItem, PlanLineFault>
+    ensures { result ≡ lid_after number last range }
+{
+    match last {
+        Some(last) => lid_behind(number, last, range),
+        None => Ok(HeldItem::Lid(range)),
+    }
+}
+
+/// Returns what the line of a LID says after the line of the LID `last`.
+fn lid_behind(number: usize, last: HeldLid, range: HeldRange) -> Result<HeldItem, PlanLineFault>
+    ensures { result ≡ lid_behind number last range }
+{
+    let held = range.first;
+    if held.lid < last.lid {
+        wrong(number, PlanTextError::Lid)
+    } else if is_behind(last, held) {
+        Ok(HeldItem::Lid(range))
+    } else {
+        wrong(number, PlanTextError::Port)
+    }
+}
+
+/// Returns whether `held`, whose LID is not less than that of `last`, comes after it: its LID or its end port is
+/// greater.
+fn is_behind(last: HeldLid, held: HeldLid) -> bool
+    ensures { result ≡ is_behind last held }
+{
+    let is_same_node = last.port.node == held.port.node;
+    last.lid < held.lid
+        || last.port.node < held.port.node
+        || (is_same_node && last.port.port < held.port.port)
+}
+
+/// Returns what the line of a switch says, after the switch `last`, if there is one.
+fn switch(number: usize, last: Option<Guid>, line: SwitchLine) -> Result<HeldItem, PlanLineFault>
+    ensures { result ≡ switch_with number last line.guid line.top }
+{
+    let Some(top) = line.top else {
+        return wrong(number, PlanTextError::Lid);
+    };
+    let guid = line.guid;
+    let top = Lid::new(top);
+    match last {
+        Some(last) if guid <= last => wrong(number, PlanTextError::Switch),
+        _ => Ok(HeldItem::Switch(HeldSwitch { guid, top })),
+    }
+}

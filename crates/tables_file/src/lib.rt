@@ -1,0 +1,14 @@
+//! The text of the tables that switches hold, as of a plan: who holds which LID, and the forwarding tables.
+#![tactic(auto)]
+
+mod fault;
+mod last_lines;
+pub mod laws;
+mod line;
+mod tables_text;
+mod text;
+mod words;
+
+pub use fault::{PlanLineFault, PlanTextError, PlanTextFault};
+pub use tables_text::{write_next, write_tables};
+pub use text::parse;

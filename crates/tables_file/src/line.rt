@@ -1,0 +1,136 @@
+ghost use Rattle.std.specs.Prelude.{◌≡◌, ◌∷◌, option_map};
+ghost use Rattle.text_words.specs.Text.{words};
+ghost use Rattle.tables_file.specs.TextLine.{line_of, both, lid_line, lmc_line, switch_line, block_line};
+
+use crate::words::{bare_guid, entries, lmc_of, node_port, small};
+use attr_codec::Lmc;
+use smp_bytes::{Guid, LAST_BLOCK, Lid, PortNum};
+use text_words::{count, is_word, split_word};
+
+/// The greatest LID of an end port.
+const MAX_LID: u16 = Lid::UNICAST_END - 1;
+
+/// What a line says.
+#[derive(Clone, Copy)]
+pub(crate) enum TextLine {
+    Empty,
+    Lid(LidLine),
+    Switch(SwitchLine),
+    Block(BlockLine),
+}
+
+/// A LID and the end port that holds it, as its line says. A number is `None` if it is out of its range.
+#[derive(Clone, Copy)]
+pub(crate) struct LidLine {
+    /// From 1 to 49,151.
+    pub(crate) lid: Option<u16>,
+    pub(crate) node: Guid,
+    /// Up to 254.
+    pub(crate) port: Option<PortNum>,
+    /// Up to 7; 0 if the line has none.
+    pub(crate) lmc: Option<Lmc>,
+}
+
+/// A switch and its top, as its line says.
+#[derive(Clone, Copy)]
+pub(crate) struct SwitchLine {
+    pub(crate) guid: Guid,
+    /// Up to 49,151; `None` if it is greater.
+    pub(crate) top: Option<u16>,
+}
+
+/// A block of a switch, as its line says.
+#[derive(Clone, Copy)]
+pub(crate) struct BlockLine {
+    /// Up to 767; `None` if it is greater.
+    pub(crate) number: Option<u16>,
+    pub(crate) entries: [u8; 64],
+}
+
+/// Returns what a line says, or `None` if the grammar does not have it.
+#[tactic(auto, unfolding(crate::specs::TextLine::line_of))]
+pub(crate) fn read_line(line: &[u8]) -> Option<TextLine>
+    ensures { result ≡ line_of line.now }
+{
+    let Some((word, rest)) = split_word(line) else {
+        return Some(TextLine::Empty);
+    };
+    if is_word(word, "lid") {
+        Some(TextLine::Lid(lid_line(rest)?))
+    } else if is_word(word, "switch") {
+        Some(TextLine::Switch(switch_line(rest)?))
+    } else if is_word(word, "block") {
+        Some(TextLine::Block(block_line(rest)?))
+    } else {
+        None
+    }
+}
+
+/// Returns the two words of a line, or `None` if it has more or fewer.
+fn two_words(line: &[u8]) -> Option<(&[u8], &[u8])>
+    ensures { option_map (λ x. (x.0.now, x.1.now)) result ≡ both (words line.now) }
+{
+    let (one, line) = split_word(line)?;
+    let (other, line) = split_word(line)?;
+    if split_word(line).is_some() {
+        return None;
+    }
+    Some((one, other))
+}
+
+/// Parses the part of a `lid` line that follows the word.
+fn lid_line(line: &[u8]) -> Option<LidLine>
+    ensures { result ≡ lid_line (words line.now) }
+{
+    let (lid, line) = split_word(line)?;
+    let (port, line) = split_word(line)?;
+    let lid = count(lid, MAX_LID)?;
+    let (node, port) = node_port(port)?;
+    let lmc = lmc_line(line)?;
+    Some(LidLine {
+        lid,
+        node,
+        port,
+        lmc,
+    })
+}
+
+/// Parses what follows the end port on a `lid` line: `lmc` and a number, or nothing. The inner value is `None` if the
+/// number is above 7.
+fn lmc_line(line: &[u8]) -> Option<Option<Lmc>>
+    ensures { result ≡ lmc_line (words line.now) }
+{
+    if split_word(line).is_none() {
+        return Some(lmc_of(Some(0)));
+    }
+    let (word, number) = two_words(line)?;
+    if !is_word(word, "lmc") {
+        return None;
+    }
+    let number = small(number, 7)?;
+    Some(lmc_of(number))
+}
+
+/// Parses the part of a `switch` line that follows the word.
+fn switch_line(line: &[u8]) -> Option<SwitchLine>
+    ensures { result ≡ switch_line (words line.now) }
+{
+    let (guid, line) = split_word(line)?;
+    let (word, top) = two_words(line)?;
+    if !is_word(word, "top") {
+        return None;
+    }
+    let guid = bare_guid(guid)?;
+    let top = small(top, MAX_LID)?;
+    Some(SwitchLine { guid, top })
+}
+
+/// Parses the part of a `block` line that follows the word.
+fn block_line(line: &[u8]) -> Option<BlockLine>
+    ensures { result ≡ block_line (words line.now) }
+{
+    let (number, word) = two_words(line)?;
+    let number = small(number, LAST_BLOCK)?;
+    let entries = entries(word)?;
+    Some(BlockLine { number, entries })
+}

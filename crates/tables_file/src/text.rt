@@ -1,0 +1,79 @@
+ghost use Rattle.std.specs.Prelude.{◌≡◌, IfOk, option_map};
+ghost use Rattle.smp_bytes.specs.Judges.{JudgesButFor};
+ghost use Rattle.tables_file.specs.Reading.{first_fault, held_of};
+ghost use Rattle.tables_file.specs.Reads.{IsReadAs};
+ghost use Rattle.text_words.specs.Faults.{is_memory};
+
+use crate::fault::{PlanLineFault, PlanTextFault};
+use crate::last_lines::LastLines;
+use held_tables::Held;
+use std::alloc::Global;
+use text_words::{LinesFault, split_line};
+
+/// Reads a plan's text. It has a line for each end port, by first LID, with the end port's LMC if that is given. For
+/// each switch, by rising GUID, it has the switch's line and the lines of its blocks, by rising number. Lines end with
+/// LF or CR LF, empty ones are skipped, and `#` begins a comment:
+///
+/// ```text
+/// lid 1 0000000000000010/0
+/// lid 2 0000000000000100/1 lmc 1
+/// switch 0000000000000010 top 3
+/// block 0 ff000303ff..
+/// ```
+///
+/// Takes a step for each byte and each LID, and twice as many if memory is refused.
+///
+/// # Errors
+///
+/// Returns the first fault of the lines. Returns `Memory` only if they have none.
+pub fn parse(alloc: Global, text: &[u8]) -> Result<Held, PlanTextFault>
+    ensures judged { JudgesButFor is_memory result (option_map LinesFault.Line (first_fault text.now)) }
+    ensures held { IfOk result (λ held. held ≡ held_of text.now) }
+{
+    match read_lines(alloc, text) {
+        Ok(held) => Ok(held),
+        Err(PlanTextFault::Line(fault)) => Err(PlanTextFault::Line(fault)),
+        Err(PlanTextFault::Memory) => match first_fault(text) {
+            Some(fault) => Err(PlanTextFault::Line(fault)),
+            None => Err(PlanTextFault::Memory),
+        },
+    }
+}
+
+/// Reads the lines of a text.
+#[tactic(auto, using(crate::proofs::Folds::reading))]
+fn read_lines(alloc: Global, text: &[u8]) -> Result<Held, PlanTextFault>
+    ensures { IsReadAs text.now result }
+{
+    let mut held = Held::new(alloc);
+    let mut last_lines = LastLines::start();
+    let mut number = 0;
+    let mut rest = text;
+    while let Some((line, later)) = split_line(rest) {
+        number += 1;
+        let item = last_lines.item(number, line)?;
+        last_lines = last_lines.after(&item);
+        held = held.with(item)?;
+        rest = later;
+    }
+    Ok(held)
+}
+
+/// Returns the first fault of a text. Takes no memory.
+#[tactic(auto, using(crate::proofs::Folds::judging))]
+fn first_fault(text: &[u8]) -> Option<PlanLineFault>
+    ensures { result ≡ first_fault text.now }
+{
+    let mut last_lines = LastLines::start();
+    let mut number = 0;
+    let mut rest = text;
+    while let Some((line, later)) = split_line(rest) {
+        number += 1;
+        match last_lines.item(number, line) {
+            Ok(item) => last_lines = last_lines.after(&item),
+            Err(fault) => return Some(fault),
+        }
+        rest = later;
+    }
+    None
+}
