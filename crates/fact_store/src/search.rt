@@ -20,7 +20,7 @@ pub(crate) fn compare(held: &Sighting, key: &Key, steps: &mut u128) -> Ordering
     held.key_cmp(key)
 }
 
-/// The place of a key's cell: `index` is `Ok` with its index, or `Err` with the index where it would be inserted.
+/// Where a key's cell is: `index` is `Ok` with its index, or `Err` with the index where it would be inserted.
 #[derive(Clone, Copy)]
 pub(crate) struct Found {
     pub index: Result<usize, usize>,

@@ -28,8 +28,8 @@ pub(crate) fn page_of(starts: &Starts, at: usize) -> usize
 
 ghost use Rattle.page_list.specs.Pages.{items_of, starts_from, IsSlot};
 
-/// The place of an item in its list: its page, and its index in the page. It is only a hint: the list looks there
-/// first, but insertions move items.
+/// Where an item is in its list: its page, and its index in the page. It is only a hint: the list looks there first,
+/// but insertions move items.
 #[derive(Clone, Copy)]
 pub struct Slot {
     pub(crate) page: usize,

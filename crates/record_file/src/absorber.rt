@@ -14,8 +14,8 @@ use std::marker::Model;
 /// The bytes of the awaited part that came with earlier pieces. No part is longer than a record of a report.
 type Part = ArrayVec<u8, RECORD_LEN>;
 
-/// Reads a file piece by piece. Judges each record once its last byte is there: in place, or put together here if it
-/// was cut. Takes no memory of its own.
+/// Reads a file piece by piece. Judges each record once its last byte is there: where it lies, or put together here if
+/// it was cut. Takes no memory of its own.
 #[derive(Drop)]
 pub struct Absorber {
     awaited: Result<Awaited, FileFault>,
