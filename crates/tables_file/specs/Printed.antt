@@ -5,6 +5,8 @@ use Rattle.lid_assign.specs.Lids.{IsNoRoom}
 use Rattle.lft_blocks.specs.Rules.{RuleValue}
 use Rattle.lft_blocks.specs.Plan.{PlanValue, plan_of}
 use Rattle.lft_blocks.specs.PlanText.{plan_text}
+use Rattle.held_tables.specs.PlanRanges.{IsPlanInRange}
+use Rattle.held_tables.specs.PlanTables.{held_plan}
 use Rattle.tables_file.specs.Reading.{first_fault, held_of}
 
 -- the text of a plan has no fault, and says what the plan holds

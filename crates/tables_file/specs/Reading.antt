@@ -12,6 +12,7 @@ use Rattle.tables_file.specs.declared.last_lines.LastLines.{LastLines}
 use Rattle.held_tables.specs.declared.held.HeldLid.{HeldLid}
 use Rattle.held_tables.specs.declared.held.HeldSwitch.{HeldSwitch}
 use Rattle.held_tables.specs.Held.{HeldPlan, LidRange, nothing_held}
+use Rattle.held_tables.specs.HeldItem.{held_with}
 use Rattle.tables_file.specs.TextLine.{line_of}
 
 -- the state before all lines
