@@ -24,5 +24,5 @@ returns c =
     c.index.ensures ∙ ap (λ (xs : List ℕ). get_or xs p c.index.result.now) c.self.invariant.0
     ∙ made_at (λ q. min (first_at held q) most) (length held) p c.index.result.now within ∙ ap (λ ns. min (first_at ns p) most) is in
     let turn : c.in_turn-turn.result ≡ in_turn (get_or counts p 0) c.args.number =
-    c.in_turn-turn.ensures ∙ ap (λ n. in_turn n c.args.number) c.count_at.ensures in
+    c.in_turn-turn.ensures.turn ∙ ap (λ n. in_turn n c.args.number) c.count_at.ensures.count in
     c.saturating_add.ensures ∙ (λ i. min (first i + turn i) most) ∙ stopped (first_at counts p) (in_turn (get_or counts p 0) c.args.number) most

@@ -10,7 +10,6 @@ use Rattle.spread_routes.specs.Tables.{IsByPositions}
 use Rattle.spread_routes.proofs.Ports.{lead}
 use Rattle.spread_routes.proofs.Weights.{weights_are, weights_long}
 use Rattle.spread_routes.proofs.spread.Spread.balanced.Goals as goal
-use Rattle.spread_routes.proofs.spread.Spread.balanced.Goals.{in-Some-2, in-None-2}
 
 abbrev Is : (edges : List (List Edge)) (positions : List ℕ) (lid_digits : List LidDigit) → Grading → Type 0
 Is edges positions lid_digits by = IsByPositions by edges positions lid_digits
@@ -49,9 +48,5 @@ returns c =
     let weights = c.in_ok-weights.ensures ∙ ap (map (λ (d : LidDigit). d.digit_weight)) c.deref.ensures.value
     ∙ weights_are by inside.edges inside.positions.items inside.lid_digits.items is in
     let choices = c.in_ok-choices.ensures ∙ (λ i. adapter_choices (is.by_position i) (weights i) numbers c.args.adapters.items) in
-    let all = ap (λ (g : Grading). record { graph = g.graph; keys = g.keys; levels = g.levels; choices = Some c.in_ok-choices.choices }) c.self.view_is
-    ∙ ap (λ (ch : AdapterChoices). record { graph = by.graph; keys = by.keys; levels = by.levels; choices = Some ch }) choices in
-    elim c.match-self-2.branch [
-      | in-Some-2 w ↦ all
-      | in-None-2 w ↦ all
-    ]
+    ap (λ (g : Grading). record { graph = g.graph; keys = g.keys; levels = g.levels; choices = Some c.in_ok-choices.choices }) c.self.view_is
+    ∙ ap (λ (ch : AdapterChoices). record { graph = by.graph; keys = by.keys; levels = by.levels; choices = Some ch }) choices

@@ -48,20 +48,20 @@ counts_at-requires c =
     let good = c.adjacency.ensures.is_graph in
     let keys = c.in_ok-keys.field-0.keys.items in
     let by : c.adjacency.result.now ≡ by_index graph = edges_are graph good c.adjacency.result.now c.adjacency.ensures.edges in
-    let is : c.deref-2-then-is_balanced.result.now ≡ order_by_keys graph keys =
-    c.deref-2-then-is_balanced.ensures.value ∙ c.in_ok-vertices.ensures ∙ (λ i. order (by i) (before_by (c.deref.ensures.value i))) in
+    let is : c.deref-then-is_balanced-2.result.now ≡ order_by_keys graph keys =
+    c.deref-then-is_balanced-2.ensures.value ∙ c.in_ok-vertices.ensures ∙ (λ i. order (by i) (before_by (c.deref.ensures.value i))) in
     let long : length c.deref-then-is_balanced.result.now ≡ length graph =
     ap length (c.deref-then-is_balanced.ensures.value ∙ c.in_ok-leaf_numbers.ensures) ∙ all_numbered graph c.args.adapters.now in
     subst (λ (x : List ℕ × ℕ). All (λ i. i < x.1) x.0) (λ i. (sym is i, sym long i)) (are_indices graph keys good)
 
-pub counts_at-2-requires : goal.counts_at-2-requires
-counts_at-2-requires c =
+pub counts_at-requires-then-is_balanced : goal.counts_at-requires-then-is_balanced
+counts_at-requires-then-is_balanced c =
     let graph = c.args.graph.now in
     let good = c.adjacency.ensures.is_graph in
     let keys = c.in_ok-keys.field-0.keys.items in
     let by : c.adjacency.result.now ≡ by_index graph = edges_are graph good c.adjacency.result.now c.adjacency.ensures.edges in
-    let is : c.deref-3-then-is_balanced.result.now ≡ order_by_keys graph keys =
-    c.deref-3-then-is_balanced.ensures.value ∙ c.in_ok-vertices.ensures ∙ (λ i. order (by i) (before_by (c.deref.ensures.value i))) in
+    let is : c.deref-then-is_balanced-3.result.now ≡ order_by_keys graph keys =
+    c.deref-then-is_balanced-3.ensures.value ∙ c.in_ok-vertices.ensures ∙ (λ i. order (by i) (before_by (c.deref.ensures.value i))) in
     subst (λ (x : List ℕ × ℕ). All (λ i. i < x.1) x.0) (λ i. (sym is i, sym c.requires i)) (are_indices graph keys good)
 
 -- a count for each position
@@ -71,10 +71,10 @@ balanced-requires-clause-leaf_numbers c =
     let good = c.adjacency.ensures.is_graph in
     let keys = c.in_ok-keys.field-0.keys.items in
     let by : c.adjacency.result.now ≡ by_index graph = edges_are graph good c.adjacency.result.now c.adjacency.ensures.edges in
-    let is : c.deref-2-then-is_balanced.result.now ≡ order_by_keys graph keys =
-    c.deref-2-then-is_balanced.ensures.value ∙ c.in_ok-vertices.ensures ∙ (λ i. order (by i) (before_by (c.deref.ensures.value i))) in
+    let is : c.deref-then-is_balanced-2.result.now ≡ order_by_keys graph keys =
+    c.deref-then-is_balanced-2.ensures.value ∙ c.in_ok-vertices.ensures ∙ (λ i. order (by i) (before_by (c.deref.ensures.value i))) in
     ap length (c.in_ok-leaf_numbers-2.ensures)
-    ∙ length_map (slice_index c.deref-then-is_balanced.result.now) c.deref-2-then-is_balanced.result.now
+    ∙ length_map (slice_index c.deref-then-is_balanced.result.now) c.deref-then-is_balanced-2.result.now
     ∙ ap length is ∙ sym (all_positioned graph keys good) ∙ ap (λ (g : Grading). length (by_positions g.graph g.keys)) (sym c.in_ok-spread.ensures)
 
 pub balanced-requires-clause-adapters : goal.balanced-requires-clause-adapters
@@ -83,9 +83,9 @@ balanced-requires-clause-adapters c =
     let good = c.adjacency.ensures.is_graph in
     let keys = c.in_ok-keys.field-0.keys.items in
     let by : c.adjacency.result.now ≡ by_index graph = edges_are graph good c.adjacency.result.now c.adjacency.ensures.edges in
-    let is : c.deref-3-then-is_balanced.result.now ≡ order_by_keys graph keys =
-    c.deref-3-then-is_balanced.ensures.value ∙ c.in_ok-vertices.ensures ∙ (λ i. order (by i) (before_by (c.deref.ensures.value i))) in
-    ap length c.in_ok-adapters.ensures ∙ length_map (slice_index c.args.adapters.now) c.deref-3-then-is_balanced.result.now
+    let is : c.deref-then-is_balanced-3.result.now ≡ order_by_keys graph keys =
+    c.deref-then-is_balanced-3.ensures.value ∙ c.in_ok-vertices.ensures ∙ (λ i. order (by i) (before_by (c.deref.ensures.value i))) in
+    ap length c.in_ok-adapters.ensures ∙ length_map (slice_index c.args.adapters.now) c.deref-then-is_balanced-3.result.now
     ∙ ap length is ∙ sym (all_positioned graph keys good) ∙ ap (λ (g : Grading). length (by_positions g.graph g.keys)) (sym c.in_ok-spread.ensures)
 
 pub returns-then-is_balanced : goal.returns-then-is_balanced
@@ -100,18 +100,18 @@ returns-then-is_balanced c =
     let by : c.adjacency.result.now ≡ by_index graph = edges_are graph good c.adjacency.result.now c.adjacency.ensures.edges in
     let grown : c.in_ok-vertices.vertices.items ≡ order_by_keys graph c.in_ok-keys.field-0.keys.items =
     c.in_ok-vertices.ensures ∙ (λ i. order (by i) (before_by (c.deref.ensures.value i))) in
-    let numbers : c.in_ok-leaf_numbers-2.leaf_numbers-2.items ≡ leaf_numbers_there graph now adapters =
+    let numbers : c.in_ok-leaf_numbers-2.leaf_numbers.items ≡ leaf_numbers_there graph now adapters =
     c.in_ok-leaf_numbers-2.ensures
     ∙ (λ i. map (slice_index ((c.deref-then-is_balanced.ensures.value ∙ c.in_ok-leaf_numbers.ensures) i))
-    ((c.deref-2-then-is_balanced.ensures.value ∙ grown ∙ ap (order_by_keys graph) keys) i)) in
+    ((c.deref-then-is_balanced-2.ensures.value ∙ grown ∙ ap (order_by_keys graph) keys) i)) in
     let there : c.in_ok-adapters.adapters.items ≡ adapters_there graph now adapters =
     c.in_ok-adapters.ensures
-    ∙ ap (map (slice_index adapters)) (c.deref-3-then-is_balanced.ensures.value ∙ grown ∙ ap (order_by_keys graph) keys) in
+    ∙ ap (map (slice_index adapters)) (c.deref-then-is_balanced-3.ensures.value ∙ grown ∙ ap (order_by_keys graph) keys) in
     let balanced : Grading → Grading = λ g. record {
       graph = g.graph;
       keys = g.keys;
       levels = g.levels;
-      choices = Some (adapter_choices (by_positions g.graph g.keys) (weights_there g.graph g.keys g.levels) c.in_ok-leaf_numbers-2.leaf_numbers-2.items
+      choices = Some (adapter_choices (by_positions g.graph g.keys) (weights_there g.graph g.keys g.levels) c.in_ok-leaf_numbers-2.leaf_numbers.items
           c.in_ok-adapters.adapters.items);
     } in
     let all : balanced c.in_ok-spread.spread ≡ grading_of graph adapters order_value =
