@@ -1,5 +1,6 @@
 pub mod EdgeByEdge
 pub mod EdgesTaken
+pub mod Counting
 pub mod EachEnd
 pub mod FirstLeast
 pub mod FirstLoads

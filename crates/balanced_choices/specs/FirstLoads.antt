@@ -1,6 +1,7 @@
--- The loads of channels by first choices: positions pass on the packets that they send and those that come to them, each
--- after all have come.
-use Rattle.std.specs.Prelude.{ℕ, ◌+◌, ◌*◌, List, [], ◌∷◌, Option, length, replicate, reverse, slice_get, slice_index}
+-- The loads of channels by first choices: for each end of a destination, positions pass on the packets that they send and
+-- those that come to them, each after all have come.
+use Rattle.std.specs.Prelude.{ℕ, ◌+◌, ◌*◌, List, [], ◌∷◌, Option, length, replicate, reverse, take}
+use Rattle.std.specs.Prelude.{slice_get, slice_index, slice_index_or, slice_set}
 use Rattle.std.specs.Option.{option_map_or}
 use Rattle.port_graph.specs.declared.edge.Edge.{Edge}
 use Rattle.port_graph.specs.Heads.{edges_at}
@@ -8,49 +9,55 @@ use Rattle.spread_labels.specs.Orders.{numbers_from}
 use Rattle.balanced_choices.specs.declared.rounds.Destination.{Destination}
 use Rattle.balanced_choices.specs.declared.ways.Change.TheVariants.{Add}
 use Rattle.balanced_choices.specs.Loads.{channel_by, with_changes}
-use Rattle.balanced_choices.specs.BalancedChoices.{first_choice, near_first, towards}
+use Rattle.balanced_choices.specs.BalancedChoices.{digits_from, in_turn, near_first, towards}
 
--- packets on their way to an end: how many each position has had so far, and the loads of channels
+-- packets on their way to the ends of a destination: for each end, how many each position has had so far, and the loads of
+-- channels
 pub record Passing : Type 0 where
-  pub had : List ℕ
+  pub had : List (List ℕ)
   pub loads : List ℕ
 
--- the packets when position p has passed on what it had by this edge
-abbrev pub with_passed : ℕ → Passing → Edge → Passing
-with_passed p old e =
-    let packets = slice_index old.had p in
-    record {
-      had = with_changes (Add packets) old.had (e.to ∷ []);
-      loads = with_changes (Add packets) old.loads (channel_by p e ∷ []);
-    }
+-- how many packets position p has had to end k
+abbrev pub had_at : Passing → ℕ → ℕ → ℕ
+had_at packets k p = slice_index (slice_index_or packets.had k []) p
 
--- the edge that position p takes at first towards the end with this number, if there is one
-abbrev pub first_edge : List (List Edge) → List ℕ → ℕ → ℕ → Option Edge
-first_edge ways weights number p = slice_get (edges_at ways p) (first_choice ways weights number p)
+-- the packets when position p has passed on what it had to end k by edge e
+abbrev pub with_passed : ℕ → ℕ → Passing → Edge → Passing
+with_passed p k old e = record {
+  had = slice_set old.had k (with_changes (Add (had_at old k p)) (slice_index_or old.had k []) (e.to ∷ []));
+  loads = with_changes (Add (had_at old k p)) old.loads (channel_by p e ∷ []);
+}
 
--- the packets when some positions, one after the other, have passed on what they had to the end with this number
-abbrev pub passed_on : List (List Edge) → List ℕ → ℕ → Passing → List ℕ → Passing
-passed_on ways weights number old [] = old
-passed_on ways weights number old (p ∷ ps) =
-    passed_on ways weights number (option_map_or (with_passed p old) (first_edge ways weights number p) old) ps
+-- the edge that position p takes at first towards the end with this number, of these candidates, by the digits of the
+-- number from this weight on; if there is one
+abbrev pub first_edge : List Edge → ℕ → ℕ → ℕ → Option Edge
+first_edge edges weight p number = slice_get edges (in_turn (length (take 256 edges)) (digits_from weight number + p))
 
--- the loads with the packets to the end with this number; each position passes on before those that its candidates lead to
-abbrev pub loads_with_end : List (List Edge) → List ℕ → List ℕ → List ℕ → ℕ → List ℕ
-loads_with_end ways sent weights loads number =
-    (passed_on ways weights number (record { had = sent; loads = loads }) (reverse (near_first ways))).loads
+-- the packets when position p has passed on what it had to some ends; `number` is that of end 0
+abbrev pub passed_to : List Edge → ℕ → ℕ → ℕ → Passing → List ℕ → Passing
+passed_to edges weight p number old [] = old
+passed_to edges weight p number old (k ∷ ks) =
+    passed_to edges weight p number
+    (option_map_or (with_passed p k old) (first_edge edges weight p (number + k)) old) ks
 
--- the loads with the packets to the ends with these numbers
-abbrev pub loads_with_ends : List (List Edge) → List ℕ → List ℕ → List ℕ → List ℕ → List ℕ
-loads_with_ends ways sent weights loads [] = loads
-loads_with_ends ways sent weights loads (n ∷ ns) =
-    loads_with_ends ways sent weights (loads_with_end ways sent weights loads n) ns
+-- the packets when some positions, one after the other, have passed on what they had to that many ends
+abbrev pub passed_on : List (List Edge) → List ℕ → ℕ → ℕ → Passing → List ℕ → Passing
+passed_on ways weights number ends old [] = old
+passed_on ways weights number ends old (p ∷ ps) =
+    passed_on ways weights number ends
+    (passed_to (edges_at ways p) (slice_index weights p) p number old (numbers_from 0 ends)) ps
+
+-- the loads with the packets to the ends of a destination; each position passes on before those that its candidates lead to
+abbrev pub loads_with : List (List Edge) → List ℕ → List ℕ → List ℕ → Destination → List ℕ
+loads_with ways sent weights loads d =
+    (passed_on ways weights d.number d.ends (record { had = replicate d.ends sent; loads = loads })
+    (reverse (near_first ways))).loads
 
 -- the loads with the packets to all ends of some destinations
 abbrev pub loads_with_all : List (List Edge) → List ℕ → List ℕ → List ℕ → List Destination → List ℕ
 loads_with_all graph sent weights loads [] = loads
 loads_with_all graph sent weights loads (d ∷ ds) =
-    loads_with_all graph sent weights
-    (loads_with_ends (towards graph d.position) sent weights loads (numbers_from d.number d.ends)) ds
+    loads_with_all graph sent weights (loads_with (towards graph d.position) sent weights loads d) ds
 
 -- the loads of channels if all packets take first choices
 unfoldable pub first_loads : List (List Edge) → List ℕ → List ℕ → List Destination → List ℕ

@@ -3,3 +3,4 @@ pub mod EdgesTaken
 pub mod LeastPeakLaw
 pub mod BalancedChoices
 pub mod FirstLoads
+pub mod RoundRobins

@@ -1,17 +1,17 @@
 //! The loads of channels by first choices.
-ghost use Rattle.std.specs.Prelude.{◌≡◌, ◌<◌, ◌≤◌, ◌+◌, ◌*◌, ◌^◌, [], ◌∷◌, All, IfOk, OnOk, length, reverse};
+ghost use Rattle.std.specs.Prelude.{◌≡◌, ◌<◌, ◌≤◌, ◌+◌, ◌*◌, ℕ, [], ◌∷◌, All, IfOk, OnOk};
+ghost use Rattle.std.specs.Prelude.{length, map, replicate, reverse, slice_index, slice_index_or};
 ghost use Rattle.port_graph.specs.Heads.{LeadToVertices};
 ghost use Rattle.spread_labels.specs.Orders.{numbers_from};
 ghost use Rattle.balanced_choices.specs.declared.ways.Change.TheVariants.{Add};
 ghost use Rattle.balanced_choices.specs.BalancedChoices.{near_first};
-ghost use Rattle.balanced_choices.specs.FirstLoads.{first_edge, first_loads, loads_with_all, loads_with_ends};
-ghost use Rattle.balanced_choices.specs.FirstLoads.{passed_on, with_passed};
-ghost use Rattle.balanced_choices.specs.Loads.{with_changes};
+ghost use Rattle.balanced_choices.specs.FirstLoads.{first_loads, loads_with, loads_with_all, passed_to};
+ghost use Rattle.balanced_choices.specs.Loads.{channel_by, with_changes};
 
-use crate::choosing::{first_choice, near_first};
+use crate::choosing::near_first;
 use crate::loads::{PORTS, no_loads};
+use crate::round_robin::RoundRobin;
 use crate::rounds::{Destination, positions_of, ways_towards};
-use crate::taken::edge_with;
 use port_graph::{Adjacency, Edge};
 use spread_labels::{CandidateSets, TARGETS};
 use std::alloc::{AllocError, Global};
@@ -69,88 +69,97 @@ fn add_packets(
 {
     let targets = positions_of(alloc, destinations)?;
     let sets = CandidateSets::towards(alloc, graph, &targets)?;
-    let mut had = vec![in alloc; 0; graph.len()]?;
     for (k, destination) in destinations.iter().enumerate() {
         let ways = ways_towards(alloc, graph, &sets, k)?;
-        let mut order = near_first(alloc, &ways)?;
-        order.reverse();
-        let (number, ends) = (destination.number, destination.ends);
-        add_packets_to(
-            &ways, &order, sent, weights, number, ends, &mut had, loads,
-        );
+        add_packets_to(alloc, &ways, sent, weights, destination, loads)?;
     }
     Ok(())
 }
 
-/// Adds the packets to the ends at one position, of which the first has this number, to the loads of channels. `order` has
-/// each position before those that its candidates lead to. What was in `had` is lost.
+/// Adds the packets to all ends of a destination to the loads of channels. `ways` has the candidates towards it.
 fn add_packets_to(
+    alloc: Global,
     ways: &Adjacency,
-    order: &[usize],
     sent: &[usize],
     weights: &[usize],
-    number: u32,
-    ends: u16,
-    had: &mut [usize],
+    destination: &Destination,
     loads: &mut [usize],
-)
-    requires order { order.now ≡ reverse (near_first ways.now) }
+) -> Result<(), AllocError>
     requires sent { length sent.now ≡ length ways.now }
     requires weights { length weights.now ≡ length ways.now }
-    requires had { length had.old ≡ length ways.now }
     requires loads { length loads.old ≡ 256 * length ways.now }
-    ensures { loads.new
-        ≡ loads_with_ends ways.now sent.now weights.now loads.old (numbers_from number ends) }
+    ensures { OnOk result (loads.new ≡ loads_with ways.now sent.now weights.now loads.old destination.now) }
 {
-    for k in 0..ends {
-        had.copy_from_slice(sent);
-        let number = number as usize + usize::from(k);
-        pass_on(ways, order, weights, number, had, loads);
+    let order = far_first(alloc, ways)?;
+    let mut had = copies(alloc, sent, destination.ends)?;
+    for position in &order {
+        let edges = ways.at(*position);
+        let weight = weights[*position];
+        pass_on(edges, weight, *position, destination, &mut had, loads);
     }
+    Ok(())
 }
 
-/// Lets positions pass on what they have had to the end with this number, one after the other. Adds it to the loads of
-/// channels.
+/// Returns all positions, each before those that its candidates lead to.
+fn far_first(alloc: Global, ways: &Adjacency) -> Result<Vec<usize>, AllocError>
+    ensures order { IfOk result (λ order. order.items ≡ reverse (near_first ways.now)) }
+    ensures positions { IfOk result (λ order. All (λ p. p < length ways.now) order.items) }
+{
+    let mut order = near_first(alloc, ways)?;
+    order.reverse();
+    Ok(order)
+}
+
+/// Returns `count` copies of a list.
+fn copies(alloc: Global, list: &[usize], count: u16) -> Result<Vec<Vec<usize>>, AllocError>
+    ensures { IfOk result (λ copies. map (λ own. own.items) copies.items ≡ replicate count list.now) }
+{
+    let mut copies = Vec::with_capacity(alloc, usize::from(count))?;
+    for _ in 0..count {
+        copies.push(Vec::from_slice(alloc, list)?)?;
+    }
+    Ok(copies)
+}
+
+/// Lets a position pass on what it has had to each end of a destination. `edges` are its candidates, and `weight` is its
+/// digit weight. Adds the packets to the loads of channels.
 fn pass_on(
-    ways: &Adjacency,
-    order: &[usize],
-    weights: &[usize],
-    number: usize,
-    had: &mut [usize],
+    edges: &[Edge],
+    weight: usize,
+    position: usize,
+    destination: &Destination,
+    had: &mut [Vec<usize>],
     loads: &mut [usize],
 )
-    requires positions { All (λ p. p < length ways.now) order.now }
-    requires weights { length weights.now ≡ length ways.now }
-    requires number { number + length ways.now < 2 ^ 64 }
-    requires had { length had.old ≡ length ways.now }
-    requires loads { length loads.old ≡ 256 * length ways.now }
-    ensures { passed_on ways.now weights.now number (record { had = had.old; loads = loads.old }) order.now
-        ≡ record { had = had.new; loads = loads.new } }
+    requires ends { length had.old ≡ destination.now.ends }
+    requires had { All (λ own. position < length own.items) had.old }
+    requires loads { 256 * position + 256 ≤ length loads.old }
+    ensures passed { passed_to edges.now weight position destination.now.number
+        (record { had = map (λ own. own.items) had.old; loads = loads.old })
+        (numbers_from 0 destination.now.ends)
+        ≡ record { had = map (λ own. own.items) had.new; loads = loads.new } }
+    ensures had { (k : ℕ) → length (slice_index_or (map (λ own. own.items) had.new) k [])
+        ≡ length (slice_index_or (map (λ own. own.items) had.old) k []) }
 {
-    for position in order {
-        if let Some(edge) = first_edge(ways, weights, number, *position) {
-            pass_by(edge, *position, had, loads);
-        }
+    let count = edges.len().min(PORTS);
+    if count == 0 {
+        return;
+    }
+    let mut turn = RoundRobin::first(weight, position, count);
+    for k in 0..destination.ends {
+        let k = usize::from(k);
+        turn.go_to(destination.number as usize + k);
+        pass_by(edges[turn.choice()], position, &mut had[k], loads);
     }
 }
 
-/// Returns the edge that a position takes at first towards the end with this number, if there is one.
-fn first_edge(ways: &Adjacency, weights: &[usize], number: usize, position: usize) -> Option<Edge>
-    requires position { position < length ways.now }
-    requires weights { length weights.now ≡ length ways.now }
-    requires number { number + length ways.now < 2 ^ 64 }
-    ensures { result ≡ first_edge ways.now weights.now number position }
-{
-    let choice = first_choice(ways, weights, number, position);
-    edge_with(ways, position, usize::from(choice))
-}
-
-/// Lets a position pass on what it has had by this edge.
+/// Lets a position pass on what it has had, by this edge.
 fn pass_by(edge: Edge, position: usize, had: &mut [usize], loads: &mut [usize])
     requires position { position < length had.old }
-    requires loads { length loads.old ≡ 256 * length had.old }
-    ensures { with_passed position (record { had = had.old; loads = loads.old }) edge
-        ≡ record { had = had.new; loads = loads.new } }
+    requires loads { 256 * position + 256 ≤ length loads.old }
+    ensures had { had.new ≡ with_changes (Add (slice_index had.old position)) had.old (edge.to ∷ []) }
+    ensures loads { loads.new
+        ≡ with_changes (Add (slice_index had.old position)) loads.old (channel_by position edge ∷ []) }
 {
     let packets = had[position];
     add_at(had, edge.to, packets);

@@ -5,7 +5,6 @@ pub mod Positions
 pub mod Ports
 pub mod Whole
 pub mod Leaving
-pub mod Counting
 pub mod Turns
 pub mod PastEnds
 pub mod Balanced

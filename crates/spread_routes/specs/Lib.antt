@@ -5,4 +5,3 @@ pub mod AdapterChoices
 pub mod LeafNumbers
 pub mod Spread
 pub mod Tables
-pub mod RoundRobins

@@ -7,11 +7,10 @@ ghost use Rattle.spread_labels.specs.Orders.{numbers_from};
 ghost use Rattle.balanced_choices.specs.BalancedChoices.{in_turn};
 ghost use Rattle.spread_routes.specs.AdapterChoices.{adapter_choices, adapter_of, choice_towards, counted_if_uneven};
 ghost use Rattle.spread_routes.specs.AdapterChoices.{destinations, end_number, first_at};
-ghost use Rattle.spread_routes.specs.RoundRobins.{IsTurn};
+ghost use Rattle.balanced_choices.specs.RoundRobins.{IsTurn};
 
 use crate::adapters::most_adapters;
-use crate::round_robin::RoundRobin;
-use balanced_choices::{Destination, are_even, balanced_choices, first_loads};
+use balanced_choices::{Destination, RoundRobin, are_even, balanced_choices, first_loads};
 use port_graph::Adjacency;
 use spread_labels::leaf_vertices;
 use std::alloc::{AllocError, Global};
@@ -122,7 +121,7 @@ impl AdapterChoices {
         ensures offset { result.offset ≡ own % count }
         ensures weight { result.weight ≡ max (slice_index self.now.weights own) 1 }
     {
-        RoundRobin::at(self.weight_at(own).max(1), own % count, count, 0)
+        RoundRobin::first(self.weight_at(own), own, count)
     }
 
     /// Returns the number of the end at a position whose routes a LID with this number takes.

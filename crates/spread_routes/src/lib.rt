@@ -8,7 +8,6 @@ mod index;
 pub mod laws;
 mod leaf_order;
 mod lid_digit;
-mod round_robin;
 mod spread;
 mod switch_keys;
 mod switch_order;

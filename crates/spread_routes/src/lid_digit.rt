@@ -7,9 +7,9 @@ ghost use Rattle.spread_labels.specs.MarkSets.{picked};
 ghost use Rattle.spread_routes.specs.Rule.{by_index};
 ghost use Rattle.spread_routes.specs.Spread.{lid_digit_at};
 ghost use Rattle.spread_routes.specs.Tables.{no_lid_digit};
-ghost use Rattle.spread_routes.specs.RoundRobins.{IsTurn};
+ghost use Rattle.balanced_choices.specs.RoundRobins.{IsTurn};
 
-use crate::round_robin::RoundRobin;
+use balanced_choices::RoundRobin;
 use port_graph::{Adjacency, Edge};
 use spread_labels::{TargetSet, digit_weights};
 use std::alloc::{AllocError, Global};

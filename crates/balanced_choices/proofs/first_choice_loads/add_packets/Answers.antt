@@ -1,7 +1,6 @@
 use Rattle.std.proofs.Common.{◌≡◌, ◌<◌, ◌+◌, ◌*◌, ℕ, List, All, sym, ap, subst, ◌∙◌, arith, drop, get_or, length, map}
-use Rattle.std.proofs.lemmas.List.{drop_more, get_or-map, with_items_is}
+use Rattle.std.proofs.lemmas.List.{drop_more, get_or-map}
 use Rattle.std.proofs.lemmas.List.Elements.{All-map}
-use Rattle.std.specs.Prelude.{reverse}
 use Rattle.port_graph.proofs.Counts.{length_map}
 use Rattle.port_graph.specs.declared.edge.Edge.{Edge}
 use Rattle.port_graph.specs.Heads.{edges_at}
@@ -10,7 +9,7 @@ use Rattle.spread_labels.specs.Orders.{numbers_from}
 use Rattle.spread_labels.proofs.Numbers.{numbers_long}
 use Rattle.balanced_choices.specs.declared.rounds.Destination.{Destination}
 use Rattle.balanced_choices.specs.BalancedChoices.{towards}
-use Rattle.balanced_choices.specs.FirstLoads.{loads_with_all, loads_with_ends}
+use Rattle.balanced_choices.specs.FirstLoads.{loads_with, loads_with_all}
 use Rattle.balanced_choices.proofs.EachEnd.{ways_are}
 use Rattle.balanced_choices.proofs.first_choice_loads.add_packets.Goals as goal
 
@@ -31,12 +30,6 @@ add_packets_to-requires-clause-weights c =
     let graph = c.args.graph.now in
     let f : ℕ → List Edge = λ p. picked c.loop-k.k (sets_at c.in_ok-sets.sets p) (edges_at graph p) in
     c.requires.weights ∙ sym (ap length c.in_ok-ways.ensures ∙ numbers_long f 0 (length graph))
-
-pub add_packets_to-requires-clause-had : goal.add_packets_to-requires-clause-had
-add_packets_to-requires-clause-had c =
-    let graph = c.args.graph.now in
-    let f : ℕ → List Edge = λ p. picked c.loop-k.k (sets_at c.in_ok-sets.sets p) (edges_at graph p) in
-    ap length c.deref_mut.ensures.value ∙ c.loop-k.invariant.1 ∙ sym (ap length c.in_ok-ways.ensures ∙ numbers_long f 0 (length graph))
 
 pub add_packets_to-requires-clause-loads : goal.add_packets_to-requires-clause-loads
 add_packets_to-requires-clause-loads c =
@@ -60,11 +53,6 @@ loop-k-preserved c =
     ap (λ ts. get_or ts k 0) all ∙ get_or-map (λ (x : Destination). x.position) ds k none 0 c.loop-k-test.true in
     let ways : c.in_ok-ways.ways ≡ towards graph d.position =
     c.in_ok-ways.ensures ∙ ways_are graph targets c.in_ok-sets.sets k d.position c.in_ok-sets.ensures below target in
-    let numbers = numbers_from d.number d.ends in
-    let had = c.add_packets_to.new.had in
-    let as_long : length had ≡ c.loop-k.had.len = c.add_packets_to.auto.had ∙ c.deref_mut.ensures.len in (
-      ap (λ l. loads_with_all graph sent weights l (drop (k + 1) ds))
-          (c.add_packets_to.ensures ∙ ap (λ w. loads_with_ends w sent weights c.loop-k.loads numbers) ways)
-          ∙ sym (ap (loads_with_all graph sent weights c.loop-k.loads) (drop_more ds k none c.loop-k-test.true)) ∙ c.loop-k.invariant.0,
-      ap length (with_items_is c.loop-k.had had as_long) ∙ c.add_packets_to.auto.had ∙ ap length c.deref_mut.ensures.value ∙ c.loop-k.invariant.1,
-    )
+    ap (λ l. loads_with_all graph sent weights l (drop (k + 1) ds))
+    (c.in_ok-add_packets_to.ensures ∙ ap (λ w. loads_with w sent weights c.loop-k.loads d) ways)
+    ∙ sym (ap (loads_with_all graph sent weights c.loop-k.loads) (drop_more ds k none c.loop-k-test.true)) ∙ c.loop-k.invariant

@@ -1,48 +1,57 @@
-use Rattle.std.proofs.Common.{◌≡◌, ◌<◌, ◌+◌, ◌-◌, ℕ, List, All, sym, ap, subst, ◌∙◌, arith, length}
+use Rattle.std.proofs.Common.{◌≡◌, ◌<◌, ◌+◌, ℕ, List, [], All, sym, ap, subst, ◌∙◌, arith, drop, get_or, length, map, replicate}
+use Rattle.std.proofs.lemmas.List.{drop_more, get_or-map, get_or-replicate, length-replicate, with_items_is}
 use Rattle.std.specs.Prelude.{reverse}
+use Rattle.port_graph.proofs.Counts.{length_map}
 use Rattle.spread_labels.specs.Orders.{numbers_from}
 use Rattle.balanced_choices.specs.BalancedChoices.{near_first}
-use Rattle.balanced_choices.specs.FirstLoads.{Passing, loads_with_end, loads_with_ends, passed_on}
-use Rattle.balanced_choices.proofs.InOrder.{all_reversed, near_first_positions, numbers_left}
+use Rattle.balanced_choices.specs.FirstLoads.{Passing, passed_on, passed_to}
 use Rattle.balanced_choices.proofs.first_choice_loads.add_packets_to.Goals as goal
 
-pub loop-k-init : goal.loop-k-init
-loop-k-init c =
-    let first : c.args.number + 0 ≡ c.args.number = omega arith in
-    let all : c.args.number + c.args.ends - (c.args.number + 0) ≡ c.args.ends = omega arith in
-    λ i. loads_with_ends c.args.ways.now c.args.sent.now c.args.weights.now c.args.loads.now (numbers_from (first i) (all i))
-
-pub pass_on-requires-clause-positions : goal.pass_on-requires-clause-positions
-pass_on-requires-clause-positions c =
+pub loop-position-init : goal.loop-position-init
+loop-position-init c =
     let ways = c.args.ways.now in
-    let P : ℕ → Type 0 = λ p. p < length ways in
-    subst (All P) (sym c.requires.order) (all_reversed P (near_first ways) (near_first_positions ways))
+    let d = c.args.destination.now in
+    let had = c.in_ok-had.had.items in
+    let ends : length had ≡ d.ends = sym (length_map (λ w. w.items) had) ∙ ap length c.in_ok-had.ensures ∙ length-replicate d.ends c.args.sent.now in
+    record {
+      left = ap (λ xs. passed_on ways c.args.weights.now d.number d.ends (record { had = xs; loads = c.args.loads.now }) (reverse (near_first ways)))
+          c.in_ok-had.ensures;
+      rows = λ k w h. ap length (sym (get_or-map (λ w. w.items) had k w [] h) ∙ ap (λ xs. get_or xs k []) c.in_ok-had.ensures
+          ∙ get_or-replicate d.ends k c.args.sent.now [] (omega (arith, h, ends)))
+          ∙ c.requires.sent;
+      ends = ends;
+    }
 
-pub loop-k-preserved : goal.loop-k-preserved
-loop-k-preserved c =
+pub loop-position-preserved : goal.loop-position-preserved
+loop-position-preserved c =
     let ways = c.args.ways.now in
-    let sent = c.args.sent.now in
     let weights = c.args.weights.now in
-    let loads = c.loop-k.loads in
-    let k = c.loop-k.k in
-    let first = c.args.number in
-    let end = first + c.args.ends in
-    let number : c.from.result ≡ k = c.from.ensures in
-    let now : Passing = record { had = sent; loads = loads } in
-    let added : loads_with_end ways sent weights loads (first + k) ≡ c.pass_on.new.loads =
-    ap (λ x. x.loads)
-    ((λ i. passed_on ways weights (first + sym number i) (record { had = sym c.copy_from_slice.ensures.after i; loads = loads })
-    (sym c.requires.order i))
-    ∙ c.pass_on.ensures) in
-    let next : first + (k + 1) ≡ first + k + 1 = omega arith in
-    ap (λ n. loads_with_ends ways sent weights c.pass_on.new.loads (numbers_from n (end - n))) next
-    ∙ ap (λ l. loads_with_ends ways sent weights l (numbers_from (first + k + 1) (end - (first + k + 1)))) (sym added)
-    ∙ sym (ap (loads_with_ends ways sent weights loads) (numbers_left end (first + k) (omega (arith, c.loop-k-test.true))))
-    ∙ c.loop-k.invariant
-
-pub returns : goal.returns
-returns c =
-    let first = c.args.number in
-    let none : first + c.args.ends - (first + c.loop-k.k) ≡ 0 = omega (arith, c.loop-k-test.false) in
-    sym (sym c.loop-k.invariant
-    ∙ ap (λ n. loads_with_ends c.args.ways.now c.args.sent.now c.args.weights.now c.loop-k.loads (numbers_from (first + c.loop-k.k) n)) none)
+    let d = c.args.destination.now in
+    let order = reverse (near_first ways) in
+    let i = c.loop-position.position-index in
+    let p = get_or order i 0 in
+    let is : c.deref-position-items.result.now ≡ order = c.deref-position-items.ensures.value ∙ c.in_ok-order.ensures.order in
+    let below : i < length order = omega (arith, c.loop-position-test.true, ap length is) in
+    let rows = c.loop-position.had.items in
+    let new = c.pass_on.new.had in
+    let now : Passing = record { had = map (λ w. w.items) rows; loads = c.loop-position.loads } in
+    let after : Passing = record { had = map (λ w. w.items) new; loads = c.pass_on.new.loads } in
+    let kept : length new ≡ c.loop-position.had.len = c.pass_on.auto.had ∙ c.deref_mut.ensures.len in
+    let held = with_items_is c.loop-position.had new kept in
+    let ks = numbers_from 0 d.ends in
+    let passed : passed_to (get_or ways p []) (get_or weights p 0) p d.number now ks ≡ after =
+    sym (λ j. passed_to ((c.at-edges.ensures ∙ ap (λ q. get_or ways q []) (ap (λ xs. get_or xs i 0) is)) j) (get_or weights (get_or (is j) i 0) 0) (get_or (is j) i 0) d.number
+    (record { had = map (λ w. w.items) (c.deref_mut.ensures.value j); loads = c.loop-position.loads }) ks)
+    ∙ c.pass_on.ensures.passed in
+    let as_many : length new ≡ length rows = c.pass_on.auto.had ∙ ap length c.deref_mut.ensures.value in
+    record {
+      left = ap (λ xs. passed_on ways weights d.number d.ends (record { had = map (λ w. w.items) xs; loads = c.pass_on.new.loads }) (drop (i + 1) order)) held
+          ∙ ap (λ x. passed_on ways weights d.number d.ends x (drop (i + 1) order)) (sym passed)
+          ∙ sym (ap (passed_on ways weights d.number d.ends now) (drop_more order i 0 below)) ∙ c.loop-position.invariant.left;
+      rows = subst (All (λ w. length w.items ≡ length ways)) (sym held)
+          (λ k w h. ap length (sym (get_or-map (λ w. w.items) new k w [] h)) ∙ c.pass_on.ensures.had k
+          ∙ ap (λ xs. length (get_or (map (λ w. w.items) xs) k [])) c.deref_mut.ensures.value
+          ∙ ap length (get_or-map (λ w. w.items) rows k w [] (omega (arith, h, as_many)))
+          ∙ c.loop-position.invariant.rows k w (omega (arith, h, as_many)));
+      ends = ap length held ∙ as_many ∙ c.loop-position.invariant.ends;
+    }

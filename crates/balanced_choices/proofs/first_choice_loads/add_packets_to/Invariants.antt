@@ -1,10 +1,19 @@
-use Rattle.std.proofs.Common.{◌≡◌, ◌+◌, ◌-◌}
-use Rattle.spread_labels.specs.Orders.{numbers_from}
-use Rattle.balanced_choices.specs.FirstLoads.{loads_with_ends}
+use Rattle.std.proofs.Common.{◌≡◌, All, drop, length, map, replicate}
+use Rattle.std.specs.Prelude.{reverse}
+use Rattle.balanced_choices.specs.BalancedChoices.{near_first}
+use Rattle.balanced_choices.specs.FirstLoads.{Passing, passed_on}
 use Rattle.balanced_choices.proofs.first_choice_loads.add_packets_to.Given as goal
 
--- the ends that are left add the rest
-abbrev pub invariant-loop-k : goal.invariant-loop-k
-invariant-loop-k l =
-    loads_with_ends l.ways l.sent l.weights l.loads (numbers_from (l.number + l.k) (l.number + l.ends - (l.number + l.k)))
-    ≡ loads_with_ends l.ways l.sent l.weights l.fn.loads (numbers_from l.number l.ends)
+-- the positions that are left do the rest
+abbrev pub invariant-loop-position : goal.invariant-loop-position
+invariant-loop-position l =
+    let d = l.destination in
+    let order = reverse (near_first l.ways) in
+    let now : Passing = record { had = map (λ own. own.items) l.had.items; loads = l.loads } in
+    let before : Passing = record { had = replicate d.ends l.sent; loads = l.fn.loads } in
+    record {
+      left : passed_on l.ways l.weights d.number d.ends now (drop l.position-index order)
+          ≡ passed_on l.ways l.weights d.number d.ends before order;
+      rows : All (λ own. length own.items ≡ length l.ways) l.had.items;
+      ends : length l.had.items ≡ d.ends;
+    }

@@ -1,10 +1,21 @@
-use Rattle.std.proofs.Common.{◌≡◌, drop}
-use Rattle.balanced_choices.specs.FirstLoads.{Passing, passed_on}
+use Rattle.std.proofs.Common.{◌≡◌, ◌-◌, ◌%◌, ℕ, List, [], length, map, min}
+use Rattle.std.specs.Prelude.{max, slice_index_or}
+use Rattle.spread_labels.specs.Orders.{numbers_from}
+use Rattle.balanced_choices.specs.FirstLoads.{Passing, passed_to}
+use Rattle.balanced_choices.specs.RoundRobins.{IsTurn}
 use Rattle.balanced_choices.proofs.first_choice_loads.pass_on.Given as goal
 
--- the positions that are left do the rest
-abbrev pub invariant-loop-position : goal.invariant-loop-position
-invariant-loop-position l =
-    let now : Passing = record { had = l.had; loads = l.loads } in
-    let before : Passing = record { had = l.fn.had; loads = l.fn.loads } in
-    passed_on l.ways l.weights l.number now (drop l.position-index l.order) ≡ passed_on l.ways l.weights l.number before l.order
+-- the ends that are left do the rest, in turn
+abbrev pub invariant-loop-k : goal.invariant-loop-k
+invariant-loop-k l =
+    let now : Passing = record { had = map (λ own. own.items) l.had; loads = l.loads } in
+    let before : Passing = record { had = map (λ own. own.items) l.fn.had; loads = l.fn.loads } in
+    record {
+      turn : IsTurn l.turn;
+      count : l.turn.count ≡ min (length l.edges) 256;
+      offset : l.turn.offset ≡ l.position % min (length l.edges) 256;
+      weight : l.turn.weight ≡ max l.weight 1;
+      rows : (k : ℕ) → length (slice_index_or now.had k []) ≡ length (slice_index_or before.had k []);
+      left : passed_to l.edges l.weight l.position l.destination.number now (numbers_from l.k (l.destination.ends - l.k))
+          ≡ passed_to l.edges l.weight l.position l.destination.number before (numbers_from 0 l.destination.ends);
+    }

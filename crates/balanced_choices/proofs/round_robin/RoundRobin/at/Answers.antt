@@ -1,10 +1,10 @@
 use Rattle.std.proofs.Common.{◌+◌, ◌*◌, ◌/◌, ◌%◌, sym, ap}
-use Rattle.spread_routes.proofs.Counting.{digit_again}
-use Rattle.spread_routes.proofs.round_robin.RoundRobin.at.Goals as goal
+use Rattle.balanced_choices.proofs.Counting.{digit_again}
+use Rattle.balanced_choices.proofs.round_robin.RoundRobin.at.Goals as goal
 
 pub returns-clause-turn : goal.returns-clause-turn
 returns-clause-turn c =
-    let digit = sym (digit_again (c.args.lid / c.args.weight) c.args.weight c.requires.weight) in
+    let digit = sym (digit_again (c.args.number / c.args.weight) c.args.weight c.requires.weight) in
     record {
       weight = c.requires.weight;
       offset = c.requires.offset;

@@ -1,8 +1,10 @@
--- Numbers that are counted round, by digits of LIDs.
-use Rattle.std.proofs.Common.{◌≡◌, ◌<◌, ◌≤◌, ◌+◌, ◌-◌, ◌*◌, ◌/◌, ◌%◌, ℕ, suc, sym, ap, ◌∙◌, arith, add-one}
-use Rattle.std.proofs.Math.Nat.{div-eq_of_lt-le, suc-mod}
+-- Numbers that are counted round, by digits.
+use Rattle.std.proofs.Common.{◌≡◌, ◌<◌, ◌≤◌, ◌+◌, ◌-◌, ◌*◌, ◌/◌, ◌%◌, ℕ, zero, suc, sym, ap, ◌∙◌, arith, add-one}
+use Rattle.std.proofs.Math.Nat.{add-mod-mod, div-eq_of_lt-le, suc-mod}
+use Rattle.std.specs.Prelude.{max}
+use Rattle.balanced_choices.specs.BalancedChoices.{digits_from}
 
--- the first LID with a digit has it
+-- the first number with a digit has it
 pub digit_again : (digit weight : ℕ) → 0 < weight → digit * weight / weight ≡ digit
 digit_again digit weight some = div-eq_of_lt-le weight (omega arith) (omega (arith, some))
 
@@ -25,3 +27,13 @@ pub next_choice : (digit offset count choice : ℕ) → choice ≡ (digit + offs
 next_choice digit offset count choice is =
     let more : suc (digit + offset) ≡ digit + 1 + offset = omega arith in
     ap (λ x. (x + 1) % count) is ∙ ap (λ x. x % count) (add-one ((digit + offset) % count)) ∙ sym (suc-mod (digit + offset) count) ∙ ap (λ x. x % count) more
+
+-- the turn of n among some, by the digits from this weight on, from `own` on
+pub turn_of : (weight n own count : ℕ)
+    → (n / max weight 1 + own % count) % count ≡ (digits_from weight n + own) % count
+turn_of zero n own count =
+    let one : n / 1 ≡ n = omega arith in
+    ap (λ d. (d + own % count) % count) one ∙ add-mod-mod n own count
+turn_of (suc weight) n own count =
+    let most : max (suc weight) 1 ≡ suc weight = omega arith in
+    ap (λ w. (n / w + own % count) % count) most ∙ add-mod-mod (n / suc weight) own count

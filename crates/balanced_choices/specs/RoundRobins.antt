@@ -1,8 +1,8 @@
--- Which port of a switch a LID takes.
+-- Which of some candidates a number takes.
 use Rattle.std.specs.Prelude.{◌≡◌, ◌<◌, ◌+◌, ◌*◌, ◌/◌, ◌%◌, ◌^◌}
-use Rattle.spread_routes.specs.declared.round_robin.RoundRobin.{RoundRobin}
+use Rattle.balanced_choices.specs.declared.round_robin.RoundRobin.{RoundRobin}
 
--- `start` and the LIDs behind it with one digit, `weight` of them, have the turn `choice`
+-- `start` and the numbers behind it with one digit, `weight` of them, have the turn `choice`
 pub record IsTurn (turn : RoundRobin) : Type 0 where
   pub weight : 0 < turn.weight
   pub offset : turn.offset < 2 ^ 63

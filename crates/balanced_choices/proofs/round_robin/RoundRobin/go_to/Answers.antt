@@ -1,13 +1,13 @@
 use Rattle.std.proofs.Common.{◌≡◌, ◌+◌, ◌*◌, ◌/◌, ◌%◌, sym, ap, ◌∙◌, arith}
-use Rattle.spread_routes.proofs.Counting.{next_choice, next_digit, next_start, same_digit}
-use Rattle.spread_routes.proofs.round_robin.RoundRobin.go_to.Goals as goal
+use Rattle.balanced_choices.proofs.Counting.{next_choice, next_digit, next_start, same_digit}
+use Rattle.balanced_choices.proofs.round_robin.RoundRobin.go_to.Goals as goal
 
 pub returns-then-past-self-clause-choice : goal.returns-then-past-self-clause-choice
 returns-then-past-self-clause-choice c =
     let turn = c.args.self.now in
     c.requires.turn.choice
-    ∙ ap (λ d. (d + turn.offset) % turn.count) (sym (same_digit turn.start turn.weight c.args.lid c.requires.turn.whole
-    c.if-lid-self.false c.if-past-self.true))
+    ∙ ap (λ d. (d + turn.offset) % turn.count) (sym (same_digit turn.start turn.weight c.args.number c.requires.turn.whole
+    c.if-number-self.false c.if-past-self.true))
 
 pub returns-then-past-self-2-clause-turn : goal.returns-then-past-self-2-clause-turn
 returns-then-past-self-2-clause-turn c =
@@ -28,4 +28,4 @@ returns-then-past-self-2-clause-choice c =
     let turn = c.args.self.now in
     c.next_round-self.ensures ∙ next_choice (turn.start / turn.weight) turn.offset turn.count turn.choice c.requires.turn.choice
     ∙ ap (λ d. (d + turn.offset) % turn.count)
-    (sym (next_digit turn.start turn.weight c.args.lid c.requires.turn.whole c.if-lid-self.false c.if-past-self.false c.if-past-self-2.true))
+    (sym (next_digit turn.start turn.weight c.args.number c.requires.turn.whole c.if-number-self.false c.if-past-self.false c.if-past-self-2.true))

@@ -1,0 +1,93 @@
+//! Which of some candidates a number takes, as numbers rise.
+ghost use Rattle.std.specs.Prelude.{◌≡◌, ◌<◌, ◌+◌, ◌/◌, ◌%◌, ◌^◌, max};
+ghost use Rattle.balanced_choices.specs.RoundRobins.{IsTurn, IsOfSame};
+
+/// The turns of candidates by a digit of a number, counted round. The turn of a number near the last one is found without
+/// a division.
+#[derive(Clone, Copy)]
+pub struct RoundRobin {
+    /// The weight of the digit.
+    weight: usize,
+    /// The number that is added to the digit.
+    offset: usize,
+    /// The number of candidates.
+    count: usize,
+    /// The least number with the digit of the last one.
+    start: usize,
+    /// The turn of the numbers with that digit, counted round.
+    choice: usize,
+}
+
+impl RoundRobin {
+    /// Returns the turn of `number`.
+    pub fn at(weight: usize, offset: usize, count: usize, number: usize) -> Self
+        requires weight { 0 < weight }
+        requires offset { offset < 2 ^ 63 }
+        requires count { 0 < count }
+        requires number { number < 2 ^ 63 }
+        ensures turn { IsTurn result }
+        ensures weight { result.weight ≡ weight }
+        ensures offset { result.offset ≡ offset }
+        ensures count { result.count ≡ count }
+        ensures choice { result.choice ≡ (number / weight + offset) % count }
+    {
+        let digit = number / weight;
+        RoundRobin {
+            weight,
+            offset,
+            count,
+            start: digit * weight,
+            choice: (digit + offset) % count,
+        }
+    }
+
+    /// Returns the turn of 0, by digits from `weight` on (by numbers themselves if it is 0), from `position` on.
+    pub fn first(weight: usize, position: usize, count: usize) -> Self
+        requires { (0 < count) × (count < 2 ^ 63) }
+        ensures turn { IsTurn result }
+        ensures count { result.count ≡ count }
+        ensures offset { result.offset ≡ position % count }
+        ensures weight { result.weight ≡ max weight 1 }
+    {
+        RoundRobin::at(weight.max(1), position % count, count, 0)
+    }
+
+    /// Goes to the turn of another number.
+    pub fn go_to(&mut self, number: usize)
+        requires turn { IsTurn self.old }
+        requires number { number < 2 ^ 63 }
+        ensures turn { IsTurn self.new }
+        ensures same { IsOfSame self.old self.new }
+        ensures choice { self.new.choice ≡ (number / self.old.weight + self.old.offset) % self.old.count }
+    {
+        if number < self.start {
+            *self = RoundRobin::at(self.weight, self.offset, self.count, number);
+            return;
+        }
+        let past = number - self.start;
+        if past < self.weight {
+            return;
+        }
+        if past - self.weight < self.weight {
+            self.start += self.weight;
+            self.choice = next_round(self.choice, self.count);
+        } else {
+            *self = RoundRobin::at(self.weight, self.offset, self.count, number);
+        }
+    }
+
+    /// Returns the turn: the index of the candidate.
+    pub fn choice(&self) -> usize
+        ensures { result ≡ self.now.choice }
+    {
+        self.choice
+    }
+}
+
+/// Returns the number after `choice`, counted round.
+fn next_round(choice: usize, count: usize) -> usize
+    requires { choice < count }
+    ensures { result ≡ (choice + 1) % count }
+{
+    if choice + 1 == count { 0 } else { choice + 1 }
+}
