@@ -2,7 +2,7 @@
 ghost use Rattle.std.specs.Prelude.{◌≡◌, ◌↔◌, ◌⊎◌, ◌/◌, ℕ, IsTrue};
 ghost use Rattle.audit_channels.specs.Known.{Knows};
 
-/// Known channels, all in one row of 64: a bit of a word for each.
+/// A set of known channels, all in one row of 64. Each has one bit.
 #[derive(Clone, Copy)]
 pub(crate) struct Known {
     row: usize,

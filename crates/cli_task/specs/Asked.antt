@@ -95,7 +95,7 @@ audit_asked word = option_and_then (λ floor. option_map
     (λ max_load. record { floor = floor; all = is_set (word (codes "all")); max_load = max_load })
     (max_load_asked (word (codes "max-load")))) (floor_asked (word (codes "floor")))
 
--- the step that is asked for
+-- the step that the words ask for; None if one of them is wrong
 abbrev pub step_asked : (List ℕ → Option (List ℕ)) → Option StepAsked
 step_asked word = option_and_then (λ by. option_map
     (λ floor. record { lmc = by.0; rule = by.1; floor = floor; told = is_set (word (codes "told-order")) })

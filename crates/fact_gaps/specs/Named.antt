@@ -22,11 +22,12 @@ own_port ((Port g p), c) = Some (g, p)
 own_port ((Claim g p), c) = Some (g, p)
 own_port ((Cap g), c) = None
 
--- the node of a node's cell, and the port of a link's
+-- the node of a node's cell
 abbrev pub node_key : Key × Cell Value → Option ℕ
 node_key ((Node g), c) = Some g
 node_key (_, c) = None
 
+-- the port of a link's cell
 abbrev pub link_key : Key × Cell Value → Option (ℕ × ℕ)
 link_key ((Link g p), c) = Some (g, p)
 link_key (_, c) = None

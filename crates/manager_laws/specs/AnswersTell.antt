@@ -8,7 +8,7 @@ use Rattle.manager_laws.specs.Scene.{Handed, Scene, Event, CanHappen, IsQuiet, a
 abbrev pub IsBack : Handed → Type 0
 IsBack h = (is_directed h.packet.bytes ≡ true) × (is_returning h.packet.bytes ≡ true)
 
--- each directed packet that comes back tells of the end of its path, whatever happens
+-- after a quiet start, each directed packet that comes back tells of the end of its path, whatever happens
 abbrev pub AnswersTell : Type 0
 AnswersTell =
     (s : Scene) (events : List Event) → IsQuiet s → All CanHappen events

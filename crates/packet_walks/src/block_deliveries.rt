@@ -7,7 +7,7 @@ ghost use Rattle.packet_walks.specs.LidSets.{no_lids};
 ghost use Rattle.packet_walks.specs.Deliveries.{is_delivered};
 
 use crate::ends_by_sender::is_at;
-use crate::hops_by_tables::{entry_of, step_at, switch_by};
+use crate::hops_by_tables::{entry_of, next_hop_at, switch_by};
 use crate::lid_set::LidSet;
 use crate::next_hop::NextHop;
 use held_tables::{AuditedSwitch, Owner, sole_owner};
@@ -41,7 +41,7 @@ pub(crate) struct Exit {
     pub(crate) lids: LidSet,
 }
 
-/// What is seen so far of packets for those LIDs of a block that exactly one end port holds.
+/// What has been seen so far of the packets for those LIDs of a block that exactly one end port holds.
 #[derive(Drop)]
 pub(crate) struct BlockWalks {
     /// For each switch, the LIDs whose packets are seen to get from there to the LID's end port.
@@ -142,7 +142,7 @@ impl BlockWalks {
     {
         let lid = lid_at(number, index);
         if let Some(port) = sole_owner(owners, lid) {
-            let hop = step_at(&[port], rows, lid, &nodes[switch]);
+            let hop = next_hop_at(&[port], rows, lid, &nodes[switch]);
             self.add_hop(switch, index, &port, hop)?;
         }
         Ok(())

@@ -34,12 +34,12 @@ pub(crate) fn steps(
 {
     nodes
         .iter()
-        .map(|node| step_at(owners, rows, lid, node))
+        .map(|node| next_hop_at(owners, rows, lid, node))
         .collect(alloc)
 }
 
 /// Returns the next hop of a switch.
-pub(crate) fn step_at(
+pub(crate) fn next_hop_at(
     owners: &[EndPort],
     rows: &[[u8; 64]],
     lid: Lid,
@@ -47,11 +47,11 @@ pub(crate) fn step_at(
 ) -> NextHop
     ensures { result ≡ next_hop_of owners.now rows.now lid node.now }
 {
-    step_by(owners, lid, node, entry_of(rows, lid, node))
+    next_hop_by(owners, lid, node, entry_of(rows, lid, node))
 }
 
 /// Returns the next hop of a switch by its entry.
-fn step_by(owners: &[EndPort], lid: Lid, node: &AuditedSwitch, entry: u8) -> NextHop
+fn next_hop_by(owners: &[EndPort], lid: Lid, node: &AuditedSwitch, entry: u8) -> NextHop
     ensures { result ≡ next_hop_by owners.now lid node.now entry }
 {
     if entry == 0 {
@@ -99,7 +99,7 @@ fn switch_step_at(
     SwitchStep {
         switch: node.guid,
         entry,
-        hop: step_by(owners, lid, node, entry),
+        hop: next_hop_by(owners, lid, node, entry),
     }
 }
 

@@ -26,7 +26,7 @@ pub(crate) fn own_lid(store: &Store, lids: &LidMap, own_guid: Guid, port: PortNu
     Lid::NONE
 }
 
-/// Returns whether the end port has this number, and is known to have this GUID.
+/// Returns whether `end` has the number `port`, and its GUID is known to be `own_guid`.
 fn is_own_port(store: &Store, end: EndPort, own_guid: Guid, port: PortNum) -> bool
     ensures { result ≡ is_own_port (cells_of store.now) own_guid port end }
 {

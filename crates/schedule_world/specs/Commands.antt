@@ -115,7 +115,7 @@ unfoldable pub after_step : WorldValue → ℕ → Outcome WorldValue
 after_step w serial = let called =
     after_deliver w.fabric serial in and_then (after_fabric_call w called) (λ now. after_arrival now called.result)
 
--- the packet with this serial number meets its fate, by `deliver`, `lose` or `repeat`
+-- the packet with this serial number takes one step, is lost or is repeated, by `deliver`, `lose` or `repeat`
 abbrev pub after_fate : WorldValue → Fate → ℕ → Outcome WorldValue
 after_fate w Deliver serial = after_step w serial
 after_fate w Lose serial = after_fabric_call w (after_lose w.fabric serial)

@@ -12,7 +12,7 @@ use smp_bytes::Generation;
 use std::alloc::Global;
 
 impl World<'_> {
-    /// Seats a manager at its port.
+    /// Seats the manager at index `seat` at its port. If the fabric refuses it, prints the refusal.
     pub(crate) fn seat<W: Sink>(&mut self, seat: usize, sink: &mut W) -> Result<(), RunFault>
         requires { seat < length self.old.managers.items }
         ensures does { Does W.written W.has_failed self.old self.new result sink.old sink.new

@@ -41,7 +41,7 @@ pub(crate) struct World<'s> {
 }
 
 impl<'s> World<'s> {
-    /// Builds the fabric of a topology, and a manager for each seat, which plans by `planning`.
+    /// Builds the fabric of `topology`, and for each of `seats` a manager that plans by `planning`.
     pub(crate) fn of(
         alloc: Global,
         topology: &Topology,

@@ -41,7 +41,7 @@ impl Writing {
         }
     }
 
-    /// Returns the number of steps of the next phase.
+    /// Returns the number of steps of the next phase, or 0 if no phase is left.
     pub(crate) fn next_count(&self) -> usize
         ensures { result ≡ length (next_phase self.now.later).steps }
     {

@@ -12,7 +12,7 @@ use subnet_view::EndPort;
 /// The first number that is no LID of an end port.
 const LID_END: u32 = Lid::UNICAST_END as u32;
 
-/// What the order of later lines depends on, from the lines so far.
+/// What must be kept of the lines so far to check the order of later ones.
 #[derive(Clone, Copy)]
 pub(crate) struct LastLines {
     /// The first LID of the last line of an end port.

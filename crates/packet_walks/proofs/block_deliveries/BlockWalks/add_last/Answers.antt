@@ -22,7 +22,7 @@ returns-in_ok-add_hop c =
     let lid = 64 * number + a.index in
     let old = a.self.now in
     let port = c.in-Some.port in
-    let hop = c.step_at-hop.result in
+    let hop = c.next_hop_at-hop.result in
     let node = c.index-nodes-switch.result in
     let target : target_at owners number a.index ≡ Some port =
     sym (c.in-Some.ensures ∙ ap (λ (k : ℕ). sole_among (slice_index_or owners k Several)) c.lid_at-lid.ensures) in
@@ -32,4 +32,4 @@ returns-in_ok-add_hop c =
     ∙ ap (next_hop_of (port ∷ []) rows lid) (sym c.index-nodes-switch.is) in
     hop_seen (length nodes) (hops_at nodes owners rows number) (target_at owners number) old.arrived.items c.add_hop.new.self.arrived.items
     old.exits.items c.add_hop.new.self.exits.items switch a.index port hop c.requires.index c.requires.seen target
-    (there ∙ ap (λ (k : ℕ). next_hop_of (port ∷ []) rows k node) (sym c.lid_at-lid.ensures) ∙ sym c.step_at-hop.ensures) c.in_ok-add_hop.ensures
+    (there ∙ ap (λ (k : ℕ). next_hop_of (port ∷ []) rows k node) (sym c.lid_at-lid.ensures) ∙ sym c.next_hop_at-hop.ensures) c.in_ok-add_hop.ensures
