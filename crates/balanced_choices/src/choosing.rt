@@ -145,11 +145,7 @@ fn digits_from(weight: usize, number: usize) -> usize
     ensures digits { result ≡ digits_from weight number }
     ensures less { result ≤ number }
 {
-    if weight == 0 {
-        number
-    } else {
-        number / weight
-    }
+    if weight == 0 { number } else { number / weight }
 }
 
 /// Returns a number, counted round among `count`, of which there are at most 256.

@@ -75,9 +75,7 @@ fn add_packets(
         let mut order = near_first(alloc, &ways)?;
         order.reverse();
         let (number, ends) = (destination.number, destination.ends);
-        add_packets_to(
-            &ways, &order, sent, weights, number, ends, &mut had, loads,
-        );
+        add_packets_to(&ways, &order, sent, weights, number, ends, &mut had, loads);
     }
     Ok(())
 }

@@ -75,7 +75,12 @@ fn no_choices(
 {
     let mut choices = Vec::new(alloc);
     for destination in destinations {
-        push_choices(alloc, positions, usize::from(destination.ends), &mut choices)?;
+        push_choices(
+            alloc,
+            positions,
+            usize::from(destination.ends),
+            &mut choices,
+        )?;
     }
     Ok(choices)
 }
@@ -227,7 +232,10 @@ fn choose_some(
 }
 
 /// Returns the positions of destinations.
-pub(crate) fn positions_of(alloc: Global, destinations: &[Destination]) -> Result<Vec<usize>, AllocError>
+pub(crate) fn positions_of(
+    alloc: Global,
+    destinations: &[Destination],
+) -> Result<Vec<usize>, AllocError>
     ensures { IfOk result (λ positions. positions.items ≡ map (λ d. d.position) destinations.now) }
 {
     destinations
@@ -266,9 +274,7 @@ fn choose_between(
     for end in first..last {
         let own = &mut choices[end];
         let number = number as usize + (end - first);
-        choose(
-            alloc, round, ways, order, sent, weights, number, own, loads,
-        )?;
+        choose(alloc, round, ways, order, sent, weights, number, own, loads)?;
     }
     Ok(())
 }

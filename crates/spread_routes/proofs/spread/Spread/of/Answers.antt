@@ -122,6 +122,6 @@ returns-then-is_balanced c =
       levels = levels i;
       choices = ((λ j. Some (adapter_choices (by_positions graph (keys j)) (weights_there graph (keys j) (levels j)) (numbers j) (there j)))
           ∙ choices_if graph now (levels_of (by_index graph) (leaf_vertices adapters)) adapters order_value
-              (sym c.is_balanced.ensures ∙ c.if-is_balanced.true)) i;
+          (sym c.is_balanced.ensures ∙ c.if-is_balanced.true)) i;
     }) in
     subst (λ (g : Grading). IfOk c.balanced.result (λ s. s ≡ g)) all c.balanced.ensures
