@@ -1,4 +1,4 @@
--- An attribute as it is spelled: 64 bytes in which some fields hold numbers and all else is 0.
+-- The spelling of an attribute: 64 bytes in which some fields hold numbers and all else is 0.
 use Rattle.std.specs.Prelude.{ℕ, ◌^◌, ◌<◌, List, [], ◌∷◌, replicate}
 use Rattle.smp_bytes.specs.Field.{Entry, with_numbers}
 

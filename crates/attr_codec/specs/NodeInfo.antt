@@ -1,5 +1,5 @@
--- Node information: its fields, what 64 bytes say, and how it is spelled.
--- InfiniBand Architecture Specification, Volume 1: subnet management, NodeInfo.
+-- Node information: its fields, the value of 64 bytes, and its spelling. InfiniBand Architecture Specification, Volume
+-- 1: subnet management, NodeInfo.
 use Rattle.std.specs.Prelude.{ℕ, List, [], ◌∷◌}
 use Rattle.smp_bytes.specs.Field.{Field, Entry, number_in}
 use Rattle.attr_codec.specs.Image.{AllFit, image}
@@ -41,7 +41,7 @@ local_port_num = record { at = 36; len = 1 }
 abbrev pub vendor_id : Field
 vendor_id = record { at = 37; len = 3 }
 
--- what 64 bytes say
+-- the value that 64 bytes spell
 abbrev pub node_info_in : List ℕ → NodeInfo
 node_info_in bytes =
     record {
@@ -75,7 +75,7 @@ entries_of info =
     ∷ record { field = local_port_num; number = info.local_port_num }
     ∷ record { field = vendor_id; number = info.vendor_id } ∷ []
 
--- the 64 bytes that spell `info`; the bytes behind the last field are reserved and 0
+-- the 64 bytes that spell `info`; the bytes after the last field are reserved and 0
 abbrev pub node_info_bytes : NodeInfo → List ℕ
 node_info_bytes info = image (entries_of info)
 

@@ -3,11 +3,12 @@ use Rattle.std.specs.Prelude.{ℕ, Option, [], ◌∷◌, find, ◌==◌}
 use Rattle.smp_bytes.specs.declared.node_type.NodeType.{NodeType}
 use Rattle.smp_bytes.specs.declared.node_type.NodeType.TheVariants.{ChannelAdapter, Switch, Router}
 
+-- the number of a node type
 abbrev pub number_of_type : NodeType → ℕ
 number_of_type ChannelAdapter = 1
 number_of_type Switch = 2
 number_of_type Router = 3
 
--- the type with this number; other numbers are reserved
+-- the type with this number; None if the number is reserved
 abbrev pub type_of_number : ℕ → Option NodeType
 type_of_number number = find (λ kind. number == number_of_type kind) (ChannelAdapter ∷ Switch ∷ Router ∷ [])

@@ -45,10 +45,11 @@ range_in payload = (number_in base_lid payload, bits_in lmc payload)
 abbrev pub port_state : Bits
 port_state = record { at = 32; shift = 0; width = 4 }
 
--- IsSM, bit 1 of the capability mask: a subnet manager sits at the port
+-- IsSM, bit 1 of the capability mask: whether a subnet manager sits at the port
 abbrev pub is_sm_bit : Bits
 is_sm_bit = record { at = 23; shift = 1; width = 1 }
 
+-- the number of a port state
 abbrev pub number_of_state : PortState → ℕ
 number_of_state NoChange = 0
 number_of_state Down = 1
@@ -56,7 +57,7 @@ number_of_state Initialize = 2
 number_of_state Armed = 3
 number_of_state Active = 4
 
--- the state with this number; other numbers are reserved
+-- the state with this number; None if the number is reserved
 abbrev pub state_of_number : ℕ → Option PortState
 state_of_number number =
     find (λ state. number == number_of_state state) (NoChange ∷ Down ∷ Initialize ∷ Armed ∷ Active ∷ [])

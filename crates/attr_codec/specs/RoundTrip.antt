@@ -1,4 +1,4 @@
--- An attribute's value is read again from the bytes that spell it.
+-- The value of an attribute is read back from the bytes that spell it.
 use Rattle.std.proofs.Common.{◌≡◌, ℕ, zero, suc, ◌<◌, ◌^◌, ◌∙◌, List, [], ◌∷◌, refl, sym, subst, true, replicate, length, get_or, arith}
 use Rattle.std.specs.Prelude.{Some, slice_get}
 use Rattle.smp_bytes.specs.Field.{Field, Entry, are_apart, bits_in, number_in, replaced, with_bits}
@@ -42,7 +42,7 @@ node_info_reads_back info fits =
       vendor_id = number_in-image (entries_of info) fits 11 _ refl refl j;
     }
 
--- the byte with the priority and the state is 0 before these are written
+-- the byte with the priority and the state is 0 before they are written
 blank : (info : SmInfo) → get_or (image (sm_info_entries info)) 20 0 ≡ 0
 blank info = sym (byte-number_in 20 (image (sm_info_entries info)))
     ∙ number_in-with_numbers_apart 64 (record { at = 20; len = 1 }) (sm_info_entries info) (replicate 64 0) refl refl

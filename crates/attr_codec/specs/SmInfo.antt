@@ -1,5 +1,5 @@
--- A subnet manager's information: its fields, what 64 bytes say, and how it is spelled.
--- InfiniBand Architecture Specification, Volume 1: subnet management, SMInfo.
+-- The information of a subnet manager: its fields, the value of 64 bytes, and its spelling. InfiniBand Architecture
+-- Specification, Volume 1: subnet management, SMInfo.
 use Rattle.std.specs.Prelude.{ℕ, ◌^◌, ◌<◌, List, [], ◌∷◌}
 use Rattle.smp_bytes.specs.Field.{Field, Bits, Entry, number_in, bits_in, with_bits}
 use Rattle.attr_codec.specs.Image.{AllFit, image}
@@ -20,7 +20,7 @@ priority = record { at = 20; shift = 4; width = 4 }
 abbrev pub sm_state : Bits
 sm_state = record { at = 20; shift = 0; width = 4 }
 
--- what 64 bytes say
+-- the value that 64 bytes spell
 abbrev pub sm_info_in : List ℕ → SmInfo
 sm_info_in bytes =
     record {
@@ -37,7 +37,7 @@ sm_info_entries info =
     record { field = guid; number = info.guid } ∷ record { field = sm_key; number = info.sm_key }
     ∷ record { field = act_count; number = info.act_count } ∷ []
 
--- the 64 bytes that spell `info`; the bytes behind the last field are reserved and 0
+-- the 64 bytes that spell `info`; the bytes after the last field are reserved and 0
 abbrev pub sm_info_bytes : SmInfo → List ℕ
 sm_info_bytes info = with_bits sm_state info.state (with_bits priority info.priority (image (sm_info_entries info)))
 

@@ -15,13 +15,13 @@ abbrev pub KeepsFirstBytes : {V : Type 0} → ℕ → (List ℕ → V) → (V �
 KeepsFirstBytes count value_in bytes_of =
     (bytes : List ℕ) → Are64Bytes bytes → bytes_of (value_in bytes) ≡ take count bytes ++ replicate (64 - count) 0
 
--- 64 bytes that hold each field of `value`, and 0 behind the first `count` bytes
+-- 64 bytes that hold each field of `value`, and 0 after the first `count` bytes
 pub record Spells {V : Type 0} (count : ℕ) (value_in : List ℕ → V) (value : V) (bytes : List ℕ) : Type 0 where
   pub whole : length bytes ≡ 64
   pub fields : value_in bytes ≡ value
   pub reserved : drop count bytes ≡ replicate (64 - count) 0
 
--- `bytes_of` spells each value, with 0 behind the first `count` bytes
+-- `bytes_of` spells each value, with 0 after the first `count` bytes
 abbrev pub SpellsEachValue : {V : Type 0} → ℕ → (List ℕ → V) → (V → List ℕ) → (V → Type 0) → Type 0
 SpellsEachValue {V = V} count value_in bytes_of is_value =
     (value : V) → is_value value → Spells count value_in value (bytes_of value)

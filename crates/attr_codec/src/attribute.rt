@@ -7,7 +7,7 @@ pub trait Attribute: Sized {
 
     ghost ID: { ℕ };
 
-    /// Each part of a value fits its field. Holds for every value of the type.
+    /// Each part of the value fits its field. This holds for every value of the type.
     ghost is_value: { Self → Type 0 };
 
     /// The value that 64 bytes spell.
@@ -26,6 +26,6 @@ pub trait Attribute: Sized {
         ensures bytes { result ≡ bytes_of self.now }
         ensures fits { is_value self.now };
 
-    /// The value that is encoded is decoded again.
+    /// A value that is encoded is decoded as itself.
     ghost reads_back: { (value : Self) → is_value value → value_in (bytes_of value) ≡ value };
 }

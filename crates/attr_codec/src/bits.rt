@@ -1,4 +1,4 @@
-//! Bit fields of an attribute: some bits of one byte, given by const parameters.
+//! Bit fields of an attribute, each given by const parameters as bits of one byte.
 ghost use Rattle.std.specs.Prelude.{◌≡◌, ◌+◌, ◌^◌, ◌<◌, ◌≤◌};
 ghost use Rattle.smp_bytes.specs.Field.{bits_in, with_bits};
 
@@ -15,7 +15,7 @@ pub fn bits<const AT: usize, const SHIFT: u32, const WIDTH: u32>(bytes: &[u8; 64
     bits_at(bytes, AT, SHIFT, WIDTH)
 }
 
-/// Writes `number` into `WIDTH` bits of the byte at `AT`, the lowest of which is bit `SHIFT`. All other bits stay.
+/// Writes `number` into `WIDTH` bits of the byte at `AT`. The lowest of them is bit `SHIFT`. All other bits stay.
 pub fn with_bits<const AT: usize, const SHIFT: u32, const WIDTH: u32>(
     bytes: &mut [u8; 64],
     number: u8,

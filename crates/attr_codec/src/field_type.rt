@@ -38,7 +38,7 @@ pub fn read<T: FieldType, const AT: usize>(bytes: &[u8; 64]) -> T
     T::read_at(bytes, AT)
 }
 
-/// Writes the field whose first byte is at `AT`; all other bytes stay.
+/// Writes the field whose first byte is at `AT`. All other bytes stay.
 pub fn write<T: FieldType, const AT: usize>(value: T, bytes: &mut [u8; 64])
     requires { AT + T.len ≤ 64 }
     ensures written { bytes.new

@@ -18,14 +18,14 @@ pub fn decode_undoes_encode<A: Attribute>()
     ensures { (value : A) → A.is_value value → A.value_in (A.bytes_of value) ≡ value }
 {}
 
-/// Node information keeps its 40 bytes of fields; the 24 reserved bytes behind them become 0.
+/// Node information keeps its 40 bytes of fields, and the 24 reserved bytes after them become 0.
 pub fn node_info_keeps_its_fields()
     ensures { KeepsFirstBytes 40
         ⟦<NodeInfo as Attribute>⟧.value_in
         ⟦<NodeInfo as Attribute>⟧.bytes_of }
 {}
 
-/// A subnet manager's information keeps its 21 bytes of fields; the 43 reserved bytes behind them become 0.
+/// A subnet manager's information keeps its 21 bytes of fields, and the 43 reserved bytes after them become 0.
 pub fn sm_info_keeps_its_fields()
     ensures { KeepsFirstBytes 21
         ⟦<SmInfo as Attribute>⟧.value_in
@@ -60,7 +60,7 @@ pub fn node_description_keeps_all_bytes()
         ⟦<NodeDescription as Attribute>⟧.bytes_of }
 {}
 
-/// Node information is spelled with each field at its offset, and 0 in the 24 bytes behind them.
+/// Node information is spelled with each field at its offset, and 0 in the 24 bytes after the fields.
 pub fn node_info_is_spelled_by_its_fields()
     ensures { SpellsEachValue 40
         ⟦<NodeInfo as Attribute>⟧.value_in
@@ -68,7 +68,7 @@ pub fn node_info_is_spelled_by_its_fields()
         ⟦<NodeInfo as Attribute>⟧.is_value }
 {}
 
-/// A subnet manager's information is spelled with each field at its offset, and 0 in the 43 bytes behind them.
+/// A subnet manager's information is spelled with each field at its offset, and 0 in the 43 bytes after the fields.
 pub fn sm_info_is_spelled_by_its_fields()
     ensures { SpellsEachValue 21
         ⟦<SmInfo as Attribute>⟧.value_in

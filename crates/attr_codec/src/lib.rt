@@ -1,4 +1,4 @@
-//! The attributes that subnet management packets carry: 64 bytes and what they spell.
+//! The attributes that subnet management packets carry: 64 bytes and the values that they spell.
 #![tactic(auto)]
 
 mod attribute;

@@ -23,7 +23,7 @@ impl Lmc {
     /// The LMC with one LID for each port.
     pub const ZERO: Self = Lmc(0);
 
-    /// Returns `None` if `number` is over 7.
+    /// Creates an LMC from its number. Returns `None` if it is over 7.
     pub fn new(number: u8) -> Option<Self>
         ensures fits { IsSome result ↔ (number < 8) }
         ensures value { IfSome result (λ lmc. lmc ≡ number) }

@@ -1,5 +1,5 @@
-/// Builds the body of an attribute's `decode` or `encode` from its list of fields: `name: Type at OFFSET` for whole
-/// bytes, and after `bits` `name: Type at OFFSET, SHIFT, WIDTH` for some bits of one byte.
+/// Builds the body of an attribute's `decode` or `encode` from its list of fields. An entry `name: Type at OFFSET` is a
+/// field of whole bytes. After `bits`, an entry `name: Type at OFFSET, SHIFT, WIDTH` is a field of bits of one byte.
 macro_rules! fields {
     (decode $bytes:ident, $attribute:ident { $($name:ident: $kind:ident at $at:literal),* $(,)? }
             $(bits { $($part:ident: $of:ident at $byte:literal, $shift:literal, $width:literal),* $(,)? })?) => {

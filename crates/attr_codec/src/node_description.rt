@@ -2,8 +2,8 @@ use crate::attribute::Attribute;
 use smp_bytes::AttributeId;
 use std::marker::Model;
 
-/// The operator's name for a node: 64 bytes of text, padded with zeros (subnet management, NodeDescription). All 64 are
-/// kept as they are. Contracts see the bytes.
+/// The operator's name for a node: 64 bytes of text, padded with zeros (subnet management, NodeDescription). All 64
+/// bytes are kept as they are. Contracts see the bytes.
 #[derive(Clone, Copy, Debug, PartialEq, Eq)]
 pub struct NodeDescription {
     bytes: [u8; 64],

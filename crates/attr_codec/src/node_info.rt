@@ -7,7 +7,7 @@ use crate::node_type_number::NodeTypeNumber;
 use crate::vendor_id::VendorId;
 use smp_bytes::{AttributeId, Guid, PortNum};
 
-/// What a node is, and the port by which the request came (subnet management, NodeInfo).
+/// The properties of a node, and the port by which the request came (subnet management, NodeInfo).
 #[derive(Clone, Copy, Debug, PartialEq, Eq)]
 pub struct NodeInfo {
     pub base_version: u8,
@@ -17,7 +17,7 @@ pub struct NodeInfo {
     pub num_ports: u8,
     pub system_image_guid: Guid,
     pub node_guid: Guid,
-    /// The GUID of the port that was asked; for a switch, the GUID of port 0.
+    /// The GUID of the port that was asked. For a switch, this is the GUID of port 0.
     pub port_guid: Guid,
     pub partition_cap: u16,
     pub device_id: u16,

@@ -56,7 +56,8 @@ impl Attribute for PortInfo {
     ghost reads_back = { λ _ _. refl };
 }
 
-/// The named fields: type and first byte of a field of whole bytes; byte, lowest bit and number of bits of a bit field.
+/// The named fields: the type and the first byte of a field of whole bytes, and the byte, the lowest bit and the number
+/// of bits of a bit field.
 macro_rules! port_info {
     ($access:ident m_key $args:tt) => { field_type::$access::<u64, 0> $args };
     ($access:ident gid_prefix $args:tt) => { field_type::$access::<u64, 8> $args };

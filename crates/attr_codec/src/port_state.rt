@@ -1,7 +1,7 @@
 ghost use Rattle.std.specs.Prelude.{◌≡◌, ◌<◌};
 ghost use Rattle.attr_codec.specs.PortInfo.{number_of_state, state_of_number};
 
-/// The state of a port's link; in a Set, `NoChange` keeps it (subnet management, PortInfo: PortState).
+/// The state of a port's link (subnet management, PortInfo: PortState). In a Set, `NoChange` keeps the state.
 #[derive(Clone, Copy, Debug, PartialEq, Eq)]
 pub enum PortState {
     NoChange,

@@ -2,7 +2,7 @@ ghost use Rattle.std.specs.Prelude.{◌≡◌, ◌<◌, ◌↔◌, IsSome, IfSom
 
 use std::marker::Model;
 
-/// The priority of a subnet manager, 0 to 15. The greater one wins.
+/// The priority of a subnet manager, 0 to 15. The greater priority wins.
 #[derive(Clone, Copy, Debug, PartialEq, Eq, PartialOrd, Ord)]
 pub struct Priority(u8);
 
@@ -19,7 +19,7 @@ impl Model for Priority {
 }
 
 impl Priority {
-    /// Returns `None` if `number` is over 15.
+    /// Creates a priority from its number. Returns `None` if it is over 15.
     pub fn new(number: u8) -> Option<Self>
         ensures fits { IsSome result ↔ (number < 16) }
         ensures value { IfSome result (λ priority. priority ≡ number) }

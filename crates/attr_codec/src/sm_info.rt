@@ -6,7 +6,7 @@ use crate::priority::Priority;
 use crate::sm_state_number::SmStateNumber;
 use smp_bytes::{AttributeId, Guid};
 
-/// What a subnet manager reports of itself (subnet management, SMInfo).
+/// What a subnet manager reports about itself (subnet management, SMInfo).
 #[derive(Clone, Copy, Debug, PartialEq, Eq)]
 pub struct SmInfo {
     /// The GUID of the manager's port.

@@ -54,7 +54,8 @@ impl Attribute for SwitchInfo {
     ghost reads_back = { λ _ _. refl };
 }
 
-/// The named fields: type and first byte of a field of whole bytes; byte, lowest bit and number of bits of a bit field.
+/// The named fields: the type and the first byte of a field of whole bytes, and the byte, the lowest bit and the number
+/// of bits of a bit field.
 macro_rules! switch_info {
     ($access:ident linear_fdb_cap $args:tt) => { field_type::$access::<u16, 0> $args };
     ($access:ident random_fdb_cap $args:tt) => { field_type::$access::<u16, 2> $args };

@@ -6,7 +6,7 @@ use crate::{
 use smp_bytes::{Guid, NodeType, PortNum};
 use std::test::Fail;
 
-/// Returns NodeInfo whose bytes differ in each byte of each field.
+/// Returns the bytes of a NodeInfo in which no two bytes of a field are equal.
 fn node_info_bytes() -> [u8; 64] {
     let mut bytes = [0; 64];
     bytes[..4].copy_from_slice(&[1, 2, 3, 4]);

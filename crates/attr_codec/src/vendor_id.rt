@@ -19,7 +19,7 @@ impl Model for VendorId {
 }
 
 impl VendorId {
-    /// Returns `None` if `number` has more than 24 bits.
+    /// Creates a vendor number. Returns `None` if `number` has more than 24 bits.
     pub fn new(number: u32) -> Option<Self>
         ensures fits { IsSome result ↔ (number < 2 ^ 24) }
         ensures value { IfSome result (λ id. id ≡ number) }

@@ -1,5 +1,5 @@
--- The channels of edges, and the channels that packets for one LID take in turn. A column has, for each vertex, the
--- edge by which they leave it.
+-- The channels of edges, and the channels that packets for one LID take one after the other. A column has, for each
+-- vertex, the edge by which these packets leave it.
 use Rattle.std.specs.Prelude.{◌≡◌, ◌↔◌, ◌⊎◌, ◌<◌, ◌+◌, ◌*◌, ℕ, List, Option, None, Some, length, slice_index_or}
 use Rattle.port_graph.specs.declared.edge.Edge.{Edge}
 use Rattle.audit_channels.specs.declared.column.Turn.{Turn}
@@ -9,8 +9,8 @@ use Rattle.audit_channels.specs.Orders.{Follows}
 abbrev pub number_of : ℕ → Edge → ℕ
 number_of vertex edge = 256 * vertex + edge.port
 
--- a packet leaves `vertex` by `channel`, along its edge in `before`, and then the next vertex by `next`, along that
--- vertex's edge in `now`
+-- a packet leaves `vertex` by `channel`, along the vertex's edge in `before`, and leaves the next vertex by `next`,
+-- along that vertex's edge in `now`
 pub record TakesAcross (before now : List (Option Edge)) (vertex channel next : ℕ) : Type 0 where
   pub first : Edge
   pub second : Edge
@@ -23,7 +23,8 @@ pub record TakesAcross (before now : List (Option Edge)) (vertex channel next : 
 abbrev pub TakesNone : List (Option Edge) → List (Option Edge) → ℕ → Type 0
 TakesNone before now vertex = (channel next : ℕ) → TakesAcross before now vertex channel next → ⊥
 
--- `turn` has two channels that a packet takes in turn, both among the channels of the columns' vertices
+-- `turn` has two channels that a packet takes one after the other, from `vertex` on; both are channels of the columns'
+-- vertices
 pub record IsTurn (before now : List (Option Edge)) (vertex : ℕ) (turn : Turn) : Type 0 where
   pub takes : TakesAcross before now vertex turn.channel turn.next
   pub channel_within : turn.channel < 256 * length before
@@ -33,19 +34,21 @@ pub record IsTurn (before now : List (Option Edge)) (vertex : ℕ) (turn : Turn)
 abbrev pub TakesAmong : ℕ → List (Option Edge) → List (Option Edge) → ℕ → ℕ → Type 0
 TakesAmong count before now channel next = (vertex : ℕ) × (vertex < count) × TakesAcross before now vertex channel next
 
--- `new` is `old`, with the channels that are taken in turn at the first `count` vertices following each other
+-- `new` is `old`, and a channel also follows another if a packet takes them in this order at one of the first `count`
+-- vertices
 pub record IsWithSome (count : ℕ) (old : List (List ℕ)) (before now : List (Option Edge)) (new : List (List ℕ)) : Type 0
   where
     pub as_many : length new ≡ length old
     pub follows : (a b : ℕ) → Follows new a b ↔ (Follows old a b ⊎ TakesAmong count before now a b)
 
--- `new` is `old`, with all channels that are taken in turn following each other
+-- `new` is `old`, and a channel also follows another if a packet takes them in this order at some vertex
 abbrev pub IsWithAcross : List (List ℕ) → List (Option Edge) → List (Option Edge) → List (List ℕ) → Type 0
 IsWithAcross old before now new = IsWithSome (length before) old before now new
 
--- a packet takes `channel` and then `next`, while the edges stay
+-- a packet takes `channel` at `vertex` and then `next`, both by the edges in `column`
 abbrev pub TakesInTurn : List (Option Edge) → ℕ → ℕ → ℕ → Type 0
 TakesInTurn column vertex channel next = TakesAcross column column vertex channel next
 
+-- `new` is `old`, and a channel also follows another if a packet takes them in this order by `column`
 abbrev pub IsWithColumn : List (List ℕ) → List (Option Edge) → List (List ℕ) → Type 0
 IsWithColumn old column new = IsWithAcross old column column new

@@ -14,8 +14,8 @@ use Rattle.packet_walks.specs.Fabrics.{IsSeenIn}
 use Rattle.held_tables.specs.Switches.{index_in}
 use Rattle.audit_channels.specs.Waiting.{RiseOnWays}
 
--- `hop` goes from one switch to another; `channel` is 256 times the index of the first one among the usable switches,
--- plus the port by which the packet leaves it
+-- `hop` goes from one switch to another, and `channel` is 256 times the index of the first switch among the usable
+-- switches, plus the port by which the packet leaves it
 pub record IsChannel (cells : Cells) (f : Fabric) (hop : Hop) (channel : ℕ) : Type 0 where
   pub wire : IsWire f hop.out hop.into
   pub from : Node
@@ -28,7 +28,7 @@ pub record IsChannel (cells : Cells) (f : Fabric) (hop : Hop) (channel : ℕ) : 
   pub index_is : index_in (switches cells) from.guid ≡ Some index
   pub channel_is : channel ≡ 256 * index + hop.out.port
 
--- two wires that a packet takes in turn, both of them channels
+-- `channel` and `next` are the channels of two consecutive hops, both between switches
 pub record TakeInTurn (cells : Cells) (f : Fabric) (hops : List Hop) (channel next : ℕ) : Type 0 where
   pub nth : ℕ
   pub hop : Hop
@@ -38,7 +38,7 @@ pub record TakeInTurn (cells : Cells) (f : Fabric) (hops : List Hop) (channel ne
   pub channel_is : IsChannel cells f hop channel
   pub next_is : IsChannel cells f later next
 
--- a packet for some LID, from an end port of the part, has taken these wires
+-- a packet that an end port of the part sends for some LID takes these hops
 pub record Travels (part : Part) (f : Fabric) (hops : List Hop) : Type 0 where
   pub source : NodePort
   pub node : Node
@@ -48,8 +48,8 @@ pub record Travels (part : Part) (f : Fabric) (hops : List Hop) : Type 0 where
   pub end : Standing
   pub goes : Goes f lid (sent_from source) hops end
 
--- the channels that a packet takes have rising numbers, if the numbers rise by facts and tables, the facts describe
--- what is joined to an end port, and the end ports and switches there hold the tables
+-- if the numbers rise by facts and tables, the facts describe all that is joined to an end port, and the end ports and
+-- switches there hold the tables, then the channels that a packet takes have rising numbers
 abbrev pub ChannelsRise : Type 0
 ChannelsRise =
     (facts : Facts) (held : HeldPlan) (f : Fabric) (origin : NodePort) (numbers : List ℕ) → IsEndPort f origin

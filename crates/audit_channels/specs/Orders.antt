@@ -8,7 +8,7 @@ use Rattle.audit_channels.specs.declared.order.ChannelOrder.TheVariants.{Rises, 
 abbrev pub Follows : List (List ℕ) → ℕ → ℕ → Type 0
 Follows waits channel next = Contains (slice_index_or waits channel []) next
 
--- each number that follows a channel is a channel
+-- each channel that follows another is less than the number of channels
 abbrev pub LeadToChannels : List (List ℕ) → Type 0
 LeadToChannels waits = (channel next : ℕ) → Follows waits channel next → next < length waits
 
@@ -16,7 +16,7 @@ LeadToChannels waits = (channel next : ℕ) → Follows waits channel next → n
 abbrev pub AreWith : List ℕ → ℕ → List ℕ → Type 0
 AreWith old channel new = (c : ℕ) → Contains new c ↔ (Contains old c ⊎ (c ≡ channel))
 
--- `new` is `old`, and `next` follows `channel`
+-- `new` is `old`, and `next` also follows `channel`
 pub record IsWith (old : List (List ℕ)) (channel next : ℕ) (new : List (List ℕ)) : Type 0 where
   pub as_many : length new ≡ length old
   pub follows : (a b : ℕ) → Follows new a b ↔ (Follows old a b ⊎ ((a ≡ channel) × (b ≡ next)))
@@ -27,7 +27,7 @@ pub record Rise (waits : List (List ℕ)) (numbers : List ℕ) : Type 0 where
   pub rises : (channel next : ℕ) → Follows waits channel next → slice_index_or numbers channel 0
       < slice_index_or numbers next 0
 
--- each channel follows the one before, from `channel` on, and `last` follows the last one
+-- in the list that has `channel`, then the given channels, then `last`, each channel follows the one before it
 abbrev pub GoesOn : List (List ℕ) → ℕ → List ℕ → ℕ → Type 0
 GoesOn waits channel [] last = Follows waits channel last
 GoesOn waits channel (next ∷ later) last = Follows waits channel next × GoesOn waits next later last
@@ -37,16 +37,16 @@ abbrev pub IsCycle : List (List ℕ) → List ℕ → Type 0
 IsCycle waits [] = ⊥
 IsCycle waits (channel ∷ later) = GoesOn waits channel later channel
 
--- no cycle has fewer channels
+-- no cycle has fewer channels than `channels`
 abbrev pub NoneShorter : List (List ℕ) → List ℕ → Type 0
 NoneShorter waits channels = (cycle : List ℕ) → IsCycle waits cycle → length channels ≤ length cycle
 
--- numbers that rise, or a cycle
+-- the order is numbers that rise, or a cycle
 abbrev pub IsOrder : List (List ℕ) → ChannelOrder → Type 0
 IsOrder waits (Rises numbers) = Rise waits numbers.items
 IsOrder waits (Cycle channels) = IsCycle waits channels.items
 
--- if it is a cycle, no cycle has fewer channels
+-- if the order is a cycle, no cycle has fewer channels
 abbrev pub IsShortest : List (List ℕ) → ChannelOrder → Type 0
 IsShortest waits (Rises numbers) = Unit {0}
 IsShortest waits (Cycle channels) = NoneShorter waits channels.items

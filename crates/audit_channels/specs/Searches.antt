@@ -1,5 +1,5 @@
--- Breadth-first searches from a channel over those without a number: the reached channels, in order, each marked with
--- the number of the first one plus 1.
+-- Breadth-first searches from a channel over the channels without a number. The reached channels are listed in order,
+-- and each is marked with the number of the first channel plus 1.
 use Rattle.std.specs.Prelude.{◌≡◌, ◌<◌, ◌≤◌, ◌+◌, ℕ, List, [], ◌∷◌, length, slice_index_or}
 use Rattle.audit_channels.specs.declared.shortest.Visited.{Visited}
 use Rattle.audit_channels.specs.Orders.{Follows, GoesOn, IsCycle}
@@ -15,7 +15,7 @@ pub record HasReached (reached : List Visited) (channel count : ℕ) : Type 0 wh
   pub is : (at_index reached index).channel ≡ channel
   pub within : (at_index reached index).count ≤ count
 
--- `next` was reached from an earlier channel, which it follows
+-- `next`, at `index`, was reached from an earlier channel that it follows, by a way with one more channel
 pub record IsStep (waits : List (List ℕ)) (reached : List Visited) (next : Visited) (index : ℕ) : Type 0 where
   pub earlier : next.from < index
   pub follows : Follows waits (at_index reached next.from).channel next.channel
@@ -28,7 +28,8 @@ pub record AreWays (waits : List (List ℕ)) (first : ℕ) (reached : List Visit
   pub one : (at_index reached 0).count ≡ 1
   pub steps : (i : ℕ) → 0 < i → i < length reached → IsStep waits reached (at_index reached i) i
 
--- what a search from `first` has reached, and its marks; no way to a channel has more than `count` channels
+-- `reached` and `marks` are what a search from `first` has reached and marked; no way to a channel has more than
+-- `count` channels
 pub record IsSearch (waits : List (List ℕ)) (first count : ℕ) (reached : List Visited) (marks : List ℕ) : Type 0 where
   pub ways : AreWays waits first reached
   pub rises : (i k : ℕ) → i ≤ k → k < length reached → (at_index reached i).count ≤ (at_index reached k).count
@@ -46,8 +47,8 @@ pub record Grows (old new : List Visited) : Type 0 where
 abbrev pub NoneBelow : List (List ℕ) → ℕ → ℕ → Type 0
 NoneBelow waits first count = (later : List ℕ) → GoesOn waits first later first → count ≤ length later + 1
 
--- a shortest cycle through `first`, of at most `least` channels; or the empty list, if no cycle through it has fewer
--- than `least`
+-- the list is a shortest cycle through `first`, of at most `least` channels; or it is empty, and no cycle through
+-- `first` has fewer than `least` channels
 abbrev pub IsLeast : List (List ℕ) → ℕ → ℕ → List ℕ → Type 0
 IsLeast waits first least [] = NoneBelow waits first least
 IsLeast waits first least (c ∷ later) =

@@ -11,8 +11,7 @@ use Rattle.subnet_view.specs.Reading.{Cells, switches}
 use Rattle.held_tables.specs.Held.{HeldPlan}
 use Rattle.packet_walks.specs.Edges.{edges_of}
 
--- a packet for some LID leaves a switch by `channel`, and the next switch by `next`; whether an end port holds the LID
--- does not matter
+-- for some LID, whether or not an end port holds it, packets leave a switch by `channel` and the next switch by `next`
 pub record WaitsFor (cells : Cells) (held : HeldPlan) (channel next : ℕ) : Type 0 where
   pub lid : ℕ
   pub is_lid : 1 ≤ lid
@@ -24,7 +23,7 @@ pub record AreWaits (cells : Cells) (held : HeldPlan) (waits : List (List ℕ)) 
   pub as_many : length waits ≡ 256 * length (switches cells)
   pub follows : (a b : ℕ) → Follows waits a b ↔ WaitsFor cells held a b
 
--- channels that packets take in turn by `column` follow each other
+-- in `waits`, channels that packets take one after the other by `column` follow each other
 abbrev pub IsAdded : List (Option Edge) → List (List ℕ) → Type 0
 IsAdded column waits = (switch channel next : ℕ) → TakesInTurn column switch channel next → Follows waits channel next
 
@@ -33,17 +32,17 @@ pub record RiseOnWays (cells : Cells) (held : HeldPlan) (numbers : List ℕ) : T
   pub as_many : length numbers ≡ 256 * length (switches cells)
   pub rises : (a b : ℕ) → WaitsFor cells held a b → slice_index_or numbers a 0 < slice_index_or numbers b 0
 
--- each channel waits for the next, from `channel` on, and the last one waits for `last`
+-- in the list that has `channel`, then the given channels, then `last`, each channel waits for the next one
 abbrev pub WaitOn : Cells → HeldPlan → ℕ → List ℕ → ℕ → Type 0
 WaitOn cells held channel [] last = WaitsFor cells held channel last
 WaitOn cells held channel (next ∷ later) last = WaitsFor cells held channel next × WaitOn cells held next later last
 
--- each channel waits for the next, and the last for the first
+-- each channel waits for the next one, and the last waits for the first
 abbrev pub WaitInCycle : Cells → HeldPlan → List ℕ → Type 0
 WaitInCycle cells held [] = ⊥
 WaitInCycle cells held (channel ∷ later) = WaitOn cells held channel later channel
 
--- numbers that rise, or a cycle
+-- the order is numbers that rise, or a cycle
 abbrev pub IsOrderOf : Cells → HeldPlan → ChannelOrder → Type 0
 IsOrderOf cells held (Rises numbers) = RiseOnWays cells held numbers.items
 IsOrderOf cells held (Cycle channels) = WaitInCycle cells held channels.items
@@ -52,7 +51,7 @@ IsOrderOf cells held (Cycle channels) = WaitInCycle cells held channels.items
 abbrev pub NoneShorter : Cells → HeldPlan → List ℕ → Type 0
 NoneShorter cells held channels = (cycle : List ℕ) → WaitInCycle cells held cycle → length channels ≤ length cycle
 
--- if it is a cycle, no cycle has fewer channels
+-- if the order is a cycle, no cycle has fewer channels
 abbrev pub IsShortestOf : Cells → HeldPlan → ChannelOrder → Type 0
 IsShortestOf cells held (Rises numbers) = Unit {0}
 IsShortestOf cells held (Cycle channels) = NoneShorter cells held channels.items

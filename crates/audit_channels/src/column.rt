@@ -1,4 +1,4 @@
-//! The channels that packets for one LID take in turn.
+//! The channels that packets for one LID take one after the other.
 ghost use Rattle.std.specs.Prelude.{◌≡◌, ◌<◌, ◌+◌, ◌*◌, ◌^◌, ◌↔◌, IsTrue, MatchOption, None, OnOk, length};
 ghost use Rattle.std.specs.Prelude.{slice_index_or};
 ghost use Rattle.audit_channels.specs.Columns.{IsTurn, IsWithAcross, IsWithColumn, TakesNone, number_of};
@@ -7,10 +7,10 @@ use crate::waits::Waits;
 use port_graph::Edge;
 use std::alloc::AllocError;
 
-/// Records that two channels follow each other if packets for one LID take the one and then the other. `column` has the
-/// edge by which these packets leave each vertex. The channel of a vertex's edge has the number 256 times the vertex,
-/// plus the edge's port. Takes a step for each vertex, and a walk over the channels that follow its channel if the next
-/// one is not known to.
+/// Records which channels follow each other on the routes of packets for one LID. `column` has the edge by which these
+/// packets leave each vertex. The channel of a vertex's edge has the number 256 times the vertex, plus the edge's port.
+/// Takes a step for each vertex. If the next channel is not known to follow the vertex's channel, it also walks the
+/// channels that follow it.
 pub fn add_column(waits: &mut Waits, column: &[Option<Edge>]) -> Result<(), AllocError>
     requires channels { length waits.old ≡ 256 * length column.now }
     requires room { 256 * length column.now < 2 ^ 64 }
@@ -20,7 +20,7 @@ pub fn add_column(waits: &mut Waits, column: &[Option<Edge>]) -> Result<(), Allo
 }
 
 /// Records, for each vertex, that the channel of its edge in `before` is followed by the channel of the next vertex's
-/// edge in `now`.
+/// edge in `now`. Records nothing for a vertex if one of these edges is missing.
 #[tactic(auto, using(crate::proofs::Columns::none_so_far))]
 pub fn add_across(
     waits: &mut Waits,
@@ -55,15 +55,15 @@ pub fn is_same_column(column: &[Option<Edge>], other: &[Option<Edge>]) -> bool
     true
 }
 
-/// Two channels that a packet takes in turn.
+/// Two channels that a packet takes one after the other.
 #[derive(Clone, Copy)]
 struct Turn {
     channel: usize,
     next: usize,
 }
 
-/// Returns the channel by which a packet leaves `vertex` by `before`, and the channel by which it leaves the next
-/// vertex by `now`; `None` if either has no edge.
+/// Returns the channel by which a packet leaves `vertex` along its edge in `before`, and the channel by which it leaves
+/// the next vertex along that vertex's edge in `now`. Returns `None` if one of these edges is missing.
 fn turn_at(before: &[Option<Edge>], now: &[Option<Edge>], vertex: usize) -> Option<Turn>
     requires before { 256 * length before.now < 2 ^ 64 }
     requires now { 256 * length now.now < 2 ^ 64 }
@@ -77,7 +77,7 @@ fn turn_at(before: &[Option<Edge>], now: &[Option<Edge>], vertex: usize) -> Opti
     Some(Turn { channel, next })
 }
 
-/// Returns the edge of `vertex`, if it has one. Takes one step.
+/// Returns the edge of `vertex`, or `None` if it has none. Takes one step.
 pub fn edge_of(column: &[Option<Edge>], vertex: usize) -> Option<Edge>
     ensures { result ≡ slice_index_or column.now vertex None }
 {

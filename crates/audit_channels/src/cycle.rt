@@ -7,7 +7,7 @@ use crate::numbers::has_none;
 use crate::waits::Waits;
 use std::alloc::{AllocError, Global};
 
-/// Returns the cycle that a walk from `first` over channels without a number runs into.
+/// Returns the cycle that a walk from `first` over channels without a number reaches.
 pub(crate) fn cycle_from(
     alloc: Global,
     waits: &Waits,
@@ -36,7 +36,7 @@ pub(crate) fn follows(waits: &Waits, channel: usize, next: usize) -> bool
     is_on(waits.at(channel), next)
 }
 
-/// Returns the first channel of `following` that has no number.
+/// Returns the first channel of `following` that has no number, or `None` if all have one.
 fn first_held_up(following: &[usize], numbers: &[usize]) -> Option<usize>
     ensures { result ≡ find (has_none numbers.now) following.now }
 {
@@ -53,7 +53,7 @@ fn is_on(way: &[usize], channel: usize) -> bool
     way.iter().any(|c| channel == *c)
 }
 
-/// Returns the index of `channel` on the walk `way`.
+/// Returns the index of `channel` on the walk `way`, or `None` if it is not there.
 fn index_of(way: &[usize], channel: usize) -> Option<usize>
     ensures { result ≡ position (λ c. channel == c) way.now }
 {

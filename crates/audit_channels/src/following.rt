@@ -7,7 +7,7 @@ ghost use Rattle.audit_channels.specs.Orders.{AreWith};
 use crate::known::Known;
 use std::alloc::{AllocError, Global};
 
-/// Channels in the order in which they were added. Some are known, and found without a walk.
+/// Channels in the order in which they were added. Some of them are known, and are found without a walk.
 #[derive(Drop)]
 pub(crate) struct Following {
     channels: Vec<usize>,

@@ -24,8 +24,8 @@ impl Known {
         self.row == channel / 64 && (self.bits >> (channel % 64)) & 1 == 1
     }
 
-    /// Returns the set with `channel` added if it is in the set's row or the set was empty; otherwise the unchanged
-    /// set.
+    /// If `channel` is in the set's row or the set is empty, returns the set with `channel` added. Otherwise returns
+    /// the set unchanged.
     pub(crate) fn with(self, channel: usize) -> Self
         ensures kept { (other : ℕ) → Knows self other → Knows result other }
         ensures only { (other : ℕ) → Knows result other → Knows self other ⊎ (other ≡ channel) }

@@ -8,14 +8,14 @@ pub fn no_cycle_where_numbers_rise()
     ensures law { NoCycleWhereNumbersRise }
 {}
 
-/// No channels wait for each other in a cycle if numbers of channels rise along the ways of all packets.
+/// No channels wait for each other in a cycle if the channels have numbers that rise along the routes of all packets.
 pub fn never_both()
     ensures law { NeverBoth }
 {}
 
-/// The channels that a packet takes have rising numbers, wire after wire, if the numbers rise by facts and tables, the
-/// facts describe what is joined to an end port of a fabric, the end ports and switches there hold the tables, and one
-/// of these end ports sends the packet, for any LID.
+/// If numbers of channels rise by facts and tables, the facts describe all that is joined to an end port of a fabric,
+/// and the end ports and switches there hold the tables, each packet that such an end port sends, for any LID, takes
+/// channels with rising numbers, wire after wire.
 pub fn channels_rise()
     ensures law { ChannelsRise }
 {}

@@ -6,15 +6,15 @@ use crate::{ChannelOrder, channel_waits, order_channels};
 use packet_walks::Network;
 use std::alloc::{AllocError, Global};
 
-/// Returns numbers of channels that rise along the way of every packet, whether or not an end port holds its LID. If
+/// Returns numbers of channels that rise along the route of every packet, whether or not an end port holds its LID. If
 /// there are no such numbers, returns a shortest credit loop.
 ///
 /// A channel is a wire between usable switches, taken one way. Its number is 256 times the index of the switch that it
 /// leaves, plus the port there.
 ///
-/// Costs what `Network::blocks` takes for each 64 LIDs up to the greatest top of a usable switch. Each LID costs a step
-/// for each switch, and a step for each channel that follows the switch's own, unless every switch forwards packets for
-/// it as for the LID before.
+/// Takes what `order_channels` takes, and what `Network::blocks` takes for each 64 LIDs up to the greatest top of a
+/// usable switch. For each of these LIDs, it also takes a step for each switch. If some switch forwards packets for the
+/// LID otherwise than for the LID before, it takes a step for each channel that follows a switch's channel.
 #[tactic(auto, using(crate::proofs::Orders::order_is, crate::proofs::Orders::shortest_is))]
 pub fn channel_order(alloc: Global, network: &Network) -> Result<ChannelOrder, AllocError>
     ensures order { IfOk result (λ found. IsOrderOf (cells_of network.now.facts) network.now.held found) }

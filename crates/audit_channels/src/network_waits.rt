@@ -10,7 +10,7 @@ use smp_bytes::Lid;
 use std::alloc::{AllocError, Global};
 
 /// Returns, for each channel, the channels that packets take next by the tables of `network`. Channels are numbered as
-/// in `channel_order`. Costs what `channel_order` takes without the ordering.
+/// in `channel_order`. Takes what `channel_order` takes without `order_channels`.
 pub fn channel_waits(alloc: Global, network: &Network) -> Result<Waits, AllocError>
     ensures { IfOk result (λ waits. AreWaits (cells_of network.now.facts) network.now.held waits) }
 {
@@ -29,7 +29,7 @@ pub fn channel_waits(alloc: Global, network: &Network) -> Result<Waits, AllocErr
     Ok(waits)
 }
 
-/// Adds `column`, unless it equals `before`, which has been added.
+/// Adds `column` to `waits`, unless it equals `before`, which the caller has added.
 fn add_after(
     waits: &mut Waits,
     before: &[Option<Edge>],

@@ -1,4 +1,5 @@
-//! Numbers of channels, given from the greatest down; a channel gets one once all that follow it have theirs.
+//! Numbers of channels, given from the greatest down. A channel gets a number when all channels that follow it have
+//! one.
 ghost use Rattle.std.specs.Prelude.{◌≡◌, ◌==◌, ◌<◌, IfOk, count_by, length, position};
 ghost use Rattle.audit_channels.specs.Numbers.{is_held_up, has_none, AreGiven, AreFurther, next_number};
 
@@ -6,7 +7,8 @@ use crate::waits::Waits;
 use std::alloc::{AllocError, Global};
 
 /// Returns a number for each channel that does not lead to a cycle, and 0 for the others. A round takes a step for each
-/// channel and for each channel that follows it. There are as many rounds as channels on the longest walk.
+/// channel and for each channel that follows it. There are as many rounds as the longest chain of numbered channels has
+/// channels, and one more if some channel gets no number.
 pub(crate) fn numbers(alloc: Global, waits: &Waits) -> Result<Vec<usize>, AllocError>
     ensures { IfOk result (λ numbers. AreGiven waits.now numbers.items) }
 {
@@ -24,7 +26,7 @@ pub(crate) fn numbers(alloc: Global, waits: &Waits) -> Result<Vec<usize>, AllocE
     Ok(numbers)
 }
 
-/// Returns the numbers, with `number` for each channel that has none and whose followers all have one.
+/// Returns `numbers` with `number` for each channel that has no number but whose followers all have one.
 fn further(
     alloc: Global,
     waits: &Waits,
@@ -59,7 +61,7 @@ fn is_held_up(following: &[usize], numbers: &[usize]) -> bool
     following.iter().any(|next| has_none(numbers, *next))
 }
 
-/// Returns whether `channel` has no number.
+/// Returns whether `channel` has no number yet. Returns false if there is no such channel.
 pub(crate) fn has_none(numbers: &[usize], channel: usize) -> bool
     ensures { result ≡ has_none numbers.now channel }
 {
@@ -69,14 +71,14 @@ pub(crate) fn has_none(numbers: &[usize], channel: usize) -> bool
     }
 }
 
-/// Returns how many channels have no number.
+/// Returns the number of channels that have no number.
 fn count_without(numbers: &[usize]) -> usize
     ensures { result ≡ count_by (λ n. n == 0) numbers.now }
 {
     numbers.iter().filter(|number| **number == 0).count()
 }
 
-/// Returns the first channel without a number.
+/// Returns the first channel without a number, or `None` if all have one.
 pub(crate) fn first_without(numbers: &[usize]) -> Option<usize>
     ensures { result ≡ position (λ n. n == 0) numbers.now }
 {

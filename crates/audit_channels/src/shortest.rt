@@ -11,8 +11,8 @@ use crate::numbers::has_none;
 use crate::waits::Waits;
 use std::alloc::{AllocError, Global};
 
-/// Returns a cycle with the fewest channels; `known` itself if none is shorter. The searches, one from each channel,
-/// share the marks, so that each costs only what it reaches.
+/// Returns a cycle with the fewest channels, which is `known` if none is shorter. The searches from the channels share
+/// the marks, and each takes only the steps for what it reaches.
 pub(crate) fn shortest_cycle(
     alloc: Global,
     waits: &Waits,
@@ -32,7 +32,7 @@ pub(crate) fn shortest_cycle(
     Ok(shortest)
 }
 
-/// Returns a shorter cycle than `known` that passes through `first`, if there is one, otherwise `known`.
+/// Returns a shortest cycle through `first` if it is shorter than `known`, otherwise `known`.
 fn shorter_from(
     alloc: Global,
     waits: &Waits,
@@ -64,19 +64,19 @@ fn shorter_from(
     }
 }
 
-/// A channel that a search reached.
+/// A channel that a search has reached.
 #[derive(Clone, Copy)]
 pub(crate) struct Visited {
     channel: usize,
-    /// The index of the channel that it was reached from.
+    /// The index of the channel from which it was reached.
     from: usize,
-    /// The number of channels on the way to it.
+    /// The number of channels on the way to it, itself included.
     count: usize,
 }
 
 /// Returns a shortest cycle through `first` if it has fewer than `least` channels, otherwise an empty list. Takes a
 /// step for each channel reached by a way of fewer than `least` channels, and for each channel that follows it. Marks
-/// what it reaches with `first` + 1.
+/// each channel that it reaches with `first` + 1.
 fn cycle_of(
     alloc: Global,
     waits: &Waits,
@@ -122,7 +122,8 @@ fn cycle_of(
     Ok(Vec::new(alloc))
 }
 
-/// Returns the channel reached at `index`, if a cycle that closes there has fewer than `least` channels.
+/// Returns the channel reached at `index`. Returns `None` if there is none, or if a cycle that closes there has `least`
+/// channels or more.
 fn in_turn(reached: &[Visited], index: usize, least: usize) -> Option<Visited>
     ensures some { IfSome result (λ here. (index < length reached.now) × (here ≡ at_index reached.now index)
         × (here.count < least)) }
@@ -132,8 +133,8 @@ fn in_turn(reached: &[Visited], index: usize, least: usize) -> Option<Visited>
     if here.count < least { Some(here) } else { None }
 }
 
-/// Adds each channel that follows `here` and has no number and no mark of this search, unless a cycle that closes there
-/// would have `least` channels or more.
+/// Adds each channel that follows `here` and has neither a number nor a mark of this search. Adds none if a cycle that
+/// closes at such a channel would have `least` channels or more.
 fn reach_on(
     waits: &Waits,
     numbers: &[usize],
@@ -170,7 +171,7 @@ fn reach_on(
     Ok(())
 }
 
-/// Adds `next`, if its channel has no number and no mark of this search.
+/// Adds `next` if its channel has neither a number nor a mark of this search.
 fn reach(
     waits: &Waits,
     numbers: &[usize],
@@ -195,7 +196,8 @@ fn reach(
     Ok(())
 }
 
-/// Returns the way to the channel reached at `index`, which is a cycle since `first` follows that channel.
+/// Returns the way from `first` to the channel reached at `index`. The way is a cycle because `first` follows that
+/// channel.
 fn way_back(
     alloc: Global,
     waits: &Waits,

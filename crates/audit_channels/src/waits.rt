@@ -5,8 +5,8 @@ use crate::following::Following;
 use std::alloc::{AllocError, Global};
 use std::marker::Model;
 
-/// For each channel, the channels that follow it: a packet that holds the channel can wait for them. Channels are the
-/// numbers from 0 on.
+/// For each channel, the channels that follow it: a packet that holds the channel can wait for them. Channels are
+/// numbered from 0.
 #[derive(Drop)]
 pub struct Waits {
     channels: Vec<Following>,
@@ -43,7 +43,7 @@ impl Waits {
         self.channels.len()
     }
 
-    /// Returns the channels that follow `channel`. Takes one step.
+    /// Returns the channels that follow `channel`; none if there is no such channel. Takes one step.
     pub fn at(&self, channel: usize) -> &[usize]
         ensures { result.now ≡ slice_index_or self.now channel [] }
     {

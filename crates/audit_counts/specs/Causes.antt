@@ -7,6 +7,7 @@ use Rattle.packet_walks.specs.declared.packet_end.End.TheVariants.{Taken, Lost}
 use Rattle.audit_counts.specs.declared.causes.Causes.{Causes}
 use Rattle.audit_counts.specs.declared.sent_packet.SentPacket.{SentPacket}
 
+-- the two causes are equal
 abbrev pub is_cause : Cause → Cause → Bool
 is_cause AboveTop AboveTop = true
 is_cause NoEntry NoEntry = true
@@ -21,6 +22,7 @@ is_lost_end_for cause None = false
 is_lost_end_for cause (Some (Taken e)) = false
 is_lost_end_for cause (Some (Lost g why)) = is_cause cause why
 
+-- the packet is lost for `cause`
 abbrev pub is_lost_for : Cause → SentPacket → Bool
 is_lost_for cause packet = is_lost_end_for cause packet.end
 
@@ -34,7 +36,7 @@ causes_of packets = record {
   foreign = count_by (is_lost_for Foreign) packets;
 }
 
--- each count goes up by one if `is_for` holds of its cause
+-- each count grows by one if `is_for` is true of its cause
 pub record AreCausesIf (old : Causes) (is_for : Cause → Bool) (new : Causes) : Type 0 where
   pub above_top : new.above_top ≡ old.above_top + (if is_for AboveTop then 1 else 0)
   pub no_entry : new.no_entry ≡ old.no_entry + (if is_for NoEntry then 1 else 0)
@@ -42,6 +44,6 @@ pub record AreCausesIf (old : Causes) (is_for : Cause → Bool) (new : Causes) :
   pub no_link : new.no_link ≡ old.no_link + (if is_for NoLink then 1 else 0)
   pub foreign : new.foreign ≡ old.foreign + (if is_for Foreign then 1 else 0)
 
--- a packet that is lost for the cause `why` is added
+-- `new` is `old` with one more packet, which is lost for the cause `why`
 abbrev pub AreCausesWith : Causes → Cause → Causes → Type 0
 AreCausesWith old why new = AreCausesIf old (λ cause. is_cause cause why) new

@@ -6,11 +6,12 @@ use Rattle.reply_facts.specs.declared.key.Key.{Key}
 use Rattle.reply_facts.specs.declared.value.Value.{Value}
 use Rattle.subnet_view.specs.Reading.{Cells}
 
--- the newest generation has different values
+-- the cell is disputed: its newest generation has different values
 abbrev pub is_disputed_cell : Cell Value → Bool
 is_disputed_cell (Known generation value) = false
 is_disputed_cell (Disputed generation) = true
 
+-- the cell of the sighting is disputed
 abbrev pub is_disputed : Key × Cell Value → Bool
 is_disputed sighting = is_disputed_cell sighting.1
 

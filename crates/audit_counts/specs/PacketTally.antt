@@ -46,7 +46,7 @@ pub record IsWith (old : PacketTally) (packet : SentPacket) (new : PacketTally) 
   pub all : ArePairsIf old.all true (arrives packet) new.all
   pub between : ArePairsIf old.between (is_between packet) (arrives packet) new.between
 
--- `count` packets that arrive are added, of which `adapters` are between adapter ports
+-- `new` is `old` with `count` more packets, all of which arrive; `adapters` of them are between adapter ports
 pub record IsWithArrived (old : PacketTally) (count adapters : ℕ) (new : PacketTally) : Type 0 where
   pub all : ArePairsWithArrived old.all count new.all
   pub between : ArePairsWithArrived old.between adapters new.between

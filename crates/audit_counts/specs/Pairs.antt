@@ -9,12 +9,12 @@ pub record ArePairs (packets : List SentPacket) (pairs : Pairs) : Type 0 where
   pub sent : pairs.sent ≡ length packets
   pub arrived : pairs.arrived ≡ count_by arrives packets
 
--- a packet is added if `is_one`; `arrives` is whether it arrives
+-- `new` is `old`, with one more packet if `is_one`; `arrives` says whether the packet arrives
 pub record ArePairsIf (old : Pairs) (is_one arrives : Bool) (new : Pairs) : Type 0 where
   pub sent : new.sent ≡ old.sent + (if is_one then 1 else 0)
   pub arrived : new.arrived ≡ old.arrived + (if is_one && arrives then 1 else 0)
 
--- `count` packets are added, all of which arrive
+-- `new` is `old` with `count` more packets, all of which arrive
 pub record ArePairsWithArrived (old : Pairs) (count : ℕ) (new : Pairs) : Type 0 where
   pub sent : new.sent ≡ old.sent + count
   pub arrived : new.arrived ≡ old.arrived + count

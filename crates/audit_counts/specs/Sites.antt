@@ -14,14 +14,16 @@ use Rattle.audit_ways.specs.Ways.{is_adapter}
 use Rattle.audit_counts.specs.declared.site.Census.{Census}
 use Rattle.audit_counts.specs.declared.site.Site.{Site}
 
--- the usable switch at which an end port lies: its own node, or the switch that its wire leads to
+-- the usable switch at which an end port lies: its own node, or the switch to which its wire leads; None if there is
+-- none
 abbrev pub switch_of : Cells → EndPort → Option ℕ
 switch_of cells e = option_map (λ h. h.0) (attachment_of cells e)
 
--- the root of the component at whose switch the end port lies
+-- the root of the component of the switch at which the end port lies; None if there is none
 abbrev pub root_at : Cells → EndPort → Option ℕ
 root_at cells e = option_and_then (root_of (graph_of cells)) (switch_of cells e)
 
+-- the end port with its component's root and the port at the other end of its wire
 abbrev pub site_of : Cells → EndPort → Site
 site_of cells e = record { port = e; root = root_at cells e; across = across cells e.node e.port }
 
@@ -52,12 +54,12 @@ are_joined a b = is_same_end a.port b.port || is_one_root a.root b.root || leads
 abbrev pub in_one_component : Cells → EndPort → EndPort → Bool
 in_one_component cells e x = are_joined (site_of cells e) (site_of cells x)
 
--- the root of the first end port's component
+-- the root of the first site; None if there is no site or it has no root
 abbrev pub first_root : List Site → Option ℕ
 first_root [] = None
 first_root (site ∷ sites) = site.root
 
--- all sites lie in the component of the first one's root
+-- each site has a root, and all roots are equal
 abbrev pub are_one_component : List Site → Bool
 are_one_component sites = list_all (λ site. is_one_root site.root (first_root sites)) sites
 

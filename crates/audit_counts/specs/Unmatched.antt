@@ -20,11 +20,11 @@ unowned_among most cells lines = listed_of most (λ line. not (is_owner (end_por
 abbrev pub unowned : ℕ → Cells → HeldPlan → Listed HeldLid
 unowned most cells held = unowned_among most cells (lines_of held)
 
--- more than one port holds the LID
+-- more than one end port holds the line's LID
 abbrev pub is_twice : HeldPlan → HeldLid → Bool
 is_twice held line = is_told_twice (lines_of held) line.lid
 
--- the LIDs that more than one port holds, with each of these ports
+-- the lines of the LIDs that more than one end port holds
 abbrev pub twice : ℕ → HeldPlan → Listed HeldLid
 twice most held = listed_of most (is_twice held) (lines_of held)
 
@@ -32,7 +32,7 @@ twice most held = listed_of most (is_twice held) (lines_of held)
 abbrev pub unknown : ℕ → Cells → HeldPlan → Listed ℕ
 unknown most cells held = listed_of most (λ g. not (is_usable cells g)) (map (λ s. s.guid) held.switches)
 
--- the switch has tables
+-- switch g has tables
 abbrev pub is_held : HeldPlan → ℕ → Bool
 is_held held g = list_any (λ s. s.guid == g) held.switches
 
@@ -56,11 +56,11 @@ lidless_among most ports held = listed_of most (λ e. not (has_lid held e)) port
 abbrev pub lidless : ℕ → Cells → HeldPlan → Listed EndPort
 lidless most cells held = lidless_among most (end_ports cells) held
 
--- nodes that the facts name without saying what they are
+-- nodes that the facts name but whose type is unknown, and switches whose table room is unknown
 abbrev pub unusable : ℕ → Cells → Listed ℕ
 unusable most cells = all_listed most (unusable_nodes cells)
 
--- ports that the facts name without saying where they lead
+-- ports that the facts name but of which it is unknown where they lead
 abbrev pub unjoined : ℕ → Cells → Listed EndPort
 unjoined most cells = all_listed most (unjoined_ports cells)
 

@@ -26,9 +26,9 @@ pub struct PacketSurvey {
 }
 
 /// Counts the packets that end ports send to the LIDs of their components. Keeps the first `most` of each kind that do
-/// not arrive. Takes what `Network::blocks` and `Network::deliveries` do for each 64 LIDs. If these do not show that
-/// all packets for a LID arrive, that LID also costs what `Network::ends` takes, and a step for each end port if not
-/// all arrive.
+/// not arrive. Takes what `Network::blocks` and `Network::deliveries` take for each 64 LIDs. If the deliveries do not
+/// show that all packets for a LID arrive, that LID also costs what `Network::ends` takes, and a step for each end port
+/// if not all arrive.
 pub fn survey(
     alloc: Global,
     most: usize,
@@ -138,7 +138,7 @@ fn add_packets(
     Ok(false)
 }
 
-/// Adds the packets that the end ports of a component send to `owner`. The caller knows that all arrive.
+/// Adds the packets that the end ports in the component of `owner` send to it. The caller knows that all arrive.
 fn add_arrived(
     tally: &mut PacketTally,
     sites: &[Site],

@@ -16,7 +16,7 @@ pub struct Causes {
 impl Causes {
     ghost use Rattle.audit_counts.specs.Causes.{AreCausesWith, causes_of};
 
-    /// Returns the causes of no packets.
+    /// Returns counts of 0.
     pub(crate) fn new() -> Self
         ensures { result ≡ causes_of [] }
     {
@@ -29,7 +29,7 @@ impl Causes {
         }
     }
 
-    /// Adds one packet that is lost for `cause`.
+    /// Adds one packet that is lost for `cause`. Returns an error if the count does not fit in 64 bits.
     pub(crate) fn add(&mut self, cause: Cause) -> Result<(), AllocError>
         ensures { OnOk result (AreCausesWith self.old cause self.new) }
     {
@@ -43,7 +43,7 @@ impl Causes {
     }
 }
 
-/// Adds one to `count`. Returns an error if it does not fit.
+/// Adds one to `count`. Returns an error if the sum does not fit in 64 bits.
 fn add_one(count: &mut u64) -> Result<(), AllocError>
     ensures { OnOk result (count.new ≡ count.old + 1) }
 {

@@ -8,7 +8,7 @@ use std::marker::Model;
 /// The number of items of a kind, and the first of them, which are listed.
 #[derive(Drop)]
 pub struct FirstFew<T> {
-    /// The most elements that are kept.
+    /// The maximum number of items that are kept.
     most: usize,
     first: Vec<T>,
     count: u64,
@@ -23,7 +23,7 @@ impl<T> Model for FirstFew<T> {
 }
 
 impl<T: Drop> FirstFew<T> {
-    /// Creates an empty list that keeps the first `most` elements.
+    /// Creates an empty list that keeps the first `most` items.
     pub(crate) fn new(alloc: Global, most: usize) -> Self
         ensures { result ≡ record { most = most; first = []; count = 0 } }
     {
@@ -34,7 +34,7 @@ impl<T: Drop> FirstFew<T> {
         }
     }
 
-    /// Adds an item.
+    /// Counts `item`, and keeps it if fewer than `most` items are kept.
     pub(crate) fn add(&mut self, item: T) -> Result<(), AllocError>
         ensures { OnOk result (self.new ≡ listed self.old item) }
     {
@@ -65,7 +65,7 @@ impl<T: Drop> FirstFew<T> {
 }
 
 impl<T: Copy + Drop> FirstFew<T> {
-    /// Returns the list of all `items`.
+    /// Counts all `items`, and keeps the first `most` of them.
     pub(crate) fn of(alloc: Global, most: usize, items: &[T]) -> Result<Self, AllocError>
         ensures { IfOk result (λ few. few ≡ all_listed most items.now) }
     {

@@ -24,7 +24,7 @@ impl PacketTally {
     ghost use Rattle.audit_counts.specs.Packets.{arrives};
     ghost use Rattle.audit_counts.specs.PacketTally.{IsCountedWith, IsMissed, IsTally, IsWith, IsWithArrived};
 
-    /// Returns the tally of no packets, which keeps the first `most` of each kind.
+    /// Returns an empty tally that keeps the first `most` packets of each kind.
     pub(crate) fn new(alloc: Global, most: usize) -> Self
         ensures { IsTally most [] result }
     {
@@ -49,7 +49,7 @@ impl PacketTally {
         self.miss(packet)
     }
 
-    /// Adds `count` packets that arrive, of which `between` are between adapter ports.
+    /// Adds `count` packets that arrive; `between` of them are between adapter ports.
     pub(crate) fn add_arrived(&mut self, count: u64, between: u64) -> Result<(), AllocError>
         ensures { OnOk result (IsWithArrived self.old count between self.new) }
     {

@@ -13,7 +13,7 @@ pub struct Pairs {
 impl Pairs {
     ghost use Rattle.audit_counts.specs.Pairs.{ArePairs, ArePairsIf, ArePairsWithArrived};
 
-    /// Returns the count of no packets.
+    /// Returns counts of 0.
     pub(crate) fn new() -> Self
         ensures { ArePairs [] result }
     {
@@ -23,7 +23,7 @@ impl Pairs {
         }
     }
 
-    /// Counts a packet if `is_one` is true; `arrives` is whether it arrives.
+    /// Counts a packet if `is_one` is true. `arrives` says whether the packet arrives.
     pub(crate) fn add(&mut self, is_one: bool, arrives: bool) -> Result<(), AllocError>
         ensures { OnOk result (ArePairsIf self.old is_one arrives self.new) }
     {

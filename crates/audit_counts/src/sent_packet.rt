@@ -12,7 +12,7 @@ pub struct SentPacket {
     pub line: HeldLid,
     /// The end port that sends it.
     pub source: EndPort,
-    /// Where it ends; `None` if it loops for ever.
+    /// Where it ends; `None` if it loops forever.
     pub end: Option<End>,
 }
 

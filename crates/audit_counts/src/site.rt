@@ -22,9 +22,9 @@ use subnet_view::{EndPort, SwitchGraph, Wires, end_ports, is_usable};
 #[derive(Clone, Copy, Debug, PartialEq, Eq)]
 pub struct Site {
     pub port: EndPort,
-    /// The least GUID of the switches in its component.
+    /// The least GUID of the switches in its component. `None` if it lies at no usable switch.
     pub root: Option<Guid>,
-    /// The port at the other end of its wire.
+    /// The port at the other end of its wire. `None` if it has no wire.
     pub across: Option<(Guid, PortNum)>,
 }
 
@@ -67,7 +67,7 @@ pub(crate) fn are_one_component(sites: &[Site]) -> bool
     sites.iter().all(|site| is_one_root(site.root, root))
 }
 
-/// Returns the root of the first end port's component.
+/// Returns the root of the first site, or `None` if there is no site or it has no root.
 fn first_root(sites: &[Site]) -> Option<Guid>
     ensures { result ≡ first_root sites.now }
 {
@@ -103,7 +103,7 @@ fn adapter_count(sites: &[Site]) -> usize
 }
 
 /// Returns the number of end ports in the component of `owner`. Takes one step if all end ports lie in one component,
-/// otherwise a step for each.
+/// otherwise a step for each end port.
 pub(crate) fn joined_count(sites: &[Site], owner: &Site, census: Census) -> usize
     requires census { IsCensus sites.now census }
     requires listed { Contains sites.now owner.now }
@@ -116,7 +116,7 @@ pub(crate) fn joined_count(sites: &[Site], owner: &Site, census: Census) -> usiz
 }
 
 /// Returns the number of adapter ports in the component of `owner` if `owner` is an adapter port, otherwise 0. Takes a
-/// step or two if all end ports lie in one component, otherwise a step for each.
+/// step or two if all end ports lie in one component, otherwise a step for each end port.
 pub(crate) fn joined_adapters(sites: &[Site], owner: &Site, census: Census) -> usize
     requires census { IsCensus sites.now census }
     requires listed { Contains sites.now owner.now }
@@ -148,8 +148,8 @@ pub(crate) fn are_adapters(port: &EndPort, other: &EndPort) -> bool
     is_adapter(port) && is_adapter(other)
 }
 
-/// Returns the sites of the view's end ports, in order. Costs one graph of the switches, and some seven searches for
-/// each end port.
+/// Returns the sites of the view's end ports, in order. Takes what building a graph of the switches takes, and about
+/// seven searches for each end port.
 pub fn sites(alloc: Global, store: &Store) -> Result<Vec<Site>, Refused>
     ensures { IfOk result (λ sites. sites.items
         ≡ map (site_of (cells_of store.now)) (end_ports (cells_of store.now))) }
@@ -212,7 +212,7 @@ fn site_of(wires: &Wires, graph: &SwitchGraph, roots: &[Option<Guid>], port: &En
     }
 }
 
-/// Returns the root of the component in which `port` lies.
+/// Returns the root of the component in which `port` lies, or `None` if it lies at no usable switch.
 fn root_at(
     wires: &Wires,
     graph: &SwitchGraph,
@@ -228,7 +228,8 @@ fn root_at(
     roots[index]
 }
 
-/// Returns the usable switch at which `port` lies.
+/// Returns the usable switch at which `port` lies: its own node, or the switch to which its wire leads. Returns `None`
+/// if there is none.
 fn switch_of(wires: &Wires, port: &EndPort) -> Option<Guid>
     ensures { result ≡ switch_of (cells_of wires.now) port.now }
 {
@@ -239,8 +240,8 @@ fn switch_of(wires: &Wires, port: &EndPort) -> Option<Guid>
     Some(switch)
 }
 
-/// Returns the index of the site of `port`, or `sites.len()` if there is none. Takes a step or two if that is `index`
-/// or the next one; otherwise walks the sites.
+/// Returns the index of the site of `port`, or an index beyond the end if there is none. Takes a step or two if the
+/// site is at `index` or the next index; otherwise walks the sites.
 pub(crate) fn index_of(sites: &[Site], index: usize, port: &EndPort) -> usize
     ensures { IsSiteOf sites.now port.now (slice_get sites.now result) }
 {
@@ -254,7 +255,7 @@ pub(crate) fn index_of(sites: &[Site], index: usize, port: &EndPort) -> usize
     first_at(sites, port)
 }
 
-/// Returns whether the site at `index` is that of `port`.
+/// Returns whether there is a site at `index`, and it is the site of `port`.
 fn is_site_at(sites: &[Site], index: usize, port: &EndPort) -> bool
     ensures { result ≡ option_map_or (is_of port.now) (slice_get sites.now index) false }
 {
@@ -264,7 +265,7 @@ fn is_site_at(sites: &[Site], index: usize, port: &EndPort) -> bool
     }
 }
 
-/// Returns the site at `index`.
+/// Returns the site at `index`, or `None` if there is none.
 pub(crate) fn site_in(sites: &[Site], index: usize) -> Option<Site>
     ensures { result ≡ slice_get sites.now index }
 {
@@ -281,7 +282,7 @@ fn first_at(sites: &[Site], port: &EndPort) -> usize
     }
 }
 
-/// Returns the index of the first site of `port`.
+/// Returns the index of the first site of `port`, or `None` if there is none.
 fn position_of(sites: &[Site], port: &EndPort) -> Option<usize>
     ensures { result ≡ position (is_of port.now) sites.now }
 {

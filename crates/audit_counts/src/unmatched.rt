@@ -19,7 +19,7 @@ use subnet_view::{EndPort, end_ports, is_end_port, is_usable, switches};
 pub struct Unmatched {
     /// LIDs whose ports are not end ports of the facts.
     pub unowned: FirstFew<HeldLid>,
-    /// LIDs that more than one port holds.
+    /// LIDs that more than one end port holds.
     pub twice: FirstFew<HeldLid>,
     /// Switches that have tables but are not usable switches of the facts.
     pub unknown: FirstFew<Guid>,
@@ -56,7 +56,7 @@ impl Unmatched {
     }
 }
 
-/// Returns the LIDs whose ports are not end ports of the facts, and the LIDs that more than one port holds.
+/// Returns the LIDs whose ports are not end ports of the facts, and the LIDs that more than one end port holds.
 fn unowned_and_twice(
     alloc: Global,
     most: usize,
@@ -85,8 +85,8 @@ fn unknown_and_tableless(
     Ok((unknown, tableless))
 }
 
-/// Returns the nodes that the facts name without saying what they are, and the ports that they name without saying
-/// where these lead.
+/// Returns the nodes that the facts name but whose type is unknown, with the switches whose table room is unknown, and
+/// the ports that the facts name without saying where they lead.
 fn unusable_and_unjoined(
     alloc: Global,
     most: usize,
@@ -100,7 +100,7 @@ fn unusable_and_unjoined(
     Ok((unusable, unjoined))
 }
 
-/// Returns the nodes that the facts name without saying what they are.
+/// Returns the nodes that the facts name but whose type is unknown, and the switches whose table room is unknown.
 fn unusable_of(alloc: Global, most: usize, store: &Store) -> Result<FirstFew<Guid>, AllocError>
     ensures { IfOk result (λ few. few ≡ unusable most (cells_of store.now)) }
 {
@@ -124,7 +124,7 @@ fn tableless_of(alloc: Global, most: usize, network: &Network) -> Result<FirstFe
     Ok(tableless(alloc, most, network.held(), &guids)?)
 }
 
-/// Returns the end ports without a LID.
+/// Returns the end ports of the facts that hold no LID.
 fn lidless_of(alloc: Global, most: usize, network: &Network) -> Result<FirstFew<EndPort>, Refused>
     ensures { IfOk result (λ few. few ≡ lidless most (cells_of network.now.facts) network.now.held) }
 {
@@ -150,7 +150,7 @@ fn unowned(
     Ok(few)
 }
 
-/// Returns the LIDs that more than one port holds, with each of these ports.
+/// Returns the lines of the LIDs that more than one end port holds.
 fn twice(alloc: Global, most: usize, network: &Network) -> Result<FirstFew<HeldLid>, AllocError>
     ensures { IfOk result (λ few. few ≡ twice most network.now.held) }
 {
@@ -199,7 +199,7 @@ fn tableless(
     Ok(few)
 }
 
-/// Returns whether the switch has tables.
+/// Returns whether the switch `guid` has tables.
 fn is_held(held: &Held, guid: Guid) -> bool
     ensures { result ≡ is_held held.now guid }
 {

@@ -23,24 +23,24 @@ use Rattle.audit_counts.specs.declared.sent_packet.SentPacket.{SentPacket}
 use Rattle.audit_counts.specs.Packets.{arrives, packets_of}
 use Rattle.audit_report.specs.Passing.{EachNodeIsKnown, Passes}
 
--- the tables in the text of a view's plan pass by that view, by each rule and under each LMC, if its facts are in
--- range, there is room, the type of each node that they name is known, and the table room of each switch
+-- by each rule and under each LMC, the tables of a view's plan pass by that view if its facts are in range, there is
+-- room for the LIDs, the type of each node that the facts name is known, and the table room of each switch
 abbrev pub PlansPass : Type 0
 PlansPass =
     (rule : RuleValue) (lmc : ℕ) (facts : Facts) → AreInRange facts → ¬ (IsNoRoom lmc (cells_of facts))
     → EachNodeIsKnown (cells_of facts)
     → Passes (cells_of facts) (held_plan (plan_of rule lmc (cells_of facts)))
 
--- it is known where port p of node g leads, or lines `unjoined` name or count the port
+-- it is known where port p of node g leads, or the port is listed as unjoined
 abbrev pub IsKnownOrTold : Cells → ℕ → ℕ → Type 0
 IsKnownOrTold cells g p = IsKnownPort cells g p ⊎ Contains (unjoined_ports cells) (record { node = g; port = p })
 
--- node g is known, and it is known where its port p leads, or lines `unjoined` name or count the port
+-- node g is known, and it is known where its port p leads, or the port is listed as unjoined
 abbrev pub AreKnown : Cells → ℕ → ℕ → Type 0
 AreKnown cells g p = IsKnownNode cells g × IsKnownOrTold cells g p
 
--- each node that a fact names is known, and so is each port that a fact names, unless it is listed as unjoined;
--- whatever facts say, disputed or not
+-- each node that a fact names is known, and so is each port that a fact names unless it is listed as unjoined; this
+-- includes disputed facts
 pub record KnowsAll (cells : Cells) : Type 0 where
   pub nodes : (g : ℕ) (c : Cell Value) → Contains cells ((key.Node g), c) → IsKnownNode cells g
   pub rooms : (g : ℕ) (c : Cell Value) → Contains cells ((key.Cap g), c) → IsKnownNode cells g
@@ -51,7 +51,7 @@ pub record KnowsAll (cells : Cells) : Type 0 where
   pub far_ends : (g p h q : ℕ) → link_of cells g p ≡ Some (h, q) → AreKnown cells h q
   pub switches : (g ports : ℕ) → IsNodeWith cells g Switch ports → AreKnown cells g 0
 
--- the facts know all if tables pass by them
+-- if tables pass by the facts, the facts know all
 abbrev pub PassingAuditsKnowAll : Type 0
 PassingAuditsKnowAll = (facts : Facts) (held : HeldPlan) → Passes (cells_of facts) held → KnowsAll (cells_of facts)
 
@@ -61,16 +61,16 @@ EachArrivesIn part f = (source target : NodePort) (from into : Node) (lid : ℕ)
     → IsEndPortIn part f target into → 1 ≤ lid
     → IsTrue (owns f target lid) → ArrivesAt f source target lid
 
--- if tables pass by facts, each packet of a part arrives, if the part is what an end port is joined to, the facts
--- describe the part, and the part holds the tables
+-- if tables pass by facts, the facts describe all that is joined to an end port, and this part holds the tables, each
+-- packet between end ports of the part is delivered at the end port that holds its LID
 abbrev pub PassingAuditsDeliver : Type 0
 PassingAuditsDeliver =
     (facts : Facts) (held : HeldPlan) (f : Fabric) (origin : NodePort) → IsEndPort f origin
     → IsSeenIn (IsJoinedTo f origin) (cells_of facts) held f
     → Passes (cells_of facts) held → EachArrivesIn (IsJoinedTo f origin) f
 
--- a packet that is counted as not arriving is not delivered at the line's end port: it is lost, or gets to another
--- port, if the facts describe the part and it holds the tables
+-- if the facts describe all that is joined to an end port, and this part holds the tables, a packet that is counted as
+-- not arriving is not delivered at the line's end port
 abbrev pub MissedPacketsMiss : Type 0
 MissedPacketsMiss =
     (facts : Facts) (held : HeldPlan) (f : Fabric) (origin : NodePort) → IsEndPort f origin

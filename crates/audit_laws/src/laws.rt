@@ -1,33 +1,32 @@
 //! The laws of audits.
 ghost use Rattle.audit_laws.specs.Laws.{MissedPacketsMiss, PassingAuditsDeliver, PassingAuditsKnowAll, PlansPass};
 
-/// The plan of a view with room passes an audit by its own text, by each rule and under each LMC, if the type of each
-/// node that the view names is known, and the table room of each switch: each end port has a LID and each switch
-/// tables, each packet that an end port sends to a LID of its component arrives, and channels can be numbered so that
-/// the numbers rise on every way.
+/// The plan of a view passes an audit by its own text, by each rule and under each LMC, if the facts are in range,
+/// there is room for the LIDs, and the type of each node that the view names is known, and the table room of each
+/// switch. Then each end port has a LID and each switch has tables, each packet that an end port sends to a LID of its
+/// component arrives, and channels can be numbered so that the numbers rise along every route.
 pub fn plans_pass()
     ensures law { PlansPass }
 {}
 
 /// If tables pass an audit by facts, the facts have the type and the number of ports of each node that a fact names,
-/// and the table room of each switch; and for each port that a fact names they have that it is down, or its wire as
-/// both ends report it, or that it is a switch's port 0, with its GUID, unless lines `unjoined` name or count the port.
-/// A fact, disputed or not, names the node and the port that it is about. A known link also names the node and the port
-/// to which it leads, and a node that is known to be a switch its port 0.
+/// and the table room of each switch. For each port that a fact names, the facts say that it is down, have its wire as
+/// both ends report it, or have its GUID if it is port 0 of a switch, unless lines `unjoined` name or count the port. A
+/// fact, disputed or not, names the node and the port that it is about. A known link also names the node and the port
+/// to which it leads. A node that is known to be a switch also has its port 0 named.
 pub fn passing_audits_know_all()
     ensures law { PassingAuditsKnowAll }
 {}
 
-/// Each packet between end ports of a part is delivered at the end port that holds its LID, if tables pass an audit by
-/// facts, the part is what an end port of a fabric is joined to, the facts describe the part, and the part holds the
-/// tables.
+/// If tables pass an audit by facts, the facts describe all that is joined to an end port of a fabric, and this part
+/// holds the tables, each packet between end ports of the part is delivered at the end port that holds its LID.
 pub fn passing_audits_deliver()
     ensures law { PassingAuditsDeliver }
 {}
 
-/// A packet between end ports of a part is not delivered at the end port that holds its LID, if an audit by facts
-/// counts it as one that does not arrive, the part is what an end port of a fabric is joined to, the facts describe the
-/// part, and the part holds the tables.
+/// If the facts describe all that is joined to an end port of a fabric, and this part holds the tables, each packet
+/// between end ports of the part that an audit by the facts counts as not arriving is not delivered at the end port
+/// that holds its LID.
 pub fn missed_packets_miss()
     ensures law { MissedPacketsMiss }
 {}

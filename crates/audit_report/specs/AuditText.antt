@@ -33,7 +33,7 @@ abbrev pub counts_line : List ℕ → ℕ → ℕ → List ℕ
 counts_line words sent arrived =
     words ++ codes "pairs " ++ decimal sent ++ codes " arrive " ++ decimal arrived ++ codes "\n"
 
--- the counts of all packets, of those between adapter ports, and of the others
+-- the counts of all packets, of the packets between adapter ports, and of the other packets
 abbrev pub pairs_text : Pairs → Pairs → List ℕ
 pairs_text all between =
     counts_line (codes "") all.sent all.arrived ++ counts_line (codes "between adapters ") between.sent between.arrived
@@ -50,7 +50,7 @@ causes_text causes =
     ++ count_text (codes "no-port") causes.no_port
     ++ count_text (codes "no-link") causes.no_link ++ count_text (codes "foreign") causes.foreign
 
--- how many packets are delivered elsewhere, and how many loop
+-- how many packets are delivered at another port, and how many loop
 abbrev pub others_text : ℕ → ℕ → List ℕ
 others_text misdelivered round = count_text (codes "misdelivered") misdelivered ++ count_text (codes "round") round
 
@@ -59,7 +59,7 @@ abbrev pub missed_line : Causes → ℕ → ℕ → List ℕ
 missed_line causes misdelivered round =
     codes "missed" ++ causes_text causes ++ others_text misdelivered round ++ codes "\n"
 
--- the entry by which a switch drops a packet; empty for another node
+-- the entry by which a switch drops a packet; empty for a node that is no usable switch
 abbrev pub entry_text : Option ℕ → List ℕ
 entry_text entry = option_map_or (λ port. codes " by " ++ decimal port) entry []
 
@@ -67,6 +67,7 @@ entry_text entry = option_map_or (λ port. codes " by " ++ decimal port) entry [
 abbrev pub taken_text : EndPort → List ℕ
 taken_text e = codes " at " ++ port_text e.node e.port
 
+-- why a packet is lost
 abbrev pub cause_text : Cause → List ℕ
 cause_text AboveTop = codes ": above top"
 cause_text NoEntry = codes ": no entry"
@@ -95,6 +96,7 @@ abbrev pub packet_line : Cells → HeldPlan → List ℕ → SentPacket → List
 packet_line cells held word packet =
     sent_text word packet ++ end_text cells held packet.line.lid packet.end ++ codes "\n"
 
+-- a line for each packet
 abbrev pub packets_text : Cells → HeldPlan → List ℕ → List SentPacket → List ℕ
 packets_text cells held word packets = flat_map (packet_line cells held word) packets
 
@@ -133,6 +135,7 @@ figures_text None = codes " none"
 figures_text (Some figures) =
     codes " max " ++ decimal figures.most ++ codes " mean " ++ hundredths_text figures.hundredths
 
+-- a line of figures: `word`, the greatest number and the mean
 abbrev pub figures_line : List ℕ → Option Figures → List ℕ
 figures_line word figures = word ++ figures_text figures ++ codes "\n"
 
@@ -183,7 +186,7 @@ disputed_line count = if count == 0 then [] else codes "disputed " ++ decimal co
 abbrev pub counts_told : List ℕ → List SentPacket → List ℕ
 counts_told words packets = counts_line words (length packets) (count_by arrives packets)
 
--- the counts of all packets, of those between adapter ports, and of those with a switch at one end
+-- the counts of all packets, of the packets between adapter ports, and of the packets with a switch at one end
 abbrev pub pairs_told : List SentPacket → List ℕ
 pairs_told packets =
     counts_told (codes "") packets ++ counts_told (codes "between adapters ") (filter is_between packets)
@@ -211,12 +214,14 @@ unmatched_told most cells held =
 abbrev pub ways_told : Cells → HeldPlan → List ℕ
 ways_told cells held = ways_text (figures_of (hops_of cells held)) (figures_of (loads_of cells held))
 
--- the packets, where tables and facts differ, disputed facts, routes and loads, and the credit loop
+-- the text of an audit: packets, differences between tables and facts, disputed facts, routes and loads, and the credit
+-- loop
 abbrev pub text_of : ℕ → Cells → HeldPlan → List ℕ → List ℕ
 text_of most cells held cycle =
     packets_told most cells held (packets_of cells held) ++ unmatched_told most cells held ++ disputed_line (disputed cells)
     ++ ways_told cells held
     ++ cycle_line cells cycle
 
+-- the text of an audit, with the credit loop that it found
 unfoldable pub audit_text : Audited → List ℕ
 audit_text audit = text_of audit.most (cells_of audit.facts) audit.held audit.cycle

@@ -41,7 +41,7 @@ ArriveAt cells held line = (e : EndPort) → Contains (end_ports cells) line.por
 abbrev pub EachArrives : Cells → HeldPlan → Type 0
 EachArrives cells held = (line : HeldLid) → Contains held.lids line → ArriveAt cells held line
 
--- channels can be numbered so that the numbers rise on every way
+-- channels can be numbered so that the numbers rise along the route of every packet
 abbrev pub CanRise : Cells → HeldPlan → Type 0
 CanRise cells held = (numbers : List ℕ) × RiseOnWays cells held numbers
 
@@ -92,7 +92,7 @@ is_within None load = true
 is_within (Some bound) None = true
 is_within (Some bound) (Some load) = nat_le load.most bound
 
--- the tables pass, and no channel carries more pairs of adapter ports than `bound`, if there is a bound
+-- the tables pass, and no channel carries more than `bound` pairs of adapter ports, if there is a bound
 pub record PassesWithin (bound : Option ℕ) (cells : Cells) (held : HeldPlan) : Type 0 where
   pub passes : Passes cells held
   pub within : is_within bound (figures_of (loads_of cells held)) ≡ true
@@ -102,14 +102,14 @@ abbrev pub IsCycle : Cells → HeldPlan → List ℕ → Type 0
 IsCycle cells held [] = CanRise cells held
 IsCycle cells held (channel ∷ later) = WaitInCycle cells held (channel ∷ later)
 
--- what an audit is about: facts and tables, the cycle that was found, and the most lines of each kind
+-- what an audit is about: the maximum number of lines of each kind, facts and tables, and the cycle that was found
 pub record Audited : Type 0 where
   pub most : ℕ
   pub facts : Facts
   pub held : HeldPlan
   pub cycle : List ℕ
 
--- stored as pairs
+-- an audit is stored as nested pairs
 abbrev pub audited_code : Coded Audited
 audited_code =
     code_by (ℕ × (Facts × (HeldPlan × List ℕ)))
@@ -117,7 +117,7 @@ audited_code =
     (λ a. (a.most, (a.facts, (a.held, a.cycle))))
     (λ p. record { most = p.0; facts = p.1.0; held = p.1.1.0; cycle = p.1.1.1 }) (λ _. refl)
 
--- the findings of an audit are those of the facts and tables in `seen`
+-- the findings of an audit are the findings for the facts and tables in `seen`
 pub record IsFound (most : ℕ) (seen : Seen) (tally : PacketTally) (unmatched : Unmatched) (count : ℕ) (ways : WayFigures)
     (cycle : List ℕ) : Type 0 where
   pub counted : IsTally most (packets_of (cells_of seen.facts) seen.held) tally

@@ -13,7 +13,7 @@ use Rattle.sm_cli.specs.declared.fault.Fault.TheVariants.{Write, Memory}
 use Rattle.sm_cli.specs.InputTables.{AreNoTablesAndFiles, AreTablesAndFiles}
 use Rattle.sm_cli.specs.declared.input_tables.TablesAndFacts.{TablesAndFacts}
 
--- the most lines of each kind: 2^64 - 1, which no list reaches, if `all`, otherwise 20
+-- the maximum number of lines of each kind: 20, or 2^64 - 1 if `all`; no list has that many
 abbrev pub most_told : Bool → ℕ
 most_told all = if all then 18446744073709551615 else 20
 
@@ -35,7 +35,7 @@ pub record HasAudited {S : Type 0} (state : S → SourceState) (asked : AuditAsk
   pub read : AreTablesAndFiles state asked.floor olds news told
   pub audited : IsAudited asked told.store told.held prints passed
 
--- why the audit of what was read failed
+-- why the audit of the inputs failed: a write failed, or memory ran out
 abbrev pub IsAnswerFault : Bool → Fault → Type 0
 IsAnswerFault sink_failed Write = IsTrue sink_failed
 IsAnswerFault sink_failed Memory = Unit {0}

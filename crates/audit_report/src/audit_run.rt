@@ -14,7 +14,7 @@ use sm_cli::{Fault, read_tables_and_files};
 use smp_bytes::Generation;
 use std::alloc::Global;
 
-/// The most lines of each kind, unless all lines are asked for.
+/// The maximum number of lines of each kind if not all lines are asked for.
 const MOST_TOLD: usize = 20;
 
 /// The options of an audit.
@@ -24,7 +24,7 @@ pub struct AuditAsked {
     pub floor: Generation,
     /// Whether to write all lines of each kind, or only the first 20.
     pub all: bool,
-    /// The most pairs of adapter ports that a channel may carry, if there is a bound.
+    /// The maximum number of pairs of adapter ports that a channel may carry. `None` if there is no bound.
     pub max_load: Option<u64>,
 }
 
@@ -57,7 +57,8 @@ pub fn run_audit<S: Source, W: Sink>(
     }
 }
 
-/// Writes the audit of `held` in the subnet of `store`, and flushes. Returns whether the tables pass.
+/// Writes the audit of `held` in the subnet of `store`, and flushes. Returns whether the tables pass and no channel
+/// carries more pairs than `asked.max_load`.
 fn answer<W: Sink>(
     alloc: Global,
     sink: &mut W,
@@ -78,7 +79,7 @@ fn answer<W: Sink>(
     }
 }
 
-/// Returns the most lines of each kind that are written.
+/// Returns the maximum number of lines of each kind that are written.
 fn most_told(all: bool) -> usize
     ensures { result ≡ most_told all }
 {

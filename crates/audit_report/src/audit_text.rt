@@ -68,7 +68,8 @@ fn write_tally<W: Sink>(
     write_missed(sink, network, tally)
 }
 
-/// Writes how many packets there are and how many arrive: of all, between adapter ports, and of the others.
+/// Writes how many packets there are and how many arrive: of all packets, of packets between adapter ports, and of the
+/// others.
 fn write_pairs<W: Sink>(sink: &mut W, all: &Pairs, between: &Pairs) -> Result<(), WriteFault>
     ensures { WritesPart W.written W.has_failed result sink.old sink.new (pairs_text all.now between.now) }
 {
@@ -121,7 +122,7 @@ fn write_counted<W: Sink>(
     sink.write(b"\n")
 }
 
-/// Writes how many packets are delivered elsewhere, and how many loop.
+/// Writes how many packets are delivered at another port, and how many loop.
 fn write_others<W: Sink>(sink: &mut W, misdelivered: u64, round: u64) -> Result<(), WriteFault>
     ensures { WritesPart W.written W.has_failed result sink.old sink.new (others_text misdelivered round) }
 {
@@ -460,7 +461,7 @@ fn write_hundredths<W: Sink>(sink: &mut W, number: u64) -> Result<(), WriteFault
     write_number(sink, number % 10)
 }
 
-/// Writes the line of a credit loop, each channel as the switch and the port by which packets take it.
+/// Writes the line of a credit loop. Each channel is written as a switch and the port by which packets leave it.
 pub fn write_cycle<W: Sink>(
     sink: &mut W,
     network: &Network,

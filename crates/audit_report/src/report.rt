@@ -21,7 +21,7 @@ use std::marker::Model;
 /// What the tables that switches hold do with the packets of a subnet.
 #[derive(Drop)]
 pub struct Audit<'a> {
-    /// The most lines of each kind.
+    /// The maximum number of lines of each kind.
     most: usize,
     pub(crate) network: Network<'a>,
     pub(crate) findings: Findings,
@@ -60,8 +60,8 @@ impl<'a> Model for Audit<'a> {
 
 impl<'a> Audit<'a> {
     /// Audits the tables `held` in the subnet of `store`. Follows the packets for each held LID from every end port of
-    /// its owner's component. Counts the wires and channels that packets between adapter ports take, and orders
-    /// channels.
+    /// its owner's component. Counts the wires and channels that packets between adapter ports take, and looks for a
+    /// credit loop. Keeps the first `most` lines of each kind.
     ///
     /// Costs what `Network::deliveries` takes for each 64 LIDs, and twice what `Network::edges` takes for each LID. If
     /// the deliveries do not show that all packets for a LID arrive, that LID also costs what `Network::ends` takes. If
@@ -90,7 +90,8 @@ impl<'a> Audit<'a> {
         self.passes() && self.is_within(bound)
     }
 
-    /// Returns whether the greatest load of a channel is at most `bound`, if there is one.
+    /// Returns whether the greatest load of a channel is at most `bound`. Returns true if there is no bound or no
+    /// channel.
     fn is_within(&self, bound: Option<u64>) -> bool
         ensures { result ≡ is_within bound (figures_of (loads_of (cells_of self.now.facts) self.now.held)) }
     {
@@ -105,8 +106,8 @@ impl<'a> Audit<'a> {
     }
 
     /// Returns whether nothing is missing. Each end port of the view must hold a LID. If there is an end port, each
-    /// usable switch must have tables. The type of each node that the view names must be known, and the table room of
-    /// each switch.
+    /// usable switch must have tables. The type of each node that the view names must be known and, if it is a switch,
+    /// its table room.
     fn is_whole(&self) -> bool
         ensures { IsTrue result ↔ IsWholeFor (cells_of self.now.facts) self.now.held }
     {
@@ -143,7 +144,7 @@ impl<'a> Audit<'a> {
     }
 }
 
-/// Returns whether the greatest load in `load` is at most `bound`, or one of them is `None`.
+/// Returns whether the greatest load in `load` is at most `bound`. Returns true if either is `None`.
 fn is_within(bound: Option<u64>, load: &Option<Figures>) -> bool
     ensures { result ≡ is_within bound load.now }
 {
@@ -194,7 +195,7 @@ fn survey_of(alloc: Global, most: usize, network: &Network) -> Result<PacketSurv
     Ok(survey(alloc, most, network, &sites)?)
 }
 
-/// Finds where tables and facts differ, and a credit loop.
+/// Finds where tables and facts differ, and a shortest credit loop. The list of its channels is empty if there is none.
 fn unmatched_and_cycle(
     alloc: Global,
     most: usize,

@@ -12,16 +12,17 @@ greatest (n ∷ ns) = max n (greatest ns)
 abbrev pub figures_by : ℕ → ℕ → ℕ → Option Figures
 figures_by count sum most = if count == 0 then None else Some (record { most = most; hundredths = 100 * sum / count })
 
+-- the greatest of the numbers, and a hundred times their mean, rounded down; None if there are none
 abbrev pub figures_of : List ℕ → Option Figures
 figures_of ns = figures_by (length ns) (sum ns) (greatest ns)
 
--- `total` is that of the numbers `ns`
+-- `total` has the count, the sum and the greatest of the numbers `ns`
 pub record IsTotal (ns : List ℕ) (total : Total) : Type 0 where
   pub count : total.count ≡ length ns
   pub sum : total.sum ≡ sum ns
   pub most : total.most ≡ greatest ns
 
--- `number` is added `times` times
+-- `new` is `old` with `number` added `times` times
 pub record IsTotalWith (old : Total) (number times : ℕ) (new : Total) : Type 0 where
   pub count : new.count ≡ old.count + times
   pub sum : new.sum ≡ old.sum + times * number

@@ -20,12 +20,12 @@ use Rattle.audit_ways.specs.Ways.{is_adapter}
 abbrev pub IsWithin : ℕ → Far → Type 0
 IsWithin count far = (index : ℕ) → far ≡ Switch index → index < count
 
--- the sum of `number` over all packets: of the switch that a packet reaches first, or of None if it reaches an adapter
+-- the sum, over all packets, of `number` of the switch that the packet reaches first; of None if it reaches an adapter
 -- over one wire
 abbrev pub total : (Option ℕ → ℕ) → Groups → ℕ
 total number groups = weighed (λ i. number (Some i)) groups.weights.items + groups.direct * number None
 
--- a packet whose sender's wire leads to `far` is added
+-- `new` is `old` with one more packet, whose sender's wire leads to `far`
 pub record IsGroupedWith (old : Groups) (far : Far) (new : Groups) : Type 0 where
   pub as_many : length new.weights.items ≡ length old.weights.items
   pub sums : (number : Option ℕ → ℕ) → total number new ≡ total number old + number (switch_over far)
@@ -35,7 +35,7 @@ abbrev pub packets_at : Groups → Option ℕ → ℕ
 packets_at groups None = groups.direct
 packets_at groups (Some index) = slice_index groups.weights.items index
 
--- `number` of where the wire of `e` leads
+-- `number` of the switch to which the wire in `e` leads; of None if it leads to none
 abbrev pub by_switch : Cells → (Option ℕ → ℕ) → EndPort → ℕ
 by_switch cells number e = number (switch_over (far_of cells e.node e.port))
 
@@ -52,6 +52,7 @@ adapters cells = filter is_adapter (end_ports cells)
 abbrev pub port_cmp : ℕ × ℕ → ℕ × ℕ → Ordering
 port_cmp a b = ordering_then (nat_cmp a.0 b.0) (nat_cmp a.1 b.1)
 
+-- the node and the port of a sender
 abbrev pub port_of : Sender → ℕ × ℕ
 port_of source = (source.port.node, source.port.port)
 

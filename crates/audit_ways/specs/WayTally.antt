@@ -4,15 +4,15 @@ use Rattle.port_graph.specs.declared.edge.Edge.{Edge}
 use Rattle.audit_ways.specs.declared.way_tally.WayTally.{WayTally}
 use Rattle.audit_ways.specs.Ways.{Way, one_wire, times_on, way_from}
 
--- a sum over some routes, of any number that a route has
+-- a sum over some routes, of any number that depends on the route
 abbrev pub Sum : Type 0
 Sum = (Way → ℕ) → ℕ
 
--- 1 if `number` is over `bound`, else 0
+-- 1 if `number` is above `bound`, otherwise 0
 abbrev pub over : ℕ → ℕ → ℕ
 over bound number = if nat_lt bound number then 1 else 0
 
--- `tally` counts the routes with this sum, over `channels` channels
+-- `tally` counts the routes over which `sum` sums; there are `channels` channels
 pub record IsCounted (channels : ℕ) (sum : Sum) (tally : WayTally) : Type 0 where
   pub as_many : length tally.loads.items ≡ channels
   pub count : tally.hops.count ≡ sum (λ way. 1)
@@ -20,13 +20,13 @@ pub record IsCounted (channels : ℕ) (sum : Sum) (tally : WayTally) : Type 0 wh
   pub most : (bound : ℕ) → (tally.hops.most ≤ bound) ↔ (sum (λ way. over bound way.wires) ≡ 0)
   pub loads : (channel : ℕ) → slice_index tally.loads.items channel ≡ sum (times_on channel)
 
--- each of `channels` is taken `times` more, as often as it occurs
+-- the load of each channel grows by `times` for each time that the channel occurs in `channels`
 pub record IsLoadedWith (old channels : List ℕ) (times : ℕ) (new : List ℕ) : Type 0 where
   pub as_many : length new ≡ length old
   pub load : (channel : ℕ) → slice_index new channel ≡ slice_index old channel
       + times * count_by (λ x. x == channel) channels
 
--- `way` is counted `times` times more
+-- `new` is `old` with `way` counted `times` times more
 pub record IsCountedWith (old : WayTally) (way : Way) (times : ℕ) (new : WayTally) : Type 0 where
   pub count : new.hops.count ≡ old.hops.count + times
   pub wires : new.hops.sum ≡ old.hops.sum + times * way.wires
@@ -38,11 +38,11 @@ abbrev pub weighed : (ℕ → ℕ) → List ℕ → ℕ
 weighed number [] = 0
 weighed number (weight ∷ weights) = weight * number 0 + weighed (λ i. number (suc i)) weights
 
--- the sum over the routes from each switch, as often as its weight says, and over `direct` routes of one wire
+-- the sum over `direct` routes of one wire and, for each switch, over as many routes from it as its weight says
 abbrev pub grouped : List (Option Edge) → List ℕ → ℕ → Sum
 grouped edges weights direct number = weighed (λ i. number (way_from edges i)) weights + direct * number one_wire
 
--- the routes with the sum `more` are counted as well
+-- if `old` counts the routes of some sum, `new` counts these routes and the routes of `more`
 abbrev pub IsCountedMore : ℕ → WayTally → Sum → WayTally → Type 0
 IsCountedMore channels old more new =
     (sum : Sum) → IsCounted channels sum old → IsCounted channels (λ number. sum number + more number) new

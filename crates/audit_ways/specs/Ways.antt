@@ -20,20 +20,20 @@ use Rattle.held_tables.specs.Tables.{is_owner, is_same_end, lines_of}
 use Rattle.audit_ways.specs.declared.ways.WayFigures.{WayFigures}
 use Rattle.audit_ways.specs.Figures.{figures_of}
 
--- the route of a packet: how many wires it takes, those at the adapters included, and its channels, which are wires
--- between usable switches, taken one way
+-- the route of a packet: the number of its wires, including the wires at the adapters, and its channels; a channel is a
+-- wire between usable switches, taken in one direction
 pub record Way : Type 0 where
   pub wires : ℕ
   pub channels : List ℕ
 
--- the channels from `switch` on, at most as many as the first argument
+-- the channels that a packet takes from `switch` on; the first argument is the maximum number of channels
 abbrev pub channels_from : ℕ → List (Option Edge) → ℕ → List ℕ
 channels_from zero edges switch = []
 channels_from (suc steps) edges switch =
     option_map_or (λ edge. number_of switch edge
     ∷ channels_from steps edges edge.to) (slice_index_or edges switch None) []
 
--- the route from an adapter to `switch`, from there over channels, and to an adapter
+-- the route from an adapter over one wire to `switch`, from there over channels, and over one wire to an adapter
 abbrev pub way_from : List (Option Edge) → ℕ → Way
 way_from edges switch = record {
   wires = length (channels_from (length edges) edges switch) + 2;
@@ -72,7 +72,7 @@ abbrev pub AllComeTo : Cells → HeldPlan → HeldLid → Type 0
 AllComeTo cells held line =
     (e : EndPort) → Contains (end_ports cells) e → is_at line.port (end_for cells held line.lid e) ≡ true
 
--- if `told` marks the line at an index, all packets for its LID are delivered
+-- if `told` marks the line at an index, all packets for its LID are delivered at its port
 abbrev pub AreTold : Cells → HeldPlan → List Bool → Type 0
 AreTold cells held told = (index : ℕ) (line : HeldLid) → slice_get (lines_of held) index ≡ Some line
     → slice_index_or told index false ≡ true → AllComeTo cells held line
@@ -89,14 +89,15 @@ ways_to cells held line = map (way_of cells held line) (filter (reaches cells he
 abbrev pub is_target : Cells → EndPort → Bool
 is_target cells e = is_adapter e && is_owner (end_ports cells) e
 
+-- the routes to the LID of `line`; none if its port is no adapter port of the facts
 abbrev pub ways_for : Cells → HeldPlan → HeldLid → List Way
 ways_for cells held line = if is_target cells line.port then ways_to cells held line else []
 
--- the routes from each adapter port to each LID of another one
+-- the routes of all delivered packets from an adapter port to a LID of another adapter port
 abbrev pub ways_of : Cells → HeldPlan → List Way
 ways_of cells held = flat_map (ways_for cells held) (lines_of held)
 
--- how many wires each route takes
+-- the number of wires of each route
 abbrev pub hops_of : Cells → HeldPlan → List ℕ
 hops_of cells held = map (λ w. w.wires) (ways_of cells held)
 
@@ -108,6 +109,7 @@ times_on channel way = count_by (λ x. x == channel) way.channels
 abbrev pub load_of : List Way → ℕ → ℕ
 load_of ways channel = sum_by (times_on channel) ways
 
+-- the wire leads to a usable switch
 abbrev pub is_to_switch : Far → Bool
 is_to_switch Nothing = false
 is_to_switch (Switch index) = true

@@ -8,9 +8,9 @@ ghost use Rattle.audit_ways.specs.Ways.{channels_from};
 use port_graph::Edge;
 use std::alloc::AllocError;
 
-/// Follows packets from the switch at index `first` by the edges of the switches, and adds `times` to the load of each
-/// channel that they take. Returns how many channels that is. Takes a step for each channel. Returns an error if a load
-/// does not fit in 64 bits.
+/// Follows packets from the switch at index `first` by `edges`, and adds `times` to the load of each channel that they
+/// take. Returns the number of channels taken. Takes a step for each of them. Returns an error if a load does not fit
+/// in 64 bits.
 pub(crate) fn load_channels(
     loads: &mut [u64],
     edges: &[Option<Edge>],
@@ -36,7 +36,7 @@ pub(crate) fn load_channels(
     Ok(edges.len())
 }
 
-/// Adds `times` to the load of `channel`.
+/// Adds `times` to the load of `channel`. Returns an error if the load does not fit in 64 bits.
 pub(crate) fn load_channel(loads: &mut [u64], channel: usize, times: u64) -> Result<(), AllocError>
     requires { channel < length loads.old }
     ensures { OnOk result (loads.new ≡ slice_set loads.old channel (slice_index loads.old channel + times)) }
@@ -45,7 +45,7 @@ pub(crate) fn load_channel(loads: &mut [u64], channel: usize, times: u64) -> Res
     Ok(())
 }
 
-/// Returns the edge of `switch`, if it has one.
+/// Returns the edge of `switch`, or `None` if it has none.
 fn edge_of(edges: &[Option<Edge>], switch: usize) -> Option<Edge>
     ensures { result ≡ slice_index_or edges.now switch None }
 {

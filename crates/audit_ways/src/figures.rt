@@ -4,7 +4,7 @@ ghost use Rattle.audit_ways.specs.Figures.{IsTotal, IsTotalWith, figures_by};
 
 use std::alloc::AllocError;
 
-/// Figures of some numbers.
+/// The maximum and the mean of some numbers.
 #[derive(Clone, Copy, Debug, PartialEq, Eq)]
 pub struct Figures {
     /// The greatest number.
@@ -13,7 +13,7 @@ pub struct Figures {
     pub hundredths: u64,
 }
 
-/// The count, the sum and the greatest of some numbers.
+/// The count, the sum and the maximum of some numbers.
 #[derive(Clone, Copy)]
 pub(crate) struct Total {
     pub(crate) count: u64,
@@ -33,7 +33,7 @@ impl Total {
         }
     }
 
-    /// Adds `number`, `times` times. Returns an error if 64 bits are too few.
+    /// Adds `number`, `times` times. Returns an error if a value does not fit in 64 bits.
     pub(crate) fn add(&mut self, number: u64, times: u64) -> Result<(), AllocError>
         ensures { OnOk result (IsTotalWith self.old number times self.new) }
     {
@@ -44,8 +44,8 @@ impl Total {
         Ok(())
     }
 
-    /// Returns the greatest number and the mean, or `None` if there are no numbers. Returns an error if 64 bits are too
-    /// few.
+    /// Returns the greatest number and the mean, or `None` if there are no numbers. Returns an error if a hundred times
+    /// the sum does not fit in 64 bits.
     pub(crate) fn figures(&self) -> Result<Option<Figures>, AllocError>
         ensures { IfOk result (λ figures. figures ≡ figures_by self.now.count self.now.sum self.now.most) }
     {

@@ -35,7 +35,7 @@ fn port_of(source: &Sender) -> (Guid, PortNum)
 }
 
 /// Returns where the wire in an adapter port leads, or `None` if `port` is no adapter port or not in the roster. Takes
-/// a search.
+/// a binary search.
 pub(crate) fn target_among(roster: &[Sender], port: &EndPort) -> Option<Far>
     requires { AreByPort roster.now }
     ensures { IsTargetAmong roster.now port.now result }

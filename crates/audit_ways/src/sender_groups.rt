@@ -24,7 +24,7 @@ pub(crate) struct Groups {
 }
 
 impl Groups {
-    /// Returns the groups of no packets, over the switches of the network.
+    /// Returns empty groups for the switches of `network`.
     fn none(alloc: Global, network: &Network) -> Result<Self, AllocError>
         ensures { IfOk result (AreGrouped (cells_of network.now.facts) []) }
     {
@@ -34,7 +34,7 @@ impl Groups {
         })
     }
 
-    /// Adds a packet whose sender's wire leads to `far`. Returns an error if 64 bits are too few.
+    /// Adds a packet whose sender's wire leads to `far`. Returns an error if a count does not fit in 64 bits.
     pub(crate) fn join(&mut self, far: &Far) -> Result<(), AllocError>
         requires { IsWithin (length self.old.weights.items) far.now }
         ensures { OnOk result (IsGroupedWith self.old far.now self.new) }
@@ -45,7 +45,7 @@ impl Groups {
         }
     }
 
-    /// Adds a packet that takes one wire.
+    /// Adds a packet that reaches an adapter over one wire.
     fn join_direct(&mut self) -> Result<(), AllocError>
         ensures direct { OnOk result (self.new.direct ≡ self.old.direct + 1) }
         ensures weights { self.new.weights ≡ self.old.weights }
@@ -54,7 +54,7 @@ impl Groups {
         Ok(())
     }
 
-    /// Removes a packet whose sender's wire leads to `far`.
+    /// Removes a packet whose sender's wire leads to `far`. There must be such a packet.
     pub(crate) fn leave(&mut self, far: &Far)
         requires { 1 ≤ packets_at self.old (switch_over far.now) }
         ensures { IsGroupedWith self.new far.now self.old }
@@ -110,14 +110,14 @@ pub(crate) fn group_packets(
     Ok(groups)
 }
 
-/// Returns whether `port` is an adapter port, not the line's own port, and its packet arrives there.
+/// Returns whether `port` is an adapter port other than the line's, and `arrives` is true.
 fn reaches(line: &HeldLid, port: &EndPort, arrives: bool) -> bool
     ensures { result ≡ reaches_if line.now port.now arrives }
 {
     is_adapter(port) && !is_same_end(&line.port, port) && arrives
 }
 
-/// Returns whether `port` is an end port of an adapter. (The end port of a switch is its port 0.)
+/// Returns whether `port` is an end port of an adapter. The end port of a switch is its port 0.
 pub fn is_adapter(port: &EndPort) -> bool
     ensures { result ≡ is_adapter port.now }
 {

@@ -8,17 +8,17 @@ use crate::figures::Total;
 use port_graph::Edge;
 use std::alloc::{AllocError, Global};
 
-/// The wires and channels of the routes that were counted.
+/// Counts of routes, of their wires and of their channels.
 #[derive(Drop)]
 pub(crate) struct WayTally {
-    /// The number of wires of each route.
+    /// The count, the sum and the maximum of the routes' numbers of wires.
     pub(crate) hops: Total,
     /// For each channel, how often it is taken.
     pub(crate) loads: Vec<u64>,
 }
 
 impl WayTally {
-    /// Returns the tally of no routes, over `channels` channels.
+    /// Returns an empty tally with `channels` channels.
     pub(crate) fn new(alloc: Global, channels: usize) -> Result<Self, AllocError>
         ensures { IfOk result (IsCounted channels (λ _. 0)) }
     {
@@ -28,8 +28,8 @@ impl WayTally {
         })
     }
 
-    /// Adds the route from each switch as often as its weight says, and `direct` routes over one wire. Takes a step for
-    /// each switch, and for each channel of a route from one.
+    /// Adds the route from each switch as many times as its weight, and `direct` routes over one wire. Takes a step for
+    /// each switch and, if its weight is above 0, for each channel of its route.
     pub(crate) fn add(
         &mut self,
         edges: &[Option<Edge>],

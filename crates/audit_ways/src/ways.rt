@@ -20,12 +20,13 @@ use held_tables::HeldLid;
 use packet_walks::{Blocks, Far, Network};
 use std::alloc::{AllocError, Global};
 
-/// Figures of the packets that adapter ports send to each other's LIDs and that are delivered.
+/// Figures of the delivered packets that adapter ports send to each other's LIDs.
 #[derive(Clone, Copy, Debug, PartialEq, Eq)]
 pub struct WayFigures {
-    /// The figures of how many wires a packet takes, those at the adapters included. `None` if there is no packet.
+    /// The figures of the number of wires that a packet takes, including the wires at the adapters. `None` if there is
+    /// no packet.
     pub hops: Option<Figures>,
-    /// The figures of how often a channel is taken. `None` if there is no channel.
+    /// The figures of the number of times that a channel is taken. `None` if there is no channel.
     pub load: Option<Figures>,
 }
 
@@ -33,15 +34,15 @@ pub struct WayFigures {
 ///
 /// Costs what `Network::ends` and `Network::edges` take for each LID, and what `Network::blocks` takes for each 64
 /// LIDs. Each LID also costs a walk from each switch with an adapter, and a step for each end port if not all packets
-/// for the LID are delivered. Returns an error if memory runs out or 64 bits are too few.
+/// for the LID are delivered. Returns an error if memory runs out or a number does not fit in 64 bits.
 pub fn figures_of_ways(alloc: Global, network: &Network) -> Result<WayFigures, AllocError>
     ensures { IfOk result (IsToldOfWays (cells_of network.now.facts) network.now.held) }
 {
     figures_of_ways_told(alloc, network, &[])
 }
 
-/// Computes the figures of `figures_of_ways`. `told` marks lines, by index, whose packets are all known to be delivered
-/// at their ports. These lines do not cost what `Network::ends` takes.
+/// Computes the figures of `figures_of_ways`. If `told` is true at the index of a line, all packets for its LID must be
+/// known to be delivered at its port. Such a line does not cost what `Network::ends` takes.
 pub fn figures_of_ways_told(
     alloc: Global,
     network: &Network,
@@ -57,7 +58,7 @@ pub fn figures_of_ways_told(
     Ok(WayFigures { hops, load })
 }
 
-/// Counts the routes of the packets.
+/// Counts the routes of the delivered packets between adapter ports.
 fn tally_of(alloc: Global, network: &Network, told: &[bool]) -> Result<WayTally, AllocError>
     requires { AreTold (cells_of network.now.facts) network.now.held told.now }
     ensures { IfOk result (IsCounted (256 * length (switches (cells_of network.now.facts)))
@@ -86,7 +87,7 @@ fn tally_of(alloc: Global, network: &Network, told: &[bool]) -> Result<WayTally,
     Ok(tally)
 }
 
-/// Returns whether the line at `index` is marked: all packets for its LID are known to arrive.
+/// Returns whether `told` is true at the index of a line: all packets for its LID are known to arrive.
 fn is_told(told: &[bool], index: usize) -> bool
     ensures { result ≡ slice_index_or told.now index false }
 {
@@ -94,7 +95,7 @@ fn is_told(told: &[bool], index: usize) -> bool
 }
 
 /// Adds the routes of the packets for the LID of `line`. `far` is where the wire in the line's port leads. `senders`
-/// has a packet from each adapter port, is changed meanwhile, and is restored.
+/// has a packet from each adapter port. It is changed and then restored.
 fn add_ways(
     alloc: Global,
     tally: &mut WayTally,
@@ -127,7 +128,8 @@ fn add_ways(
     senders.join(far)
 }
 
-/// Returns the delivered packets for the LID of `line`, or `None` if all are delivered, which `told` may already say.
+/// Returns the delivered packets for the LID of `line`, or `None` if all are delivered. If `told` is true, they are
+/// known to be.
 fn some_of_all(
     alloc: Global,
     network: &Network,

@@ -11,7 +11,7 @@ use Rattle.balanced_choices.specs.declared.ways.Change.TheVariants.{Add, Remove}
 use Rattle.balanced_choices.specs.declared.rounds.Destination.{Destination}
 use Rattle.balanced_choices.specs.Loads.{candidates_at, lightest, way_from, with_changes}
 
--- the loads of channels, and for one end the number of the candidate that each position takes
+-- for one end, the number of the candidate that each position takes, and the loads of channels
 pub record Chosen : Type 0 where
   pub choices : List ℕ
   pub loads : List ℕ
@@ -25,7 +25,7 @@ with_choice ways sent old p k =
       loads = with_changes (Add (slice_index sent p)) old.loads (way_from ways choices p);
     }
 
--- positions choose one after the other
+-- the positions of the list choose one after the other
 abbrev pub choose_each : (Chosen → ℕ → ℕ) → List (List Edge) → List ℕ → Chosen → List ℕ → Chosen
 choose_each choice ways sent old [] = old
 choose_each choice ways sent old (p ∷ ps) =
@@ -35,25 +35,25 @@ choose_each choice ways sent old (p ∷ ps) =
 abbrev pub is_below : List (List Edge) → ℕ → Bool
 is_below ways p = leads_up p (edges_at ways p)
 
--- all positions, each behind those that its candidates lead to: first those without a candidate that leads up, from the
--- last on, then the others, from the first on
+-- all positions, each after those that its candidates lead to: first those without a candidate that leads up, from the
+-- last to the first, and then the others, from the first to the last
 abbrev pub near_first : List (List Edge) → List ℕ
 near_first ways =
     filter (λ p. not (is_below ways p)) (reverse (numbers_from 0 (length ways)))
     ++ filter (is_below ways) (numbers_from 0 (length ways))
 
--- the number n, counted round among so many
+-- n modulo the count; 0 if the count is 0
 abbrev pub in_turn : ℕ → ℕ → ℕ
 in_turn zero n = 0
 in_turn (suc count) n = n % suc count
 
--- the number n without its digits below the one of this weight; n itself if the weight is 0
+-- the number n without its digits below the digit of this weight; n itself if the weight is 0
 abbrev pub digits_from : ℕ → ℕ → ℕ
 digits_from zero n = n
 digits_from (suc w) n = n / suc w
 
--- the number of the candidate that position p takes at first towards the end with this number: the candidates in turn, by
--- the sum of p and the digits of the number from weight `weights[p]` on
+-- the number of the candidate that position p takes at first towards the end with this number: the digits of the number
+-- from `weights[p]` on, plus p, modulo the number of candidates
 abbrev pub first_choice : List (List Edge) → List ℕ → ℕ → ℕ → ℕ
 first_choice ways weights number p =
     in_turn (length (candidates_at ways p)) (digits_from (slice_index weights p) number + p)
@@ -63,13 +63,14 @@ abbrev pub first_choices : List (List Edge) → List ℕ → List ℕ → List �
 first_choices ways sent weights order number old =
     choose_each (λ now p. first_choice ways weights number p) ways sent old order
 
--- the loads without the packets that some positions send
+-- the loads without the packets that the positions of the list send
 abbrev pub without_packets : List (List Edge) → List ℕ → List ℕ → List ℕ → List ℕ → List ℕ
 without_packets ways sent choices loads [] = loads
 without_packets ways sent choices loads (p ∷ ps) =
     without_packets ways sent choices (with_changes (Remove (slice_index sent p)) loads (way_from ways choices p)) ps
 
--- new choices for an end: its packets leave the loads, then each position takes the candidate of the least peak
+-- new choices for an end: its packets are removed from the loads, and then each position takes the candidate of the
+-- least peak
 abbrev pub new_choices : List (List Edge) → List ℕ → List ℕ → Chosen → Chosen
 new_choices ways sent order old =
     choose_each (λ now p. lightest ways now.choices now.loads p) ways sent
@@ -79,24 +80,24 @@ new_choices ways sent order old =
     })
     order
 
--- the choices for the end with this number in a round: the first choices, then new ones
+-- the choices for the end with this number in a round: the first choices in round 0, and new ones in a later round
 abbrev pub choices_in : ℕ → List (List Edge) → List ℕ → List ℕ → List ℕ → ℕ → Chosen → Chosen
 choices_in zero ways sent weights order number old = first_choices ways sent weights order number old
 choices_in (suc round) ways sent weights order number old = new_choices ways sent order old
 
--- the loads of channels, and the choices for each end
+-- the choices for each end, and the loads of channels
 pub record Balance : Type 0 where
   pub choices : List (List ℕ)
   pub loads : List ℕ
 
--- the choices for an end are made; `first` is the first end at its position, and `number` that end's number
+-- the choices for `end` are made; `first` is the first end at its position, and `number` is the number of `first`
 abbrev pub with_end : ℕ → List (List Edge) → List ℕ → List ℕ → List ℕ → ℕ → ℕ → Balance → ℕ → Balance
 with_end round ways sent weights order number first old end =
     let before : Chosen = record { choices = slice_index_or old.choices end []; loads = old.loads } in
     let own = choices_in round ways sent weights order (number + (end - first)) before in
     record { choices = slice_set old.choices end own.choices; loads = own.loads }
 
--- those for some ends at one position, one after the other
+-- the choices for the ends of the list, all at one position, are made one after the other
 abbrev pub with_ends : ℕ → List (List Edge) → List ℕ → List ℕ → List ℕ → ℕ → ℕ → Balance → List ℕ → Balance
 with_ends round ways sent weights order number first old [] = old
 with_ends round ways sent weights order number first old (end ∷ ends) =
@@ -106,7 +107,7 @@ with_ends round ways sent weights order number first old (end ∷ ends) =
 abbrev pub towards : List (List Edge) → ℕ → List (List Edge)
 towards graph t = map (candidates graph t) (numbers_from 0 (length graph))
 
--- those for the ends at some destinations, of which the first has number `end`
+-- the choices for the ends of the destinations are made; the first end has the index `end`
 abbrev pub with_all : ℕ → List (List Edge) → List ℕ → List ℕ → Balance → ℕ → List Destination → Balance
 with_all round graph sent weights old end [] = old
 with_all round graph sent weights old end (d ∷ ds) =
@@ -115,17 +116,17 @@ with_all round graph sent weights old end (d ∷ ds) =
     (with_ends round ways sent weights (near_first ways) d.number end old (numbers_from end d.ends))
     (end + d.ends) ds
 
--- the number of all ends
+-- n plus the number of all ends of the destinations
 abbrev pub ends_of : ℕ → List Destination → ℕ
 ends_of n [] = n
 ends_of n (d ∷ ds) = ends_of (n + d.ends) ds
 
--- n more than the sum of some numbers, at most 2^64 - 1
+-- n plus the sum of the numbers, at most 2^64 - 1
 abbrev pub sum_from : ℕ → List ℕ → ℕ
 sum_from n [] = n
 sum_from n (x ∷ xs) = sum_from (min (n + x) (2 ^ 64 - 1)) xs
 
--- the mean of some numbers with this sum, rounded down; 0 if there are none
+-- the mean of `count` numbers with this sum, rounded down; 0 if there are none
 abbrev pub mean : ℕ → ℕ → ℕ
 mean sum zero = 0
 mean sum (suc count) = sum / suc count
@@ -134,11 +135,11 @@ mean sum (suc count) = sum / suc count
 abbrev pub mean_load : List (List Edge) → List ℕ → ℕ
 mean_load graph loads = mean (sum_from 0 loads) (sum_from 0 (map length graph))
 
--- no load is over the mean by more than an eighth of it
+-- no load exceeds the mean by more than an eighth of the mean
 abbrev pub are_even : List (List Edge) → List ℕ → Bool
 are_even graph loads = nat_le (greatest 0 loads - mean_load graph loads) (mean_load graph loads / 8)
 
--- no choices and no loads
+-- the balance before the first round: each choice is 0, and each load is 0
 abbrev pub at_first : List (List Edge) → List Destination → Balance
 at_first graph destinations =
     record {
@@ -146,13 +147,13 @@ at_first graph destinations =
       loads = replicate (256 * length graph) 0;
     }
 
--- a round more: the first one, or a later one if loads are not even
+-- the balance after one more round; after the first round, nothing changes if loads are even
 abbrev pub with_round : ℕ → List (List Edge) → List ℕ → List ℕ → List Destination → Balance → Balance
 with_round zero graph sent weights destinations old = with_all zero graph sent weights old 0 destinations
 with_round (suc round) graph sent weights destinations old =
     if are_even graph old.loads then old else with_all (suc round) graph sent weights old 0 destinations
 
--- after this many rounds
+-- the balance after this many rounds
 abbrev pub after_rounds : ℕ → List (List Edge) → List ℕ → List ℕ → List Destination → Balance
 after_rounds zero graph sent weights destinations = at_first graph destinations
 after_rounds (suc round) graph sent weights destinations =

@@ -1,5 +1,5 @@
--- The loads of channels by first choices: for each end of a destination, positions pass on the packets that they send and
--- those that come to them, each after all have come.
+-- The loads of channels by first choices: for each end of a destination, each position passes on the packets that it
+-- sends and those that reach it, once all have reached it.
 use Rattle.std.specs.Prelude.{ℕ, ◌+◌, ◌*◌, List, [], ◌∷◌, Option, length, replicate, reverse, take}
 use Rattle.std.specs.Prelude.{slice_get, slice_index, slice_index_or, slice_set}
 use Rattle.std.specs.Option.{option_map_or}
@@ -11,49 +11,51 @@ use Rattle.balanced_choices.specs.declared.ways.Change.TheVariants.{Add}
 use Rattle.balanced_choices.specs.Loads.{channel_by, with_changes}
 use Rattle.balanced_choices.specs.BalancedChoices.{digits_from, in_turn, near_first, towards}
 
--- packets on their way to the ends of a destination: for each end, how many each position has had so far, and the loads of
--- channels
+-- packets on their way to the ends of a destination: for each end, how many each position has had so far; and the loads
+-- of channels
 pub record Passing : Type 0 where
   pub had : List (List ℕ)
   pub loads : List ℕ
 
--- how many packets position p has had to end k
+-- how many packets for end k position p has had
 abbrev pub had_at : Passing → ℕ → ℕ → ℕ
 had_at packets k p = slice_index (slice_index_or packets.had k []) p
 
--- the packets when position p has passed on what it had to end k by edge e
+-- the packets once position p has passed on those that it had for end k, by edge e
 abbrev pub with_passed : ℕ → ℕ → Passing → Edge → Passing
 with_passed p k old e = record {
   had = slice_set old.had k (with_changes (Add (had_at old k p)) (slice_index_or old.had k []) (e.to ∷ []));
   loads = with_changes (Add (had_at old k p)) old.loads (channel_by p e ∷ []);
 }
 
--- the edge that position p takes at first towards the end with this number, of these candidates, by the digits of the
--- number from this weight on; if there is one
+-- the edge of the candidates that position p takes at first towards the end with this number, by the digits of the
+-- number from this weight on; None if there are no candidates
 abbrev pub first_edge : List Edge → ℕ → ℕ → ℕ → Option Edge
 first_edge edges weight p number = slice_get edges (in_turn (length (take 256 edges)) (digits_from weight number + p))
 
--- the packets when position p has passed on what it had to some ends; `number` is that of end 0
+-- the packets once position p has passed on those that it had for the ends of the list; `number` is the number of end 0
 abbrev pub passed_to : List Edge → ℕ → ℕ → ℕ → Passing → List ℕ → Passing
 passed_to edges weight p number old [] = old
 passed_to edges weight p number old (k ∷ ks) =
     passed_to edges weight p number
     (option_map_or (with_passed p k old) (first_edge edges weight p (number + k)) old) ks
 
--- the packets when some positions, one after the other, have passed on what they had to that many ends
+-- the packets once the positions of the list, one after the other, have passed on those that they had for the first
+-- `ends` ends
 abbrev pub passed_on : List (List Edge) → List ℕ → ℕ → ℕ → Passing → List ℕ → Passing
 passed_on ways weights number ends old [] = old
 passed_on ways weights number ends old (p ∷ ps) =
     passed_on ways weights number ends
     (passed_to (edges_at ways p) (slice_index weights p) p number old (numbers_from 0 ends)) ps
 
--- the loads with the packets to the ends of a destination; each position passes on before those that its candidates lead to
+-- the loads with the packets to the ends of a destination; each position passes on before the positions that its
+-- candidates lead to
 abbrev pub loads_with : List (List Edge) → List ℕ → List ℕ → List ℕ → Destination → List ℕ
 loads_with ways sent weights loads d =
     (passed_on ways weights d.number d.ends (record { had = replicate d.ends sent; loads = loads })
     (reverse (near_first ways))).loads
 
--- the loads with the packets to all ends of some destinations
+-- the loads with the packets to all ends of the destinations
 abbrev pub loads_with_all : List (List Edge) → List ℕ → List ℕ → List ℕ → List Destination → List ℕ
 loads_with_all graph sent weights loads [] = loads
 loads_with_all graph sent weights loads (d ∷ ds) =

@@ -12,7 +12,7 @@ use Rattle.balanced_choices.specs.declared.ways.Change.TheVariants.{Add, Remove}
 abbrev pub candidates_at : List (List Edge) → ℕ → List Edge
 candidates_at ways p = take 256 (edges_at ways p)
 
--- the candidate that position p takes, by the numbers of those chosen
+-- the candidate that position p takes, by the choices; None if there is none
 abbrev pub edge_taken : List (List Edge) → List ℕ → ℕ → Option Edge
 edge_taken ways choices p = slice_get (edges_at ways p) (slice_index choices p)
 
@@ -29,12 +29,12 @@ way taken (suc n) p = option_map_or (λ e. channel_by p e ∷ way taken n e.to) 
 abbrev pub way_from : List (List Edge) → List ℕ → ℕ → List ℕ
 way_from ways choices p = way (edge_taken ways choices) (length ways) p
 
--- a load, with some packets more, at most 2^64 - 1, or with some fewer
+-- a load with the packets added, at most 2^64 - 1, or with the packets removed, at least 0
 abbrev pub changed : Change → ℕ → ℕ
 changed (Add packets) load = min (load + packets) (2 ^ 64 - 1)
 changed (Remove packets) load = load - packets
 
--- the loads, with that of each of some channels changed
+-- the loads, with the load of each channel of the list changed
 abbrev pub with_changes : Change → List ℕ → List ℕ → List ℕ
 with_changes change loads [] = loads
 with_changes change loads (c ∷ cs) = with_changes change (slice_set loads c (changed change (slice_index loads c))) cs
@@ -43,15 +43,16 @@ with_changes change loads (c ∷ cs) = with_changes change (slice_set loads c (c
 abbrev pub peak : List (List Edge) → List ℕ → List ℕ → ℕ → Edge → ℕ
 peak ways choices loads p e = greatest 0 (map (λ c. slice_index loads c) (channel_by p e ∷ way_from ways choices e.to))
 
--- which of some numbers is least: the one that was found, with number `best`, or the first lesser of those from number k on
+-- the index of the least number: `best`, whose number is `least`, or the first lesser number of the list, which begins
+-- at index k
 abbrev pub least_from : ℕ → ℕ → ℕ → List ℕ → ℕ
 least_from best least k [] = best
 least_from best least k (n ∷ ns) = if nat_lt n least then least_from k n (suc k) ns else least_from best least (suc k) ns
 
--- which of some numbers, at most 2^64 - 1 each, is the first that none is less than
+-- the index of the first number that no number is less than; each number is at most 2^64 - 1
 abbrev pub first_least : List ℕ → ℕ
 first_least ns = least_from 0 (2 ^ 64 - 1) 0 ns
 
--- the number of the candidate of position p whose way has the least peak, of equals the first
+-- the number of the candidate of position p whose way has the least peak; the first of them if several have it
 abbrev pub lightest : List (List Edge) → List ℕ → List ℕ → ℕ → ℕ
 lightest ways choices loads p = first_least (map (peak ways choices loads p) (candidates_at ways p))

@@ -1,8 +1,8 @@
--- Which of some candidates a number takes.
+-- The candidate that a number takes.
 use Rattle.std.specs.Prelude.{◌≡◌, ◌<◌, ◌+◌, ◌*◌, ◌/◌, ◌%◌, ◌^◌}
 use Rattle.balanced_choices.specs.declared.round_robin.RoundRobin.{RoundRobin}
 
--- `start` and the numbers behind it with one digit, `weight` of them, have the turn `choice`
+-- the `weight` numbers from `start` on have one digit, and their turn is `choice`
 pub record IsTurn (turn : RoundRobin) : Type 0 where
   pub weight : 0 < turn.weight
   pub offset : turn.offset < 2 ^ 63

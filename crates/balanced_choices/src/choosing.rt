@@ -15,7 +15,7 @@ use crate::ways::{Change, change_way, lightest};
 use port_graph::{Adjacency, Edge};
 use std::alloc::{AllocError, Global};
 
-/// Returns all positions, each behind those that its candidates lead to.
+/// Returns all positions, each after the positions that its candidates lead to.
 pub(crate) fn near_first(alloc: Global, ways: &Adjacency) -> Result<Vec<usize>, AllocError>
     ensures order { IfOk result (λ order. order.items ≡ near_first ways.now) }
     ensures positions { IfOk result (λ order. All (λ p. p < length ways.now) order.items) }
@@ -26,7 +26,7 @@ pub(crate) fn near_first(alloc: Global, ways: &Adjacency) -> Result<Vec<usize>, 
     Ok(order)
 }
 
-/// Appends the positions without a candidate that leads up, from the last on.
+/// Appends the positions without a candidate that leads up, from the last to the first.
 fn push_above(ways: &Adjacency, order: &mut Vec<usize>) -> Result<(), AllocError>
     ensures { OnOk result (order.new.items
         ≡ order.old.items ++ filter (λ p. not (is_below ways.now p)) (reverse (numbers_from 0 (length ways.now)))) }
@@ -40,7 +40,7 @@ fn push_above(ways: &Adjacency, order: &mut Vec<usize>) -> Result<(), AllocError
     Ok(())
 }
 
-/// Appends the positions with a candidate that leads up, from the first on.
+/// Appends the positions with a candidate that leads up, from the first to the last.
 fn push_below(ways: &Adjacency, order: &mut Vec<usize>) -> Result<(), AllocError>
     ensures { OnOk result (order.new.items
         ≡ order.old.items ++ filter (is_below ways.now) (numbers_from 0 (length ways.now))) }
@@ -53,15 +53,15 @@ fn push_below(ways: &Adjacency, order: &mut Vec<usize>) -> Result<(), AllocError
     Ok(())
 }
 
-/// Returns whether a candidate of a position leads up.
+/// Returns whether a candidate of `position` leads up.
 fn is_below(ways: &Adjacency, position: usize) -> bool
     ensures { result ≡ is_below ways.now position }
 {
     ways.at(position).iter().any(|edge| edge.to < position)
 }
 
-/// Makes the choices for the end with this number: in round 0 the first ones, later new ones, by which its packets take
-/// other ways.
+/// Makes the choices for the end with this number: in round 0 the first choices, and in a later round new ones, by
+/// which its packets take other ways.
 pub(crate) fn choose(
     alloc: Global,
     round: usize,
@@ -95,8 +95,8 @@ pub(crate) fn choose(
     Ok(())
 }
 
-/// Makes the first choices for the end with this number: each position takes the candidates in turn, by the number's
-/// digits from its weight on.
+/// Makes the first choices for the end with this number: each position takes its candidates in turn, by the number's
+/// digits from the position's weight on.
 fn choose_in_turn(
     ways: &Adjacency,
     order: &[usize],
@@ -124,7 +124,7 @@ fn choose_in_turn(
     }
 }
 
-/// Returns the number of the candidate that a position takes at first towards the end with this number.
+/// Returns the number of the candidate that `position` takes at first towards the end with the number `number`.
 pub(crate) fn first_choice(
     ways: &Adjacency,
     weights: &[usize],
@@ -140,7 +140,7 @@ pub(crate) fn first_choice(
     in_turn(ways.at(position).len().min(PORTS), digits + position)
 }
 
-/// Returns `number` without its digits below the one of this weight; `number` itself if the weight is 0.
+/// Returns `number` without its digits below the digit of this weight, or `number` itself if `weight` is 0.
 fn digits_from(weight: usize, number: usize) -> usize
     ensures digits { result ≡ digits_from weight number }
     ensures less { result ≤ number }
@@ -148,7 +148,7 @@ fn digits_from(weight: usize, number: usize) -> usize
     if weight == 0 { number } else { number / weight }
 }
 
-/// Returns a number, counted round among `count`, of which there are at most 256.
+/// Returns `number` modulo `count`, or 0 if `count` is 0. `count` is at most 256.
 fn in_turn(count: usize, number: usize) -> u8
     requires { count ≤ 256 }
     ensures { result ≡ in_turn count number }
@@ -184,7 +184,7 @@ fn choose_lightest(
     }
 }
 
-/// Lets a position take a candidate. Adds its packets, if it sends any, to its way.
+/// Lets `position` take the candidate `choice`. Adds its packets, if it sends any, to its way.
 fn take(
     ways: &Adjacency,
     sent: &[usize],

@@ -5,7 +5,7 @@ ghost use Rattle.balanced_choices.specs.BalancedChoices.{are_even, mean, mean_lo
 use port_graph::Adjacency;
 use spread_labels::greatest_of;
 
-/// Returns whether no load is over the mean load of the graph's channels by more than an eighth of that.
+/// Returns whether no load exceeds the mean load of the graph's channels by more than an eighth of the mean.
 pub fn are_even(graph: &Adjacency, loads: &[usize]) -> bool
     ensures { result ≡ are_even graph.now loads.now }
 {
@@ -13,14 +13,14 @@ pub fn are_even(graph: &Adjacency, loads: &[usize]) -> bool
     greatest_of(loads).saturating_sub(mean) <= mean / 8
 }
 
-/// Returns the mean of `count` numbers with this sum, rounded down; 0 if there are none.
+/// Returns the mean of `count` numbers with the sum `sum`, rounded down, or 0 if `count` is 0.
 fn mean(sum: usize, count: usize) -> usize
     ensures { result ≡ mean sum count }
 {
     if count == 0 { 0 } else { sum / count }
 }
 
-/// Returns the sum of some numbers, as far as 64 bits go.
+/// Returns the sum of `numbers`, but at most 2^64 - 1.
 fn sum(numbers: &[usize]) -> usize
     ensures { result ≡ sum_from 0 numbers.now }
 {
@@ -31,7 +31,7 @@ fn sum(numbers: &[usize]) -> usize
     sum
 }
 
-/// Counts the edges of a graph, as far as 64 bits go.
+/// Counts the edges of a graph, but returns at most 2^64 - 1.
 fn count_edges(graph: &Adjacency) -> usize
     ensures { result ≡ sum_from 0 (map length graph.now) }
 {

@@ -16,9 +16,9 @@ use port_graph::{Adjacency, Edge};
 use spread_labels::{CandidateSets, TARGETS};
 use std::alloc::{AllocError, Global};
 
-/// Returns the loads of channels if the packets to all ends of all destinations take first choices. Position p sends
-/// `sent[p]` packets to each end. Takes for each 64 destinations a step or two for each edge and each label, and for each
-/// end a step for each position.
+/// Returns the load of each channel if the packets to all ends of all destinations take first choices. Position p sends
+/// `sent[p]` packets to each end. For each 64 destinations, takes a step or two for each edge and each label. For each
+/// end, takes a step for each position.
 pub fn first_loads(
     alloc: Global,
     graph: &Adjacency,
@@ -76,7 +76,8 @@ fn add_packets(
     Ok(())
 }
 
-/// Adds the packets to all ends of a destination to the loads of channels. `ways` has the candidates towards it.
+/// Adds the packets to all ends of a destination to the loads of channels. `ways` has the candidates towards the
+/// destination.
 fn add_packets_to(
     alloc: Global,
     ways: &Adjacency,
@@ -100,7 +101,7 @@ fn add_packets_to(
     Ok(())
 }
 
-/// Returns all positions, each before those that its candidates lead to.
+/// Returns all positions, each before the positions that its candidates lead to.
 fn far_first(alloc: Global, ways: &Adjacency) -> Result<Vec<usize>, AllocError>
     ensures order { IfOk result (λ order. order.items ≡ reverse (near_first ways.now)) }
     ensures positions { IfOk result (λ order. All (λ p. p < length ways.now) order.items) }
@@ -110,7 +111,7 @@ fn far_first(alloc: Global, ways: &Adjacency) -> Result<Vec<usize>, AllocError>
     Ok(order)
 }
 
-/// Returns `count` copies of a list.
+/// Returns `count` copies of `list`.
 fn copies(alloc: Global, list: &[usize], count: u16) -> Result<Vec<Vec<usize>>, AllocError>
     ensures { IfOk result (λ copies. map (λ own. own.items) copies.items ≡ replicate count list.now) }
 {
@@ -121,8 +122,8 @@ fn copies(alloc: Global, list: &[usize], count: u16) -> Result<Vec<Vec<usize>>, 
     Ok(copies)
 }
 
-/// Lets a position pass on what it has had to each end of a destination. `edges` are its candidates, and `weight` is its
-/// digit weight. Adds the packets to the loads of channels.
+/// Lets a position pass on the packets that it has had for each end of a destination. `edges` are its candidates, and
+/// `weight` is its digit weight. Adds the packets to the loads of channels.
 fn pass_on(
     edges: &[Edge],
     weight: usize,
@@ -153,7 +154,7 @@ fn pass_on(
     }
 }
 
-/// Lets a position pass on what it has had, by this edge.
+/// Lets `position` pass on the packets that it has had by `edge`. Adds them to the load of the edge's channel.
 fn pass_by(edge: Edge, position: usize, had: &mut [usize], loads: &mut [usize])
     requires position { position < length had.old }
     requires loads { 256 * position + 256 ≤ length loads.old }
@@ -167,7 +168,7 @@ fn pass_by(edge: Edge, position: usize, had: &mut [usize], loads: &mut [usize])
     add_at(loads, channel, packets);
 }
 
-/// Adds packets to the number at an index, if there is one.
+/// Adds `packets` to the number at `index`, up to 2^64 - 1. Does nothing if there is no such index.
 fn add_at(numbers: &mut [usize], index: usize, packets: usize)
     ensures { numbers.new ≡ with_changes (Add packets) numbers.old (index ∷ []) }
 {

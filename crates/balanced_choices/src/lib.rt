@@ -1,5 +1,5 @@
-//! Choices among the candidates of routes, by counted loads: each choice takes the way whose busiest channel carries
-//! least.
+//! Choices among the candidates of routes by counted loads: each choice takes the way whose busiest channel has the
+//! least load.
 #![tactic(auto)]
 
 mod choosing;

@@ -1,4 +1,4 @@
-//! What each channel carries.
+//! The loads of channels.
 ghost use Rattle.std.specs.Prelude.{◌≡◌, ◌*◌, IfOk, replicate};
 
 use std::alloc::{AllocError, Global};

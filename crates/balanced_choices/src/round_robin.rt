@@ -1,9 +1,9 @@
-//! Which of some candidates a number takes, as numbers rise.
+//! The candidate that a number takes, as numbers rise.
 ghost use Rattle.std.specs.Prelude.{◌≡◌, ◌<◌, ◌+◌, ◌/◌, ◌%◌, ◌^◌, max};
 ghost use Rattle.balanced_choices.specs.RoundRobins.{IsTurn, IsOfSame};
 
-/// The turns of candidates by a digit of a number, counted round. The turn of a number near the last one is found without
-/// a division.
+/// The candidates in turn by a digit of a number, modulo the number of candidates. The turn of a number that is close
+/// to the last number is found without a division.
 #[derive(Clone, Copy)]
 pub struct RoundRobin {
     /// The weight of the digit.
@@ -12,14 +12,14 @@ pub struct RoundRobin {
     offset: usize,
     /// The number of candidates.
     count: usize,
-    /// The least number with the digit of the last one.
+    /// The least number that has the same digit as the last number.
     start: usize,
-    /// The turn of the numbers with that digit, counted round.
+    /// The turn of the numbers that have this digit: the index of their candidate.
     choice: usize,
 }
 
 impl RoundRobin {
-    /// Returns the turn of `number`.
+    /// Returns the turn of `number` among `count` candidates, by its digits from `weight` on plus `offset`.
     pub fn at(weight: usize, offset: usize, count: usize, number: usize) -> Self
         requires weight { 0 < weight }
         requires offset { offset < 2 ^ 63 }
@@ -41,7 +41,8 @@ impl RoundRobin {
         }
     }
 
-    /// Returns the turn of 0, by digits from `weight` on (by numbers themselves if it is 0), from `position` on.
+    /// Returns the turn of the number 0 among `count` candidates, by digits from `weight` on plus `position`. If
+    /// `weight` is 0, the digits are the whole number.
     pub fn first(weight: usize, position: usize, count: usize) -> Self
         requires { (0 < count) × (count < 2 ^ 63) }
         ensures turn { IsTurn result }
@@ -52,7 +53,7 @@ impl RoundRobin {
         RoundRobin::at(weight.max(1), position % count, count, 0)
     }
 
-    /// Goes to the turn of another number.
+    /// Moves to the turn of `number`.
     pub fn go_to(&mut self, number: usize)
         requires turn { IsTurn self.old }
         requires number { number < 2 ^ 63 }
@@ -76,7 +77,7 @@ impl RoundRobin {
         }
     }
 
-    /// Returns the turn: the index of the candidate.
+    /// Returns the turn as the index of the candidate.
     pub fn choice(&self) -> usize
         ensures { result ≡ self.now.choice }
     {
@@ -84,7 +85,7 @@ impl RoundRobin {
     }
 }
 
-/// Returns the number after `choice`, counted round.
+/// Returns the candidate after `choice` among `count`. After the last it is 0.
 fn next_round(choice: usize, count: usize) -> usize
     requires { choice < count }
     ensures { result ≡ (choice + 1) % count }

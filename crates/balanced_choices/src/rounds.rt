@@ -12,27 +12,27 @@ use port_graph::{Adjacency, Edge};
 use spread_labels::{CandidateSets, TARGETS, TargetSet};
 use std::alloc::{AllocError, Global};
 
-/// The most rounds: one for the first choices, and two for new ones.
+/// The greatest number of rounds: one for the first choices, and two for new ones.
 const ROUNDS: usize = 3;
 
-/// A position at which ends are attached, to which packets are sent.
+/// A position at which ends are attached. Packets are sent to these ends.
 #[derive(Clone, Copy, Debug, PartialEq, Eq)]
 pub struct Destination {
     /// The position.
     pub position: usize,
-    /// How many ends it has.
+    /// The number of its ends.
     pub ends: u16,
-    /// The number of the first end; the others follow. By digits of these numbers the first choices take candidates in
-    /// turn.
+    /// The number of its first end. The numbers of the others follow it. The first choices take candidates in turn by
+    /// digits of these numbers.
     pub number: u32,
 }
 
-/// Finds for each end of each destination, in their order, the number of the candidate that each position takes, if
-/// position p sends `sent[p]` packets to it, and begins with the candidate that an end's number tells without its
-/// digits below the one of weight `weights[p]`. Candidates and their numbers are in the order of the position's edges; a
-/// position without candidates has number 0. Takes three rounds. In each, takes for each 64 destinations a step or two
-/// for each edge and each label, and for each end a step for each position and each edge of each candidate's way. Keeps
-/// a byte for each end and position.
+/// Finds for each end of each destination, in their order, the number of the candidate that each position takes.
+/// Position p sends `sent[p]` packets to each end. Its first choice is by the digits of the end's number from
+/// `weights[p]` on. Candidates and their numbers are in the order of the position's edges. A position without
+/// candidates has number 0. Takes at most three rounds. In each round, takes for each 64 destinations a step or two for
+/// each edge and each label, and for each end a step for each position and each edge of each candidate's way. Keeps a
+/// byte for each end and position.
 pub fn balanced_choices(
     alloc: Global,
     graph: &Adjacency,
@@ -64,7 +64,7 @@ pub fn balanced_choices(
     Ok(choices)
 }
 
-/// Returns a choice of 0 for each end of each destination and each position.
+/// Returns a choice of 0 for each position and each end of each destination.
 fn no_choices(
     alloc: Global,
     positions: usize,
@@ -85,7 +85,7 @@ fn no_choices(
     Ok(choices)
 }
 
-/// Appends a choice of 0 for each of some ends and each position.
+/// Appends for each of `ends` ends a choice of 0 for each position.
 fn push_choices(
     alloc: Global,
     positions: usize,
@@ -101,7 +101,7 @@ fn push_choices(
     Ok(())
 }
 
-/// Makes the choices of a round for all ends. Makes none if it is not the first one and loads are even.
+/// Makes the choices of a round for all ends. If it is not the first round and loads are even, makes none.
 fn make_round(
     alloc: Global,
     round: usize,
@@ -141,7 +141,8 @@ fn make_round(
     )
 }
 
-/// Makes the choices of a round for all ends of some destinations. Finds the candidates towards 64 of these at a time.
+/// Makes the choices of a round for all ends of some destinations. Finds the candidates towards 64 destinations at a
+/// time.
 fn choose_all(
     alloc: Global,
     round: usize,
@@ -186,8 +187,8 @@ fn choose_all(
     Ok(())
 }
 
-/// Makes the choices for the ends of at most 64 destinations, of which the first has number `first`. Returns the number
-/// of the next end.
+/// Makes the choices for the ends of at most 64 destinations. The first end has the index `first`. Returns the index
+/// after the last end.
 fn choose_some(
     alloc: Global,
     round: usize,
@@ -231,7 +232,7 @@ fn choose_some(
     Ok(end)
 }
 
-/// Returns the positions of destinations.
+/// Returns the position of each destination.
 pub(crate) fn positions_of(
     alloc: Global,
     destinations: &[Destination],
@@ -244,8 +245,8 @@ pub(crate) fn positions_of(
         .collect(alloc)
 }
 
-/// Makes the choices for the ends at one position: from index `first` up to, but not including, `last`. The first has
-/// this number.
+/// Makes the choices for the ends at one position, from the index `first` up to, but not including, `last`. The end at
+/// `first` has this number.
 fn choose_between(
     alloc: Global,
     round: usize,
@@ -300,7 +301,7 @@ pub(crate) fn ways_towards(
     Ok(ways)
 }
 
-/// Finds the edges whose set has a target. Replaces what `found` had before.
+/// Finds the edges whose set has `target`. Replaces the contents of `found`.
 fn find_having(
     edges: &[Edge],
     sets: &[TargetSet],

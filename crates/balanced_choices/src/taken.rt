@@ -7,7 +7,7 @@ ghost use Rattle.balanced_choices.specs.Loads.{edge_taken};
 use port_graph::{Adjacency, Edge};
 use std::alloc::{AllocError, Global};
 
-/// Finds the edge that is taken at each position, if there is one.
+/// Returns the edge that is taken at each position, or `None` if none is.
 pub(crate) fn edges_taken(
     alloc: Global,
     ways: &Adjacency,
@@ -22,14 +22,14 @@ pub(crate) fn edges_taken(
     Ok(taken)
 }
 
-/// Returns the edge that is taken at a position, if there is one.
+/// Returns the edge that is taken at `position`, or `None` if none is.
 pub(crate) fn edge_taken(ways: &Adjacency, choices: &[u8], position: usize) -> Option<Edge>
     ensures { result ≡ edge_taken ways.now choices.now position }
 {
     edge_with(ways, position, choice_at(choices, position))
 }
 
-/// Returns the candidate of a position with this number, if there is one.
+/// Returns the candidate of `position` with the number `number`, or `None` if there is none.
 pub(crate) fn edge_with(ways: &Adjacency, position: usize, number: usize) -> Option<Edge>
     ensures { result ≡ slice_get (edges_at ways.now position) number }
 {
@@ -39,7 +39,7 @@ pub(crate) fn edge_with(ways: &Adjacency, position: usize, number: usize) -> Opt
     }
 }
 
-/// Returns the choice of a position, 0 past the last.
+/// Returns the choice of `position`, or 0 if there is no such position.
 fn choice_at(choices: &[u8], position: usize) -> usize
     ensures { result ≡ slice_index choices.now position }
 {

@@ -7,14 +7,14 @@ ghost use Rattle.balanced_choices.specs.Loads.{changed, with_changes};
 use crate::loads::PORTS;
 use port_graph::{Adjacency, Edge};
 
-/// How a load changes: by packets that are added, or that are removed.
+/// A change of a load: packets are added or removed.
 #[derive(Clone, Copy)]
 pub(crate) enum Change {
     Add(usize),
     Remove(usize),
 }
 
-/// Returns a load after a change.
+/// Returns `load` after `change`. It stays between 0 and 2^64 - 1.
 fn changed(change: Change, load: usize) -> usize
     ensures { result ≡ changed change load }
 {
@@ -24,7 +24,7 @@ fn changed(change: Change, load: usize) -> usize
     }
 }
 
-/// Changes the loads of the channels of the way from `from`, by the edge that is taken at each position.
+/// Changes the loads of the channels of the way from `from`. `taken` has the edge that is taken at each position.
 pub(crate) fn change_way(taken: &[Option<Edge>], loads: &mut [usize], from: usize, change: Change)
     requires { length loads.old ≡ 256 * length taken.now }
     ensures { loads.new ≡ with_changes change loads.old (way_by taken.now from) }
@@ -42,7 +42,7 @@ pub(crate) fn change_way(taken: &[Option<Edge>], loads: &mut [usize], from: usiz
     }
 }
 
-/// Returns the edge that is taken at a position, if there is one.
+/// Returns the edge that is taken at `position`, or `None` if none is.
 fn edge_at(taken: &[Option<Edge>], position: usize) -> Option<Edge>
     ensures edge { result ≡ slice_index_or taken.now position None }
     ensures position { IfSome result (λ edge. position < length taken.now) }
@@ -53,8 +53,8 @@ fn edge_at(taken: &[Option<Edge>], position: usize) -> Option<Edge>
     }
 }
 
-/// Returns the number of the candidate of a position whose way has the least peak, of equals the first. Takes a step
-/// for each edge of each candidate's way if there are several.
+/// Returns the number of the candidate of `position` whose way has the least peak, or the first such candidate if
+/// several have it. If there are several candidates, takes a step for each edge of each one's way.
 pub(crate) fn lightest(
     ways: &Adjacency,
     taken: &[Option<Edge>],
@@ -82,8 +82,8 @@ pub(crate) fn lightest(
     best as u8
 }
 
-/// Returns the greatest load on the way that begins with a candidate of a position; any load on it that is at least
-/// `enough` if there is one.
+/// Returns the greatest load on the way that begins with the candidate `edge` of `position`. If some load on the way is
+/// at least `enough`, may return any such load.
 fn peak(
     taken: &[Option<Edge>],
     loads: &[usize],
@@ -99,8 +99,8 @@ fn peak(
     peak_from(taken, loads, edge.to, loads[channel], enough)
 }
 
-/// Returns the greatest of `found` and the loads of the channels of the way from `from`; any of these that is at least
-/// `enough` if there is one.
+/// Returns the greatest of `found` and the loads of the channels of the way from `from`. If one of these is at least
+/// `enough`, may return any such number.
 fn peak_from(
     taken: &[Option<Edge>],
     loads: &[usize],

@@ -1,4 +1,5 @@
--- The goal of a step from tables that tell an order by themselves: tables between that order and the next one.
+-- The goal of a step from tables that imply an order: tables between that order and the next one on the way to the
+-- plan's.
 use Rattle.std.specs.Prelude.{◌≡◌, ℕ, List, Option, None, Some}
 use Rattle.subnet_view.specs.Reading.{Cells}
 use Rattle.held_tables.specs.Held.{HeldPlan}
@@ -28,7 +29,7 @@ pub record IsGoalBetween (cells : Cells) (held plan : HeldPlan) (by : List ℕ) 
   pub are : AreOrders cells held (edges_in cells) by (Some orders)
   pub is : goal ≡ goal_between cells orders held plan
 
--- the goal of a step; None if the held tables tell no order
+-- the goal of a step; None if the held tables imply no order
 abbrev pub IsGoal : Cells → HeldPlan → HeldPlan → List ℕ → Option Goal → Type 0
 IsGoal cells held plan by None = AreOrders cells held (edges_in cells) by None
 IsGoal cells held plan by (Some goal) = IsGoalBetween cells held plan by goal

@@ -52,7 +52,7 @@ GoalDelivers =
     → DeliverFrom (cells_of facts) (tables_between (cells_of facts) (edges_in (cells_of facts)) orders held plan) line i
 
 -- if the first order grows and the second grows over its tree, the tables between them deliver from each switch from
--- which wires lead to one whose entry of the plan leads to the end port
+-- which wires lead to a switch whose plan entry leads to the end port
 abbrev pub GoalReachesAll : Type 0
 GoalReachesAll =
     (facts : Facts) → AreInRange facts → (told by : List ℕ) (held plan : HeldPlan) (line : HeldLid)
@@ -67,16 +67,16 @@ GoalReachesAll =
 abbrev pub next_towards : Facts → HeldPlan → Goal → HeldPlan
 next_towards facts held goal = next_tables (cells_of facts) (by_order goal.positions) held goal.tables
 
--- the next tables towards a goal are a step by the goal's order, and are right by it for every LID; so no mixture makes
--- a credit loop
+-- the next tables towards a goal are a step by the goal's order, and are right by it for every LID; no mixture then
+-- makes a credit loop
 abbrev pub GoalsAreSafe : Type 0
 GoalsAreSafe =
     (facts : Facts) (held plan : HeldPlan) (by : List ℕ) (goal : Goal) → IsGoal (cells_of facts) held plan by (Some goal)
     → IsStep (cells_of facts) (position_at goal.positions) held goal.tables (next_towards facts held goal)
     × ((lid : ℕ) → 1 ≤ lid → AreRight (cells_of facts) (position_at goal.positions) (next_towards facts held goal) lid)
 
--- for a LID that one end port alone holds, in the held tables and in the plan, the next tables towards a goal are a
--- step of a line by the goal's order; so no packet that the held tables deliver is lost
+-- for a LID that one end port alone holds in the held tables and in the plan, the next tables towards a goal are a step
+-- of a line by the goal's order; no packet that the held tables deliver is then lost
 abbrev pub GoalsFollowTheRule : Type 0
 GoalsFollowTheRule =
     (facts : Facts) (held plan : HeldPlan) (by : List ℕ) (goal : Goal) (line : HeldLid)
@@ -97,8 +97,8 @@ GoalStandsStill =
     → entry_for (tables_between (cells_of facts) (edges_in (cells_of facts)) orders next plan) line.lid g
     ≡ entry_for (tables_between (cells_of facts) (edges_in (cells_of facts)) orders held plan) line.lid g
 
--- steps towards the goal between an order that grows and one that grows over its tree. Each step goes towards the goal
--- from the tables before it; at first each entry is 255 or delivers, as after any step
+-- steps towards the goal between an order that grows and an order that grows over its tree. Each step goes towards the
+-- goal from the tables before it. At first, each entry is 255 or delivers, as after any step
 pub record AreGoalSteps (facts : Facts) (told by : List ℕ) (plan : HeldPlan) (line : HeldLid) (tables : ℕ → HeldPlan)
     : Type 0 where
   pub is_line : IsGoalLine (cells_of facts) plan line
@@ -112,8 +112,8 @@ pub record AreGoalSteps (facts : Facts) (told by : List ℕ) (plan : HeldPlan) (
       (tables_between (cells_of facts) (edges_in (cells_of facts)) (grown_twice (edges_in (cells_of facts)) told by)
       (tables n) plan) line (tables (suc n))
 
--- each switch from which the first goal delivers has that goal's entry after twice as many steps as there are switches,
--- and the tables deliver from there
+-- after twice as many steps as there are switches, each switch from which the first goal delivers has that goal's
+-- entry, and the tables deliver from it
 abbrev pub GoalIsReached : Type 0
 GoalIsReached =
     (facts : Facts) → AreInRange facts → (told by : List ℕ) (plan : HeldPlan) (line : HeldLid) (tables : ℕ → HeldPlan)

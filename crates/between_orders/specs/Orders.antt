@@ -1,4 +1,4 @@
--- The two orders by which a step goes from tables that tell an order by themselves: that order, and the next one.
+-- The two orders of a step from tables that imply an order: this order, and the next one on the way to the plan's.
 use Rattle.std.specs.Prelude.{◌≡◌, ℕ, List, Option, None, Some, length, map, if◌then◌else◌}
 use Rattle.std.specs.List.{range_with_len}
 use Rattle.port_graph.specs.declared.edge.Edge.{Edge}
@@ -13,17 +13,17 @@ use Rattle.two_orders.specs.Growth.{grown_by, positions_in}
 use Rattle.two_orders.specs.Trees.{tree}
 use Rattle.two_orders.specs.TwoOrders.{TwoOrders, two_orders}
 
--- the switches with their wires
+-- for each usable switch, its wires to other switches
 abbrev pub edges_in : Cells → List (List Edge)
 edges_in cells = by_index (graph_of cells)
 
--- the positions of n switches in a list that begins with the last one
+-- the positions of n switches; `taken` lists them from the last position to the first
 abbrev pub told_positions : List ℕ → ℕ → List ℕ
 told_positions taken n = map (position_in taken) (range_with_len 0 n)
 
--- the two orders, from the positions that tables tell. If the tables are right by the order that grows by these, it is
--- the first order, and the second grows by the plan's positions over its tree. Else the told order is the first, and
--- the second grows by it
+-- the two orders, from the positions in the order that the tables imply. If the tables are right by the order that
+-- grows by these positions, that order is the first, and the second grows by the plan's positions over its tree.
+-- Otherwise the implied order is the first, and the second grows by it
 abbrev pub orders_by : Cells → HeldPlan → List (List Edge) → List ℕ → List ℕ → List ℕ → TwoOrders
 orders_by cells held edges plan told grown =
     if are_right cells (position_at (positions_in grown (length edges))) held
@@ -31,11 +31,12 @@ orders_by cells held edges plan told grown =
     (grown_by (tree edges (positions_in grown (length edges))) plan) (length edges)
     else two_orders told grown (length edges)
 
+-- the two orders, from the positions in the order that the tables imply
 abbrev pub orders_from : Cells → HeldPlan → List (List Edge) → List ℕ → List ℕ → TwoOrders
 orders_from cells held edges plan told = orders_by cells held edges plan told (grown_by edges told)
 
--- the orders of a step from `held`, by the order that the tables tell; of several switches that may be last, the last
--- in the plan's order is taken first. None if the tables tell no order
+-- the orders of a step from `held`, by the order that the tables imply; of several switches that may be last, the last
+-- in the plan's order is taken first. None if the tables imply no order
 abbrev pub AreOrders : Cells → HeldPlan → List (List Edge) → List ℕ → Option TwoOrders → Type 0
 AreOrders cells held edges plan None = IsTold cells held (grown_by edges plan) None
 AreOrders cells held edges plan (Some orders) =

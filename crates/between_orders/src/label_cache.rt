@@ -6,17 +6,17 @@ use port_graph::Adjacency;
 use std::alloc::{AllocError, Global};
 use two_orders::{Orders, Sides, label_all};
 
-/// The labels of switches, and the labels at first from which they follow.
+/// The labels of switches, and the first labels from which they follow.
 #[derive(Drop)]
 pub(crate) struct Labelled {
-    /// The labels at first, of the targets.
+    /// The first labels: only targets have one.
     pub firsts: Vec<Option<Sides>>,
     /// The labels of all switches.
     pub labels: Vec<Option<Sides>>,
 }
 
 impl Labelled {
-    /// Returns the labels that follow if no switch has a label at first.
+    /// Returns the labels if no switch has a first label.
     pub fn none(alloc: Global, edges: &Adjacency, orders: &Orders) -> Self
         ensures { result.labels.items ≡ labels_from edges.now orders.now result.firsts.items }
     {
@@ -26,7 +26,7 @@ impl Labelled {
         Labelled { firsts, labels }
     }
 
-    /// Replaces the labels by those that follow from `firsts`. Takes a step for each switch if the labels at first do
+    /// Replaces the labels by the labels that follow from `firsts`. Takes a step for each switch if the first labels do
     /// not change, otherwise what `label_all` takes.
     pub fn relabel(
         &mut self,

@@ -22,51 +22,52 @@ pub fn goal_turns_well()
     ensures law { GoalTurnsWell }
 {}
 
-/// The tables between two orders deliver from each switch that gets a label, at the first end port that has the LID in
+/// The tables between two orders deliver from each switch that has a label, at the first end port that has the LID in
 /// the plan.
 pub fn goal_delivers()
     ensures law { GoalDelivers }
 {}
 
 /// If the first order grows and the second grows over its tree, the tables between them deliver from each switch from
-/// which wires lead, directly or over other switches, to one whose entry of the plan leads to the end port.
+/// which wires lead, directly or over other switches, to a switch whose plan entry leads to the end port.
 pub fn goal_reaches_all()
     ensures law { GoalReachesAll }
 {}
 
-/// A step towards the goal of `between` is a step by the goal's first order: however entries of both are mixed, no
-/// packet goes down and then up by that order, so no channels wait for each other in a credit loop. The next tables are
-/// right by that order again.
+/// A step towards the goal of `between` is a step by the goal's first order. However entries of both tables are mixed,
+/// no packet goes down and then up by that order, so no channels wait for each other in a credit loop. The next tables
+/// are again right by that order.
 pub fn goals_are_safe()
     ensures law { GoalsAreSafe }
 {}
 
-/// For a LID that one end port alone holds, in the held tables and in the plan, the step follows the rule of the goal's
+/// For a LID that one end port alone holds in the held tables and in the plan, the step follows the rule of the goal's
 /// first order (`ordered_steps`): no packet that the held tables deliver is lost in any mixture.
 pub fn goals_follow_the_rule()
     ensures law { GoalsFollowTheRule }
 {}
 
-/// After a step towards the goal the tables tell an order that agrees with the plan's order on at least as many first
+/// After a step towards the goal, the tables imply an order that agrees with the plan's order on at least as many first
 /// switches as the order of the held tables does.
 pub fn steps_keep_agreement()
     ensures law { StepsKeepAgreement }
 {}
 
-/// If tables are right by the order that grows by the told one, then tables that reach the next goal tell an order that
-/// agrees with the plan's on at least one more first switch. In between, agreement never gets less.
+/// If tables are right by the order that grows by the order that they imply, tables that reach the next goal imply an
+/// order that agrees with the plan's order on at least one more first switch. In between, the agreement never gets
+/// less.
 pub fn goals_go_further()
     ensures law { GoalsGoFurther }
 {}
 
-/// Once n - 1 goals were reached, for n switches, each from tables that are right by the order that grows by the told
-/// one, the tables are right by the plan's order.
+/// Once n - 1 goals are reached, for n switches, each from tables that are right by the order that grows by the order
+/// that they imply, the tables are right by the plan's order.
 pub fn goals_are_few()
     ensures law { GoalsAreFew }
 {}
 
-/// If each held entry for a LID is 255 or delivers, then a step towards the goal between two orders does not change
-/// that goal's entries for the LID.
+/// If each held entry for a LID is 255 or delivers, a step towards the goal between two orders does not change that
+/// goal's entries for the LID.
 pub fn goal_stands_still()
     ensures law { GoalStandsStill }
 {}
@@ -78,20 +79,20 @@ pub fn goal_is_reached()
     ensures law { GoalIsReached }
 {}
 
-/// If tables are right by an order that grew, and that order is the list of preferences, then it is the first order of
-/// the next step, and the second order is the one that grows by the plan's positions over its tree.
+/// If tables are right by an order that grew, and this order is the list of preferences, it is the first order of the
+/// next step, and the second order grows by the plan's positions over the tree of the first.
 pub fn orders_stay()
     ensures law { OrdersStay }
 {}
 
-/// If, for any two switches that wires join, directly or over others, packets for at least one LID get from the one to
-/// the other, then tables that tell an order are also right by the order that grows by it.
+/// If, for any two switches that wires join, directly or over others, packets for at least one LID from the first
+/// switch reach the second, tables that imply an order are also right by the order that grows by it.
 pub fn whole_tables_grow()
     ensures law { WholeTablesGrow }
 {}
 
 /// After 2n steps as in `goal_is_reached`, for n switches, the tables are right for the LID by the second order, if the
-/// goal delivers from each switch that, by the first tables, sends packets for the LID straight to the end port.
+/// goal delivers from each switch that sends packets for the LID straight to the end port by the first tables.
 pub fn goal_ends_right()
     ensures law { GoalEndsRight }
 {}

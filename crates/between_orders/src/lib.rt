@@ -1,4 +1,4 @@
-//! Tables between the order that held tables tell and the next one on the way to a plan's order. A step towards them
+//! Tables between the order that held tables imply and the next one on the way to a plan's order. A step towards them
 //! makes no credit loop.
 #![tactic(auto)]
 

@@ -1,4 +1,4 @@
-//! The order that tables tell by themselves, and the next one on the way to a plan's order.
+//! The order that tables imply by themselves, and the next one on the way to a plan's order.
 ghost use Rattle.std.specs.Prelude.{◌≡◌, IfOk, length};
 ghost use Rattle.fact_store.specs.View.{cells_of};
 ghost use Rattle.port_graph.specs.Heads.{LeadToVertices};
@@ -13,10 +13,10 @@ use std::alloc::{AllocError, Global};
 use told_order::told_order;
 use two_orders::{Orders, grown_by, positions_in, tree};
 
-/// Returns the orders of a step from the tables of `held`: the one that they tell, and the next one on the way to the
-/// plan's. Of several switches that may be last, the last in the plan's order is taken first. Returns `None` if the
-/// tables tell no order. `edges` has the wires of each switch, and `plan` the position of each switch in the plan's
-/// order. Takes what `told_order` and `are_right` take, and a step for each pair of switches.
+/// Returns the orders of a step from the tables of `held`: the order that they imply, and the next one on the way to
+/// the plan's. If several switches may be last, the last of them in the plan's order is taken first. Returns `None` if
+/// the tables imply no order. `edges` has the wires of each switch, and `plan` the position of each switch in the
+/// plan's order. Takes what `told_order` and `are_right` take, and a step for each pair of switches.
 pub(crate) fn orders(
     alloc: Global,
     edges: &Adjacency,
@@ -40,8 +40,8 @@ pub(crate) fn orders(
 }
 
 /// Returns the orders of a step from the tables of `held`. `told` has the position of each switch in the order that the
-/// tables tell. If they are right by the order that grows by `told`, that is the first order; the second then grows by
-/// the plan's positions over the tree of the first. Else the first is the told order, and the second grows by it.
+/// tables imply. If the tables are right by the order that grows by `told`, this is the first order, and the second
+/// grows by the plan's positions over its tree. Otherwise the implied order is the first, and the second grows by it.
 fn orders_from(
     alloc: Global,
     edges: &Adjacency,
@@ -67,7 +67,7 @@ fn orders_from(
     }
 }
 
-/// Returns the positions of `count` vertices in a list that begins with the last one.
+/// Returns the positions of `count` vertices. `taken` lists them from the last position to the first.
 fn told_positions(alloc: Global, taken: &[usize], count: usize) -> Result<Vec<usize>, AllocError>
     ensures { IfOk result (λ positions. positions.items ≡ told_positions taken.now count) }
 {
@@ -76,7 +76,7 @@ fn told_positions(alloc: Global, taken: &[usize], count: usize) -> Result<Vec<us
         .collect(alloc)
 }
 
-/// Returns how many vertices come after `vertex` in a list, or 0 if the list lacks it.
+/// Returns the number of vertices that come after `vertex` in `taken`, or 0 if `vertex` is not there.
 fn position_in(taken: &[usize], vertex: usize) -> usize
     ensures { result ≡ position_in taken.now vertex }
 {

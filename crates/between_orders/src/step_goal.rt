@@ -1,4 +1,4 @@
-//! The goal of a step from tables that tell an order by themselves.
+//! The goal of a step from tables that imply an order.
 ghost use Rattle.std.specs.Prelude.{◌≡◌, IfOk, length};
 ghost use Rattle.std.specs.Option.{option_map};
 ghost use Rattle.fact_store.specs.View.{cells_of};
@@ -13,7 +13,7 @@ use packet_walks::Network;
 use std::alloc::{AllocError, Global};
 use subnet_view::{SwitchGraph, Wires};
 
-/// The goal of a step from tables that tell an order by themselves.
+/// The goal of a step from tables that imply an order by themselves.
 #[derive(Drop)]
 pub struct StepGoal {
     /// The position of each usable switch in the first of the goal's two orders, by rising GUID.
@@ -22,11 +22,11 @@ pub struct StepGoal {
     pub tables: Held,
 }
 
-/// Returns the goal of a step from the tables of `held` towards those of `plan`: tables that lead packets up and then
-/// down by the order that the held tables tell, and by the next one on the way to the plan's order. Returns `None` if
-/// the held tables tell no order. `positions` has the position of each usable switch in the plan's order, by rising
-/// GUID. Takes what `told_order` and `are_right` take, four steps for each wire and LID, and one for each pair of
-/// switches.
+/// Returns the goal of a step from the tables of `held` towards the tables of `plan`: tables that lead packets up and
+/// then down both by the order that the held tables imply and by the next one on the way to the plan's order. Returns
+/// `None` if the held tables imply no order. `positions` has the position of each usable switch in the plan's order, by
+/// rising GUID. Takes what `told_order` and `are_right` take, four steps for each wire and LID, and one for each pair
+/// of switches.
 pub fn between(
     alloc: Global,
     store: &Store,

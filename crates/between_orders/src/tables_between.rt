@@ -18,9 +18,10 @@ use std::alloc::{AllocError, Global};
 use subnet_view::EndPort;
 use two_orders::{Orders, Sides, label_at, leads_on};
 
-/// Returns tables between two orders. A switch has its held entry if that fits, or else the plan's if that does.
-/// `edges` has the wires of each switch. For each LID takes some steps for each switch, and four for each wire if the
-/// previous LID has other targets.
+/// Returns the tables between two orders. A switch has the plan's entry if that leads to the end port. Otherwise it has
+/// its held entry if that fits, or the plan's entry if that fits, or else the least port that leads on. It has no entry
+/// if there is no such port. `edges` has the wires of each switch. For each LID, takes some steps for each switch, and
+/// four for each wire if the previous LID has other targets.
 pub(crate) fn tables_between(
     alloc: Global,
     edges: &Adjacency,
@@ -75,8 +76,8 @@ fn columns(
     Ok(columns)
 }
 
-/// Returns the entries of all usable switches for `lid`. `labelled` has the labels of the previous LID at first, and
-/// those of `lid` in the end.
+/// Returns the entries of all usable switches for `lid`. `labelled` has the labels of the previous LID. If `lid` has an
+/// owner in the plan, they are replaced by the labels of `lid`.
 fn column(
     alloc: Global,
     edges: &Adjacency,
@@ -117,7 +118,7 @@ fn column(
 }
 
 /// Returns the entries of all switches towards `port`, from what each switch does by the held tables and by the plan.
-/// `labelled` has the labels of the previous LID at first, and those towards `port` in the end.
+/// `labelled` has the labels of the previous LID, which are replaced by the labels towards `port`.
 fn entries_towards(
     alloc: Global,
     port: &EndPort,
@@ -138,7 +139,7 @@ fn entries_towards(
     entries_by(alloc, port, edges, orders, &labelled.labels, held, plan)
 }
 
-/// Returns the labels at first: a switch has one if its hop by the plan leads to `port`.
+/// Returns the first labels: a switch has one if its hop by the plan leads to `port`.
 fn first_labels(
     alloc: Global,
     port: &EndPort,
@@ -151,7 +152,7 @@ fn first_labels(
         .collect(alloc)
 }
 
-/// Returns the label of a switch at first, from what it does by the plan.
+/// Returns the first label of a switch, from what it does by the plan, or `None` if it has none.
 fn first_label(port: &EndPort, plan: &SwitchStep) -> Option<Sides>
     ensures { result ≡ first_label port.now plan.now }
 {
@@ -195,7 +196,8 @@ fn entries_by(
         .collect(alloc)
 }
 
-/// Returns the entry of the switch at `index`: the plan's if that leads to `port`, else one by its label.
+/// Returns the entry of the switch at `index`: the plan's entry if it leads to `port`, otherwise the entry by its
+/// label, or 255 if it has none.
 fn entry(
     port: &EndPort,
     edges: &Adjacency,
@@ -216,8 +218,8 @@ fn entry(
     }
 }
 
-/// Returns the entry of the switch at `index` with the label `sides`: the held one if it fits; if not, the plan's if
-/// that fits; and if neither fits, the least port whose channel leads on.
+/// Returns the entry of the switch at `index` with the label `sides`: the held entry if it fits; otherwise the plan's
+/// entry if that fits; otherwise the least port whose channel leads on, or 255 if there is none.
 fn entry_to(
     edges: &Adjacency,
     orders: &Orders,

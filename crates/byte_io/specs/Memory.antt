@@ -9,7 +9,7 @@ pub record Room : Type 0 where
   pub has_failed : Bool
   pub is_flushed : Bool
 
--- no call has failed, and `bytes` fit behind the bytes that the sink holds
+-- no call has failed, and there is room for `bytes` after the bytes that the sink holds
 pub record HasRoomFor (sink : Room) (bytes : List ℕ) : Type 0 where
   pub works : sink.has_failed ≡ false
   pub fits : length sink.written + length bytes ≤ sink.room

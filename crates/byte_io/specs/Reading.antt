@@ -39,7 +39,7 @@ pub record EachCallTakes (old new : ReadingState) : Type 0 where
 pub record IsAnswered (old new : ReadingState) : Type 0 where
   pub answered : new.interruptions + old.calls < old.interruptions + new.calls
 
--- n bytes stand in the front of `room`, 0 at the end; the 2^40th byte of a reading comes alone
+-- n bytes were put in the front of `room`, and n is 0 only at the end; the 2^40th byte of a reading is read on its own
 pub record GivesPiece (n : ℕ) (old new : ReadingState) (room : List ℕ) : Type 0 where
   pub within : n ≤ length room
   pub taken : Takes old new (take n room)
@@ -65,6 +65,7 @@ pub record IsSpentBefore (old new : ReadingState) : Type 0 where
   pub kept : new.has_failed ≡ old.has_failed
   pub begun : old.bytes < 2 ^ 40 → old.calls < 2 ^ 40 → new.has_failed ≡ false
 
+-- what a reading gives in `room`, by its states before and after
 abbrev pub GivesAt : Result ℕ PieceFault → ReadingState → ReadingState → List ℕ → Type 0
 GivesAt (Ok n) old new room = GivesPiece n old new room
 GivesAt (Err Read) old new room = FailsToGive old new

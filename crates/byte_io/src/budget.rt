@@ -30,8 +30,8 @@ impl Budget {
         self.bytes == READ_LIMIT || self.calls == READ_LIMIT
     }
 
-    /// Returns how many of `wanted` bytes the next call may ask for. The last byte of the budget is asked for on its
-    /// own.
+    /// Returns how many bytes the next call may ask for, at most `wanted`. The last byte of the budget is asked for on
+    /// its own.
     pub(crate) fn share(&self, wanted: usize) -> usize
         requires some { 0 < wanted }
         requires left { self.now.bytes < 2 ^ 40 }

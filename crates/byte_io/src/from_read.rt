@@ -34,7 +34,7 @@ impl<R: Read> Source for FromRead<R> {
       interruptions = s.interruptions;
     } };
 
-    /// Reads from the reader. After 2^64 - 1 interrupted reads, another one counts as failed.
+    /// Reads from the reader. After 2^64 - 1 interrupted reads, a further one counts as failed.
     fn read(&mut self, room: &mut [u8]) -> Result<usize, ReadError> {
         if self.has_failed {
             return Err(ReadError::Failed);

@@ -2,7 +2,7 @@ ghost use Rattle.std.specs.Prelude.{◌≡◌, ◌↔◌, IsTrue};
 
 use std::io::ErrorKind;
 
-/// Returns whether an error of this kind means that the call was only interrupted and has to be made again. Every other
+/// Returns whether an error of this kind means that the call was only interrupted and must be made again. Every other
 /// kind is a failure.
 pub(crate) fn is_interruption(kind: ErrorKind) -> bool
     ensures { IsTrue result ↔ (kind ≡ ErrorKind.Interrupted) }

@@ -43,8 +43,7 @@ impl<'s, S: Source> Reading<'s, S> {
         self.budget.is_spent()
     }
 
-    /// Reads until a call is not interrupted, and returns how many bytes it put in the front of `room`; 0 means the
-    /// end.
+    /// Reads until a call is not interrupted. Returns the number of bytes put in the front of `room`; 0 means the end.
     ///
     /// # Errors
     ///
@@ -71,7 +70,7 @@ impl<'s, S: Source> Reading<'s, S> {
     }
 }
 
-/// Makes one call, which reads at most `most` bytes into the front of `room`.
+/// Makes one call, which reads at most `most` bytes into the front of `room`, and returns their number.
 fn read_front<S: Source>(source: &mut S, room: &mut [u8], most: usize) -> Result<usize, ReadError>
     requires { most ≤ length room.old }
     ensures within { IfOk result (λ n. n ≤ most) }

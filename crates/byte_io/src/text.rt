@@ -22,7 +22,7 @@ pub fn write_guid<W: Sink>(sink: &mut W, guid: Guid) -> Result<(), WriteFault>
     sink.write(&guid.hex_digits())
 }
 
-/// Writes the GUID of a node and the number of a port of it.
+/// Writes the GUID of a node, a slash, and the number of one of its ports.
 pub fn write_port<W: Sink>(sink: &mut W, guid: Guid, port: PortNum) -> Result<(), WriteFault>
     ensures writes { Writes W.written W.has_failed result sink.old sink.new (port_text guid port) }
 {

@@ -67,7 +67,7 @@ impl Sink for ToRoom {
 
     ghost is_flushed = { λ s. s.is_flushed };
 
-    /// Writes all of the bytes or none of them. A failed write holds nothing back.
+    /// Writes all of the bytes or none of them. A failed write does not change whether bytes are held back.
     fn write(&mut self, bytes: &[u8]) -> Result<(), WriteFault>
         ensures ok { IsOk result ↔ HasRoomFor self.old bytes.now }
         ensures refused { OnErr result (self.new.written ≡ self.old.written) }
@@ -86,7 +86,7 @@ impl Sink for ToRoom {
         Ok(())
     }
 
-    /// Passes on nothing, as memory holds nothing back. Fails if a call has failed before.
+    /// Passes on nothing, since memory holds nothing back. Fails if a call has failed before.
     fn flush(&mut self) -> Result<(), WriteFault>
         ensures ok { IsOk result ↔ (self.old.has_failed ≡ false) }
         ensures kept { self.new.written ≡ self.old.written }

@@ -39,7 +39,7 @@ impl<W: Write> Sink for ToWrite<W> {
 
     ghost is_flushed = { λ s. s.is_flushed };
 
-    /// Writes all of the bytes. A write that takes no byte counts as failed, and so does the 2^40th interrupted one of
+    /// Writes all of the bytes. A write that takes no byte counts as failed, and so does the 2^40th interrupted try of
     /// a call.
     fn write(&mut self, bytes: &[u8]) -> Result<(), WriteFault> {
         if self.has_failed {

@@ -47,7 +47,7 @@ told_order_rule = record (new_rule (codes "told-order")) { long = Some (codes "t
 abbrev pub max_load_rule : Rule
 max_load_rule = record (option_rule (codes "max-load")) { parser = Some (Signed (pos 0) (pos 4294967295)) }
 
--- how much an audit prints, and which load it lets pass
+-- the options of an audit: how much it prints, and the load that it lets pass
 abbrev pub of_report : List Rule
 of_report = all_rule ∷ max_load_rule ∷ []
 
@@ -74,7 +74,7 @@ priority_rule = record (text_rule (codes "PRIORITY")) { parser = Some (Signed (p
 abbrev pub of_seat : List Rule
 of_seat = text_rule (codes "GUID") ∷ port_rule ∷ priority_rule ∷ option_rule (codes "sm-key") ∷ []
 
--- the options for the order of switches: roots, or an order
+-- the options for the order of switches: a file of roots, or a file of an order
 abbrev pub of_order : List Rule
 of_order = option_rule (codes "roots") ∷ option_rule (codes "order") ∷ []
 
@@ -145,10 +145,11 @@ AreRoutings words =
 abbrev pub IsOf : Shape → Command → Type 0
 IsOf shape c = (shape_of c ≡ shape) × ((fields_of c).has_globals ≡ false)
 
+-- the command `c` has the subcommands and arguments of `app`, and none of its arguments also applies to its subcommands
 abbrev pub IsApp : App → Command → Type 0
 IsApp app c = (app_of c ≡ app) × ((fields_of c).has_globals ≡ false)
 
--- `new` is the command `old` with `rules` added after its own
+-- `new` is the command `old` with `rules` added after its own arguments
 abbrev pub AddsRules : List Rule → Command → Command → Type 0
 AddsRules rules old new =
     (shape_of new ≡ record (shape_of old) { rules = (shape_of old).rules ++ rules })

@@ -20,10 +20,11 @@ abbrev pub word_behind : Option (List ℕ × List Row) → List ℕ → Option (
 word_behind subcommand name =
     option_and_then (λ s. option_and_then (λ values. slice_get values 0) (values_in name s.1)) subcommand
 
+-- the first word of the argument `name` after the subcommand
 abbrev pub word_named : ArgMatches → List ℕ → Option (List ℕ)
 word_named matches = word_behind (subcommand_rows_of matches)
 
--- roots are named, but not the rule that takes them; or an order is named, but no rule that takes one
+-- roots are named without the rule that takes them, or an order is named without a rule that takes it
 abbrev pub lacks_rule : Option (List ℕ) → Bool → Bool → Bool
 lacks_rule None rooted ordered = rooted || ordered
 lacks_rule (Some word) rooted ordered =
@@ -43,6 +44,7 @@ order_rule (Some word) = Some word
 abbrev pub is_guid_word : List ℕ → Bool
 is_guid_word word = nat_le 1 (length word) && nat_le (length word) 16 && list_all is_ascii_hexdigit word
 
+-- there is a word, and it is 1 to 16 hex digits
 abbrev pub is_guid : Option (List ℕ) → Bool
 is_guid None = false
 is_guid (Some word) = is_guid_word word

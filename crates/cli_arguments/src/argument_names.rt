@@ -12,7 +12,7 @@ pub const PLAN: &str = "plan";
 /// The subcommand that audits tables.
 pub const AUDIT: &str = "audit";
 
-/// The subcommand that prints the order of switches that held tables follow.
+/// The subcommand that prints the order of switches that held tables imply.
 pub const ORDER_OF: &str = "order-of";
 
 /// The subcommand that prints the tables to write next.
@@ -48,10 +48,10 @@ pub const FLOOR: &str = "floor";
 /// The flag by which an audit prints all lines of each kind.
 pub const ALL: &str = "all";
 
-/// The option for the most pairs of adapter ports that a channel may carry.
+/// The option for the maximum number of pairs of adapter ports that a channel may carry.
 pub const MAX_LOAD: &str = "max-load";
 
-/// The flag by which a step may use the order that held tables follow.
+/// The flag by which a step may go by the order that held tables imply.
 pub const TOLD_ORDER: &str = "told-order";
 
 /// The option for the LMC of a plan.
@@ -72,7 +72,7 @@ pub const SPREAD: &str = "spread";
 /// The rule that spreads packets with balanced loads; an order may be named for it, but no roots.
 pub const BALANCE: &str = "balance";
 
-/// The up/down rule; takes neither roots nor an order.
+/// The up/down rule, which takes neither roots nor an order.
 pub const UPDOWN: &str = "updown";
 
 /// The argument for the text of a topology.

@@ -372,7 +372,7 @@ fn has_key(words: &ArgMatches<'_>) -> bool
     }
 }
 
-/// Returns whether the word for a GUID is one: 1 to 16 hex digits.
+/// Returns whether there is a word for the GUID, and it is 1 to 16 hex digits.
 fn has_guid(words: &ArgMatches<'_>) -> bool
     ensures { result ≡ is_guid (first_value (found_of words.now) (codes "GUID")) }
 {
@@ -396,8 +396,8 @@ fn are_hex_digits(bytes: &[u8]) -> bool
     bytes.iter().all(|byte| byte.is_ascii_hexdigit())
 }
 
-/// Returns whether roots are named (`rooted`) but not the rule that takes them, or an order is named (`ordered`) but no
-/// rule that takes one. For the subcommand that prints an order, `spread` need not be named.
+/// Returns whether roots are named (`rooted`) without the rule that takes them, or an order is named (`ordered`)
+/// without a rule that takes it. For the subcommand that prints an order, `spread` need not be named.
 fn lacks_rule(name: &str, words: &ArgMatches<'_>, rooted: bool, ordered: bool) -> bool
     ensures { result ≡ lacks_rule (if bytes_eq name.now (codes "order")
         then order_rule (first_value (found_of words.now) (codes "routing"))

@@ -84,7 +84,7 @@ pub(crate) fn all<'a>(alloc: Global) -> Arg<'a>
         .action(ArgAction::SetTrue)
 }
 
-/// Builds the flag by which a step may use the order that held tables follow.
+/// Builds the flag by which a step may go by the order that held tables imply.
 pub(crate) fn told_order<'a>(alloc: Global) -> Arg<'a>
     ensures rule { rule_of result ≡ told_order_rule }
     ensures own { result.global ≡ false }

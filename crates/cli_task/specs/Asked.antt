@@ -1,4 +1,4 @@
--- What the words of the command line ask for: a task, and the names of its inputs.
+-- The task that the words of the command line ask for, and the names of its inputs.
 use Rattle.std.specs.Prelude.{ℕ, Bool, true, false, List, [], ◌∷◌, ◌++◌, Option, None, Some, codes, drop}
 use Rattle.std.specs.Prelude.{is_some, not, nat_le, option_map, option_and_then, ◌&&◌, ◌||◌, if◌then◌else◌}
 use Rattle.std.specs.Str.{bytes_eq}
@@ -21,44 +21,44 @@ use Rattle.cli_task.specs.declared.task.Task.TheVariants.{Answer, Audit, OrderOf
 
 -- options ---------------------------------------------------------------------------------------
 
--- `n`, if it is from `least` to `most`
+-- `n` if it is from `least` to `most`, and otherwise None
 abbrev pub within : ℕ → ℕ → ℕ → Option ℕ
 within least most n = if nat_le least n && nat_le n most then Some n else None
 
--- the number that a word writes in decimal, with or without a sign; after a minus sign, only 0
+-- the number that a word writes in decimal, with or without a sign; None if it writes none; after a minus sign, only 0
 abbrev pub number_in : List ℕ → Option ℕ
 number_in word =
     if starts_with_minus word then option_and_then (within 0 0) (number_of 10 (drop 1 word))
     else number_of 10 (without_leading_plus word)
 
--- the number of the word, if it fits 32 bits; `otherwise` without a word
+-- the number of the word if it fits 32 bits, and otherwise None; `otherwise` if there is no word
 abbrev pub number_or : ℕ → Option (List ℕ) → Option ℕ
 number_or otherwise None = Some otherwise
 number_or otherwise (Some word) = option_and_then (within 0 4294967295) (number_in word)
 
--- the floor: the number of the word, 1 without a word
+-- the floor: the number of the word, which must be from 1 to 2^32 - 1; 1 if there is no word
 abbrev pub floor_asked : Option (List ℕ) → Option ℕ
 floor_asked None = Some 1
 floor_asked (Some word) = option_and_then (within 1 4294967295) (number_in word)
 
--- the LMC: the number of the word, 0 without a word
+-- the LMC: the number of the word, which must be at most 7; 0 if there is no word
 abbrev pub lmc_asked : Option (List ℕ) → Option ℕ
 lmc_asked None = Some 0
 lmc_asked (Some word) = option_and_then (within 0 7) (number_in word)
 
--- the rule that spreads, from roots or in a named order, but not with both
+-- the rule that spreads, from roots or in a named order; None if both are named
 abbrev pub spread_asked : Bool → Bool → Option RuleAsked
 spread_asked false false = Some Spread
 spread_asked true false = Some SpreadFromRoots
 spread_asked false true = Some SpreadInOrder
 spread_asked true true = None
 
--- the rule that spreads with balanced loads, in a named order or not
+-- the rule that spreads with balanced loads, in a named order if `ordered`
 abbrev pub balance_asked : Bool → RuleAsked
 balance_asked ordered = if ordered then BalanceInOrder else Balance
 
--- the rule that the word names, up and down without a word; if roots or an order are named, it must be the one that
--- takes them
+-- the rule that the word names; up and down if there is no word; None if roots or an order are named with a rule that
+-- does not take them
 abbrev pub rule_asked : Option (List ℕ) → Bool → Bool → Option RuleAsked
 rule_asked None rooted ordered = if rooted || ordered then None else Some UpDown
 rule_asked (Some word) rooted ordered =
@@ -68,28 +68,28 @@ rule_asked (Some word) rooted ordered =
 
 -- tasks -----------------------------------------------------------------------------------------
 
--- the LMC of a plan and its rule
+-- the LMC and the rule of a plan; None if one of them is wrong
 abbrev pub planning_asked : (List ℕ → Option (List ℕ)) → Option (ℕ × RuleAsked)
 planning_asked word = option_and_then (λ lmc. option_map (λ rule. (lmc, rule))
     (rule_asked (word (codes "routing")) (is_some (word (codes "roots"))) (is_some (word (codes "order")))))
     (lmc_asked (word (codes "lmc")))
 
--- the rule of an order
+-- the rule of an order; None if the words for it are wrong
 abbrev pub order_asked : (List ℕ → Option (List ℕ)) → Option RuleAsked
 order_asked word =
     rule_asked (order_rule (word (codes "routing"))) (is_some (word (codes "roots"))) (is_some (word (codes "order")))
 
--- a flag is set if its word is `true`, which the parser of words puts in
+-- whether a flag is set: its word is `true`, which the parser of words sets
 abbrev pub is_set : Option (List ℕ) → Bool
 is_set None = false
 is_set (Some word) = bytes_eq word (codes "true")
 
--- the greatest load that passes, if a word names one; None if the word names no number of 32 bits
+-- the greatest load that passes, if a word names it; None if the word names no number of 32 bits
 abbrev pub max_load_asked : Option (List ℕ) → Option (Option ℕ)
 max_load_asked None = Some None
 max_load_asked (Some word) = option_map Some (option_and_then (within 0 4294967295) (number_in word))
 
--- the audit that the words ask for
+-- the audit that the words ask for; None if one of them is wrong
 abbrev pub audit_asked : (List ℕ → Option (List ℕ)) → Option AuditAsked
 audit_asked word = option_and_then (λ floor. option_map
     (λ max_load. record { floor = floor; all = is_set (word (codes "all")); max_load = max_load })
@@ -101,36 +101,36 @@ step_asked word = option_and_then (λ by. option_map
     (λ floor. record { lmc = by.0; rule = by.1; floor = floor; told = is_set (word (codes "told-order")) })
     (floor_asked (word (codes "floor")))) (planning_asked word)
 
--- the GUID that 1 to 16 hex digits write
+-- the GUID that 1 to 16 hex digits write; None if the word is missing or wrong
 abbrev pub guid_asked : Option (List ℕ) → Option ℕ
 guid_asked word = option_and_then hex_number word
 
--- the number of a port, 1 to 254
+-- the number of a port, from 1 to 254; None if the word is missing or wrong
 abbrev pub port_asked : Option (List ℕ) → Option ℕ
 port_asked word = option_and_then (within 1 254) (option_and_then number_in word)
 
--- a priority, 0 to 15
+-- a priority, from 0 to 15; None if the word is missing or wrong
 abbrev pub priority_asked : Option (List ℕ) → Option ℕ
 priority_asked word = option_and_then (within 0 15) (option_and_then number_in word)
 
--- the SM_Key that 1 to 16 hex digits write, 1 if no word names one
+-- the SM_Key that 1 to 16 hex digits write, or None if the word is wrong; 1 if there is no word
 abbrev pub sm_key_asked : Option (List ℕ) → Option ℕ
 sm_key_asked None = Some 1
 sm_key_asked (Some word) = hex_number word
 
--- a manager at a port, which plans by the LMC and the rule of `by`
+-- a manager at a port, which plans by the LMC and the rule of `by`; None if one of its parts is missing
 abbrev pub serving_by : ℕ × RuleAsked → Option ℕ → Option ℕ → Option ℕ → Option ℕ → Option Serving
 serving_by by guid port priority sm_key =
     option_and_then (λ g. option_and_then (λ p. option_and_then (λ q. option_map
     (λ k. record { guid = g; port = p; priority = q; sm_key = k; lmc = by.0; rule = by.1 }) sm_key) priority) port) guid
 
--- the manager that is served
+-- the manager that is to be served; None if one of the words is missing or wrong
 abbrev pub serving_asked : (List ℕ → Option (List ℕ)) → Option Serving
 serving_asked word = option_and_then (λ by. serving_by by (guid_asked (word (codes "GUID")))
     (port_asked (word (codes "PORT"))) (priority_asked (word (codes "PRIORITY"))) (sm_key_asked (word (codes "sm-key"))))
     (planning_asked word)
 
--- what the subcommand `command` writes of files
+-- what the subcommand `command` writes about files; None if it writes nothing or a word is wrong
 abbrev pub output_asked : (List ℕ → Option (List ℕ)) → List ℕ → Option Output
 output_asked word command =
     if bytes_eq command (codes "facts") then Some Facts
@@ -138,7 +138,7 @@ output_asked word command =
     else (if bytes_eq command (codes "plan") then option_map (λ by. Plan by.0 by.1) (planning_asked word)
     else (if bytes_eq command (codes "order") then option_map Order (order_asked word) else None)))
 
--- the task of the subcommand `command`, by the words of its arguments
+-- the task of the subcommand `command` with the words of its arguments; None if one of them is wrong
 abbrev pub task_behind : (List ℕ → Option (List ℕ)) → List ℕ → Option Task
 task_behind word command =
     if bytes_eq command (codes "audit") then option_map Audit (audit_asked word)
@@ -149,13 +149,13 @@ task_behind word command =
     else option_and_then (λ output. option_map (λ floor. Answer (record { output = output; floor = floor }))
     (floor_asked (word (codes "floor")))) (output_asked word command)))))
 
--- the task that the words ask for
+-- the task that the words ask for; None if one of them is wrong
 abbrev pub task_asked : ArgMatches → Option Task
 task_asked matches = option_and_then (task_behind (word_named matches)) (subcommand_name_of matches)
 
 -- inputs ----------------------------------------------------------------------------------------
 
--- the name of the text that a rule takes, if it takes one
+-- the names of the texts that a rule takes; None if one is missing
 abbrev pub texts_of_rule : (List ℕ → Option (List ℕ)) → RuleAsked → Option (List (List ℕ))
 texts_of_rule word UpDown = Some []
 texts_of_rule word Spread = Some []
@@ -164,7 +164,7 @@ texts_of_rule word SpreadInOrder = option_map (λ order. order ∷ []) (word (co
 texts_of_rule word Balance = Some []
 texts_of_rule word BalanceInOrder = option_map (λ order. order ∷ []) (word (codes "order"))
 
--- the rule that a task plans by; if it does not plan, one that takes no text
+-- the rule that a task plans by; a rule that takes no text if the task does not plan
 abbrev pub rule_of_task : Task → RuleAsked
 rule_of_task (Answer request) = rule_for request.output
 rule_of_task (Audit asked) = UpDown
@@ -173,7 +173,7 @@ rule_of_task (Next asked) = asked.rule
 rule_of_task (Run lmc rule) = rule
 rule_of_task (Serve asked) = asked.rule
 
--- the names of the other texts that a task takes
+-- the names of the other texts that a task takes; None if one is missing
 abbrev pub texts_asked : (List ℕ → Option (List ℕ)) → Task → Option (List (List ℕ))
 texts_asked word (Answer request) = Some []
 texts_asked word (Audit asked) = option_map (λ tables. tables ∷ []) (word (codes "TABLES"))
@@ -184,7 +184,7 @@ texts_asked word (Run lmc rule) =
     (word (codes "TOPOLOGY"))
 texts_asked word (Serve asked) = option_map (λ guid. codes "/dev/stdin" ∷ []) (word (codes "GUID"))
 
--- a task takes files
+-- whether a task takes files
 abbrev pub takes_files : Task → Bool
 takes_files (Answer request) = true
 takes_files (Audit asked) = true
@@ -193,22 +193,23 @@ takes_files (Next asked) = true
 takes_files (Run lmc rule) = false
 takes_files (Serve asked) = false
 
--- the names of the files that a task takes, none if it takes no files
+-- the names of the files that a task takes; empty if it takes no files
 abbrev pub files_asked : Option (List (List ℕ)) → Task → Option (List (List ℕ))
 files_asked files task = if takes_files task then files else Some []
 
--- `first` and then `later`, if both are there
+-- `first` and then `later`; None if one of them is None
 abbrev pub followed_by : Option (List (List ℕ)) → Option (List (List ℕ)) → Option (List (List ℕ))
 followed_by first later = option_and_then (λ names. option_map (λ others. names ++ others) later) first
 
--- the names of the inputs of a task, in the order in which they are read
+-- the names of the inputs of a task, in the order in which they are read; None if one is missing
 abbrev pub names_in : (List ℕ → Option (List ℕ)) → Option (List (List ℕ)) → Task → Option (List (List ℕ))
 names_in word files task =
     followed_by (texts_of_rule word (rule_of_task task)) (followed_by (texts_asked word task) (files_asked files task))
 
+-- the names of the inputs of a task, by the words after the subcommand; None if one is missing
 abbrev pub names_asked : ArgMatches → Task → Option (List (List ℕ))
 names_asked matches task = names_in (word_named matches) (files_named matches) task
 
--- the names of the inputs of the task that is asked for, if all are there
+-- the names of the inputs of the task that is asked for; None if one is missing
 abbrev pub inputs_asked : ArgMatches → Option (List (List ℕ))
 inputs_asked matches = option_and_then (names_asked matches) (task_asked matches)

@@ -1,4 +1,4 @@
--- What an accepted command line asks for.
+-- The law of accepted command lines.
 use Rattle.std.specs.Prelude.{◌≡◌, true, is_some}
 use Rattle.clap.specs.declared.parser.matches.ArgMatches.{ArgMatches}
 use Rattle.cli_arguments.specs.WellFormed.{IsWellFormed}

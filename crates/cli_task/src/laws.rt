@@ -1,4 +1,4 @@
-//! The law of what the words of a command line ask for.
+//! The law of the words of a command line.
 ghost use Rattle.cli_task.specs.Laws.{WellFormedWordsAsk};
 
 /// An accepted command line asks for a task, and names each of its inputs.

@@ -1,4 +1,4 @@
-//! What the words of a command line ask for: a task, and the names of its inputs.
+//! The task that the words of a command line ask for, and the names of its inputs.
 #![tactic(auto)]
 
 pub mod laws;

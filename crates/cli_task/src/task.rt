@@ -1,4 +1,4 @@
-//! What the words of the command line ask for.
+//! The task that the words of the command line ask for.
 ghost use Rattle.std.specs.Prelude.{◌≡◌, IfOk, codes, is_some, map, option_and_then, option_map};
 ghost use Rattle.clap.specs.Matches.{first_value, found_of, matched_of, raw_values};
 ghost use Rattle.cli_task.specs.Asked.{audit_asked, floor_asked, is_set, lmc_asked, max_load_asked, number_in};
@@ -24,17 +24,17 @@ use sm_cli::{Invocation, Output, RuleAsked};
 use smp_bytes::{Generation, Guid, PortNum};
 use std::alloc::{AllocError, Global};
 
-/// What the program is asked to do.
+/// A task that the program is asked to do.
 #[derive(Clone, Copy, Debug, PartialEq, Eq)]
 pub enum Task {
-    /// Writing what files say.
+    /// Writing what files contain.
     Answer(Invocation),
     /// Auditing tables in the subnet that files describe.
     Audit(AuditAsked),
-    /// Writing the order of switches that tables tell in the subnet that files describe. Facts of generations before
+    /// Writing the order of switches that tables give in the subnet that files describe. Facts of generations before
     /// this one are ignored.
     OrderOf(Generation),
-    /// Writing the tables to write next.
+    /// Writing the tables that are to be written next.
     Next(StepAsked),
     /// Running a schedule in the fabric of a topology, with managers that plan 2^LMC LIDs for each adapter port by the
     /// rule.
@@ -43,11 +43,11 @@ pub enum Task {
     Serve(Serving),
 }
 
-/// The file that lines are read from.
+/// The name of the file that lines are read from.
 const LINES: &str = "/dev/stdin";
 
 impl Task {
-    /// Returns the rule that the task plans by; `UpDown`, which takes no text, if it does not plan.
+    /// Returns the rule that the task plans by. If it does not plan, returns `UpDown`, which takes no text.
     fn rule(&self) -> RuleAsked
         ensures { result ≡ rule_of_task self.now }
     {
@@ -71,7 +71,7 @@ impl Task {
     }
 }
 
-/// Returns the task that the words ask for, by the subcommand and the words after it.
+/// Returns the task that the subcommand and the words after it ask for, or `None` if one of the words is wrong.
 pub fn task_of(matches: &ArgMatches<'_>) -> Option<Task>
     ensures { result ≡ task_asked matches.now }
 {
@@ -79,7 +79,7 @@ pub fn task_of(matches: &ArgMatches<'_>) -> Option<Task>
     task_behind(command, words)
 }
 
-/// Returns the task that the subcommand `command` asks for with `words`.
+/// Returns the task that the subcommand `command` asks for with `words`, or `None` if one of the words is wrong.
 fn task_behind(command: &str, words: &ArgMatches<'_>) -> Option<Task>
     ensures { result ≡ task_behind (first_value (found_of words.now)) command.now }
 {
@@ -100,7 +100,7 @@ fn task_behind(command: &str, words: &ArgMatches<'_>) -> Option<Task>
     }
 }
 
-/// Returns the audit that the words after a subcommand ask for.
+/// Returns the audit that `words`, after a subcommand, ask for. Returns `None` if one of them is wrong.
 fn audit_of(words: &ArgMatches<'_>) -> Option<AuditAsked>
     ensures { result ≡ audit_asked (first_value (found_of words.now)) }
 {
@@ -113,7 +113,7 @@ fn audit_of(words: &ArgMatches<'_>) -> Option<AuditAsked>
     })
 }
 
-/// Returns whether the words after a subcommand set the flag `name`.
+/// Returns whether `words`, after a subcommand, set the flag `name`.
 fn is_set(words: &ArgMatches<'_>, name: &str) -> bool
     ensures { result ≡ is_set (first_value (found_of words.now) name.now) }
 {
@@ -123,7 +123,7 @@ fn is_set(words: &ArgMatches<'_>, name: &str) -> bool
     }
 }
 
-/// Returns the greatest load that passes; the inner value is `None` if the words after a subcommand name none. Returns
+/// Returns the greatest load that passes. The inner value is `None` if `words`, after a subcommand, name none. Returns
 /// `None` if the word is not a number of 32 bits.
 fn max_load_of(words: &ArgMatches<'_>) -> Option<Option<u64>>
     ensures { result ≡ max_load_asked (first_value (found_of words.now) (codes "max-load")) }
@@ -134,7 +134,7 @@ fn max_load_of(words: &ArgMatches<'_>) -> Option<Option<u64>>
     }
 }
 
-/// Returns the step that `words`, after a subcommand, ask for.
+/// Returns the step that `words`, after a subcommand, ask for. Returns `None` if one of them is wrong.
 fn step_of(words: &ArgMatches<'_>) -> Option<StepAsked>
     ensures { result ≡ step_asked (first_value (found_of words.now)) }
 {
@@ -148,7 +148,7 @@ fn step_of(words: &ArgMatches<'_>) -> Option<StepAsked>
     })
 }
 
-/// Returns the manager that `words`, after a subcommand, ask for.
+/// Returns the manager that `words`, after a subcommand, ask for. Returns `None` if one of them is missing or wrong.
 fn serving_of(words: &ArgMatches<'_>) -> Option<Serving>
     ensures { result ≡ serving_asked (first_value (found_of words.now)) }
 {
@@ -167,7 +167,7 @@ fn serving_of(words: &ArgMatches<'_>) -> Option<Serving>
     })
 }
 
-/// Returns the GUID that `words` name, of up to 16 hex digits.
+/// Returns the GUID that `words` name, or `None` if it is not written as 1 to 16 hex digits.
 fn guid_of(words: &ArgMatches<'_>) -> Option<Guid>
     ensures { result ≡ guid_asked (first_value (found_of words.now) (codes "GUID")) }
 {
@@ -185,7 +185,7 @@ fn port_of(words: &ArgMatches<'_>) -> Option<PortNum>
     Some(PortNum::new(port as u8))
 }
 
-/// Returns the priority that `words` name, or `None` if it is over 15.
+/// Returns the priority that `words` name, or `None` if it is not from 0 to 15.
 fn priority_of(words: &ArgMatches<'_>) -> Option<Priority>
     ensures { result ≡ priority_asked (first_value (found_of words.now) (codes "PRIORITY")) }
 {
@@ -196,10 +196,11 @@ fn priority_of(words: &ArgMatches<'_>) -> Option<Priority>
     Priority::new(priority as u8)
 }
 
-/// The SM_Key of OpenSM, if no other one is set in its options.
+/// The SM_Key that OpenSM has if its options set no other.
 const OPENSM_KEY: u64 = 1;
 
-/// Returns the SM_Key that `words` name, of up to 16 hex digits, or OpenSM's if they name none.
+/// Returns the SM_Key that `words` name, or OpenSM's if they name none. Returns `None` if it is not written as 1 to 16
+/// hex digits.
 fn sm_key_of(words: &ArgMatches<'_>) -> Option<u64>
     ensures { result ≡ sm_key_asked (first_value (found_of words.now) (codes "sm-key")) }
 {
@@ -209,7 +210,8 @@ fn sm_key_of(words: &ArgMatches<'_>) -> Option<u64>
     }
 }
 
-/// Returns what the subcommand `command` writes of files.
+/// Returns what the subcommand `command` writes about files. Returns `None` if it writes nothing, or one of `words` is
+/// wrong.
 fn output_of(command: &str, words: &ArgMatches<'_>) -> Option<Output>
     ensures { result ≡ output_asked (first_value (found_of words.now)) command.now }
 {
@@ -225,7 +227,7 @@ fn output_of(command: &str, words: &ArgMatches<'_>) -> Option<Output>
     }
 }
 
-/// Returns the LMC and the rule of routing that `words` ask for.
+/// Returns the LMC and the rule of routing that `words` ask for. Returns `None` if one of them is wrong.
 fn planning_of(words: &ArgMatches<'_>) -> Option<(Lmc, RuleAsked)>
     ensures { result ≡ planning_asked (first_value (found_of words.now)) }
 {
@@ -234,7 +236,8 @@ fn planning_of(words: &ArgMatches<'_>) -> Option<(Lmc, RuleAsked)>
     Some((lmc, rule))
 }
 
-/// Returns the rule of the order that `words` ask for, the one that spreads if they name none.
+/// Returns the rule of the order that `words` ask for, or the rule that spreads if they name none. Returns `None` if
+/// roots or an order are named with a rule that does not take them.
 fn order_of(words: &ArgMatches<'_>) -> Option<RuleAsked>
     ensures { result ≡ order_asked (first_value (found_of words.now)) }
 {
@@ -247,21 +250,22 @@ fn order_of(words: &ArgMatches<'_>) -> Option<RuleAsked>
     }
 }
 
-/// Returns the floor that `words` ask for, 1 if they ask for none.
+/// Returns the floor that `words` ask for, or 1 if they ask for none. Returns `None` if it is not from 1 to 2^32 - 1.
 fn floor_of(words: &ArgMatches<'_>) -> Option<Generation>
     ensures { result ≡ floor_asked (first_value (found_of words.now) (codes "floor")) }
 {
     Generation::new(number_or(words, FLOOR, 1)?)
 }
 
-/// Returns the LMC that `words` ask for, 0 if they ask for none.
+/// Returns the LMC that `words` ask for, or 0 if they ask for none. Returns `None` if it is greater than 7.
 fn lmc_of(words: &ArgMatches<'_>) -> Option<Lmc>
     ensures { result ≡ lmc_asked (first_value (found_of words.now) (codes "lmc")) }
 {
     Lmc::new(u8::try_from(number_or(words, LMC, 0)?).ok()?)
 }
 
-/// Returns the number after the option `name`, or `otherwise` if the option is not given.
+/// Returns the number after the option `name`, or `otherwise` if the option is not given. Returns `None` if it is not a
+/// number of 32 bits.
 fn number_or(words: &ArgMatches<'_>, name: &str, otherwise: u32) -> Option<u32>
     ensures { result ≡ number_or otherwise (first_value (found_of words.now) name.now) }
 {
@@ -279,7 +283,7 @@ fn number_in(text: &str) -> Option<u32>
     u32::try_from(text.parse::<i64>().ok()?).ok()
 }
 
-/// Returns the rule of routing that `words` ask for, `UpDown` if they name none. Returns `None` if roots or an order
+/// Returns the rule of routing that `words` ask for, or `UpDown` if they name none. Returns `None` if roots or an order
 /// are named with a rule that does not take them.
 fn rule_of(words: &ArgMatches<'_>) -> Option<RuleAsked>
     ensures { result ≡ rule_asked (first_value (found_of words.now) (codes "routing"))
@@ -296,7 +300,8 @@ fn rule_of(words: &ArgMatches<'_>) -> Option<RuleAsked>
     }
 }
 
-/// Returns the rule that spreads, from roots if `rooted`, in a named order if `ordered`, or `None` if both.
+/// Returns the rule that spreads: from roots if `rooted`, and in a named order if `ordered`. Returns `None` if both are
+/// set.
 fn spread_by(rooted: bool, ordered: bool) -> Option<RuleAsked>
     ensures { result ≡ spread_asked rooted ordered }
 {
@@ -320,7 +325,7 @@ fn balance_by(ordered: bool) -> RuleAsked
 }
 
 /// Returns the names of the task's inputs in the order in which they are read: the texts of its rule, its own texts,
-/// its files. Returns `None` if one of them is not named.
+/// and its files. Returns `None` if one of them is not named.
 pub fn names_of<'a>(
     alloc: Global,
     matches: &ArgMatches<'a>,
@@ -335,7 +340,8 @@ pub fn names_of<'a>(
     }
 }
 
-/// Returns the names of the task's inputs, by the words after the subcommand.
+/// Returns the names of the task's inputs, by the words after the subcommand. Returns `None` if one of them is not
+/// named.
 fn names_behind<'a>(
     alloc: Global,
     words: &ArgMatches<'a>,
@@ -362,7 +368,7 @@ fn names_behind<'a>(
     Ok(Some(names))
 }
 
-/// Returns the name of the text of roots or of the order, if `rule` takes one; `None` if it is not named.
+/// Returns the name of the text of roots or of the order, if `rule` takes one. Returns `None` if it is not named.
 fn texts_of_rule<'a>(words: &ArgMatches<'a>, rule: RuleAsked) -> Option<ArrayVec<&'a str, 1>>
     ensures { option_map (λ found. map (λ name. name.now) found.items) result
         ≡ texts_of_rule (first_value (found_of words.now)) rule }
@@ -376,7 +382,7 @@ fn texts_of_rule<'a>(words: &ArgMatches<'a>, rule: RuleAsked) -> Option<ArrayVec
     Some(texts)
 }
 
-/// Returns the names of the other texts of the task, or `None` if one is not named.
+/// Returns the names of the task's own texts, or `None` if one is not named.
 fn texts_of<'a>(words: &ArgMatches<'a>, task: &Task) -> Option<ArrayVec<&'a str, 2>>
     ensures { option_map (λ found. map (λ name. name.now) found.items) result
         ≡ texts_asked (first_value (found_of words.now)) task.now }

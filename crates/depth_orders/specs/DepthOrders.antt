@@ -1,4 +1,4 @@
--- Orders by depth: next comes a neighbor of the vertex that was placed last, if one is left.
+-- Orders by depth: the next vertex is a neighbor of the last placed vertex that has a neighbor left.
 use Rattle.std.specs.Prelude.{ℕ, zero, suc, Bool, false, not, ◌&&◌, ◌||◌, ◌==◌, nat_lt}
 use Rattle.std.specs.Prelude.{List, [], ◌∷◌, ◌++◌, filter, length, count_by, Option, None, Some, slice_index_or}
 use Rattle.std.specs.List.{list_any}
@@ -9,7 +9,7 @@ use Rattle.spread_labels.specs.Stages.{earliest_of, first_of}
 use Rattle.depth_orders.specs.declared.direction.Direction.{Direction}
 use Rattle.depth_orders.specs.declared.direction.Direction.TheVariants.{Forwards, Backwards}
 
--- the test of keys, or the reverse test if the direction is backwards
+-- the test `before` if the direction is forwards, and its reverse if it is backwards
 abbrev pub turned : Direction → (ℕ → ℕ → Bool) → ℕ → ℕ → Bool
 turned Forwards before a b = before a b
 turned Backwards before a b = before b a
@@ -18,11 +18,11 @@ turned Backwards before a b = before b a
 abbrev pub is_among : List ℕ → ℕ → Bool
 is_among vertices s = list_any (λ p. p == s) vertices
 
--- the flag of vertex s, false past the end
+-- the flag of vertex s; false past the end
 abbrev pub flag_at : List Bool → ℕ → Bool
 flag_at flags s = slice_index_or flags s false
 
--- the number of edges of a vertex that lead to placed ones
+-- the number of edges of vertex s that lead to placed vertices
 abbrev pub edges_to : List (List Edge) → (ℕ → Bool) → ℕ → ℕ
 edges_to edges placed s = count_by (λ e. placed e.to) (edges_at edges s)
 
@@ -32,22 +32,23 @@ abbrev pub goes_before : List (List Edge) → (ℕ → ℕ → Bool) → (ℕ �
 goes_before edges before placed a b = nat_lt (edges_to edges placed b) (edges_to edges placed a)
     || ((edges_to edges placed a == edges_to edges placed b) && before a b)
 
--- the best of the neighbors of vertex s that are left
+-- the best neighbor of vertex s that is left; None if none is left
 abbrev pub best_beside : List (List Edge) → (ℕ → ℕ → Bool) → (ℕ → Bool) → ℕ → Option ℕ
 best_beside edges before placed s =
     earliest_of (goes_before edges before placed) (filter (λ b. not (placed b)) (heads edges s))
 
--- the best neighbor left of the last vertex that has one, among the first n of `vertices`
+-- the best neighbor that is left of the last vertex that has such a neighbor, among the first n of `vertices`; None if
+-- there is none
 abbrev pub deepest : List (List Edge) → (ℕ → ℕ → Bool) → (ℕ → Bool) → List ℕ → ℕ → Option ℕ
 deepest edges before placed vertices zero = None
 deepest edges before placed vertices (suc i) =
     first_of (best_beside edges before placed (at_position vertices i)) (deepest edges before placed vertices i)
 
--- the first vertex that is left, among n vertices
+-- the first of n vertices that is left; None if none is left
 abbrev pub first_left : (ℕ → ℕ → Bool) → (ℕ → Bool) → ℕ → Option ℕ
 first_left before placed n = earliest_of before (filter (λ b. not (placed b)) (numbers_from 0 n))
 
--- the vertex that comes behind `vertices`; the test `placed` says which are placed
+-- the vertex that comes after `vertices`; the test `placed` says which vertices are placed; None if none is left
 abbrev pub next_by_depth : List (List Edge) → (ℕ → ℕ → Bool) → (ℕ → Bool) → List ℕ → Option ℕ
 next_by_depth edges before placed vertices =
     first_of (deepest edges before placed vertices (length vertices)) (first_left before placed (length edges))
@@ -57,13 +58,13 @@ abbrev pub with_next : List ℕ → Option ℕ → List ℕ
 with_next vertices None = vertices
 with_next vertices (Some s) = vertices ++ s ∷ []
 
--- the first n + 1 vertices of the order from `root`, as far as there are
+-- the first n + 1 vertices of the order from `root`, or as many as there are
 abbrev pub depth_after : List (List Edge) → (ℕ → ℕ → Bool) → ℕ → ℕ → List ℕ
 depth_after edges before root zero = root ∷ []
 depth_after edges before root (suc n) =
     with_next (depth_after edges before root n)
     (next_by_depth edges before (is_among (depth_after edges before root n)) (depth_after edges before root n))
 
--- the whole order; behind the last vertex nothing comes
+-- the whole order from `root`
 abbrev pub order_by_depth : List (List Edge) → (ℕ → ℕ → Bool) → ℕ → List ℕ
 order_by_depth edges before root = depth_after edges before root (length edges)

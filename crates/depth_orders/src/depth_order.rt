@@ -11,11 +11,10 @@ use port_graph::{Adjacency, Edge};
 use spread_labels::VertexKey;
 use std::alloc::{AllocError, Global};
 
-/// Returns the vertices in their order by depth from `root`. Next comes a neighbor of the vertex that was placed last,
-/// as long as one of its neighbors is left; else of the last one before it that has such a neighbor. Among these
-/// neighbors, the one with most edges to placed vertices comes next, and `direction` decides between equals. If no
-/// placed vertex has a neighbor left, the first of all that are left comes next. For each vertex, takes one step for
-/// each edge that is looked at before a neighbor is found.
+/// Returns the vertices in their order by depth from `root`. The next vertex is a neighbor of the last placed vertex
+/// that has a neighbor left. Of its neighbors that are left, the one with most edges to placed vertices is taken, and
+/// `direction` decides between equals. If no placed vertex has a neighbor left, the first of all vertices that are left
+/// comes next. For each vertex, takes one step for each edge that is looked at before a neighbor is found.
 pub fn order_by_depth(
     alloc: Global,
     edges: &Adjacency,
@@ -42,7 +41,7 @@ pub fn order_by_depth(
     Ok(vertices)
 }
 
-/// Returns the vertex that is placed next, if one is left.
+/// Returns the vertex that is placed next, or `None` if none is left.
 fn next_by_depth(
     edges: &Adjacency,
     keys: &[VertexKey],
@@ -62,7 +61,8 @@ fn next_by_depth(
     }
 }
 
-/// Returns the best neighbor that is left of the last vertex in `vertices` that has one.
+/// Returns the best neighbor that is left of the last vertex in `vertices` that has such a neighbor, or `None` if there
+/// is none.
 fn deepest(
     edges: &Adjacency,
     keys: &[VertexKey],
@@ -87,7 +87,8 @@ fn deepest(
     None
 }
 
-/// Returns, of the neighbors of a vertex that are left, the one with most edges to placed vertices.
+/// Returns the neighbor of a vertex with most edges to placed vertices, among those that are left. Returns `None` if
+/// none is left.
 fn best_beside(
     edges: &Adjacency,
     keys: &[VertexKey],
@@ -110,7 +111,7 @@ fn best_beside(
     found
 }
 
-/// Returns the better of `vertex` and the vertex found so far, if there is one.
+/// Returns the better of `vertex` and `found`, or `vertex` if `found` is `None`.
 fn better(
     edges: &Adjacency,
     keys: &[VertexKey],
@@ -162,7 +163,7 @@ fn count_placed(edges: &[Edge], placed: &[bool]) -> usize
         .count()
 }
 
-/// Returns the first of all vertices that are left, by `direction`.
+/// Returns the first vertex, by `direction`, of all that are left, or `None` if none is left.
 fn first_left(keys: &[VertexKey], direction: Direction, placed: &[bool]) -> Option<usize>
     ensures first { result ≡ first_left (turned direction (before_by keys.now)) (flag_at placed.now)
         (length keys.now) }
@@ -177,7 +178,7 @@ fn first_left(keys: &[VertexKey], direction: Direction, placed: &[bool]) -> Opti
     found
 }
 
-/// Returns the vertex that `direction` takes of `vertex` and the one found so far, if there is one.
+/// Returns the vertex that `direction` takes of `vertex` and `found`, or `vertex` if `found` is `None`.
 fn earlier(keys: &[VertexKey], direction: Direction, found: Option<usize>, vertex: usize) -> usize
     requires vertex { vertex < length keys.now }
     requires found { MatchOption found (Unit {0}) (λ other. other < length keys.now) }
@@ -189,7 +190,7 @@ fn earlier(keys: &[VertexKey], direction: Direction, found: Option<usize>, verte
     }
 }
 
-/// Returns whether a vertex is placed.
+/// Returns whether `vertex` is placed. A vertex past the end is not.
 fn is_placed(placed: &[bool], vertex: usize) -> bool
     ensures { result ≡ flag_at placed.now vertex }
 {

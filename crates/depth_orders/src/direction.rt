@@ -4,12 +4,12 @@ ghost use Rattle.depth_orders.specs.DepthOrders.{turned};
 
 use spread_labels::{VertexKey, is_before};
 
-/// Which of two vertices is taken if nothing else distinguishes them.
+/// The choice between two vertices if nothing else distinguishes them.
 #[derive(Clone, Copy, Debug, PartialEq, Eq)]
 pub enum Direction {
-    /// The vertex of the earlier key.
+    /// Takes the vertex with the earlier key.
     Forwards,
-    /// The vertex of the later key.
+    /// Takes the vertex with the later key.
     Backwards,
 }
 

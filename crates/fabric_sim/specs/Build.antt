@@ -21,9 +21,11 @@ agent_node node = record {
       node.name ++ replicate (64 - length node.name) 0;
 }
 
+-- the agent of a node, to which nothing was written
 abbrev pub new_agent : Node → Agent
 new_agent node = fresh_agent (agent_node node)
 
+-- the other ends of the cables at a node without cables
 abbrev pub no_peers : Node → List (Option NodePort)
 no_peers node = replicate (node.ports + 1) None
 
@@ -36,5 +38,6 @@ abbrev pub cabled : List Cable → Simulation → Simulation
 cabled [] s = s
 cabled (link ∷ links) s = cabled links (cabled_at s link.one link.other)
 
+-- the fabric of a topology; `first` is the first serial number
 abbrev pub simulation_of : Layout → ℕ → Simulation
 simulation_of t first = cabled t.links (uncabled t.nodes first)

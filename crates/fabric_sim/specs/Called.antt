@@ -4,13 +4,13 @@ use Rattle.fabric_sim.specs.declared.fault.FabricFault.{FabricFault}
 use Rattle.fabric_sim.specs.declared.fault.FabricFault.TheVariants.{Memory}
 use Rattle.fabric_sim.specs.Simulation.{Simulation}
 
--- the fabric afterwards, and the call's result
+-- the fabric after a call, and the call's result
 pub record Called (R : Type 0) : Type 0 where
   pub fabric : Simulation
   pub result : Result R FabricFault
 
--- a call left and returned what `called` says, except for lack of memory, which is returned only if the call is not
--- refused otherwise, and leaves the fabric unchanged
+-- a call left and returned what `called` says; or it returned `Memory` and left the fabric unchanged, which it does
+-- only if it would have succeeded otherwise
 abbrev pub ComesTo : {R : Type 0} → Result R FabricFault → Simulation → Simulation → Called R → Type 0
 ComesTo (Err Memory) old new called = (new ≡ old) × IsOk called.result
 ComesTo result old new called = (new ≡ called.fabric) × (result ≡ called.result)

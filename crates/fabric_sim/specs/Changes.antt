@@ -14,24 +14,25 @@ use Rattle.fabric_sim.specs.Delivery.{with_changed, after_enqueue, without}
 
 -- packets ------------------------------------------------------------------------------
 
--- the packet with the LID of the port as its SLID, if it is forwarded by LIDs
+-- the packet, with the LID of the port `p` as its SLID if it is forwarded by LIDs
 abbrev pub addressed : Simulation → NodePort → Packet → Packet
 addressed s p packet = if is_lid_routed packet.bytes then record packet { slid = (fabric_of s).base_lid p } else packet
 
--- a packet is sent from a seat
+-- the fabric after a packet is sent from the seat `p`, and the packet's serial number
 unfoldable pub after_inject : Simulation → NodePort → Packet → Called ℕ
 after_inject s p packet =
     if not (is_seat_at s p) then refused s NoSuchPort else after_enqueue s (Seat p) (addressed s p packet)
 
+-- the fabric after a copy of the packet is added at the same whereabouts; refused if there is no packet
 abbrev pub copied : Simulation → Option Flight → Called ℕ
 copied s None = refused s NoSuchPacket
 copied s (Some flight) = after_enqueue s flight.whereabouts flight.packet
 
--- a packet in flight is copied; the copy waits at the same whereabouts
+-- the fabric after a packet in flight is copied, and the copy's serial number; the copy waits at the same whereabouts
 unfoldable pub after_repeat : Simulation → ℕ → Called ℕ
 after_repeat s serial = copied s (flight_with s.flights serial)
 
--- a packet in flight is lost
+-- the fabric after a packet in flight is lost
 unfoldable pub after_lose : Simulation → ℕ → Called (Unit {0})
 after_lose s serial =
     if is_none (flight_with s.flights serial) then refused s NoSuchPacket
@@ -43,41 +44,42 @@ after_lose s serial =
 abbrev pub changed_at : Simulation → NodePort → (Agent → ℕ → Agent) → Simulation
 changed_at s p change = record s { agents = with_changed s.agents p.node (λ a. change a p.port) }
 
--- a manager is seated at a port of an adapter
+-- the fabric after a manager is seated at a port of an adapter
 unfoldable pub after_seat : Simulation → NodePort → Called (Unit {0})
 after_seat s p =
     if is_switch_at (fabric_of s) p.node || not (is_cable_port s p) then refused s NoSuchPort
     else if is_seat_at s p then refused s PortTaken
     else record { fabric = changed_at s p after_set_seat; result = Ok tt }
 
--- the other ends of the cables, with `other` in the port `p`
+-- the other ends of the cables, with `other` as the other end at the port `p`
 abbrev pub with_peer : List (List (Option NodePort)) → NodePort → Option NodePort → List (List (Option NodePort))
 with_peer peers p other = slice_set peers p.node (slice_set (slice_index_or peers p.node []) p.port other)
 
--- a cable is plugged into a port, or taken out
+-- the fabric after a cable is plugged into the port `p`, or taken out of it
 abbrev pub with_end : Simulation → NodePort → Option NodePort → Simulation
 with_end s p other =
     record (changed_at s p (λ a port. after_set_wired a port (is_some other))) { peers = with_peer s.peers p other }
 
--- a cable joins two ports, or loops one
+-- the fabric after a cable is plugged into two ports, or into one as a loop
 unfoldable pub cabled_at : Simulation → NodePort → NodePort → Simulation
 cabled_at s p q = with_end (with_end s p (Some q)) q (Some p)
 
--- the cable between two ports is taken out
+-- the fabric after the cable between two ports is taken out
 unfoldable pub uncabled_at : Simulation → NodePort → NodePort → Simulation
 uncabled_at s p q = with_end (with_end s p None) q None
 
--- a cable is plugged into two free ports, or as a loop into one
+-- the fabric after a cable is plugged into two free ports, or as a loop into one
 unfoldable pub after_plug : Simulation → NodePort → NodePort → Called (Unit {0})
 after_plug s p q =
     if not (is_cable_port s p && is_cable_port s q) then refused s NoSuchPort
     else if not (is_none (across s.peers p) && is_none (across s.peers q)) then refused s PortTaken
     else record { fabric = cabled_at s p q; result = Ok tt }
 
+-- the fabric after the cable from `p` to this other end is taken out; refused if there is none
 abbrev pub cut_apart : Simulation → NodePort → Option NodePort → Called (Unit {0})
 cut_apart s p None = refused s NoSuchPort
 cut_apart s p (Some q) = record { fabric = uncabled_at s p q; result = Ok tt }
 
--- the cable in a port is cut
+-- the fabric after the cable in a port is cut
 unfoldable pub after_cut : Simulation → NodePort → Called (Unit {0})
 after_cut s p = cut_apart s p (across s.peers p)

@@ -42,24 +42,26 @@ use Rattle.fabric_sim.specs.Simulation.{Simulation, agent_at, port_count, is_sea
 abbrev pub carrying : Packet → List ℕ → Packet
 carrying packet bytes = record packet { bytes = bytes }
 
--- the packet leaves by a port to the other end of its cable, and is dropped if there is none
+-- what becomes of a packet that leaves by a port: it moves to the other end of the port's cable, or is dropped if there
+-- is none
 abbrev pub leaving : Simulation → NodePort → Packet → Outcome
 leaving s out packet = option_map_or (λ into. Moves (Arrived into) packet) (across s.peers out) (Drops Down)
 
--- the packet is a trap that goes by LIDs
+-- the packet is a trap that is forwarded by LIDs
 abbrev pub is_trap : List ℕ → Bool
 is_trap bytes = number_in method bytes == trap && not (is_directed bytes)
 
--- a manager sits at the port, and the packet is for it: about SMInfo, or a trap
+-- a manager sits at the port, and the packet is for it: its attribute is SMInfo, or it is a trap
 abbrev pub is_for_manager : Simulation → NodePort → List ℕ → Bool
 is_for_manager s p bytes = (number_in attribute_id bytes == sm_info || is_trap bytes) && is_seat_at s p
 
 -- a packet on a directed route
 
--- the node that a packet is at, as a step sees it
+-- the node of a port where a packet waits, as a step sees it
 abbrev pub here_at : Simulation → NodePort → Here
 here_at s p = record { is_switch = is_switch_at (fabric_of s) p.node; ports = port_count s p.node; arrival = p.port }
 
+-- why a step discards a packet, as a reason of a delivery
 abbrev pub reason_of : DiscardReason → Reason
 reason_of off.Course = OffCourse
 reason_of off.Transit = Transit
@@ -73,6 +75,7 @@ at_agent s p packet =
     else if is_for_manager s p packet.bytes then HandsUp packet
     else Asks packet.bytes packet.slid packet.dlid
 
+-- what becomes of a directed packet, by the verdict of its step
 abbrev pub by_verdict : Simulation → NodePort → Packet → Verdict → Outcome
 by_verdict s p packet (Out port) = leaving s (record { node = p.node; port = port }) packet
 by_verdict s p packet ToAgent = at_agent s p packet
@@ -95,11 +98,13 @@ arrived s p packet =
     else if number_in method packet.bytes == trap_repress then Represses (number_in transaction_id packet.bytes)
     else Asks packet.bytes packet.dlid packet.slid
 
+-- what becomes of a LID-routed packet, by its course at the node
 abbrev pub by_course : Simulation → NodePort → Packet → Course → Outcome
 by_course s p packet (course_is.Delivers q) = arrived s p packet
 by_course s p packet (course_is.LeavesBy out) = leaving s out packet
 by_course s p packet course_is.Drops = Drops NoRoute
 
+-- what becomes of a LID-routed packet where it waits
 abbrev pub lid_routed_outcome : Simulation → Whereabouts → Packet → Outcome
 lid_routed_outcome s whereabouts packet =
     by_course s (port_of whereabouts) packet
@@ -129,6 +134,7 @@ envelope_of flight =
 abbrev pub packet_in : Envelope → List ℕ → Packet
 packet_in envelope bytes = record { bytes = bytes; slid = envelope.slid; dlid = envelope.dlid }
 
+-- the packet in flight with this envelope and these bytes
 abbrev pub flight_in : Envelope → List ℕ → Flight
 flight_in envelope bytes =
     record {
@@ -159,7 +165,7 @@ CanFare s (Drops reason) = Unit {0}
 
 -- what a delivery leaves ----------------------------------------------------------------------
 
--- the agents with the one at `id` changed
+-- the agents, with the agent at `id` changed
 abbrev pub with_changed : List Agent → ℕ → (Agent → Agent) → List Agent
 with_changed agents id change = option_map_or (λ a. slice_set agents id (change a)) (slice_get agents id) agents
 
@@ -172,7 +178,7 @@ with_flight s whereabouts packet =
       next = s.next + 1;
     }
 
--- a packet is added, if a serial number is left
+-- the fabric with the packet added, and its serial number; refused if no serial number is left
 abbrev pub after_enqueue : Simulation → Whereabouts → Packet → Called ℕ
 after_enqueue s whereabouts packet =
     if s.next == 2 ^ 64 then refused s SerialsSpent else record {
@@ -198,7 +204,7 @@ moved_to s serial whereabouts packet =
 abbrev pub answer_at : Simulation → NodePort → List ℕ → List ℕ
 answer_at s p bytes = option_map_or (λ a. (after_answer a bytes p.port).packet) (agent_at s p.node) bytes
 
--- the agent has answered the request that waited at its port, and the answer replaces the request
+-- the fabric after the agent answered the request that waited at its port; the answer replaces the request
 abbrev pub asked : Simulation → Flight → List ℕ → ℕ → ℕ → Simulation
 asked s flight request slid dlid =
     let p = port_of flight.whereabouts in
@@ -234,10 +240,11 @@ after_outcome s flight (Represses number) =
 after_outcome s flight (Drops reason) =
     record { fabric = without s flight.serial; result = Ok (delivered_is.Discarded reason) }
 
+-- the fabric after the step of this packet; refused if there is no packet
 abbrev pub delivered_flight : Simulation → Option Flight → Called Delivered
 delivered_flight s None = refused s NoSuchPacket
 delivered_flight s (Some flight) = after_outcome s flight (outcome_of s flight.whereabouts flight.packet)
 
--- one step of the packet with this serial number
+-- the fabric after one step of the packet with this serial number, and what the step did
 unfoldable pub after_deliver : Simulation → ℕ → Called Delivered
 after_deliver s serial = delivered_flight s (flight_with s.flights serial)

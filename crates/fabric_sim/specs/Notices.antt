@@ -1,4 +1,4 @@
--- What switches send: the trap of a change of the state of a link.
+-- What switches send: the trap that reports a change of the state of a link.
 -- InfiniBand Architecture Specification, Volume 1: management methods (Trap, TrapRepress); subnet management, the
 -- attribute Notice, and trap 128.
 use Rattle.std.specs.Prelude.{ℕ, List, [], ◌∷◌, replicate}
@@ -30,10 +30,10 @@ link_entries lid =
     ∷ record { field = record { at = 6; len = 2 }; number = lid }
     ∷ record { field = record { at = 10; len = 2 }; number = lid } ∷ []
 
--- the 64 bytes of that notice; all else is 0
+-- the 64 bytes of the notice of a switch with this LID; all other bytes are 0
 abbrev pub link_notice : ℕ → List ℕ
 link_notice lid = with_numbers (link_entries lid) (replicate 64 0)
 
--- the trap of a switch with this LID, with a TransactionID
+-- the trap of a switch with this LID, with this TransactionID
 abbrev pub link_trap : ℕ → ℕ → List ℕ
 link_trap lid number = lid_routed trap notice 0 number (link_notice lid)

@@ -4,8 +4,8 @@ use Rattle.fabric_sim.specs.declared.packet.Packet.{Packet}
 use Rattle.fabric_sim.specs.declared.flight.Whereabouts.{Whereabouts}
 use Rattle.fabric_sim.specs.declared.delivered.Reason.{Reason}
 
--- the packet moves to other whereabouts; the agent answers the request, with this SLID and DLID; the packet is handed
--- to the subnet manager; it represses the trap with this TransactionID, and is discarded; it is discarded
+-- what becomes of a packet: it moves to other whereabouts; the agent answers it, with this SLID and DLID; it is handed
+-- to the subnet manager; it represses the trap with this TransactionID, and is discarded; or it is discarded
 pub data Outcome : Type 0 where
   Moves : (whereabouts : Whereabouts) → (packet : Packet) → Outcome
   Asks : (request : List ℕ) → (slid : ℕ) → (dlid : ℕ) → Outcome

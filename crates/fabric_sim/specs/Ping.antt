@@ -19,17 +19,17 @@ ping_by f s hops on (Delivers p) = Reached p hops
 ping_by f s hops on (LeavesBy out) = option_map_or on (f.across out) (Lost s.at.node)
 ping_by f s hops on Drops = Lost s.at.node
 
--- where a packet ends after `hops` wires, if it may take `left` more; with none left it is lost where it is
+-- where a packet ends after `hops` wires, if it may take `left` more; with none left, it is lost where it is
 abbrev pub ping_on : Fabric → ℕ → ℕ → ℕ → Standing → Ping
 ping_on f lid zero hops s = Lost s.at.node
 ping_on f lid (suc left) hops s =
     ping_by f s hops (λ into. ping_on f lid left (hops + 1) (arrived_at into)) (course f lid s)
 
--- where a packet for a LID ends that is sent from a port
+-- where a packet for a LID ends if it is sent from the port `source`
 abbrev pub ping : Fabric → ℕ → NodePort → Ping
 ping f lid source = ping_on f lid (wire_bound f) 0 (sent_from source)
 
--- a fault if the port to send from does not exist
+-- `NoSuchPort` if the port to send from does not exist, otherwise None
 abbrev pub ping_fault : Simulation → NodePort → Option FabricFault
 ping_fault s source = if is_port s source then None else Some NoSuchPort
 

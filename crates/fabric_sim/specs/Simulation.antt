@@ -46,7 +46,7 @@ is_cable_port s p = has_cable_port s.agents p
 abbrev pub is_seat_at : Simulation → NodePort → Bool
 is_seat_at s p = option_map_or (λ a. has_seat a p.port) (agent_at s p.node) false
 
--- the port at the other end of the cable in a port; for a loop that is the port itself
+-- the port at the other end of the cable in a port; for a loop, it is the port itself
 abbrev pub across : List (List (Option NodePort)) → NodePort → Option NodePort
 across peers p = slice_index_or (slice_index_or peers p.node []) p.port None
 
@@ -97,7 +97,7 @@ answer_whereabouts (Made p) = Made p
 abbrev pub is_numbered : ℕ → Flight → Bool
 is_numbered serial flight = flight.serial == serial
 
--- the packet with this serial number
+-- the packet in flight with this serial number; None if there is none
 abbrev pub flight_with : List Flight → ℕ → Option Flight
 flight_with flights serial = find (is_numbered serial) flights
 
@@ -110,11 +110,11 @@ abbrev pub Finds : List Flight → ℕ → Option ℕ → Type 0
 Finds flights serial None = flight_with flights serial ≡ None
 Finds flights serial (Some i) = IsFlightAt flights i serial × (slice_get flights i ≡ flight_with flights serial)
 
--- the packets without the one with this serial number
+-- the packets in flight without the packet that has this serial number
 abbrev pub without_flight : List Flight → ℕ → List Flight
 without_flight flights serial = filter (λ flight. not (is_numbered serial flight)) flights
 
--- the packets, with `moved` in place of the one with its serial number
+-- the packets in flight, with `moved` in place of the packet that has its serial number
 abbrev pub with_moved : List Flight → Flight → List Flight
 with_moved flights moved = map (λ flight. if is_numbered moved.serial flight then moved else flight) flights
 

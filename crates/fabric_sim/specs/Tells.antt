@@ -18,7 +18,7 @@ use Rattle.attr_codec.specs.SwitchInfo.{linear_fdb_cap}
 abbrev pub path_of : List ℕ → List ℕ
 path_of packet = bytes_in (record { at = 129; len = number_in hop_count packet }) packet
 
--- NodeInfo says what the node is, as seen by one of its ports
+-- `info` says what the node is, as seen by its port `port`
 pub record SaysNode (node : Node) (port : ℕ) (info : NodeInfo) : Type 0 where
   pub guid : info.node_guid ≡ node.guid
   pub kind : info.node_type ≡ number_of_type node.kind
@@ -35,7 +35,8 @@ IsUp f id node port = ((is_switch node.kind ≡ true) × (port ≡ 0))
 abbrev pub IsUpState : ℕ → Type 0
 IsUpState state = (2 ≤ state) × (state ≤ 4)
 
--- the port that PortInfo is about: for a switch, the port asked for; for an adapter, the port by which the request came
+-- the port that PortInfo is about: for a switch, the port asked for; for an adapter, the port at which the request
+-- arrived
 abbrev pub port_asked : Node → ℕ → ℕ → ℕ
 port_asked node modifier arrival = if is_switch node.kind then modifier else arrival
 
@@ -44,12 +45,12 @@ pub record SaysPort (f : Fabric) (id : ℕ) (node : Node) (port state : ℕ) : T
   pub within : port ≤ node.ports
   pub up : IsUpState state ↔ IsUp f id node port
 
--- SwitchInfo is that of a switch, and has the number of entries that its forwarding table has room for
+-- the node is a switch, and `entries` is the number of entries that its forwarding table has room for
 pub record SaysSwitch (node : Node) (entries : ℕ) : Type 0 where
   pub kind : is_switch node.kind ≡ true
   pub cap : entries ≡ node.cap
 
--- what an answer says, by its attribute, of the node that its request came to
+-- what an answer says, by its attribute, is true of the node that its request reached
 pub record SaysOf (f : Fabric) (at : NodePort) (packet : List ℕ) : Type 0 where
   pub node : Node
   pub there : IsNodeAt f at.node node
@@ -61,7 +62,8 @@ pub record SaysOf (f : Fabric) (at : NodePort) (packet : List ℕ) : Type 0 wher
   pub switch_info : number_in attribute_id packet ≡ switch_info
       → SaysSwitch node (number_in linear_fdb_cap (bytes_in attribute_data packet))
 
--- a packet handed up at a port: its path has an end from there, and what it says with status 0 is true of that end
+-- a packet handed up at the port `at` has a path that ends somewhere; if its status is 0, what it says is true of that
+-- end
 pub record TellsOfEnd (f : Fabric) (at : NodePort) (packet : List ℕ) : Type 0 where
   pub end : NodePort
   pub leads : directed_end f at (path_of packet) ≡ Some end

@@ -18,7 +18,7 @@ use Rattle.fabric_sim.specs.Delivery.{after_deliver}
 use Rattle.fabric_sim.specs.Changes.{after_inject}
 use Rattle.fabric_sim.specs.Calls.{Call, Lose, after_calls, is_delivery_of}
 
--- a directed request has no LID-routed part
+-- a directed request as a packet; it has no LID-routed part
 abbrev pub directed_packet : List ℕ → Packet
 directed_packet bytes = record { bytes = bytes; slid = permissive_lid; dlid = permissive_lid }
 

@@ -13,11 +13,11 @@ pub record Traps : Type 0 where
 abbrev pub no_traps : Traps
 no_traps = record { waiting = []; last = 0 }
 
--- the TransactionID of the trap that waits at a node
+-- the TransactionID of the trap that waits at a node; None if none waits
 abbrev pub trap_at : Traps → ℕ → Option ℕ
 trap_at t id = slice_index_or t.waiting id None
 
--- switches among n nodes send traps from here on; nothing changes if they do already
+-- the traps after switches among n nodes begin to send traps; unchanged if they send traps already
 abbrev pub begun : Traps → ℕ → Traps
 begun t nodes = if length t.waiting == 0 then record t { waiting = replicate nodes None } else t
 
@@ -25,7 +25,7 @@ begun t nodes = if length t.waiting == 0 then record t { waiting = replicate nod
 abbrev pub next_trap : Traps → ℕ
 next_trap t = (t.last + 1) % 2 ^ 64
 
--- a new trap waits at the node, in place of the one before
+-- the traps with a new trap waiting at the node, in place of the one before
 abbrev pub with_new_trap : Traps → ℕ → Traps
 with_new_trap t id = record { waiting = slice_set t.waiting id (Some (next_trap t)); last = next_trap t }
 
@@ -33,6 +33,6 @@ with_new_trap t id = record { waiting = slice_set t.waiting id (Some (next_trap 
 abbrev pub is_waiting : Traps → ℕ → ℕ → Bool
 is_waiting t id number = option_map_or (λ n. n == number) (trap_at t id) false
 
--- the traps, of which the one with this TransactionID no longer waits at the node
+-- the traps after the trap with this TransactionID is ended, if it waits at the node
 abbrev pub without_trap : Traps → ℕ → ℕ → Traps
 without_trap t id number = if is_waiting t id number then record t { waiting = slice_set t.waiting id None } else t

@@ -10,7 +10,8 @@ use node_agents::Agent;
 use smp_bytes::{Lid, NO_ENTRY};
 
 impl Fabric {
-    /// Returns what the node at the port `at` does with a packet for `lid`.
+    /// Returns what the node at the port `at` does with a packet for `lid`. `is_by_wire` says whether the packet came
+    /// to the port by a wire.
     pub(crate) fn course(&self, lid: Lid, at: &NodePort, is_by_wire: bool) -> Course
         requires { at.now.node < length self.now.agents }
         ensures { result ≡ course (fabric_of self.now) lid

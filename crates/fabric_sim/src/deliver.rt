@@ -24,12 +24,13 @@ use smp_bytes::{AttributeId, Lid, Smp, SmpClass};
 impl Fabric {
     /// Performs one step of the packet in flight with this serial number: it moves over a wire, is answered, is handed
     /// to a subnet manager, or is discarded. A packet that represses a trap ends the trap. Takes no memory. Takes one
-    /// step to find the first packet in flight, and a binary search to find any other; if it is removed, the others
-    /// close its gap.
+    /// step to find the first packet in flight, and a binary search to find any other. If the packet is removed, later
+    /// packets move up.
     ///
     /// # Errors
     ///
-    /// Returns `NoSuchPacket`, or `SerialsSpent` if an agent is to answer and no serial number is left.
+    /// Returns `NoSuchPacket` if no packet in flight has the serial number, and `SerialsSpent` if an agent is to answer
+    /// and no serial number is left.
     #[tactic(auto, unfolding(crate::specs::Delivery::after_deliver))]
     pub fn deliver(&mut self, serial: u64) -> Result<Delivered, FabricFault>
         ensures fabric { self.new ≡ (after_deliver self.old serial).fabric }
@@ -49,8 +50,8 @@ impl Fabric {
         }
     }
 
-    /// Moves, answers, hands up or discards the packet at index `i` among those in flight. `smp` has its bytes after
-    /// its step.
+    /// Moves, answers, hands up or discards the packet at index `i` among the packets in flight. `smp` has its bytes
+    /// after its step.
     fn act(
         &mut self,
         i: usize,
@@ -94,7 +95,7 @@ impl Fabric {
         self.traps.repress(node, number);
     }
 
-    /// Discards the packet at index `i` among those in flight.
+    /// Discards the packet at index `i` among the packets in flight.
     fn discard(&mut self, i: usize, serial: u64, reason: Reason) -> Delivered
         requires { IsFlightAt self.old.flights i serial }
         ensures fabric { self.new ≡ without self.old serial }
@@ -175,7 +176,7 @@ impl Fabric {
         }
     }
 
-    /// Returns the node of a port, as a step sees it.
+    /// Returns the node of the port `at`, as a step sees it.
     fn here(&self, at: &NodePort) -> Here
         requires { at.now.node < length self.now.agents }
         ensures { result ≡ here_at self.now at.now }
@@ -188,7 +189,7 @@ impl Fabric {
         }
     }
 
-    /// Returns what to do with a packet that has come to the end of its path.
+    /// Returns what to do with a packet that has reached the end of its path.
     fn at_agent(&self, at: &NodePort, envelope: &Envelope, smp: &Smp) -> Action
         ensures { outcome_by (packet_in envelope.now smp.now) result
             ≡ at_agent self.now at.now (packet_in envelope.now smp.now) }
@@ -216,7 +217,7 @@ impl Fabric {
         }
     }
 
-    /// Returns what to do with a packet that has come to the port of its DLID.
+    /// Returns what to do with a packet that has reached the port of its DLID.
     fn arrival(&self, at: &NodePort, envelope: &Envelope, smp: &Smp) -> Action
         ensures { outcome_by (packet_in envelope.now smp.now) result
             ≡ arrived self.now at.now (packet_in envelope.now smp.now) }
@@ -230,8 +231,8 @@ impl Fabric {
         }
     }
 
-    /// Returns the action for a packet that leaves by a port: it moves to the other end of the port's cable, and is
-    /// dropped if there is none.
+    /// Returns the action for a packet that leaves by the port `out`: it moves to the other end of the port's cable, or
+    /// is dropped if there is no cable.
     fn leaving(&self, out: &NodePort) -> Action
         ensures { (packet : Packet) → outcome_by packet result ≡ leaving self.now out.now packet }
     {
@@ -250,7 +251,7 @@ impl Fabric {
     }
 }
 
-/// Returns whether a packet is a trap that goes by LIDs.
+/// Returns whether a packet is a trap that is forwarded by LIDs.
 fn is_trap(smp: &Smp) -> bool
     ensures { result ≡ is_trap smp.now }
 {

@@ -58,7 +58,7 @@ impl Fabric {
         self.agents.len()
     }
 
-    /// Returns the agent of a node. Takes one step.
+    /// Returns the agent of a node, or `None` if there is no such node. Takes one step.
     pub fn agent(&self, node: NodeId) -> Option<&Agent>
         ensures { option_copied result ≡ agent_at self.now node }
     {
@@ -72,14 +72,16 @@ impl Fabric {
         self.flights.len()
     }
 
-    /// Returns the packet at index `i` among those in flight, by rising serial number. Takes one step.
+    /// Returns the packet at index `i` among the packets in flight, by rising serial number, or `None` if there are
+    /// fewer. Takes one step.
     pub fn in_flight(&self, i: usize) -> Option<&Flight>
         ensures { option_copied result ≡ slice_get self.now.flights i }
     {
         self.flights.get(i)
     }
 
-    /// Returns the port at the other end of the cable in a port; for a loop that is the port itself.
+    /// Returns the port at the other end of the cable in `port`, or `None` if no cable is in it. For a loop, this is
+    /// `port` itself.
     pub fn across(&self, port: &NodePort) -> Option<NodePort>
         ensures other { result ≡ across self.now.peers port.now }
         ensures port { IfSome result (λ other. is_cable_port self.now other ≡ true) }
@@ -137,7 +139,7 @@ impl Fabric {
         }
     }
 
-    /// Returns the LID of a port, 0 if there is none.
+    /// Returns the LID of a port, or 0 if it has none.
     pub(crate) fn base_lid(&self, port: &NodePort) -> Lid
         ensures { result ≡ (fabric_of self.now).base_lid port.now }
     {

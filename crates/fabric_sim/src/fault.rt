@@ -26,7 +26,7 @@ pub enum FabricFault {
 impl FabricFault {
     ghost use Rattle.fabric_sim.specs.FabricFault.{fabric_fault_name};
 
-    /// Returns the name that `{}` writes.
+    /// Returns the name of the fault, as `{}` writes it.
     pub fn name(self) -> &'static str
         ensures { result.now ≡ fabric_fault_name self }
     {

@@ -8,7 +8,7 @@ use fabric_model::NodePort;
 /// Where a packet in flight waits.
 #[derive(Clone, Copy, Debug, PartialEq, Eq)]
 pub enum Whereabouts {
-    /// At the port of the subnet manager that sent it, or that sent the request that it answers there.
+    /// At the port of the subnet manager that sent it, or that sent the request that it answers.
     Seat(NodePort),
     /// At a port to which it came by a wire.
     Arrived(NodePort),

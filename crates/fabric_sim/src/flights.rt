@@ -10,8 +10,8 @@ use crate::flight::{Flight, Whereabouts};
 use crate::packet::Packet;
 
 impl Fabric {
-    /// Returns the index of the packet with this serial number among those in flight. Takes one step for the first
-    /// packet, and a search for any other.
+    /// Returns the index of the packet with this serial number among the packets in flight, or `None` if there is none.
+    /// Takes one step for the first packet, and a binary search for any other.
     pub(crate) fn find(&self, serial: u64) -> Option<usize>
         ensures { Finds self.now.flights serial result }
     {
@@ -22,7 +22,7 @@ impl Fabric {
         self.search(serial)
     }
 
-    /// Searches for the packet with this serial number, and returns its index.
+    /// Searches for the packet with this serial number. Returns its index, or `None` if there is none.
     fn search(&self, serial: u64) -> Option<usize>
         ensures { Finds self.now.flights serial result }
     {
@@ -55,7 +55,7 @@ impl Fabric {
         Ok(serial)
     }
 
-    /// Moves the packet at index `i` among those in flight.
+    /// Replaces the packet at index `i` among the packets in flight by `packet`, which waits at `whereabouts`.
     pub(crate) fn move_to(
         &mut self,
         i: usize,
@@ -74,7 +74,7 @@ impl Fabric {
         };
     }
 
-    /// Removes the packet at index `i` among those in flight.
+    /// Removes the packet at index `i` among the packets in flight.
     pub(crate) fn remove(&mut self, i: usize, serial: u64)
         requires { IsFlightAt self.old.flights i serial }
         ensures { self.new ≡ without self.old serial }
@@ -104,7 +104,8 @@ impl Fabric {
     ///
     /// # Errors
     ///
-    /// Returns `NoSuchPacket`, `SerialsSpent` or `Memory`.
+    /// Returns `NoSuchPacket` if no packet in flight has the serial number, `SerialsSpent` if no serial number is left,
+    /// and `Memory` if memory runs out.
     #[tactic(auto, unfolding(crate::specs::Changes::after_repeat))]
     pub fn repeat(&mut self, serial: u64) -> Result<u64, FabricFault>
         ensures { ComesTo result self.old self.new (after_repeat self.old serial) }

@@ -19,7 +19,8 @@ impl Fabric {
     ///
     /// # Errors
     ///
-    /// Returns `NoSuchPort` if no manager sits there, `SerialsSpent` or `Memory`.
+    /// Returns `NoSuchPort` if no manager sits at `from`, `SerialsSpent` if no serial number is left, and `Memory` if
+    /// memory runs out.
     #[tactic(auto, unfolding(crate::specs::Changes::after_inject))]
     pub fn inject(&mut self, from: NodePort, packet: Packet) -> Result<u64, FabricFault>
         ensures { ComesTo result self.old self.new (after_inject self.old from packet) }
@@ -31,7 +32,7 @@ impl Fabric {
         self.enqueue(Whereabouts::Seat(from), packet)
     }
 
-    /// Returns the packet, with the LID of its port if switches forward it by LIDs.
+    /// Returns `packet`, with the LID of the port `from` as its SLID if switches forward the packet by LIDs.
     fn addressed(&self, from: &NodePort, packet: Packet) -> Packet
         ensures { result ≡ addressed self.now from.now packet }
     {

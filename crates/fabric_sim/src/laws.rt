@@ -21,9 +21,9 @@ pub fn pings_find()
     ensures { PingsFind }
 {}
 
-/// A directed request for an attribute other than SMInfo, over a path of n ports that has an end, is answered there by
-/// its delivery n + 1, and the answer is handed to the manager that sent the request by its own delivery n + 1,
-/// whatever else is called, if neither is lost, no cable changes and serial numbers are left.
+/// If a directed request for an attribute other than SMInfo goes over a path of n ports that has an end, its delivery n
+/// + 1 is answered there, and delivery n + 1 of the answer hands it to the manager that sent the request, whatever else
+/// is called, as long as neither is lost, no cable changes and serial numbers are left.
 #[tactic(auto, using(crate::proofs::TripEnds::there_and_back))]
 pub fn there_and_back()
     ensures { ThereAndBack }

@@ -5,9 +5,10 @@ ghost use Rattle.fabric_sim.specs.Notices.{link_notice, link_trap};
 use smp_bytes::wire::{put_u8, put_u16, put_u24};
 use smp_bytes::{AttributeId, Lid, Method, Smp};
 
-/// The method of a trap, and the method that represses it (management methods).
+/// The method of a trap (management methods).
 pub(crate) const TRAP: Method = Method(0x05);
 
+/// The method that represses a trap (management methods).
 pub(crate) const TRAP_REPRESS: Method = Method(0x07);
 
 /// The attribute of a trap.
@@ -22,7 +23,7 @@ const SWITCH: u32 = 2;
 /// The number of the trap.
 const LINK_STATE_CHANGE: u16 = 128;
 
-/// Builds the trap of the switch with the LID `lid`, with the TransactionID `number`.
+/// Builds the trap of the switch with the LID `lid` and the TransactionID `number`.
 pub(crate) fn link_trap(lid: Lid, number: u64) -> Smp
     ensures { result ≡ link_trap lid number }
 {

@@ -29,7 +29,7 @@ impl Peers {
         Ok(Peers { others })
     }
 
-    /// Returns the port at the other end of the cable in a port.
+    /// Returns the port at the other end of the cable in `port`, or `None` if no cable is in it.
     pub(crate) fn across(&self, port: PortNum) -> Option<NodePort>
         ensures { result ≡ slice_index_or self.now port None }
     {

@@ -1,4 +1,4 @@
-//! The traps by which switches tell the master that the state of a link has changed.
+//! The traps by which switches report to the master that the state of a link has changed.
 ghost use Rattle.std.specs.Prelude.{◌≡◌, ◌<◌, length, true, IfSome};
 ghost use Rattle.fabric_sim.specs.Simulation.{is_cable_port};
 ghost use Rattle.fabric_sim.specs.Called.{ComesTo};
@@ -17,7 +17,7 @@ use smp_bytes::{Lid, PortNum};
 use std::alloc::Global;
 
 impl Fabric {
-    /// Lets the agents of switches send traps from here on. Takes memory for each node.
+    /// Lets the agents of switches send traps from now on. Takes memory for each node.
     ///
     /// # Errors
     ///
@@ -32,8 +32,8 @@ impl Fabric {
         }
     }
 
-    /// Tells the agent of a node that the state of one of its ports has changed. If it is a switch that sends traps, a
-    /// new trap waits there, and is sent.
+    /// Tells the agent of a node that the state of one of its ports has changed. If the node is a switch and switches
+    /// send traps, a new trap waits there, and is sent.
     ///
     /// # Errors
     ///
@@ -67,7 +67,7 @@ impl Fabric {
         }
     }
 
-    /// Sends the trap with a TransactionID from a node.
+    /// Sends the trap with the TransactionID `number` from a node, if it can leave.
     fn send_numbered(&mut self, node: NodeId, number: u64) -> Result<(), FabricFault>
         ensures { ComesTo result self.old self.new (leaving_just (trap_sent self.old node number)) }
     {
@@ -81,7 +81,7 @@ impl Fabric {
         }
     }
 
-    /// Lets a new trap wait at a node.
+    /// Makes a new trap wait at a node.
     fn add_trap(&mut self, node: NodeId)
         requires { node < length self.old.traps.waiting }
         ensures { self.new ≡ with_traps self.old (with_new_trap self.old.traps node) }
@@ -96,7 +96,7 @@ impl Fabric {
         self.traps.has_room(node) && self.is_switch_at(node)
     }
 
-    /// Returns the port by which a node's trap leaves, if the node has a LID and the port a cable.
+    /// Returns the port by which a node's trap leaves, or `None` if the node has no LID or the port no cable.
     fn trap_out(&self, node: NodeId) -> Option<NodePort>
         ensures out { result ≡ trap_out self.now node }
         ensures port { IfSome result (λ out. is_cable_port self.now out ≡ true) }
@@ -123,7 +123,7 @@ impl Fabric {
         }
     }
 
-    /// Returns the subnet manager's LID that was set at a node's port 0, 0 for none.
+    /// Returns the LID of the subnet manager that was set at a node's port 0, or 0 if none was set.
     fn master_lid(&self, node: NodeId) -> Lid
         ensures { result ≡ master_lid self.now node }
     {

@@ -45,14 +45,14 @@ impl Traps {
         Ok(())
     }
 
-    /// Returns whether there is room for a trap at a node, as there is once switches send traps.
+    /// Returns whether there is room for a trap at a node. There is if the node exists and switches send traps.
     pub(crate) fn has_room(&self, node: NodeId) -> bool
         ensures { result ≡ nat_lt node (length self.now.waiting) }
     {
         node.number() < self.waiting.len()
     }
 
-    /// Returns the TransactionID of the trap that waits at a node.
+    /// Returns the TransactionID of the trap that waits at a node, or `None` if none waits.
     pub(crate) fn at(&self, node: NodeId) -> Option<u64>
         ensures { result ≡ trap_at self.now node }
     {
@@ -66,7 +66,7 @@ impl Traps {
         self.last.wrapping_add(1)
     }
 
-    /// Lets a new trap wait at a node, in place of the one before.
+    /// Makes a new trap wait at a node, in place of the one before, if any.
     pub(crate) fn add(&mut self, node: NodeId)
         requires { node < length self.old.waiting }
         ensures { self.new ≡ with_new_trap self.old node }

@@ -1,4 +1,4 @@
--- What facts leave open: nodes of which it is unknown what they are, and ports of which it is unknown where they lead.
+-- What facts leave open: nodes of unknown type or table room, and ports of which it is unknown where they lead.
 use Rattle.std.specs.Prelude.{◌≡◌, ◌⊎◌, ◌≤◌, ◌<◌, ℕ, Bool, true, false, ◌==◌, ◌||◌, not, List, filter, map, Contains, Option, Some, IsSome, is_some, MatchBool, if◌then◌else◌}
 use Rattle.std.specs.Option.{option_map_or}
 use Rattle.std.specs.List.{AllPairs}
@@ -14,59 +14,62 @@ use Rattle.subnet_view.specs.Wires.{IsWire, across}
 use Rattle.fact_gaps.specs.InOrder.{each_once, port_cmp}
 use Rattle.fact_gaps.specs.Named.{IsNamedNode, IsNamedPort, named_nodes, named_ports}
 
--- the type of a node is known, and of a switch the table room
+-- the type of a node is known and, if it is a switch, its table room
 abbrev pub is_known_type : Option (NodeType × ℕ) → Bool → Bool
 is_known_type node room = option_map_or (λ n. not (is_switch n.0) || room) node false
 
+-- the type of node g is known and, if it is a switch, its table room
 abbrev pub is_known_node : Cells → ℕ → Bool
 is_known_node cells g = is_known_type (node_of cells g) (is_some (cap_of cells g))
 
--- the named nodes that are not known, by rising GUID
+-- the named nodes that are not known, each once, by rising GUID
 abbrev pub unusable_nodes : Cells → List ℕ
 unusable_nodes cells = each_once nat_cmp (filter (λ g. not (is_known_node cells g)) (named_nodes cells))
 
--- the port is said to be down
+-- the port is reported as down
 abbrev pub is_said_down : Option Bool → Bool
 is_said_down up = option_map_or not up false
 
--- the port is known to be down or has a wire; or it is port 0, a switch's end port
+-- the port is known to be down or has a wire; port 0 is known if it is a switch's end port
 abbrev pub is_known_port : Cells → ℕ × ℕ → Bool
 is_known_port cells e =
     if e.1 == 0 then is_end_port cells e.0 e.1
     else is_some (across cells e.0 e.1) || is_said_down (up_of cells e.0 e.1)
 
--- the port of two numbers
+-- the port with these numbers of node and port
 abbrev pub port_at : ℕ × ℕ → EndPort
 port_at e = record { node = e.0; port = e.1 }
 
--- the named ports of which it is unknown where they lead, by node and port
+-- the named ports of which it is unknown where they lead, each once, by node and port
 abbrev pub unjoined_ports : Cells → List EndPort
 unjoined_ports cells =
     map port_at (each_once port_cmp (filter (λ e. not (is_known_port cells e)) (named_ports cells)))
 
--- all these nodes, or ports, are known
+-- each of `guids` is a known node
 abbrev pub AreKnownNodes : Cells → List ℕ → Type 0
 AreKnownNodes cells guids = (g : ℕ) → Contains guids g → is_known_node cells g ≡ true
 
+-- each of `ports` is a known port
 abbrev pub AreKnownPorts : Cells → List (ℕ × ℕ) → Type 0
 AreKnownPorts cells ports = (e : ℕ × ℕ) → Contains ports e → is_known_port cells e ≡ true
 
 -- the laws of these words: -----------------------------------------------------------
 
--- the type of node g and its number of ports are known, and of a switch the table room
+-- the type of node g and its number of ports are known and, if it is a switch, its table room
 abbrev pub IsKnownNode : Cells → ℕ → Type 0
 IsKnownNode cells g = (kind : NodeType) × (ports : ℕ) × IsNodeWith cells g kind ports
     × MatchBool (is_switch kind) (IsSome (cap_of cells g)) (Unit {0})
 
--- the management port of a switch, whose GUID is known
+-- port p is the management port of the switch g, and the port's GUID is known
 abbrev pub IsManagementPort : Cells → ℕ → ℕ → Type 0
 IsManagementPort cells g p = (p ≡ 0) × IsEndPort cells g p
 
--- a port that is known to be down
+-- port p of node g is not port 0, and is known to be down
 abbrev pub IsDown : Cells → ℕ → ℕ → Type 0
 IsDown cells g p = (1 ≤ p) × (up_of cells g p ≡ Some false)
 
--- a port with a wire, both ends of which are known to be up, and are ports of switches or end ports with known GUIDs
+-- port p of node g has a wire: both ends are known to be up, and each is a port of a switch or an end port with a known
+-- GUID
 abbrev pub IsWired : Cells → ℕ → ℕ → Type 0
 IsWired cells g p = (h q : ℕ) × IsWire cells g p h q
 
@@ -74,22 +77,24 @@ IsWired cells g p = (h q : ℕ) × IsWire cells g p h q
 abbrev pub IsKnownPort : Cells → ℕ → ℕ → Type 0
 IsKnownPort cells g p = IsManagementPort cells g p ⊎ IsDown cells g p ⊎ IsWired cells g p
 
--- each named node is known or listed, once and by rising GUID, and no other node is listed
+-- each named node is known or listed; a node is listed only if it is named and not known, and only once, by rising GUID
 pub record ListsNodes (cells : Cells) (guids : List ℕ) : Type 0 where
   pub each : (g : ℕ) → IsNamedNode cells g → IsKnownNode cells g ⊎ Contains guids g
   pub only : (g : ℕ) → Contains guids g → IsNamedNode cells g × ¬ (IsKnownNode cells g)
   pub rises : AllPairs (λ a b. a < b) guids
 
--- each named port is known or listed, once and by node and port, and no other port is listed
+-- each named port is known or listed; a port is listed only if it is named and not known, and only once, by node and
+-- port
 pub record ListsPorts (cells : Cells) (ports : List EndPort) : Type 0 where
   pub each : (g p : ℕ) → IsNamedPort cells (g, p) → IsKnownPort cells g p ⊎ Contains ports (port_at (g, p))
   pub only : (e : EndPort) → Contains ports e
       → IsNamedPort cells (e.node, e.port) × ¬ (IsKnownPort cells e.node e.port)
   pub rises : AllPairs (λ a b. port_cmp (a.node, a.port) (b.node, b.port) ≡ Less) ports
 
--- the lists have the nodes, or ports, that are named and not known
+-- the list has the named nodes that are not known
 abbrev pub NodesLaw : Type 0
 NodesLaw = (cells : Cells) → ListsNodes cells (unusable_nodes cells)
 
+-- the list has the named ports that are not known
 abbrev pub PortsLaw : Type 0
 PortsLaw = (cells : Cells) → ListsPorts cells (unjoined_ports cells)

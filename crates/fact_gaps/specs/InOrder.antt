@@ -4,18 +4,18 @@ use Rattle.std.specs.declared.cmp.Ordering.{Ordering}
 use Rattle.std.specs.declared.cmp.Ordering.TheVariants.{Less, Equal, Greater}
 use Rattle.std.specs.Ordering.{nat_cmp, ordering_then}
 
--- x put in beside y, as the two compare: before y, not at all if equal, or after y, in `later`
+-- y ∷ ys with x inserted: before y if x is less, not at all if x is equal, and after y, as in `later`, if x is greater
 abbrev pub put_beside : {X : Type 0} → Ordering → X → X → List X → List X → List X
 put_beside Less x y ys later = x ∷ y ∷ ys
 put_beside Equal x y ys later = y ∷ ys
 put_beside Greater x y ys later = y ∷ later
 
--- x put where it belongs, unless it is there
+-- the ordered list with x inserted in order, unless it is there already
 abbrev pub put_once : {X : Type 0} → (X → X → Ordering) → X → List X → List X
 put_once cmp x [] = x ∷ []
 put_once cmp x (y ∷ ys) = put_beside (cmp x y) x y ys (put_once cmp x ys)
 
--- each element put where it belongs
+-- the elements in order, each once
 abbrev pub each_once : {X : Type 0} → (X → X → Ordering) → List X → List X
 each_once cmp [] = []
 each_once cmp (x ∷ xs) = put_once cmp x (each_once cmp xs)

@@ -13,7 +13,7 @@ use Rattle.subnet_view.specs.Reading.{Cells, is_switch_in}
 abbrev pub own_node : Key × Cell Value → Option ℕ
 own_node s = Some (key_guid s.0)
 
--- the port that a cell is about; a switch has its management port, 0
+-- the port that a cell is about; of a node's cell, port 0 if it says that the node is a switch; None if there is none
 abbrev pub own_port : Key × Cell Value → Option (ℕ × ℕ)
 own_port ((Node g), c) = if is_switch_in (kind_in (value_in (Some c))) then Some (g, 0) else None
 own_port ((PortGuid g p), c) = Some (g, p)
@@ -22,48 +22,49 @@ own_port ((Port g p), c) = Some (g, p)
 own_port ((Claim g p), c) = Some (g, p)
 own_port ((Cap g), c) = None
 
--- the node of a node's cell
+-- the node of a node's cell; None for a cell of another kind
 abbrev pub node_key : Key × Cell Value → Option ℕ
 node_key ((Node g), c) = Some g
 node_key (_, c) = None
 
--- the port of a link's cell
+-- the port of a link's cell; None for a cell of another kind
 abbrev pub link_key : Key × Cell Value → Option (ℕ × ℕ)
 link_key ((Link g p), c) = Some (g, p)
 link_key (_, c) = None
 
--- the port to which a link leads, as its cell says
+-- the port to which a link leads, by its cell; None if it is not known
 abbrev pub far_port : Key × Cell Value → Option (ℕ × ℕ)
 far_port ((Link g p), c) = peer_in (value_in (Some c))
 far_port (_, c) = None
 
--- the node to which a link leads, as its cell says
+-- the node to which a link leads, by its cell; None if it is not known
 abbrev pub far_node : Key × Cell Value → Option ℕ
 far_node s = option_map (λ q. q.0) (far_port s)
 
--- a cell names a node: it is about it or a port of it, or says that a link leads there
+-- the cell names node g: it is about g or a port of g, or says that a link leads to g
 abbrev pub NamesNode : Key × Cell Value → ℕ → Type 0
 NamesNode s g = (key_guid s.0 ≡ g) ⊎ (far_node s ≡ Some g)
 
--- a cell names a port: it is about it, or says that a link leads there
+-- the cell names the port e: it is about e, or says that a link leads to e
 abbrev pub NamesPort : Key × Cell Value → ℕ × ℕ → Type 0
 NamesPort s e = (own_port s ≡ Some e) ⊎ (far_port s ≡ Some e)
 
--- some cell names the node, or the port
+-- some cell names node g
 abbrev pub IsNamedNode : Cells → ℕ → Type 0
 IsNamedNode cells g = (s : Key × Cell Value) × Contains cells s × NamesNode s g
 
+-- some cell names the port e
 abbrev pub IsNamedPort : Cells → ℕ × ℕ → Type 0
 IsNamedPort cells e = (s : Key × Cell Value) × Contains cells s × NamesPort s e
 
--- the named nodes, each as often as it is named
+-- the named nodes, with repetitions
 abbrev pub named_nodes : Cells → List ℕ
 named_nodes cells = filter_map own_node cells ++ filter_map far_node cells
 
--- the named ports, each as often as it is named
+-- the named ports, with repetitions
 abbrev pub named_ports : Cells → List (ℕ × ℕ)
 named_ports cells = filter_map own_port cells ++ filter_map far_port cells
 
--- what a cell names, if it passes `test`
+-- what the cell names by `name`; None if it names nothing or does not pass `test`
 abbrev pub kept : {X : Type 0} → (X → Bool) → (Key × Cell Value → Option X) → Key × Cell Value → Option X
 kept test name s = option_and_then (λ x. if test x then Some x else None) (name s)

@@ -1,4 +1,4 @@
-//! What facts leave open: nodes of unknown type or table size, and ports that lead to nothing known.
+//! What facts leave open: nodes of unknown type or table room, and ports of which it is unknown where they lead.
 #![tactic(auto)]
 
 mod in_order;

@@ -1,4 +1,4 @@
-//! Nodes whose type or table size is unknown.
+//! Nodes whose type or table room is unknown.
 ghost use Rattle.std.specs.Prelude.{◌≡◌, ◌++◌, IfOk, None, OnOk, Some, not, if◌then◌else◌};
 ghost use Rattle.std.specs.List.{filter_map};
 ghost use Rattle.reply_facts.specs.Known.{peer_in, value_in};
@@ -11,9 +11,10 @@ use fact_store::{Key, Sighting, Store, Value};
 use smp_bytes::{Guid, NodeType, PortNum};
 use std::alloc::{AllocError, Global};
 
-/// Returns the unusable nodes that facts name, by their keys or as far ends of links, by rising GUID. A node is
-/// unusable if its type is unknown or, of a switch, its table room. Walks the cells three times. Takes two searches for
-/// each node that has a cell, and one among the known nodes for each node that a cell names.
+/// Returns the unusable nodes that facts name, each once, by rising GUID. A cell names the node of its key and, if it
+/// is a link's, the node at the far end. A node is unusable if its type is unknown or, if it is a switch, its table
+/// room. Walks the cells three times. Takes two searches for each node that has a cell, and one among the known nodes
+/// for each node that a cell names.
 pub fn unusable_nodes(alloc: Global, store: &Store) -> Result<Vec<Guid>, AllocError>
     ensures { IfOk result (λ guids. guids.items ≡ unusable_nodes (cells_of store.now)) }
 {
@@ -39,7 +40,7 @@ fn known_nodes(alloc: Global, store: &Store) -> Result<Vec<Guid>, AllocError>
     Ok(known)
 }
 
-/// Returns the node of a node's cell, if it is known.
+/// Returns the node of a node's cell if it is known. Returns `None` if it is not known, or for a cell of another kind.
 fn known_node(store: &Store, sighting: &Sighting) -> Option<Guid>
     ensures { result ≡ kept (is_known_node (cells_of store.now)) node_key sighting.now }
 {
@@ -77,7 +78,7 @@ fn add_far_nodes(guids: &mut Vec<Guid>, store: &Store, known: &[Guid]) -> Result
     Ok(())
 }
 
-/// Returns the far node of a link's cell, if it is unusable. The nodes in `known` are not.
+/// Returns the far node of a link's cell if it is unusable, otherwise `None`. The nodes in `known` are not unusable.
 fn unusable_far_node(store: &Store, known: &[Guid], sighting: &Sighting) -> Option<Guid>
     requires { AreKnownNodes (cells_of store.now) known.now }
     ensures { result ≡ kept (λ g. not (is_known_node (cells_of store.now) g)) far_node sighting.now }
@@ -86,7 +87,7 @@ fn unusable_far_node(store: &Store, known: &[Guid], sighting: &Sighting) -> Opti
     if_unusable(store, known, node)
 }
 
-/// Returns `node` if it is unusable. The nodes in `known` are not.
+/// Returns `node` if it is unusable, otherwise `None`. The nodes in `known` are not unusable.
 fn if_unusable(store: &Store, known: &[Guid], node: Guid) -> Option<Guid>
     requires { AreKnownNodes (cells_of store.now) known.now }
     ensures { result ≡ (if not (is_known_node (cells_of store.now) node) then Some node else None) }
@@ -98,8 +99,8 @@ fn if_unusable(store: &Store, known: &[Guid], node: Guid) -> Option<Guid>
     }
 }
 
-/// Returns whether `node` is known. The nodes in `known` are. Takes a search among them, and two more if it is not
-/// there.
+/// Returns whether `node` is known. All nodes in `known` are. Takes one binary search of `known`, and two of the store
+/// if it lacks the node.
 fn is_known_by(store: &Store, known: &[Guid], node: Guid) -> bool
     requires { AreKnownNodes (cells_of store.now) known.now }
     ensures { result ≡ is_known_node (cells_of store.now) node }
@@ -107,7 +108,7 @@ fn is_known_by(store: &Store, known: &[Guid], node: Guid) -> bool
     known.binary_search(&node).is_ok() || is_known_node(store, node)
 }
 
-/// Returns whether the type of `node` is known and, of a switch, its table room. Takes two searches.
+/// Returns whether the type of `node` is known and, if it is a switch, its table room. Takes two searches.
 fn is_known_node(store: &Store, node: Guid) -> bool
     ensures { result ≡ is_known_node (cells_of store.now) node }
 {
@@ -118,7 +119,7 @@ fn is_known_node(store: &Store, node: Guid) -> bool
     }
 }
 
-/// Returns the far port that a link's cell tells.
+/// Returns the far port that a link's cell reports. Returns `None` if it is not known, or for a cell of another kind.
 pub(crate) fn far_port(sighting: &Sighting) -> Option<(Guid, PortNum)>
     ensures { result ≡ far_port sighting.now }
 {
@@ -128,7 +129,7 @@ pub(crate) fn far_port(sighting: &Sighting) -> Option<(Guid, PortNum)>
     }
 }
 
-/// Returns the port that is the value of a cell.
+/// Returns the port that is the value of a cell, or `None` if its value is no port.
 fn peer_said(sighting: &Sighting) -> Option<(Guid, PortNum)>
     ensures { result ≡ peer_in (value_in (Some sighting.now.1)) }
 {

@@ -1,4 +1,4 @@
-//! Ports that lead to nothing known.
+//! Ports of which it is unknown where they lead.
 ghost use Rattle.std.specs.Prelude.{◌≡◌, ◌++◌, IfOk, None, OnOk, Some, map, not, if◌then◌else◌};
 ghost use Rattle.std.specs.List.{filter_map};
 ghost use Rattle.reply_facts.specs.Known.{kind_in, up_of, value_in};
@@ -14,10 +14,10 @@ use smp_bytes::{Guid, NodeType, PortNum};
 use std::alloc::{AllocError, Global};
 use subnet_view::{EndPort, Wires, is_end_port};
 
-/// Returns the unjoined ports that facts name, by their keys, as management ports of switches or as far ends of links,
-/// by node and port. A port is unjoined if it neither is known to be down nor has a wire; port 0, if it is not the end
-/// port of a switch. Walks the cells three times. Takes two searches for each link, and one for each port that a cell
-/// names, or three if it has no wire.
+/// Returns the unjoined ports that facts name, each once, by node and port. A cell names the port of its key, the
+/// management port if it says that its node is a switch, and the far end if it is a link's. A port is unjoined if it is
+/// not known to be down and has no wire. Port 0 is unjoined if it is not the end port of a switch. Walks the cells
+/// three times. Takes two searches for each link, and one for each port that a cell names, or three if it has no wire.
 pub fn unjoined_ports(alloc: Global, store: &Store) -> Result<Vec<EndPort>, Refused>
     ensures { IfOk result (λ ports. ports.items ≡ unjoined_ports (cells_of store.now)) }
 {
@@ -37,7 +37,7 @@ fn unjoined_by(alloc: Global, wires: &Wires) -> Result<Vec<EndPort>, AllocError>
     end_ports_at(alloc, &ports)
 }
 
-/// Returns the ports with links that are known to be down or have a wire, by node and port.
+/// Returns the ports with a link's cell of which it is known where they lead, by node and port.
 fn known_ports(alloc: Global, wires: &Wires) -> Result<Vec<(Guid, PortNum)>, AllocError>
     ensures { IfOk result (λ known. known.items
         ≡ filter_map (kept (is_known_port (cells_of wires.now)) link_key) (cells_of wires.now)) }
@@ -51,7 +51,8 @@ fn known_ports(alloc: Global, wires: &Wires) -> Result<Vec<(Guid, PortNum)>, All
     Ok(known)
 }
 
-/// Returns the port of a link's cell, if it is known to be down or has a wire.
+/// Returns the port of a link's cell if it is known where the port leads. Returns `None` if it is unknown, or for a
+/// cell of another kind.
 fn known_port(wires: &Wires, sighting: &Sighting) -> Option<(Guid, PortNum)>
     ensures { result ≡ kept (is_known_port (cells_of wires.now)) link_key sighting.now }
 {
@@ -96,7 +97,7 @@ fn add_own_ports(
     Ok(())
 }
 
-/// Appends to `ports` the far ends of links that are neither joined nor down. Skips the ports in `known`.
+/// Appends to `ports` the unjoined ports at the far ends of links. Skips the ports in `known`.
 fn add_far_ports(
     ports: &mut Vec<(Guid, PortNum)>,
     wires: &Wires,
@@ -114,7 +115,7 @@ fn add_far_ports(
     Ok(())
 }
 
-/// Returns the port that a cell is about, or a switch's management port, if it is unjoined.
+/// Returns the port that a cell is about, or a switch's management port, if it is unjoined, otherwise `None`.
 fn unjoined_own_port(
     wires: &Wires,
     known: &[(Guid, PortNum)],
@@ -127,7 +128,7 @@ fn unjoined_own_port(
     if_unjoined(wires, known, node, port)
 }
 
-/// Returns the far port of a link's cell, if it is unjoined.
+/// Returns the far port of a link's cell if it is unjoined, otherwise `None`.
 fn unjoined_far_port(
     wires: &Wires,
     known: &[(Guid, PortNum)],
@@ -140,7 +141,7 @@ fn unjoined_far_port(
     if_unjoined(wires, known, node, port)
 }
 
-/// Returns the port, if it is unjoined.
+/// Returns the port if it is unjoined, otherwise `None`.
 fn if_unjoined(
     wires: &Wires,
     known: &[(Guid, PortNum)],
@@ -166,7 +167,8 @@ fn is_known_by(wires: &Wires, known: &[(Guid, PortNum)], node: Guid, port: PortN
     known.binary_search(&(node, port)).is_ok() || is_known_port(wires, node, port)
 }
 
-/// Returns the port that a cell is about. If a cell says that a node is a switch, that is its management port.
+/// Returns the port that a cell is about, or `None` if it is about no port. If a node's cell says that the node is a
+/// switch, the port is its management port.
 fn own_port(sighting: &Sighting) -> Option<(Guid, PortNum)>
     ensures { result ≡ own_port sighting.now }
 {
@@ -193,8 +195,8 @@ fn is_switch_said(sighting: &Sighting) -> bool
     matches!(sighting.value(), Some(Value::Kind(NodeType::Switch, _)))
 }
 
-/// Returns whether a port is known to be down or has a wire, or port 0 is a switch's end port. Takes at most three
-/// searches.
+/// Returns whether a port is known to be down or has a wire. For port 0, returns whether it is a switch's end port.
+/// Takes at most three searches.
 fn is_known_port(wires: &Wires, node: Guid, port: PortNum) -> bool
     ensures { result ≡ is_known_port (cells_of wires.now) (node, port) }
 {

@@ -1,4 +1,4 @@
--- How facts are stored as numbers, so that they can be a store's value.
+-- The coding of facts as numbers, which lets them be a store's value.
 use mathlib.Core.HLevel.{Σ_prop_path}
 use base.Stored.{coded_via}
 use Rattle.std.proofs.Common.{◌≡◌, ℕ}

@@ -1,4 +1,4 @@
--- How many keys a search and a walk of two lists compare.
+-- The number of keys that a search and a walk of two lists compare.
 use Rattle.std.specs.Prelude.{◌≡◌, ℕ, zero, suc, ◌+◌, ◌<◌, ◌≤◌, ◌^◌, List, [], ◌∷◌, length, slice_get, Some}
 use Rattle.std.specs.declared.cmp.Ordering.{Ordering}
 use Rattle.std.specs.declared.cmp.Ordering.TheVariants.{Less, Equal, Greater}
@@ -9,8 +9,8 @@ use Rattle.reply_facts.specs.Key.{key_cmp}
 
 -- a search: -----------------------------------------------------------------------
 
--- the keys compared so far, latest first, leave the indices from `low` up to, but not including, `high`: each key is at
--- an index that the earlier keys left, and leaves the indices on `key`'s side of it
+-- the keys that were compared so far, latest first, leave the indices from `low` up to, but not including, `high`: each
+-- was at an index that the earlier keys left, and leaves the indices on its side of `key`
 pub data Leaves (key : Key) (cells : List (Key × Cell Value)) : List Key → ℕ → ℕ → Type 0 where
   all : Leaves key cells [] 0 (length cells)
   later : (compared : List Key) (low high index : ℕ) (e : Key × Cell Value) → Leaves key cells compared low high → low
@@ -20,7 +20,7 @@ pub data Leaves (key : Key) (cells : List (Key × Cell Value)) : List Key → �
       ≤ index → index < high
       → slice_get cells index ≡ Some e → key_cmp e.0 key ≡ Greater → Leaves key cells (e.0 ∷ compared) low index
 
--- a search ends if no index is left, or with the key at an index that is left
+-- a search ends if no index is left, or if it meets the key at an index that is left
 pub data IsSearch (key : Key) (cells : List (Key × Cell Value)) : List Key → Type 0 where
   without : (compared : List Key) (low high : ℕ) → Leaves key cells compared low high → high ≤ low
       → IsSearch key cells compared
@@ -39,8 +39,8 @@ abbrev pub HasDigits : ℕ → ℕ → Type 0
 HasDigits n zero = Unit {0}
 HasDigits n (suc digits) = 2 ^ digits ≤ n
 
--- a search of n indices that made `steps` comparisons may make `left` more, at most one for each binary digit of n in
--- all; they suffice for `most` indices, 2^left - 1
+-- a search of n indices that has made `steps` comparisons may make `left` more, which in all is at most one for each
+-- binary digit of n; they suffice for `most` indices, which is 2^left - 1
 pub record IsBudget (n steps most : ℕ) : Type 0 where
   pub left : ℕ
   pub digits : HasDigits n (steps + left)
@@ -48,14 +48,14 @@ pub record IsBudget (n steps most : ℕ) : Type 0 where
 
 -- a walk of two lists in step: -----------------------------------------------------
 
--- one of three numbers, by an ordering
+-- the number for this ordering: `less`, `equal` or `greater`
 abbrev pub by_order : Ordering → ℕ → ℕ → ℕ → ℕ
 by_order Less less equal greater = less
 by_order Equal less equal greater = equal
 by_order Greater less equal greater = greater
 
--- the comparisons from here on, if the first list is at cell x: x's key is compared with the second list's next one,
--- and the lesser of the two is passed, or both if they are equal; `after` counts the comparisons after x is passed
+-- the comparisons from here on if the first list is at cell x: the key of x is compared with the next key of the second
+-- list, and the lesser key is passed, or both if they are equal; `after` counts the comparisons after x is passed
 abbrev pub compared_at : Key × Cell Value → (List (Key × Cell Value) → ℕ) → List (Key × Cell Value) → ℕ
 compared_at x after [] = 0
 compared_at x after (y ∷ t) = 1 + by_order (key_cmp x.0 y.0) (after (y ∷ t)) (after t) (compared_at x after t)

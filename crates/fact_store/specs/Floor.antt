@@ -1,4 +1,4 @@
--- A floor under the generations: cells below it do not count.
+-- A floor of the generations: cells below it do not count.
 use Rattle.std.proofs.Common.{◌≡◌, ℕ, Bool, true, false, List, [], ◌∷◌, ◌&&◌, cond, refl, sym, subst, arith}
 use Rattle.std.proofs.lemmas.Bool.{le-leb}
 use Rattle.std.specs.Prelude.{T, nat_le, max, filter, Option, None, Some, if◌then◌else◌}
@@ -20,16 +20,16 @@ is_kept floor c = nat_le floor (max 1 (generation_of c))
 abbrev pub kept : ℕ → List (Key × Cell Value) → List (Key × Cell Value)
 kept floor sightings = filter (λ s. is_kept floor s.1) sightings
 
--- the cell, if there is one and it is kept
+-- the cell if it is at the floor or above it, and otherwise None
 abbrev pub kept_there : ℕ → Option (Cell Value) → Option (Cell Value)
 kept_there floor None = None
 kept_there floor (Some c) = if is_kept floor c then Some c else None
 
--- the floor is 1 or more, and no cell is below it
+-- the floor is at least 1, and no cell is below it
 abbrev pub has_floor : ℕ → CellMap → Bool
 has_floor floor found = nat_le 1 floor && list_all (λ e. is_kept floor e.1) (entries found)
 
--- the cells that are not below the floor
+-- the cells at the floor or above it
 abbrev pub dropped : ℕ → CellMap → CellMap
 dropped floor found = from_sorted (kept floor (entries found))
 
@@ -40,12 +40,12 @@ both_true : (a b : Bool) → T a → T b → T (a && b)
 both_true true b g h = h
 both_true false b g h = absurd g
 
--- a conjunction's first test
+-- the first test of a conjunction holds
 first_true : (a b : Bool) → T (a && b) → T a
 first_true true b h = tt
 first_true false b h = absurd h
 
--- a conjunction's second test
+-- the second test of a conjunction holds
 second_true : (a b : Bool) → T (a && b) → T b
 second_true true b h = h
 second_true false b h = absurd h
@@ -86,7 +86,7 @@ all_kept floor (e ∷ es) =
       | false ↦ λ p. rest
     ] refl
 
--- a floor taken as 1 or more is at least 1
+-- the greater of a floor and 1 is at least 1
 at_least_one : (floor : ℕ) → T (nat_le 1 (max 1 floor))
 at_least_one floor = subst T (sym (le-leb 1 (max 1 floor) (omega arith))) tt
 

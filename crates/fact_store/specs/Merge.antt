@@ -12,16 +12,16 @@ use Rattle.fact_store.specs.Seen.{CellMap}
 use Rattle.reply_facts.specs.Value.{is_same_value}
 use Rattle.fact_store.specs.View.{Facts, at_floor, cell_for, no_facts, raised, view_at}
 
--- the newer of two cells; within a generation, what both say together
+-- the newer of two cells; if they have one generation, what they give together
 abbrev pub join : Cell Value → Cell Value → Cell Value
 join = joined_by is_same_value
 
--- the first map's cells, each joined with the second map's cell of its key if there is one, and the second map's other
--- cells
+-- each cell of the first map, joined with the second map's cell of its key if there is one, and the other cells of the
+-- second map
 abbrev pub merge_maps : CellMap → CellMap → CellMap
 merge_maps x y = from_entries (map (λ e. (e.0, option_map_or (join e.1) (get y e.0) e.1)) (entries x) ++ entries y)
 
--- the merged cells that are not below the greater floor, with this floor
+-- the merged cells that are not below the greater of the floors, with this floor
 abbrev pub merge : Facts → Facts → Facts
 merge x y = at_floor (max x.floor y.floor) (merge_maps x.found y.found)
 
@@ -31,7 +31,7 @@ pub record IsBelowView (x y : Facts) : Type 0 where
   pub cells : (key : Key) (c : Cell Value) → cell_for x key ≡ Some c → is_kept y.floor c ≡ true → (d : Cell Value)
       × (cell_for y key ≡ Some d) × IsBelow c d
 
--- z is above x and y, and below all that is above both
+-- z is above x and y, and below all facts that are above both
 pub record IsMerge (x y z : Facts) : Type 0 where
   pub above_first : IsBelowView x z
   pub above_second : IsBelowView y z
@@ -41,7 +41,7 @@ pub record IsMerge (x y z : Facts) : Type 0 where
 abbrev pub MergeLaw : Type 0
 MergeLaw = (x y : Facts) → IsMerge x y (merge x y)
 
--- two merges of x and y are equal
+-- any two merges of x and y are equal
 abbrev pub MergeIsUnique : Type 0
 MergeIsUnique = (x y z w : Facts) → IsMerge x y z → IsMerge x y w → z ≡ w
 
@@ -79,7 +79,7 @@ floor_of (of_sightings s) = 1
 floor_of (of_raised m floor) = max (floor_of m) floor
 floor_of (of_two a b) = max (floor_of a) (floor_of b)
 
--- what the merges and raises of a grouping give
+-- the facts that the merges and raises of a grouping give
 abbrev pub merged : Merging → Facts
 merged (of_sightings s) = view_at 1 s
 merged (of_raised m floor) = raised (merged m) floor

@@ -1,4 +1,5 @@
--- What sightings say together, without a floor: each key's newest generation, and whether its sightings agree there.
+-- What sightings give together, without a floor: the newest generation of each key, and its value if the sightings of
+-- that generation agree.
 use Rattle.std.specs.Prelude.{◌≡◌, ◌≤◌, ℕ, Bool, List, [], ◌∷◌, ◌==◌, max, map, filter, Contains, MatchOption, if◌then◌else◌}
 use Rattle.std.specs.List.{list_all}
 use Rattle.std.specs.Ordering.{eq_by_cmp}
@@ -15,7 +16,7 @@ use Rattle.reply_facts.specs.Value.{is_same_cell}
 abbrev pub CellMap : Type 0
 CellMap = FinMap key_cmp (Cell Value)
 
--- whether a sighting is of the key
+-- whether the sighting has this key
 abbrev pub is_of : Key → Key × Cell Value → Bool
 is_of key s = eq_by_cmp key_cmp key s.0
 
@@ -23,27 +24,27 @@ is_of key s = eq_by_cmp key_cmp key s.0
 abbrev pub cells_sighted : Key → List (Key × Cell Value) → List (Cell Value)
 cells_sighted key sightings = map (λ s. s.1) (filter (is_of key) sightings)
 
--- the greatest of the cells' generations
+-- the greatest generation of the cells; 0 if there are none
 abbrev pub newest_of : List (Cell Value) → ℕ
 newest_of [] = 0
 newest_of (c ∷ cells) = max (generation_of c) (newest_of cells)
 
--- the greatest generation of a sighting of the key
+-- the greatest generation of the sightings of the key; 0 if there are none
 abbrev pub newest : Key → List (Key × Cell Value) → ℕ
 newest key sightings = newest_of (cells_sighted key sightings)
 
--- what cells of one generation say together: the cell if all are equal, otherwise a dispute
+-- what cells of one generation give together: the cell if all are equal, and otherwise a dispute
 abbrev pub agreement : ℕ → List (Cell Value) → Cell Value
 agreement generation [] = Disputed generation
 agreement generation (c ∷ cells) = if list_all (is_same_cell c) cells then c else Disputed generation
 
--- what the key's newest sightings say together
+-- what the newest sightings of the key give together
 abbrev pub cell_at : Key → List (Key × Cell Value) → Cell Value
 cell_at key sightings =
     agreement (newest key sightings)
     (filter (λ c. generation_of c == newest key sightings) (cells_sighted key sightings))
 
--- each key that was sighted, with what its newest sightings say
+-- each key that was sighted, with what its newest sightings give together
 abbrev pub seen : List (Key × Cell Value) → CellMap
 seen sightings = from_entries (map (λ s. (s.0, cell_at s.0 sightings)) sightings)
 
@@ -53,24 +54,25 @@ seen sightings = from_entries (map (λ s. (s.0, cell_at s.0 sightings)) sighting
 abbrev pub WasSighted : Key → List (Key × Cell Value) → Cell Value → Type 0
 WasSighted key sightings c = Contains sightings (key, c)
 
--- some sighting of the key has that generation, and none is newer
+-- some sighting of the key has this generation, and none is newer
 pub record IsNewest (key : Key) (sightings : List (Key × Cell Value)) (generation : ℕ) : Type 0 where
   pub sighted : (c : Cell Value) × WasSighted key sightings c × (generation_of c ≡ generation)
   pub greatest : (c : Cell Value) → WasSighted key sightings c → generation_of c ≤ generation
 
--- every sighting of the key in that generation has the value
+-- every sighting of the key in this generation has the value
 abbrev pub AllSay : Key → List (Key × Cell Value) → ℕ → Value → Type 0
 AllSay key sightings generation value =
     (c : Cell Value) → WasSighted key sightings c → generation_of c ≡ generation → c ≡ Known generation value
 
--- the key's newest generation, with the value that every sighting of it has, or disputed if there is no such value
+-- the cell has the newest generation of the key, with the value that every sighting of that generation has, or disputed
+-- if there is no such value
 abbrev pub IsCellIn : Key → List (Key × Cell Value) → Cell Value → Type 0
 IsCellIn key sightings (Known generation value) =
     IsNewest key sightings generation × AllSay key sightings generation value
 IsCellIn key sightings (Disputed generation) =
     IsNewest key sightings generation × ((value : Value) → AllSay key sightings generation value → ⊥)
 
--- a key has a cell exactly if it was sighted, and the cell is what its sightings say
+-- a key has a cell exactly if it was sighted, and the cell is what its sightings give together
 pub record IsSeen (sightings : List (Key × Cell Value)) (found : CellMap) : Type 0 where
   pub cells : (key : Key)
       → MatchOption (get found key) ((c : Cell Value) → WasSighted key sightings c → ⊥) (IsCellIn key sightings)

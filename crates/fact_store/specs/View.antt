@@ -9,7 +9,7 @@ use Rattle.reply_facts.specs.Sighting.{IsSighting}
 use Rattle.fact_store.specs.Floor.{dropped, dropped_has_floor, has_floor, kept}
 use Rattle.fact_store.specs.Seen.{CellMap, HaveSameMembers, IsSeen, seen}
 
--- a floor, and a cell for each key that something is known of, none of them below the floor
+-- a floor, and a cell for each key that something is known of; no cell is below the floor
 pub record Facts : Type 0 where
   pub floor : ℕ
   pub found : CellMap
@@ -19,11 +19,11 @@ pub record Facts : Type 0 where
 abbrev pub cells_of : Facts → List (Key × Cell Value)
 cells_of facts = entries facts.found
 
--- the cell of a key, if it has one
+-- the cell of a key; None if it has none
 abbrev pub cell_for : Facts → Key → Option (Cell Value)
 cell_for facts key = get facts.found key
 
--- the cells that are at the floor or above it; the least floor is 1
+-- the cells at the floor or above it, with the floor; a floor of 0 counts as 1
 abbrev pub at_floor : ℕ → CellMap → Facts
 at_floor floor found =
     record { floor = max 1 floor; found = dropped (max 1 floor) found; above = dropped_has_floor floor found }
@@ -32,15 +32,15 @@ at_floor floor found =
 abbrev pub raised : Facts → ℕ → Facts
 raised facts floor = at_floor (max facts.floor floor) facts.found
 
--- what the sightings at the floor or above it say together
+-- what the sightings at the floor or above it give together
 abbrev pub view_at : ℕ → List (Key × Cell Value) → Facts
 view_at floor sightings = at_floor floor (seen sightings)
 
--- what all sightings say together, at floor 1
+-- what all sightings give together, at floor 1
 abbrev pub view : List (Key × Cell Value) → Facts
 view sightings = view_at 1 sightings
 
--- nothing is known, and nothing forgotten
+-- the facts of no sightings, at floor 1
 abbrev pub no_facts : Facts
 no_facts = view []
 
@@ -48,7 +48,7 @@ no_facts = view []
 abbrev pub AreInRange : Facts → Type 0
 AreInRange facts = (key : Key) (c : Cell Value) → cell_for facts key ≡ Some c → IsSighting (key, c)
 
--- the greatest generation of a cell of the facts
+-- the generation is the greatest of all cells of the facts
 pub record IsNewestGeneration (facts : Facts) (generation : ℕ) : Type 0 where
   pub held : (key : Key) × (c : Cell Value) × (cell_for facts key ≡ Some c) × (generation_of c ≡ generation)
   pub greatest : (key : Key) (c : Cell Value) → cell_for facts key ≡ Some c → generation_of c ≤ generation
@@ -74,7 +74,7 @@ abbrev pub MembersDecideView : Type 0
 MembersDecideView =
     (floor : ℕ) (s t : List (Key × Cell Value)) → HaveSameMembers s t → view_at floor s ≡ view_at floor t
 
--- facts are the view of their own cells, so a store stands for any sightings that it was made of
+-- facts are the view of their own cells at their floor; thus a store stands for any sightings that it was made of
 abbrev pub ViewOfItsCells : Type 0
 ViewOfItsCells = (x : Facts) → view_at x.floor (cells_of x) ≡ x
 

@@ -1,4 +1,4 @@
--- What an iterator over a store's cells still has to give.
+-- The cells that an iterator over a store has left.
 use Rattle.std.specs.Prelude.{List}
 use Rattle.page_list.specs.Rest.{rest_of}
 use Rattle.fact_join.specs.declared.cell.Cell.{Cell}

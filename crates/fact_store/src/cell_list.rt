@@ -18,7 +18,7 @@ use smp_bytes::Generation;
 use std::alloc::AllocError;
 use std::cmp::Ordering;
 
-/// Returns what two cells of one key say together.
+/// Returns the cell that two cells of one key give together.
 fn join_cells(first: &Sighting, second: &Sighting) -> Sighting
     requires { first.now.0 ≡ second.now.0 }
     ensures value { result ≡ (first.now.0, join first.now.1 second.now.1) }
@@ -61,7 +61,7 @@ fn put_found(cells: &mut PageList<Sighting>, found: Found, sighting: Sighting) -
     }
 }
 
-/// Adds a cell, unless it is below the floor.
+/// Adds a cell if it is at `floor` or above it. Otherwise changes nothing.
 pub(crate) fn put_kept(
     cells: &mut PageList<Sighting>,
     fingers: &mut Fingers,
@@ -80,8 +80,8 @@ pub(crate) fn put_kept(
     }
 }
 
-/// Merges the cells of two lists, walked in step: each step passes a key of one or of both. Adds the number of
-/// comparisons to `steps`.
+/// Merges the cells of two lists, which are walked in step. Each step passes a key of one list or of both. Adds the
+/// number of comparisons to `steps`.
 pub(crate) fn merge_cells(
     first: &PageList<Sighting>,
     second: &PageList<Sighting>,
@@ -148,7 +148,7 @@ pub(crate) fn is_at_least(sighting: &Sighting, floor: Generation) -> bool
     floor <= sighting.cell().generation()
 }
 
-/// Removes the cells below `floor`, in one walk.
+/// Removes the cells below `floor`. Takes one walk over the cells.
 pub(crate) fn drop_below(cells: &mut PageList<Sighting>, floor: Generation)
     ensures { cells.new.items ≡ kept floor cells.old.items }
 {

@@ -7,23 +7,24 @@ use smp_bytes::Guid;
 /// The number of hash values of GUIDs.
 const GUIDS: usize = 256;
 
-/// The slots where cells were put last, by the kind of their keys. The next key of a kind is looked for there first.
-/// The two ends of a link are told one after the other, so a link is looked for at the last slot but one. The neighbors
-/// of a switch tell of it in turn, so nodes, port GUIDs and links also have a last slot for each hash of a GUID.
+/// The slots where cells were put last, by the kind of their keys. The next key of a kind is looked for there first. A
+/// report has the two ends of a link one after the other, and therefore a link is looked for at the last slot but one.
+/// The neighbors of a switch report it in turn, and therefore nodes, port GUIDs and links also have a last slot for
+/// each hash of a GUID.
 #[derive(Clone, Copy)]
 pub(crate) struct Fingers {
     node: Slot,
     port_guid: Slot,
-    /// The last slot but one, and the last.
+    /// The last slot but one, and the last slot.
     links: [Slot; 2],
     port: Slot,
     claim: Slot,
     cap: Slot,
-    /// By the hash of a node's GUID.
+    /// The slot for nodes, by the hash of the GUID.
     nodes: [Slot; GUIDS],
-    /// By the hash of a node's GUID.
+    /// The slot for port GUIDs, by the hash of the node's GUID.
     port_guids: [Slot; GUIDS],
-    /// By the hash of a node's GUID.
+    /// The slot for links, by the hash of the node's GUID.
     link_ends: [Slot; GUIDS],
 }
 
@@ -44,7 +45,7 @@ impl Fingers {
         }
     }
 
-    /// Returns the slot where a key is looked for first.
+    /// Returns the slot where `key` is looked for first.
     pub(crate) fn by_kind(&self, key: &Key) -> Slot {
         match key {
             Key::Node(_) => self.node,
@@ -56,7 +57,7 @@ impl Fingers {
         }
     }
 
-    /// Returns the slot where a key is looked for next, if its kind has one by GUID.
+    /// Returns the slot where `key` is looked for next, or `None` if its kind has no slots by GUID.
     pub(crate) fn by_guid(&self, key: &Key) -> Option<Slot> {
         match key {
             Key::Node(node) => Some(self.nodes[hash(*node)]),
@@ -66,7 +67,7 @@ impl Fingers {
         }
     }
 
-    /// Notes that the cell of a key was put at `slot`.
+    /// Notes that the cell of `key` was put at `slot`.
     pub(crate) fn put(&mut self, key: &Key, slot: Slot) {
         match key {
             Key::Node(node) => {
@@ -88,7 +89,7 @@ impl Fingers {
     }
 }
 
-/// Returns a hash of a GUID, which mostly differs for different GUIDs.
+/// Returns a hash of `guid`. Different GUIDs mostly have different hashes.
 fn hash(guid: Guid) -> usize
     ensures { result < 256 }
 {

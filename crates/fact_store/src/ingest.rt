@@ -12,7 +12,7 @@ use thiserror::Error;
 pub enum IngestFault {
     #[error("{0}")]
     Report(ReportFault),
-    /// There was no memory for the report's facts.
+    /// Memory for the report's facts was refused.
     #[error("out of memory")]
     Memory,
 }
@@ -25,8 +25,8 @@ impl Store {
     ///
     /// # Errors
     ///
-    /// Returns the report's first fault, or `Memory` if it has none and memory runs out. Nothing changes in either
-    /// case.
+    /// Returns the report's first fault. Returns `Memory` if the report has none and memory runs out. Nothing changes
+    /// in either case.
     pub fn ingest(&mut self, report: &Report) -> Result<(), IngestFault>
         ensures judged { JudgesButFor is_memory result (ingest_fault report.now) }
         ensures ok { OnOk result (self.new ≡ merge self.old (view (sightings_of report.now))) }

@@ -4,14 +4,14 @@ ghost use Rattle.fact_store.specs.View.{ViewLaw, ViewIsUnique, MembersDecideView
 ghost use Rattle.fact_store.specs.Merge.{MergeLaw, MergeIsUnique, ViewOfBoth, MergeIsCommutative};
 ghost use Rattle.fact_store.specs.Merge.{MergeIsAssociative, MergeIsIdempotent, GroupingIsFree, MergingInTurn};
 
-/// A view at a floor has a cell for each key that was sighted at the floor or above it, and for no other key; the cell
-/// has the newest generation of the key's sightings, and their value if all sightings of that generation agree, and is
-/// disputed otherwise.
+/// A view at a floor has a cell for each key that was sighted at the floor or above it, and for no other key. The cell
+/// has the newest generation of the key's sightings. It has their value if all sightings of that generation agree, and
+/// is disputed otherwise.
 pub fn view_has_its_law()
     ensures { ViewLaw }
 {}
 
-/// No facts but the view satisfy the law of a view.
+/// Only the view satisfies the law of a view.
 pub fn view_is_unique()
     ensures { ViewIsUnique }
 {}
@@ -21,12 +21,12 @@ pub fn members_decide_view()
     ensures { MembersDecideView }
 {}
 
-/// Facts are the view of their own cells at their floor, so a list of their cells stands for them.
+/// Facts are the view of their own cells at their floor. A list of their cells therefore stands for them.
 pub fn view_of_its_cells()
     ensures { ViewOfItsCells }
 {}
 
-/// A floor that is raised later gives the view that it would have given from the start.
+/// Raising a floor later gives the view that the greater floor would have given from the start.
 pub fn raising_forgets()
     ensures { RaisingForgets }
 {}
@@ -36,12 +36,12 @@ pub fn view_of_both()
     ensures { ViewOfBoth }
 {}
 
-/// A merge is above both facts, and below all that is above both.
+/// A merge is above both facts, and below all facts that are above both.
 pub fn merge_is_least_above_both()
     ensures { MergeLaw }
 {}
 
-/// Only the merge is above both facts and below all that is above both.
+/// Only the merge is above both facts and below all facts that are above both.
 pub fn merge_is_unique()
     ensures { MergeIsUnique }
 {}

@@ -1,4 +1,4 @@
-//! The view of a subnet: what all its facts say together.
+//! The view of a subnet, which is what all its sightings give together.
 #![tactic(auto)]
 
 mod cell_list;

@@ -7,9 +7,9 @@ use fact_join::Cell;
 use reply_facts::{Key, Value};
 use smp_bytes::{Guid, Lid, NodeType, PortNum};
 
-// Readers return `None` if the fact was not told or is disputed. Each takes a search.
+// Each reader takes a search.
 impl Store {
-    /// Returns the known value of a key.
+    /// Returns the value of `key`, or `None` if it has none or it is disputed.
     pub fn known(&self, key: Key) -> Option<Value>
         ensures { result ≡ known_in (cells_of self.now) key }
     {
@@ -19,7 +19,7 @@ impl Store {
         }
     }
 
-    /// Returns the type of a node and its number of ports.
+    /// Returns the type of `node` and its number of ports, if they are known.
     pub fn node(&self, node: Guid) -> Option<(NodeType, u8)>
         ensures { result ≡ node_of (cells_of self.now) node }
     {
@@ -29,7 +29,7 @@ impl Store {
         }
     }
 
-    /// Returns the GUID of a port.
+    /// Returns the GUID of `port` of `node`, if it is known.
     pub fn port_guid(&self, node: Guid, port: PortNum) -> Option<Guid>
         ensures { result ≡ port_guid_of (cells_of self.now) node port }
     {
@@ -39,7 +39,7 @@ impl Store {
         }
     }
 
-    /// Returns the node and the port at the other end of a link.
+    /// Returns the node and the port at the other end of the link of `port` of `node`, if they are known.
     pub fn link(&self, node: Guid, port: PortNum) -> Option<(Guid, PortNum)>
         ensures { result ≡ link_of (cells_of self.now) node port }
     {
@@ -49,7 +49,7 @@ impl Store {
         }
     }
 
-    /// Returns whether a port is up.
+    /// Returns whether `port` of `node` is up, if that is known.
     pub fn is_up(&self, node: Guid, port: PortNum) -> Option<bool>
         ensures { result ≡ up_of (cells_of self.now) node port }
     {
@@ -59,7 +59,7 @@ impl Store {
         }
     }
 
-    /// Returns the LID that a port claims.
+    /// Returns the LID that `port` of `node` claims, if it is known.
     pub fn claim(&self, node: Guid, port: PortNum) -> Option<Lid>
         ensures { result ≡ claim_of (cells_of self.now) node port }
     {
@@ -69,7 +69,7 @@ impl Store {
         }
     }
 
-    /// Returns how many LIDs a switch's linear forwarding table has room for.
+    /// Returns the number of LIDs that the linear forwarding table of the switch `node` has room for, if it is known.
     pub fn cap(&self, node: Guid) -> Option<u16>
         ensures { result ≡ cap_of (cells_of self.now) node }
     {

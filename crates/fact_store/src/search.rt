@@ -20,16 +20,17 @@ pub(crate) fn compare(held: &Sighting, key: &Key, steps: &mut u128) -> Ordering
     held.key_cmp(key)
 }
 
-/// Where a key's cell is: `index` is `Ok` with its index, or `Err` with the index where it would be inserted.
+/// The result of looking for a key's cell: `index` is `Ok` with the cell's index, or `Err` with the index at which it
+/// would be inserted.
 #[derive(Clone, Copy)]
 pub(crate) struct Found {
     pub index: Result<usize, usize>,
-    /// The slot where the cell may be, or the one beside it.
+    /// The slot where the cell may be, or the slot next to it.
     pub near: Slot,
 }
 
-/// Finds the index of a key's cell, or the one where it would be inserted. Tries the fingers, then the end of the list,
-/// and then searches.
+/// Finds the index of a key's cell, or the index at which it would be inserted. Tries the fingers, then the end of the
+/// list, and then searches.
 pub(crate) fn index_of(cells: &PageList<Sighting>, key: &Key, fingers: &Fingers) -> Found
     requires { AreCells cells.now.items }
     ensures { IsSearched key.now cells.now.items result.index }
@@ -50,8 +51,8 @@ pub(crate) fn index_of(cells: &PageList<Sighting>, key: &Key, fingers: &Fingers)
     find(cells, key).found
 }
 
-/// Finds the index of a key's cell, or the one where it would be inserted, if that is at the finger of its kind or of
-/// its GUID.
+/// Finds the index of a key's cell, or the index at which it would be inserted, if that is at the finger of the key's
+/// kind or of its GUID. Returns `None` otherwise.
 fn found_by_fingers(cells: &PageList<Sighting>, key: &Key, fingers: &Fingers) -> Option<Found>
     requires { AreCells cells.now.items }
     ensures { IfSome result (λ found. IsSearched key.now cells.now.items found.index) }
@@ -62,7 +63,8 @@ fn found_by_fingers(cells: &PageList<Sighting>, key: &Key, fingers: &Fingers) ->
     }
 }
 
-/// Finds the index of a key's cell, or the one where it would be inserted, if that is at `finger`.
+/// Finds the index of a key's cell, or the index at which it would be inserted, if that is at `finger`. Returns `None`
+/// otherwise.
 fn found_at_finger(cells: &PageList<Sighting>, key: &Key, finger: Slot) -> Option<Found>
     requires { AreCells cells.now.items }
     ensures { IfSome result (λ found. IsSearched key.now cells.now.items found.index) }
@@ -74,8 +76,8 @@ fn found_at_finger(cells: &PageList<Sighting>, key: &Key, finger: Slot) -> Optio
     })
 }
 
-/// Returns the index of a key's cell, or the one where it would be inserted, if `key` is the key of the cell at
-/// `finger` or of the next cell, or lies between the two. Takes at most two comparisons.
+/// Returns the index of a key's cell, or the index at which it would be inserted, if `key` is the key of the cell at
+/// `finger` or of the next cell, or lies between the two. Returns `None` otherwise. Takes at most two comparisons.
 fn index_at_finger(
     cells: &PageList<Sighting>,
     key: &Key,
@@ -116,8 +118,8 @@ pub(crate) struct SearchResult {
     pub steps: u32,
 }
 
-/// Searches for the index of a key's cell, or the one where it would be inserted. Compares at most as many keys as the
-/// number of cells has binary digits.
+/// Searches for the index of a key's cell, or the index at which it would be inserted. Compares at most as many keys as
+/// the number of cells has binary digits.
 pub(crate) fn find(cells: &PageList<Sighting>, key: &Key) -> SearchResult
     requires { AreCells cells.now.items }
     ensures index { IsSearched key.now cells.now.items result.found.index }
@@ -163,7 +165,7 @@ pub(crate) fn find(cells: &PageList<Sighting>, key: &Key) -> SearchResult
     }
 }
 
-/// Returns the least 2^k - 1 that is at least `n`.
+/// Returns the least number of the form 2^k - 1 that is at least `n`.
 fn all_ones(n: usize) -> usize
     ensures least { IsBudget n 0 result }
     ensures enough { n ≤ result }

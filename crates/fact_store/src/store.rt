@@ -21,7 +21,7 @@ use thiserror::Error;
 /// Why a store did not grow.
 #[derive(Clone, Copy, Debug, PartialEq, Eq, Error)]
 pub enum Refused {
-    /// There was no memory for the growth.
+    /// Memory for the growth was refused.
     #[error("out of memory")]
     Memory,
 }
@@ -32,11 +32,11 @@ impl From<AllocError> for Refused {
     }
 }
 
-/// The greatest number of sightings that are added one by one: a report has no more.
+/// The greatest number of sightings that are added one by one. A report has no more.
 const SIGHTINGS_PER_REPORT: usize = 4;
 
-/// What is known of a subnet: a cell for each key, the view of all sightings that were put in. Cells below the floor
-/// are forgotten for good.
+/// What is known of a subnet: one cell for each key. Together the cells are the view of all sightings that were put in.
+/// Cells below the floor are forgotten for good.
 #[derive(Drop)]
 pub struct Store {
     /// The least generation that counts.
@@ -62,7 +62,7 @@ impl Model for Store {
 }
 
 impl Store {
-    /// Creates an empty store at floor 1, which takes its memory from `alloc` later.
+    /// Creates an empty store at floor 1. It takes memory from `alloc` only later.
     pub fn new(alloc: Global) -> Self
         ensures { result ≡ no_facts }
     {
@@ -73,7 +73,7 @@ impl Store {
         }
     }
 
-    /// Returns the least generation that counts, 1 for a new store.
+    /// Returns the least generation that counts. It is 1 for a new store.
     pub fn floor(&self) -> Generation
         ensures { result ≡ self.now.floor }
     {
@@ -81,7 +81,7 @@ impl Store {
     }
 
     /// Forgets all cells below `floor`, and ignores sightings below it from then on. Takes no memory, and frees pages
-    /// that are no longer needed. Walks the cells if `floor` is greater than the store's floor, and otherwise does
+    /// that are no longer needed. If `floor` is greater than the store's floor, walks the cells. Otherwise does
     /// nothing.
     pub fn raise_floor(&mut self, floor: Generation)
         ensures { self.new ≡ raised self.old floor }
@@ -92,10 +92,11 @@ impl Store {
         }
     }
 
-    /// Adds a sighting, unless it is below the floor. Takes at most two comparisons if its key is the last one put in
-    /// of its kind (for links, the last but one), the next key held, or between the two. Takes at most four if this
-    /// holds only for the last key put in of its kind and its GUID's hash (nodes, port GUIDs and links). Otherwise
-    /// takes a search. Moves at most a page of cells and the list of pages.
+    /// Adds a sighting, unless it is below the floor. Takes at most two comparisons if its key is the last key put in
+    /// of its kind (for links, the last but one), the next key held, or between the two. Takes at most four comparisons
+    /// if this holds only for the last key put in of its kind and its GUID's hash (nodes, port GUIDs and links).
+    /// Otherwise takes a search. Moves at most a page of cells and the list of pages. If memory runs out, nothing
+    /// changes.
     pub fn add(&mut self, sighting: Sighting) -> Result<(), Refused>
         ensures ok { OnOk result (self.new ≡ merge self.old (view (sighting ∷ []))) }
         ensures err { OnErr result (self.new ≡ self.old) }
@@ -105,7 +106,7 @@ impl Store {
         Ok(())
     }
 
-    /// Adds all sightings, or none if memory runs out. Adds four or fewer one by one; puts more in order first, and
+    /// Adds all sightings, or none if memory runs out. Adds four or fewer one by one. Sorts a greater number first, and
     /// then merges them.
     pub fn add_all(&mut self, sightings: &[Sighting]) -> Result<(), Refused>
         ensures ok { OnOk result (self.new ≡ merge self.old (view sightings.now)) }
@@ -118,8 +119,8 @@ impl Store {
         }
     }
 
-    /// Builds a store of the sightings and merges it. A function of its own, since a `Store` is large on the stack and
-    /// a report has few sightings.
+    /// Builds a store of the sightings and merges it. This is a function of its own because a `Store` is large on the
+    /// stack and a report has few sightings.
     fn add_many(&mut self, sightings: &[Sighting]) -> Result<(), Refused>
         ensures ok { OnOk result (self.new ≡ merge self.old (view sightings.now)) }
         ensures err { OnErr result (self.new ≡ self.old) }
@@ -152,7 +153,7 @@ impl Store {
         Ok(())
     }
 
-    /// Merges `other` as `merge` does, and returns how many times two keys were compared.
+    /// Merges `other` as `merge` does, and returns the number of times that two keys were compared.
     pub fn merge_steps(&mut self, other: &Store) -> Result<u128, Refused>
         ensures ok { OnOk result (self.new ≡ merge self.old other.now) }
         ensures least { OnOk result (IsMerge self.old other.now self.new) }
@@ -176,8 +177,8 @@ impl Store {
         Ok(steps)
     }
 
-    /// Merges `other` as `merge` does. If this store is empty, it takes the contents of `other`, and walks them only if
-    /// its own floor is greater.
+    /// Merges `other` as `merge` does. If this store is empty, it takes over the contents of `other`, and walks them
+    /// only if its own floor is greater.
     pub fn merge_owned(&mut self, other: Store) -> Result<(), Refused>
         ensures ok { OnOk result (self.new ≡ merge self.old other) }
         ensures err { OnErr result (self.new ≡ self.old) }
@@ -200,7 +201,7 @@ impl Store {
         Ok(store)
     }
 
-    /// Returns the cell of a key, if there is one. Takes a binary search.
+    /// Returns the cell of `key`, or `None` if there is none. Takes a binary search.
     pub fn get(&self, key: Key) -> Option<Cell<Value>>
         ensures found { result ≡ cell_for self.now key }
         ensures in_range { AreInRange self.now }
@@ -208,7 +209,7 @@ impl Store {
         self.get_steps(key).0
     }
 
-    /// Returns the cell of a key, if there is one, and how many times two keys were compared.
+    /// Returns the cell of `key`, or `None` if there is none, and the number of times that two keys were compared.
     pub fn get_steps(&self, key: Key) -> (Option<Cell<Value>>, u32)
         ensures found { result.0 ≡ cell_for self.now key }
         ensures counted { CountsSearch key (cells_of self.now) result.1 }
@@ -236,8 +237,8 @@ impl Store {
         self.cells.len()
     }
 
-    /// Returns the cell at index `i` in the order of keys, from 0 on, with its key. Takes a binary search among the
-    /// pages.
+    /// Returns the cell at index `i` with its key, in the order of keys and counted from 0. Returns `None` if there are
+    /// not as many. Takes a binary search among the pages.
     pub fn cell(&self, i: usize) -> Option<Sighting>
         ensures exact { result ≡ slice_get (cells_of self.now) i }
         ensures in_range { AreInRange self.now }
@@ -245,7 +246,7 @@ impl Store {
         self.cells.get(i)
     }
 
-    /// Iterates over the cells with their keys, in the order of keys. Each takes one step.
+    /// Iterates over the cells with their keys, in the order of keys. Each cell takes one step.
     pub fn cells(&self) -> Cells<'_>
         ensures cells { cells_left result ≡ cells_of self.now }
         ensures in_range { AreInRange self.now }
@@ -278,7 +279,7 @@ fn newer(held: Option<Generation>, other: Generation) -> Generation
     }
 }
 
-/// Creates a store with this floor, of the sightings at the floor or above it.
+/// Creates a store with the floor `floor` of the sightings at this floor or above it.
 fn store_of(alloc: Global, floor: Generation, sightings: &[Sighting]) -> Result<Store, Refused>
     ensures { IfOk result (λ store. store ≡ view_at floor sightings.now) }
 {

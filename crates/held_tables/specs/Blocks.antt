@@ -5,12 +5,13 @@ use Rattle.held_tables.specs.declared.held.HeldBlock.{HeldBlock}
 use Rattle.held_tables.specs.Held.{HeldPlan}
 use Rattle.held_tables.specs.Tables.{block_at, entry_in}
 
--- `count` rows without an entry
+-- `rows` has `count` rows, and all their entries are 255
 pub record AreBlank (count : ℕ) (rows : List (List ℕ)) : Type 0 where
   pub as_many : length rows ≡ count
   pub entry : (index i : ℕ) → slice_index_or (slice_index_or rows index []) i 255 ≡ 255
 
--- `rows` has, for each held switch in order, the entries of its block `number`; 255 for entries that are not held
+-- `rows` has a row for each held switch, in order: the entries of its block `number`, and 255 for an entry that is not
+-- held
 pub record AreBlocks (held : HeldPlan) (number : ℕ) (rows : List (List ℕ)) : Type 0 where
   pub as_many : length rows ≡ length held.switches
   pub entry : (index i : ℕ) → index < length rows → slice_index_or (slice_index_or rows index []) i 255

@@ -2,14 +2,15 @@
 use Rattle.std.specs.Prelude.{◌≡◌, ◌≢◌, ◌<◌, ◌≤◌, ℕ, suc, List, length, slice_index_or}
 use Rattle.held_tables.specs.declared.chains.Chains.{Chains}
 
--- `index` is that of the first occurrence of `number` from `from` on, or the list's length if there is none
+-- `index` is the index of the first occurrence of `number` at or after `from`, or the list's length if there is none
 pub record IsNext (numbers : List ℕ) (number from index : ℕ) : Type 0 where
   pub past : from ≤ index
   pub within : index ≤ length numbers
   pub is : index < length numbers → slice_index_or numbers index 0 ≡ number
   pub none : (other : ℕ) → from ≤ other → other < index → slice_index_or numbers other 0 ≢ number
 
--- `chains` has the first occurrence of each number, and the next one after each index
+-- `chains` has the index of each number's first occurrence and, for each index, that of the next occurrence of its
+-- number
 pub record AreChains (numbers : List ℕ) (chains : Chains) : Type 0 where
   pub firsts : (number : ℕ) → number < 65536 → IsNext numbers number 0 (slice_index_or chains.firsts.items number 0)
   pub nexts : (index : ℕ) → index < length numbers

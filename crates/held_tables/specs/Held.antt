@@ -14,12 +14,12 @@ pub record HeldPlan : Type 0 where
 abbrev pub nothing_held : HeldPlan
 nothing_held = record { lids = []; switches = []; blocks = [] }
 
--- the LIDs of an end port: 2^LMC of them, from its first one on
+-- the 2^`lmc` LIDs of an end port, from its first LID on
 pub record LidRange : Type 0 where
   pub first : HeldLid
   pub lmc : ℕ
 
--- the LID that is `step` numbers after the first one
+-- the LID `step` after `first`, held by the same end port
 abbrev pub lid_at : HeldLid → ℕ → HeldLid
 lid_at first step = record { lid = first.lid + step; port = first.port }
 

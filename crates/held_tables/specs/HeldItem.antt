@@ -4,7 +4,7 @@ use Rattle.held_tables.specs.declared.held_item.HeldItem.{HeldItem}
 use Rattle.held_tables.specs.declared.held_item.HeldItem.TheVariants.{Nothing, Lid, Switch, Block}
 use Rattle.held_tables.specs.Held.{HeldPlan, lids_of}
 
--- what is held, with what another line says; a block belongs to the last switch
+-- what is held after a line that says this item; a block belongs to the last switch
 abbrev pub held_with : HeldPlan → HeldItem → HeldPlan
 held_with held Nothing = held
 held_with held (Lid range) = record held { lids = held.lids ++ lids_of range }

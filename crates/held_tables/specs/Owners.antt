@@ -42,7 +42,7 @@ SoleOwnersAreAlone =
     (held : HeldPlan) (lid : ℕ) (port : EndPort) → IsTrue (is_owner (owners_of held lid) port)
     → IsTrue (is_sole port (owners_of held lid)) ↔ (owners_of held lid ≡ port ∷ [])
 
--- more than one of `lines` is for the LID; if the lines differ, more than one end port holds it
+-- more than one of `lines` is for the LID; if the lines are distinct, more than one end port then holds it
 abbrev pub is_told_twice : List HeldLid → ℕ → Bool
 is_told_twice lines lid = nat_lt 1 (count_by (λ (line : HeldLid). line.lid == lid) lines)
 

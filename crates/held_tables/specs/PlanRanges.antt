@@ -7,7 +7,7 @@ use Rattle.subnet_view.specs.declared.end_port.EndPort.{EndPort}
 use Rattle.lid_assign.specs.Lids.{Given, lmc_of, owner_of, top_of, rising_lids}
 use Rattle.lft_blocks.specs.Plan.{SwitchTable, PlanValue}
 
--- a LID that is the first one of an end port, with that end port
+-- all LIDs of the end port whose first LID is `lid` are from 1 to 0xBFFF, and its GUID and port number are in range
 pub record IsLidInRange (given : Given) (lid : ℕ) : Type 0 where
   pub some : 1 ≤ lid
   pub most : lid ≤ 0xBFFF
@@ -20,12 +20,13 @@ pub record IsBlock (entries : List ℕ) : Type 0 where
   pub whole : length entries ≡ 64
   pub bytes : IsBytes entries
 
+-- the GUID has 64 bits, and there are at most 768 blocks
 pub record IsTableInRange (table : SwitchTable) : Type 0 where
   pub guid : table.guid < 2 ^ 64
   pub blocks : AllByRecursion IsBlock table.blocks
   pub few : length table.blocks ≤ 768
 
--- the numbers of a plan fit their types, each port has one LID, and its switches rise
+-- the numbers of a plan are in range, and the GUIDs of its switches rise
 pub record IsPlanInRange (plan : PlanValue) : Type 0 where
   pub lmc : plan.given.lmc ≤ 7
   pub lids : AllByRecursion (IsLidInRange plan.given) (rising_lids plan.given)

@@ -15,6 +15,7 @@ use Rattle.held_tables.specs.Held.{HeldPlan, LidRange, lids_of, nothing_held}
 abbrev pub range_from : Given → ℕ → EndPort → LidRange
 range_from given lid port = record { first = record { lid = lid; port = port }; lmc = lmc_of given port }
 
+-- the LIDs of the end port whose first LID is `lid`; None if no end port owns it
 abbrev pub owned_range : Given → ℕ → Option LidRange
 owned_range given lid = option_map (range_from given lid) (owner_of given lid)
 
@@ -22,12 +23,12 @@ owned_range given lid = option_map (range_from given lid) (owner_of given lid)
 abbrev pub owned_lids : Given → List HeldLid
 owned_lids given = flat_map lids_of (filter_map (owned_range given) (rising_lids given))
 
--- the blocks of the switch at `index`, with numbers that count from `number` on
+-- the blocks of the switch at `index`; the first block has the number `number`
 abbrev pub blocks_from : ℕ → ℕ → List (List ℕ) → List HeldBlock
 blocks_from index number blocks =
     map (λ x. record { switch = index; number = x.0; entries = x.1 }) (enumerate_from number blocks)
 
--- the blocks of the switches, whose indices count from `index` on
+-- the blocks of all switches; the first switch has the index `index`
 abbrev pub blocks_of : ℕ → List SwitchTable → List HeldBlock
 blocks_of index [] = []
 blocks_of index (table ∷ tables) = blocks_from index 0 table.blocks ++ blocks_of (suc index) tables
@@ -36,8 +37,8 @@ blocks_of index (table ∷ tables) = blocks_from index 0 table.blocks ++ blocks_
 abbrev pub with_top : ℕ → SwitchTable → HeldSwitch
 with_top top table = record { guid = table.guid; top = top }
 
--- the LIDs with their owners and, if there are any, the switches with their blocks and with the greatest LID as their
--- top
+-- the LIDs with their owners, and the switches with their blocks and the greatest LID as their top; nothing if there is
+-- no LID
 abbrev pub held_plan : PlanValue → HeldPlan
 held_plan plan =
     option_map_or (λ top. record {

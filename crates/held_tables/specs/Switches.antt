@@ -12,23 +12,25 @@ use Rattle.held_tables.specs.declared.far_end.Far.{Far}
 use Rattle.held_tables.specs.declared.far_end.Far.TheVariants.{Nothing, Switch, Port}
 use Rattle.held_tables.specs.declared.senders.Sender.{Sender}
 
--- the index of `guid`
+-- the index of `guid` in `guids`; None if it is not there
 abbrev pub index_in : List ℕ → ℕ → Option ℕ
 index_in guids guid = position (λ g. g == guid) guids
 
+-- where a wire to the port `q` leads, if the port's node is the usable switch at this index, or none
 abbrev pub far_at : ℕ × ℕ → Option ℕ → Far
 far_at q None = Port (record { node = q.0; port = q.1 })
 far_at q (Some index) = Switch index
 
+-- where a wire to the port `q` leads; nowhere if there is no wire
 abbrev pub far_to : List ℕ → Option (ℕ × ℕ) → Far
 far_to guids None = Nothing
 far_to guids (Some q) = far_at q (index_in guids q.0)
 
--- where the wire in a port leads: to a usable switch, or to another port
+-- where the wire in port `p` of node `g` leads: to a usable switch, to another port, or nowhere
 abbrev pub far_of : Cells → ℕ → ℕ → Far
 far_of cells g p = far_to (switches cells) (across cells g p)
 
--- where the wires in ports 0 to 254 of a node lead; 255 is no port
+-- where the wires in ports 0 to 254 of node `g` lead; 255 is no port
 abbrev pub row_of : Cells → ℕ → List Far
 row_of cells g = map (far_of cells g) (range_with_len 0 255)
 
@@ -42,31 +44,32 @@ far_by cells n =
 abbrev pub sender_of : Cells → EndPort → Sender
 sender_of cells e = record { port = e; switch = index_in (switches cells) e.node; far = far_of cells e.node e.port }
 
--- the index of the usable switch to which a wire leads
+-- the index of the usable switch to which a wire leads; None if it leads to none
 abbrev pub switch_over : Far → Option ℕ
 switch_over Nothing = None
 switch_over (Switch index) = Some index
 switch_over (Port e) = None
 
--- the index of the first switch that a sender's packets reach: its own switch, or else the one that its wire leads to
+-- the index of the first switch that a sender's packets reach: its own switch, or else the switch to which its wire
+-- leads; None if there is none
 abbrev pub first_by : Option ℕ → Far → Option ℕ
 first_by (Some index) far = Some index
 first_by None far = switch_over far
 
+-- the index of the first switch that the packets of `source` reach; None if they reach none
 abbrev pub first_switch : Sender → Option ℕ
 first_switch source = first_by source.switch source.far
 
--- the index is below `count`
+-- there is an index, and it is below `count`
 abbrev pub is_among : ℕ → Option ℕ → Bool
 is_among count None = false
 is_among count (Some index) = nat_lt index count
 
--- the packets of each sender first reach one of `count` switches
+-- each of `firsts` is the index of one of `count` switches
 abbrev pub all_begin : ℕ → List (Option ℕ) → Bool
 all_begin count firsts = list_all (is_among count) firsts
 
--- a usable switch: where the wires in its ports lead, its index among the held switches, its top, and the number of its
--- ports
+-- a usable switch, with the wires in its ports, its index among the held switches, its top and its number of ports
 abbrev pub node_of : Cells → HeldPlan → ℕ → AuditedSwitch
 node_of cells held g = record {
   guid = g;

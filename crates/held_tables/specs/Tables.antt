@@ -14,7 +14,7 @@ is_same_end e x = x.node == e.node && x.port == e.port
 abbrev pub is_same_line : HeldLid → HeldLid → Bool
 is_same_line x y = y.lid == x.lid && is_same_end x.port y.port
 
--- the lines, without those that repeat an earlier one
+-- the lines without repetitions; the first of equal lines stays
 abbrev pub told_once : List HeldLid → List HeldLid
 told_once [] = []
 told_once (x ∷ xs) = x ∷ filter (λ y. not (is_same_line x y)) (told_once xs)
@@ -35,7 +35,7 @@ owners_of held lid = holders (lines_of held) lid
 abbrev pub is_owner : List EndPort → EndPort → Bool
 is_owner owners e = list_any (is_same_end e) owners
 
--- the index of switch g among the held switches
+-- the index of switch g among the held switches; None if it is not held
 abbrev pub index_of : HeldPlan → ℕ → Option ℕ
 index_of held g = position (λ s. s.guid == g) held.switches
 
@@ -70,9 +70,10 @@ top_of held g = top_at held (index_of held g)
 abbrev pub entry_of : HeldPlan → ℕ → ℕ → ℕ
 entry_of held g lid = entry_at held (index_of held g) lid
 
--- the effective entry: 255 for LID 0 and LIDs over the top
+-- the effective entry: 255 for LID 0 and for LIDs above the top, otherwise `entry`
 abbrev pub counted : ℕ → ℕ → ℕ → ℕ
 counted lid top entry = if lid == 0 || nat_lt top lid then 255 else entry
 
+-- the effective entry of switch g for `lid`
 abbrev pub entry_for : HeldPlan → ℕ → ℕ → ℕ
 entry_for held lid g = counted lid (top_of held g) (entry_of held g lid)

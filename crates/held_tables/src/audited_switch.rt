@@ -66,7 +66,8 @@ fn node_at(
     })
 }
 
-/// Returns the index of a switch among the held switches. Takes a walk.
+/// Returns the index of the switch `guid` among the held switches, or `None` if it is not held. Takes a step for each
+/// held switch.
 pub fn index_of(held: &Held, guid: Guid) -> Option<usize>
     ensures { result ≡ index_of held.now guid }
 {

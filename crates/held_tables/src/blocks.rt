@@ -28,7 +28,7 @@ pub fn block_rows(
     Ok(rows)
 }
 
-/// Puts the block at `index` into the row of its switch.
+/// Puts the block at `index` into the row of its switch, if there is such a block.
 fn put_block(rows: &mut Vec<[u8; 64]>, blocks: &[HeldBlock], index: usize)
     ensures { rows.new.items ≡ with_block rows.old.items (slice_get blocks.now index) }
 {
@@ -38,7 +38,7 @@ fn put_block(rows: &mut Vec<[u8; 64]>, blocks: &[HeldBlock], index: usize)
     }
 }
 
-/// Puts `block` into the row of its switch.
+/// Puts `block` into the row of its switch, if there is such a row.
 fn put_row(rows: &mut Vec<[u8; 64]>, block: &HeldBlock)
     ensures { rows.new.items ≡ with_row rows.old.items block.now }
 {

@@ -13,10 +13,10 @@ pub struct Chains {
     pub nexts: Vec<usize>,
 }
 
-/// One more than the greatest number.
+/// The number of values of a `u16`.
 const NUMBERS: usize = 0x1_0000;
 
-/// Returns the chains of `numbers`. Takes a step for each number.
+/// Returns the chains of `numbers`. Takes a step for each of `numbers`, and 65,536 more.
 pub(crate) fn chains_of(alloc: Global, numbers: &[u16]) -> Result<Chains, AllocError>
     ensures { IfOk result (λ chains. AreChains numbers.now chains) }
 {
@@ -32,7 +32,7 @@ pub(crate) fn chains_of(alloc: Global, numbers: &[u16]) -> Result<Chains, AllocE
     Ok(Chains { firsts, nexts })
 }
 
-/// Returns `count` times `index`.
+/// Returns a list of `count` copies of `index`.
 fn so_many(alloc: Global, count: usize, index: usize) -> Result<Vec<usize>, AllocError>
     ensures { IfOk result (λ indices. indices.items ≡ replicate count index) }
 {

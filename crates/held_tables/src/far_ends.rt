@@ -35,7 +35,8 @@ impl FarEnds {
         far_at(&self.fars, port)
     }
 
-    /// Returns the index of the usable switch to which the wire in `port` leads. Takes one step.
+    /// Returns the index of the usable switch to which the wire in `port` leads, or `None` if it leads to none. Takes
+    /// one step.
     pub fn switch(&self, port: u8) -> Option<usize>
         ensures { result ≡ switch_over (slice_index_or self.now port Far.Nothing) }
     {
@@ -53,7 +54,7 @@ fn far_at(fars: &[Far], port: u8) -> Far
     }
 }
 
-/// Returns the index of the usable switch to which the wire in `port` leads.
+/// Returns the index of the usable switch to which the wire in `port` leads, or `None` if it leads to none.
 fn switch_at(fars: &[Far], port: u8) -> Option<usize>
     ensures { result ≡ switch_over (slice_index_or fars.now port Far.Nothing) }
 {
@@ -63,7 +64,7 @@ fn switch_at(fars: &[Far], port: u8) -> Option<usize>
     }
 }
 
-/// Returns where the wires in a switch's ports lead.
+/// Returns where the wires in the ports of `node` lead.
 pub(crate) fn row_of(
     alloc: Global,
     wires: &Wires,
@@ -78,7 +79,7 @@ pub(crate) fn row_of(
     Ok(FarEnds { fars })
 }
 
-/// Returns where the wires in all ports of a switch, from 0 to 254, lead.
+/// Returns where the wires in ports 0 to 254 of `node` lead.
 fn all_fars(
     alloc: Global,
     wires: &Wires,
@@ -104,7 +105,7 @@ fn shortened(alloc: Global, fars: &[Far]) -> Result<Vec<Far>, AllocError>
     Vec::from_slice(alloc, &fars[..count])
 }
 
-/// Returns the number of ports up to the last one that has a wire.
+/// Returns the number of ports up to the last one that has a wire, or 0 if none has.
 fn wired(fars: &[Far]) -> usize
     ensures within { result ≤ length fars.now }
     ensures others { fars.now ≡ take result fars.now ++ replicate (length fars.now - result) Far.Nothing }
@@ -116,8 +117,8 @@ fn wired(fars: &[Far]) -> usize
     count
 }
 
-/// Returns the number of ports up to the last one that has a wire, at most `port`; `count` is that number for the ports
-/// before it.
+/// Returns the number of ports up to the last wired one of ports 0 to `port`. `count` is this number for the ports
+/// before `port`, and `far` is where the wire in `port` leads.
 fn wired_more(far: &Far, port: usize, count: usize) -> usize
     requires { port < 2 ^ 64 - 1 }
     ensures { result ≡ wired_more far.now port count }

@@ -72,8 +72,9 @@ impl Held {
         }
     }
 
-    /// Returns the tables of a plan, as reading its text gives them: the LIDs of its end ports, and its switches, each
-    /// with the greatest LID as its top. Takes a step for each LID and each block.
+    /// Returns the tables of `plan`: the LIDs of its end ports, and its switches, each with the greatest LID as its
+    /// top. If there is no LID, they are empty. Reading the plan's text gives the same tables. Takes a step for each
+    /// LID and each block.
     pub fn of_plan(alloc: Global, plan: &Plan) -> Result<Self, AllocError>
         ensures { IfOk result (λ held. held ≡ held_plan plan.now) }
     {
@@ -108,7 +109,7 @@ impl Held {
         }
     }
 
-    /// Returns the LIDs, each with an end port that holds it, by the first LID of the end port and then by end port.
+    /// Returns the LIDs, each with an end port that holds it, in the order of their lines.
     pub fn lids(&self) -> &[HeldLid]
         ensures { result.now ≡ self.now.lids }
     {
@@ -129,7 +130,7 @@ impl Held {
         &self.blocks
     }
 
-    /// Returns the tables with the content of another line added.
+    /// Returns the tables after another line, which says `item`. A block belongs to the last switch.
     pub fn with(self, item: HeldItem) -> Result<Self, AllocError>
         ensures { IfOk result (λ held. held ≡ held_with self item) }
     {

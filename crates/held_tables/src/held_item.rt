@@ -4,7 +4,7 @@ use crate::held::{HeldLid, HeldSwitch};
 use attr_codec::Lmc;
 use std::marker::Model;
 
-/// The LIDs of an end port: 2^LMC of them, from the first one on. The last is at most 49,151.
+/// The 2^`lmc` LIDs of an end port, from `first` on. The last is at most 49,151.
 #[derive(Clone, Copy)]
 pub struct HeldRange {
     pub first: HeldLid,

@@ -23,7 +23,7 @@ pub enum Owner {
 /// One more than the greatest LID that an end port can hold.
 const LIDS: usize = Lid::UNICAST_END as usize;
 
-/// Returns who holds each LID by `lines`. Takes a step for each line.
+/// Returns who holds each LID by `lines`. Takes a step for each LID and each line.
 pub fn lid_owners(alloc: Global, lines: &[HeldLid]) -> Result<Vec<Owner>, AllocError>
     ensures { IfOk result (λ owners. AreOwners lines.now owners.items) }
 {
@@ -34,7 +34,7 @@ pub fn lid_owners(alloc: Global, lines: &[HeldLid]) -> Result<Vec<Owner>, AllocE
     Ok(owners)
 }
 
-/// Records that the end port of `line` holds its LID.
+/// Records that the end port of `line` holds its LID. Changes nothing if the LID is beyond the end of `owners`.
 fn add_owner(owners: &mut Vec<Owner>, line: &HeldLid)
     ensures { owners.new.items ≡ slice_set owners.old.items line.now.lid
         (owner_more (slice_index_or owners.old.items line.now.lid Several) line.now.port) }
@@ -55,8 +55,8 @@ fn owner_more(owner: Owner, port: EndPort) -> Owner
     }
 }
 
-/// Returns the end ports that hold `lid` by `lines`. Takes a step or two if at most one does; otherwise walks all
-/// lines.
+/// Returns the end ports that hold `lid` by `lines`. Takes a step or two if at most one end port does; otherwise walks
+/// all lines.
 pub fn owners_of(
     alloc: Global,
     lines: &[HeldLid],
@@ -93,7 +93,7 @@ pub fn sole_owner(owners: &[Owner], lid: Lid) -> Option<EndPort>
     }
 }
 
-/// Returns a list of one end port.
+/// Returns a list of `port` alone.
 fn one(alloc: Global, port: EndPort) -> Result<Vec<EndPort>, AllocError>
     ensures { IfOk result (λ ports. ports.items ≡ port ∷ []) }
 {
@@ -102,7 +102,7 @@ fn one(alloc: Global, port: EndPort) -> Result<Vec<EndPort>, AllocError>
     Ok(ports)
 }
 
-/// Returns the end ports that hold `lid` by `lines`. Takes a walk over all lines.
+/// Returns the end ports that hold `lid` by `lines`. Walks all lines.
 fn all_owners_of(alloc: Global, lines: &[HeldLid], lid: Lid) -> Result<Vec<EndPort>, AllocError>
     ensures { IfOk result (λ owners. owners.items ≡ holders lines.now lid) }
 {
@@ -125,7 +125,7 @@ pub fn is_told_twice(lines: &[HeldLid], owners: &[Owner], lid: Lid) -> bool
     }
 }
 
-/// Returns whether more than one end port holds the LID.
+/// Returns whether `owner` stands for more than one end port.
 fn is_several(owner: &Owner) -> bool
     ensures { result ≡ is_several owner.now }
 {

@@ -48,7 +48,7 @@ pub(crate) fn with_top(
     Ok(switches)
 }
 
-/// Returns the blocks of the switches, whose indices count from 0.
+/// Returns the blocks of all switches. The first switch has index 0.
 pub(crate) fn blocks_of(alloc: Global, tables: &[Table]) -> Result<Vec<HeldBlock>, AllocError>
     ensures { IfOk result (λ blocks. blocks.items ≡ blocks_of 0 tables.now) }
 {
@@ -59,7 +59,7 @@ pub(crate) fn blocks_of(alloc: Global, tables: &[Table]) -> Result<Vec<HeldBlock
     Ok(blocks)
 }
 
-/// Appends the blocks of the switch at index `switch`, whose numbers count from 0.
+/// Appends the blocks of the switch at index `switch`. The first block has number 0.
 fn push_blocks(
     blocks: &mut Vec<HeldBlock>,
     switch: usize,

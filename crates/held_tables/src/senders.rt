@@ -19,7 +19,7 @@ pub struct Sender {
     pub far: Far,
 }
 
-/// Returns the end ports as senders.
+/// Returns `ports` as senders.
 pub fn sources(
     alloc: Global,
     wires: &Wires,
@@ -42,7 +42,7 @@ pub fn sources(
     Ok(sources)
 }
 
-/// Returns, for each sender, the index of the first switch that its packets reach.
+/// Returns, for each sender, the index of the first switch that its packets reach, or `None` if they reach none.
 pub fn firsts(alloc: Global, sources: &[Sender]) -> Result<Vec<Option<usize>>, AllocError>
     ensures { IfOk result (λ firsts. firsts.items ≡ map first_switch sources.now) }
 {
@@ -52,7 +52,7 @@ pub fn firsts(alloc: Global, sources: &[Sender]) -> Result<Vec<Option<usize>>, A
         .collect(alloc)
 }
 
-/// Returns the index of the first switch that a sender's packets reach.
+/// Returns the index of the first switch that the packets of `source` reach, or `None` if they reach none.
 fn first_switch(source: &Sender) -> Option<usize>
     ensures { result ≡ first_switch source.now }
 {
@@ -62,14 +62,14 @@ fn first_switch(source: &Sender) -> Option<usize>
     }
 }
 
-/// Returns whether the packets of each sender first reach one of `count` switches.
+/// Returns whether each of `firsts` is the index of one of `count` switches.
 pub fn all_begin(count: usize, firsts: &[Option<usize>]) -> bool
     ensures { result ≡ all_begin count firsts.now }
 {
     firsts.iter().all(|first| is_among(count, *first))
 }
 
-/// Returns whether `first` is one of `count` switches.
+/// Returns whether `first` is the index of one of `count` switches.
 fn is_among(count: usize, first: Option<usize>) -> bool
     ensures { result ≡ is_among count first }
 {

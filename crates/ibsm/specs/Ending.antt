@@ -1,4 +1,4 @@
--- How a task over files ends: what was done, or its status and the line on standard error that says why.
+-- How a task over files ends: what was done, or its exit status and the line on standard error that gives the reason.
 use Rattle.std.specs.Prelude.{◌≡◌, ◌⊎◌, ◌≤◌, ◌+◌, Bool, true, false, List, [], ℕ, Option, Some, None, Result, map, slice_get}
 use Rattle.std.specs.Borrow.{Bor}
 use Rattle.byte_io.specs.Source.{SourceState}
@@ -25,7 +25,7 @@ use Rattle.ibsm.specs.Opening.{AreOpened, IsOpenFault}
 
 -- what is done ----------------------------------------------------------------------------------
 
--- `count` names are enough for the texts that a task takes; a run and a manager take no files behind them
+-- `count` names are enough for the texts that a task takes; a run and the serving of a manager take no files after them
 abbrev pub HasEnoughNames : Task → ℕ → Type 0
 HasEnoughNames (Answer request) count = texts_for (rule_for request.output) ≤ count
 HasEnoughNames (Audit asked) count = 1 ≤ count
@@ -34,8 +34,8 @@ HasEnoughNames (Next asked) count = texts_for asked.rule + 1 ≤ count
 HasEnoughNames (Run lmc rule) count = count ≡ texts_for rule + 2
 HasEnoughNames (Serve asked) count = count ≡ texts_for asked.rule + 1
 
--- what a task does with open inputs, if `prints` holds of what it prints and `says` of what it writes to standard
--- error; a task that judges nothing passes
+-- the task was done with open inputs; `prints` holds of what it prints, and `says` of what it writes to standard error;
+-- a task that judges nothing passes
 abbrev pub Does : {S : Type 0} → (S → SourceState) → Task → List S → List S → (List ℕ → Type 0)
     → (List ℕ → Type 0) → Bool → Type 0
 Does state (Answer request) olds news prints says passed =
@@ -51,7 +51,7 @@ Does state (Run lmc rule) olds news prints says passed =
 Does state (Serve asked) olds news prints says passed =
     (passed ≡ true) × HasServedLines state asked olds news prints
 
--- a task that is done leaves standard error as it was; only a step may write there
+-- a task that is done leaves standard error unchanged, except for the task of a step
 abbrev pub StaysSilent : {E : Type 0} → Task → E → E → Type 0
 StaysSilent (Next asked) errors errors' = Unit {0}
 StaysSilent task errors errors' = errors' ≡ errors
@@ -64,7 +64,7 @@ pub record Performs {S : Type 0} (answers : List ℕ → Result S OpenFault → 
   pub opened : AreOpened answers names olds
   pub does : Does state task olds news prints says passed
 
--- the words ask for a task, and name its inputs
+-- the words ask for a task and name its inputs
 pub record AsksWhole (matches : ArgMatches) : Type 0 where
   pub task : Task
   pub is_asked : task_asked matches ≡ Some task
@@ -77,19 +77,19 @@ pub record PerformsWords {S : Type 0} (answers : List ℕ → Result S OpenFault
   pub asked : AsksWhole matches
   pub performed : Performs answers state asked.task asked.names prints says passed
 
--- the exit status if all is done: `Done`, or `Failed` if what was judged does not pass
+-- the exit status of a task that is done: `Done`, or `Failed` if what it judged does not pass
 abbrev pub status_after : Bool → ExitStatus
 status_after true = Done
 status_after false = Failed
 
--- all is done, whether or not it passes
+-- the status is that of a task that is done, whether or not it passes
 abbrev pub IsDone : ExitStatus → Type 0
 IsDone status = (passed : Bool) × (status ≡ status_after passed)
 
 -- faults ----------------------------------------------------------------------------------------
 
--- why a task over open inputs ends early; if memory was refused as it went on, `prints` holds of what it would have
--- printed, and if no more lines could be read, `whole` does
+-- why a task over open inputs ends early; if memory ran out, `prints` holds of what it would have printed; if no more
+-- lines could be read, `whole` holds of what was printed
 abbrev pub IsFaultOver : {S : Type 0} → (S → SourceState) → Task → List S → List S
     → (List ℕ → Type 0) → (List ℕ → Type 0) → Bool → Fault → Type 0
 IsFaultOver state (Answer request) olds news prints whole output_failed fault =
@@ -121,23 +121,23 @@ IsTaskFault answers state task names prints whole output_failed fault =
     IsOpenFault answers names fault
     ⊎ FailsOverFiles answers state task names prints whole output_failed fault
 
--- a run prints as it goes on, and may then lack memory; a manager too, and its lines may fail to be read; each other
--- task prints once it is done
+-- the fault may come after a part was printed: a run prints as it goes on, and may then lack memory, and so does a
+-- manager, whose lines may also fail to be read; each other task prints once it is done
 abbrev pub StopsAsItGoes : Task → Fault → Type 0
 StopsAsItGoes (Run lmc rule) fault = fault ≡ Memory
 StopsAsItGoes (Serve asked) fault = (fault ≡ Memory) ⊎ (fault ≡ File (texts_for asked.rule) Read)
 StopsAsItGoes task fault = ⊥
 
--- a task that ends with a fault leaves the output as it was, unless a write failed or it stopped as it went on
+-- if a task ends with a fault, the output is unchanged, unless a write failed or a part was already printed
 abbrev pub KeepsOutput : Task → Type 0 → Fault → Type 0
 KeepsOutput task stays fault = (fault ≡ Write) ⊎ (StopsAsItGoes task fault ⊎ stays)
 
--- the name of a file, empty if there is none
+-- the name of a file; empty if there is none
 abbrev pub name_at : Option (Bor (List ℕ)) → List ℕ
 name_at None = []
 name_at (Some name) = name.now
 
--- the name of the file that a fault concerns
+-- the name of the file that a fault concerns; empty if it concerns none
 abbrev pub name_of : List (Bor (List ℕ)) → Fault → List ℕ
 name_of names (Open input) = name_at (slice_get names input)
 name_of names (File input fault) = name_at (slice_get names input)
@@ -146,12 +146,12 @@ name_of names (NoRoom why) = []
 name_of names Write = []
 name_of names Memory = []
 
--- the line that the program writes of a fault of a run over the files `names`
+-- the line that the program writes for a fault of a run over the files `names`
 abbrev pub fault_line : List (Bor (List ℕ)) → Fault → List ℕ
 fault_line names fault = program_line (fault_text (name_of names fault) fault)
 
--- a task over the files `names` has a fault: it ends with the fault's status, `says` holds of the line that says the
--- fault, and the output stays if it is kept
+-- a task over the files `names` has a fault: it ends with the fault's status, `says` holds of the fault's line, and the
+-- output stays if it is kept
 pub record SaysWhy (task : Task) (names : List (Bor (List ℕ))) (IsFault : Fault → Type 0) (stays : Type 0)
     (status : ExitStatus) (says : List ℕ → Type 0) : Type 0 where
   pub fault : Fault
@@ -160,7 +160,7 @@ pub record SaysWhy (task : Task) (names : List (Bor (List ℕ))) (IsFault : Faul
   pub ends : status ≡ status_of fault
   pub said : says (fault_line names fault)
 
--- the task that words ask for has a fault, over the files that they name
+-- the task that the words ask for has a fault, over the files that they name
 pub record SaysWhyOfWords {S : Type 0} (answers : List ℕ → Result S OpenFault → Type 0) (state : S → SourceState)
     (matches : ArgMatches) (prints whole : List ℕ → Type 0) (output_failed : Bool) (stays : Type 0)
     (status : ExitStatus) (says : List ℕ → Type 0) : Type 0 where

@@ -1,4 +1,4 @@
--- Opening files by their names, in their order. An opener is known by its answers to names.
+-- Opening files by their names, in order. An opener is described by its answers to names.
 use Rattle.std.specs.Prelude.{◌≡◌, ◌⊎◌, ◌<◌, ℕ, List, [], ◌∷◌, ◌++◌, Some, Result, Ok, Err, length, slice_get}
 use Rattle.std.specs.Borrow.{Bor}
 use Rattle.sm_cli.specs.declared.fault.Fault.{Fault}
@@ -6,13 +6,13 @@ use Rattle.sm_cli.specs.declared.fault.Fault.TheVariants as faults
 use Rattle.ibsm.specs.declared.opener.OpenFault.{OpenFault}
 use Rattle.ibsm.specs.declared.opener.OpenFault.TheVariants.{Missing, Memory}
 
--- a file was opened and appended to the others; or none was, and they are as they were
+-- if a file was opened, it is appended to the others; otherwise they are unchanged
 abbrev pub OpensBehind : {S : Type 0} → (Result S OpenFault → Type 0) → Result (Unit {0}) OpenFault → List S → List S
     → Type 0
 OpensBehind {S} answers (Ok u) old new = (file : S) × answers (Ok file) × (new ≡ old ++ file ∷ [])
 OpensBehind answers (Err fault) old new = answers (Err fault) × (new ≡ old)
 
--- the files were opened by the names, one for each, in their order
+-- the files were opened by these names, one for each name, in their order
 pub record AreOpened {S : Type 0} (answers : List ℕ → Result S OpenFault
     → Type 0) (names : List (Bor (List ℕ))) (files : List S) : Type 0 where
   pub one_each : length files ≡ length names
@@ -20,7 +20,7 @@ pub record AreOpened {S : Type 0} (answers : List ℕ → Result S OpenFault
       ≡ Some file
       → answers name.now (Ok file)
 
--- a name was asked for and is not missing: its file was opened, or memory was refused for it
+-- a name was tried and is not missing: its file was opened, or memory ran out for it
 abbrev pub IsThere : {S : Type 0} → (Result S OpenFault → Type 0) → Type 0
 IsThere {S} answers = ((file : S) × answers (Ok file)) ⊎ answers (Err Memory)
 
@@ -29,7 +29,7 @@ abbrev pub AreThere : {S : Type 0} → (List ℕ → Result S OpenFault → Type
 AreThere answers names input =
     (k : ℕ) (name : Bor (List ℕ)) → k < input → slice_get names k ≡ Some name → IsThere (answers name.now)
 
--- the name at `input` is missing, and none before it
+-- the name at `input` is missing, and no earlier one is
 pub record IsFirstMissing {S : Type 0} (answers : List ℕ → Result S OpenFault
     → Type 0) (names : List (Bor (List ℕ))) (input : ℕ) : Type 0 where
   pub name : Bor (List ℕ)
@@ -37,7 +37,7 @@ pub record IsFirstMissing {S : Type 0} (answers : List ℕ → Result S OpenFaul
   pub missing : answers name.now (Err Missing)
   pub before : AreThere answers names input
 
--- memory was refused as a name was asked for
+-- memory ran out when some name was tried
 pub record WasRefusedMemory {S : Type 0} (answers : List ℕ → Result S OpenFault
     → Type 0) (names : List (Bor (List ℕ))) : Type 0 where
   pub input : ℕ
@@ -45,7 +45,7 @@ pub record WasRefusedMemory {S : Type 0} (answers : List ℕ → Result S OpenFa
   pub there : slice_get names input ≡ Some name
   pub refused : answers name.now (Err Memory)
 
--- memory was refused as a name was asked for, and none of the names is missing
+-- memory ran out when some name was tried, and none of the names is missing
 pub record LacksMemory {S : Type 0} (answers : List ℕ → Result S OpenFault
     → Type 0) (names : List (Bor (List ℕ))) : Type 0 where
   pub refused : WasRefusedMemory answers names

@@ -1,4 +1,4 @@
-//! `ibsm`: the program, which shows what InfiniBand subnet managers know and do.
+//! The program `ibsm`, which shows what InfiniBand subnet managers know and do.
 #![tactic(auto)]
 
 mod opener;

@@ -10,13 +10,13 @@ use std::{fs, io};
 /// The reason why a file was not opened.
 #[derive(Clone, Copy, Debug, PartialEq, Eq)]
 pub(crate) enum OpenFault {
-    /// No file of that name can be opened.
+    /// No file of this name can be opened.
     Missing,
     /// Memory was refused.
     Memory,
 }
 
-/// Opens files by their names. No contract can say which files exist: an answer, and the name that it is for, are known
+/// Opens files by their names. No contract can say which files exist. An answer, and the name that it is for, are known
 /// only from the call that gave it.
 pub(crate) trait Opener {
     ghost use Rattle.ibsm.specs.declared.opener.OpenFault.{OpenFault};
@@ -24,10 +24,10 @@ pub(crate) trait Opener {
     /// The type of an open file.
     type Opened: Source + Drop;
 
-    // `answers` holds of a name and an answer that a call gave for it.
+    // `answers` relates a name and an answer that a call gave for it.
     ghost answers: { Self → List ℕ → Result Self.Opened OpenFault → Type 0 };
 
-    /// Opens the file `name`, and appends it to `files`.
+    /// Opens the file `name`, and appends it to `files`. Appends nothing if it cannot be opened.
     fn open_behind(&self, name: &str, files: &mut Vec<Self::Opened>) -> Result<(), OpenFault>
         ensures { OpensBehind (answers self.now name.now) result files.old.items files.new.items };
 }

@@ -1,4 +1,4 @@
-//! A task over files, given by their names.
+//! A task over files that are given by their names.
 ghost use Rattle.std.specs.Prelude.{◌≡◌, ◌⊎◌, Bool, length, IfOk, IfErr, OnOk, OnErr, IsTrue, true};
 ghost use Rattle.std.specs.Io.KnownBytes.{Appends};
 ghost use Rattle.sm_cli.specs.ExitStatus.{status_of};
@@ -21,8 +21,8 @@ use sm_cli::{ExitStatus, Fault, run_files, write_fault};
 use std::alloc::Global;
 use std::io::Write;
 
-/// Performs `task` over the files `names`, its inputs in the order in which they are read. All files are opened before
-/// the first is read. If the task cannot be done, writes the reason to `errors`.
+/// Performs `task` over the files `names`, which are its inputs in the order in which they are read. All files are
+/// opened before the first is read. If the task cannot be done, writes the reason to `errors`.
 pub(crate) fn perform_or_explain<R, O, E>(
     rt: &R,
     task: Task,
@@ -66,7 +66,7 @@ fn status_after(passed: bool) -> ExitStatus
     }
 }
 
-/// Performs `task` over the files `names`. Returns whether what it judges passes; a task that judges nothing passes.
+/// Performs `task` over the files `names`. Returns whether what it judges passes. A task that judges nothing passes.
 fn perform<R, O, E>(
     rt: &R,
     task: Task,
@@ -99,7 +99,7 @@ where
     }
 }
 
-/// Performs `task` over its open inputs. Returns whether what it judges passes; a task that judges nothing passes.
+/// Performs `task` over its open inputs. Returns whether what it judges passes. A task that judges nothing passes.
 fn do_task<S: Source, W: Sink, E: Sink>(
     alloc: Global,
     task: Task,
@@ -148,8 +148,8 @@ pub(crate) fn say<E: Write>(errors: &mut ToWrite<E>, names: &[&str], fault: &Fau
     fault.status()
 }
 
-/// Opens the files `names` in their order. After memory was refused the remaining names are still tried, since a
-/// missing file is reported first.
+/// Opens the files `names` in their order. If memory runs out, still tries the remaining names, since a missing file is
+/// reported first.
 fn open_all<R>(rt: &R, names: &[&str]) -> Result<Vec<R::Opened>, Fault>
 where
     R: Opener + AllocGlobal,
@@ -172,7 +172,7 @@ where
     }
 }
 
-/// Returns the name of the file that `fault` concerns, empty if it concerns none.
+/// Returns the name of the file that `fault` concerns, or an empty name if it concerns none.
 fn name_of<'a>(names: &[&'a str], fault: &Fault) -> &'a str
     ensures { result.now ≡ name_of names.now fault.now }
 {

@@ -1,4 +1,4 @@
-//! One run of the program.
+//! A run of the program.
 ghost use Rattle.std.specs.Prelude.{◌≡◌, ◌≢◌, ◌⊎◌, Bool, IfOk, IsTrue};
 ghost use Rattle.std.specs.Io.KnownBytes.{Appends};
 ghost use Rattle.cli_arguments.specs.WellFormed.{IsWellFormed};
@@ -33,7 +33,7 @@ where
     }
 }
 
-/// Performs what the command line asks for. Returns `Err` if memory ran out and nothing was written about it yet.
+/// Performs what the command line asks for. Returns `Err` if memory ran out before anything was written about it.
 fn try_run<R, O, E>(rt: &R, output: O, errors: &mut ToWrite<E>) -> Result<ExitStatus, AllocError>
 where
     R: Env + Opener + Print + Eprint + AllocGlobal,
@@ -50,7 +50,7 @@ where
     }
 }
 
-/// Returns the words of the command line. If one is not UTF-8, prints that and returns `None`.
+/// Returns the words of the command line. If one of them is not UTF-8, prints that and returns `None`.
 fn words<R: Env + Eprint + AllocGlobal>(rt: &R) -> Result<Option<Vec<String>>, AllocError> {
     match env::args(rt) {
         Ok(words) => Ok(Some(words.collect(rt.alloc())?)),
@@ -62,7 +62,7 @@ fn words<R: Env + Eprint + AllocGlobal>(rt: &R) -> Result<Option<Vec<String>>, A
     }
 }
 
-/// Performs what well-formed words ask for. If it cannot, writes the reason to `errors`.
+/// Performs what the well-formed words `matches` ask for. If it cannot, writes the reason to `errors`.
 ///
 /// # Errors
 ///
@@ -96,7 +96,7 @@ where
     Ok(perform_or_explain(rt, task, &names, output, errors))
 }
 
-/// Prints help to standard output, or what is wrong with the command line to standard error.
+/// Prints help to standard output, or the fault of the command line to standard error.
 pub(crate) fn explain<R: Print + Eprint, E: Write>(
     rt: &R,
     error: &Error,

@@ -15,7 +15,7 @@ use Rattle.audit_channels.specs.Fabrics.{TakeInTurn, Travels}
 use Rattle.next_tables.specs.ChangingFabric.{IsInChange, entry_now}
 use Rattle.next_tables.specs.NextTables.{IsKept, next_tables, settled_first}
 
--- facts describe what is joined to an end port, and that part holds tables
+-- facts describe all that is joined to an end port, and this part holds tables
 pub record PartSeen : Type 0 where
   pub facts : Facts
   pub held : HeldPlan
@@ -36,6 +36,7 @@ pub record TravelsThere (part : PartSeen) : Type 0 where
   pub next : ℕ
   pub in_turn : TakeInTurn (cells_of part.facts) part.fabric hops channel next
 
+-- in some part, a packet takes two channels one after the other
 abbrev pub SomePacketTravels : Type 0
 SomePacketTravels = (part : PartSeen) × TravelsThere part
 
@@ -46,8 +47,8 @@ pub record SwitchThere (part : PartSeen) : Type 0 where
   pub there : IsEndPortIn (IsJoinedTo part.fabric part.origin) part.fabric port node
   pub kind : IsTrue (is_switch node.kind)
 
--- in a change towards a plan, one switch in the part has another entry than before for a LID that one end port keeps,
--- and one has not its next entry yet
+-- in a change towards a plan, one switch of the part already has a new entry for a LID that one end port keeps, and one
+-- does not have its next entry yet
 pub record ChangesThere (part : PartSeen) : Type 0 where
   pub plan : HeldPlan
   pub line : HeldLid
@@ -61,5 +62,6 @@ pub record ChangesThere (part : PartSeen) : Type 0 where
   pub behind : entry_now now line.lid waiting.port.node
       ≢ entry_for (next_tables (cells_of part.facts) settled_first part.held plan) line.lid waiting.node.guid
 
+-- in some part, tables change
 abbrev pub SomeTablesChange : Type 0
 SomeTablesChange = (part : PartSeen) × ChangesThere part

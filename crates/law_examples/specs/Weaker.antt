@@ -1,4 +1,4 @@
--- What laws and definitions say beyond weaker ones, each at one example.
+-- Examples that distinguish laws and definitions from weaker ones.
 use Rattle.std.specs.Prelude.{◌≡◌, ℕ, true, false, [], ◌∷◌, List}
 use Rattle.fabric_model.specs.declared.cable.NodePort.{NodePort}
 use Rattle.fabric_model.specs.Fabric.{Fabric}
@@ -14,14 +14,15 @@ use Rattle.fact_store.specs.View.{cells_of}
 use Rattle.subnet_view.specs.Routing.{Routing}
 use Rattle.lft_blocks.specs.Arrival.{IsRoutedWay, switches_met}
 
--- a port was up, and two sweeps later another one is down
+-- a port was up in generation 1, and another port is down in generation 3
 abbrev pub up_before : Key × Cell Value
 up_before = (key.Port 16 1, Known 1 (Up true))
 
 abbrev pub down_now : Key × Cell Value
 down_now = (key.Port 16 2, Known 3 (Up false))
 
--- what one store forgot is not brought back by another store that tells it, whatever came first
+-- what one store forgot is not brought back by another store that has it, whether the floor is raised before or after
+-- the merge
 abbrev pub FloorsStayInGroupings : Type 0
 FloorsStayInGroupings =
     (cells_of (merged (of_two (of_raised (of_sightings (up_before ∷ [])) 2) (of_sightings (up_before ∷ down_now ∷ []))))
@@ -29,7 +30,7 @@ FloorsStayInGroupings =
     × (cells_of (merged (of_raised (of_two (of_sightings (up_before ∷ [])) (of_sightings (down_now ∷ []))) 2))
     ≡ down_now ∷ [])
 
--- a way that meets two switches and then the first of them again is no way of a rule
+-- a route that passes two switches and then the first one again is no route of a rule
 abbrev pub NoSwitchTwice : Type 0
 NoSwitchTwice =
     (rule : Routing) (f : Fabric) (source : NodePort) (hops : List Hop) (s t : ℕ) → switches_met f source hops

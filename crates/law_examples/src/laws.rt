@@ -1,4 +1,4 @@
-//! Fabrics, tables and packets that meet the premises of laws, and what laws say beyond weaker ones.
+//! Fabrics, tables and packets that meet the premises of laws, and examples that distinguish laws from weaker ones.
 ghost use Rattle.law_examples.specs.Examples.{SomeFabricIsSeen, SomePacketTravels, SomeTablesChange};
 ghost use Rattle.law_examples.specs.Weaker.{FloorsStayInGroupings, NoSwitchTwice};
 
@@ -7,23 +7,24 @@ pub fn some_fabric_is_seen()
     ensures law { SomeFabricIsSeen }
 {}
 
-/// In some part that facts describe and that holds tables a packet takes two channels in turn.
+/// In some part that facts describe and that holds tables, a packet takes two channels one after the other.
 pub fn some_packet_travels()
     ensures law { SomePacketTravels }
 {}
 
-/// In some part that facts describe and that holds tables, the tables go over to the next ones for a LID that one end
-/// port keeps: one switch has another entry than before, and one has not its next entry yet.
+/// In some part that facts describe and that holds tables, the tables change to the next ones for a LID that one end
+/// port keeps: one switch has another entry than before, and one does not have its next entry yet.
 pub fn some_tables_change()
     ensures law { SomeTablesChange }
 {}
 
-/// What one store forgot is not brought back by another store that tells it, whatever came first.
+/// What one store forgot is not brought back by another store that has it, whether the floor is raised before or after
+/// the merge.
 pub fn floors_stay_in_groupings()
     ensures law { FloorsStayInGroupings }
 {}
 
-/// A way that meets two switches and then the first of them again is no way of a rule of routing.
+/// A route that passes two switches and then the first one again is no route of a routing rule.
 pub fn no_switch_twice()
     ensures law { NoSwitchTwice }
 {}

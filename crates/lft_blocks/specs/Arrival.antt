@@ -19,18 +19,18 @@ use Rattle.subnet_view.specs.Routing.{Routing, IsRouting}
 use Rattle.lft_blocks.specs.Rules.{RuleValue, routing_by}
 use Rattle.lft_blocks.specs.Plan.{PlanValue, plan_by, plan_of, block_at}
 
--- the switch's table has the block, from LID 64 b on
+-- the block has the entries of the node's table from the LID 64 b on
 abbrev pub HoldsBlock : Fabric → ℕ → ℕ → List ℕ → Type 0
 HoldsBlock f node b block = (i : ℕ) → i < 64 → slice_get block i ≡ Some (f.entry node (64 * b + i))
 
--- an end port has its LID and its LMC of the plan; a switch has the plan's greatest LID or a greater one as its top,
--- and its blocks of the plan
+-- the end port has the LID and the LMC that the plan gives it; if its node is a switch, the switch's top is at least
+-- the plan's greatest LID, and its table has the plan's blocks
 pub record HoldsPlanAt (plan : PlanValue) (f : Fabric) (port : NodePort) (node : Node) : Type 0 where
   pub lids : range_of plan.given (record { node = node.guid; port = port.port }) ≡ Some (range_at f port)
   pub top : IsTrue (is_switch node.kind) → (top : ℕ) → top_of plan.given ≡ Some top → top ≤ f.top port.node
   pub blocks : (b : ℕ) (block : List ℕ) → block_at plan node.guid b ≡ Some block → HoldsBlock f port.node b block
 
--- the part holds the plan: each of its end ports does
+-- each end port of the part holds the plan
 abbrev pub HoldsPlan : Part → PlanValue → Fabric → Type 0
 HoldsPlan part plan f = (port : NodePort) (node : Node) → IsEndPortIn part f port node → HoldsPlanAt plan f port node
 
@@ -66,18 +66,18 @@ switches_met f source hops = map (guid_at f) (filter (λ p. is_switch_at f p.nod
 abbrev pub channels_taken : Routing → Fabric → List Hop → List ℕ
 channels_taken rule f hops = map (λ h. rule.channel (guid_at f h.out) (guid_at f h.into)) (switch_hops f hops)
 
--- the last of the numbers, or the one before them
+-- the last of the numbers, or d if there is none
 abbrev pub last_or : ℕ → List ℕ → ℕ
 last_or d [] = d
 last_or d (x ∷ xs) = last_or x xs
 
--- the cost of routing from the first of these switches to the last is n
+-- n is the cost of routing from the first of these switches to the last
 abbrev pub IsCostAlong : Routing → List ℕ → ℕ → Type 0
 IsCostAlong rule [] n = Unit {0}
 IsCostAlong rule (s ∷ switches) n = rule.cost s (last_or s switches) ≡ Some n
 
--- the way of a packet: from its first switch to its last it takes as many wires as routing costs, it meets no switch
--- twice, it takes at most two wires to or from adapter ports, and its channels rise
+-- the way of a packet: between its first switch and its last it takes as many wires as routing costs; it meets no
+-- switch twice; it takes at most two wires to or from adapter ports; its channels rise
 pub record IsRoutedWay (rule : Routing) (f : Fabric) (source : NodePort) (hops : List Hop) : Type 0 where
   pub at_cost : IsCostAlong rule (switches_met f source hops) (length (switch_hops f hops))
   pub no_switch_twice : AllPairs (λ a b. a ≢ b) (switches_met f source hops)
@@ -98,8 +98,8 @@ pub record ArrivesBy (rule : Routing) (part : Part) (f : Fabric) (lid : ℕ) (so
 abbrev pub Arrives : RuleValue → Part → Cells → Fabric → ℕ → NodePort → EndPort → Type 0
 Arrives rule part cells f lid source owner = ArrivesBy (routing_by rule cells) part f lid source owner
 
--- if the plan is in force in what an end port is joined to, a packet from each end port there for each LID of the plan
--- arrives
+-- if the plan is in force in the part that an end port is joined to, a packet from each end port of the part for each
+-- LID of the plan arrives
 abbrev pub EveryPacketArrivesBy : Routing → Cells → PlanValue → Type 0
 EveryPacketArrivesBy rule cells plan =
     (f : Fabric) (origin : NodePort) → IsEndPort f origin → IsInForce (IsJoinedTo f origin) cells plan f
@@ -113,8 +113,8 @@ PacketsArriveByEachRouting = (lmc : ℕ) (facts : Facts) (rule : Routing) → Is
     → ¬ (IsNoRoom lmc (cells_of facts))
     → EveryPacketArrivesBy rule (cells_of facts) (plan_by rule lmc (cells_of facts))
 
--- if the facts of a view with room describe what an end port is joined to, and that holds the plan, a packet for each
--- LID of the plan that an end port there owns arrives, whatever else the facts tell
+-- if the facts of a view with room describe the part that an end port is joined to, and the part holds the plan, a
+-- packet for each LID of the plan that an end port of the part owns arrives, whatever else the facts contain
 abbrev pub PacketsArriveWhereCovered : Type 0
 PacketsArriveWhereCovered =
     (lmc : ℕ) (facts : Facts) (rule : Routing) → IsRouting (graph_of (cells_of facts)) rule

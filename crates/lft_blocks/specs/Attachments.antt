@@ -1,4 +1,4 @@
--- The attachments of LIDs by the indices of their switches, and entries by these.
+-- The attachments of LIDs by the indices of their switches, and table entries by such attachments.
 use Rattle.std.specs.Prelude.{◌≡◌, ◌<◌, ℕ, ◌+◌, ◌*◌, List, map, length, Option, None, MatchOption, ◌==◌, unwrap_or, option_map, slice_index, slice_index_or, if◌then◌else◌}
 use Rattle.std.specs.Option.{option_map_or}
 use Rattle.std.specs.List.{range_with_len}
@@ -7,16 +7,16 @@ use Rattle.updown_routes.specs.Ports.{next_port_at}
 use Rattle.lft_blocks.specs.declared.attachment.Attachment.{Attachment}
 use Rattle.lft_blocks.specs.Plan.{SwitchTable}
 
--- the switch and the port of an attachment
+-- the GUID of the switch of attachment h, and its port
 abbrev pub meant : List ℕ → Attachment → ℕ × ℕ
 meant guids h = (slice_index guids h.switch, h.port)
 
--- the attachment, with the index of its switch
+-- `indexed` is the attachment, with the index of its switch for the GUID
 pub record IsIndexed (guids : List ℕ) (attachment : Option (ℕ × ℕ)) (indexed : Option Attachment) : Type 0 where
   pub same : option_map (meant guids) indexed ≡ attachment
   pub within : MatchOption indexed (Unit {0}) (λ h. h.switch < length guids)
 
--- the attachment of each LID
+-- the list has the attachment of each LID at the LID
 abbrev pub AreIndexed : List ℕ → (ℕ → Option (ℕ × ℕ)) → List (Option Attachment) → Type 0
 AreIndexed guids attachments indexed = (lid : ℕ) → IsIndexed guids (attachments lid) (slice_index_or indexed lid None)
 
@@ -24,7 +24,7 @@ AreIndexed guids attachments indexed = (lid : ℕ) → IsIndexed guids (attachme
 abbrev pub AreWithin : ℕ → List (Option Attachment) → Type 0
 AreWithin n indexed = (lid : ℕ) → MatchOption (slice_index_or indexed lid None) (Unit {0}) (λ h. h.switch < n)
 
--- the next port from the switch at index `own` towards each of the first n switches, 255 if there is no way
+-- the next port from the switch at index `own` towards each of the first n switches; 255 if there is no way
 abbrev pub row_of : List SwitchEdges → ℕ → ℕ → List ℕ
 row_of graph own n = map (λ to. unwrap_or (next_port_at graph own to) 255) (range_with_len 0 n)
 

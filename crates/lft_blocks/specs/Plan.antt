@@ -1,4 +1,4 @@
--- What a view plans: a LID for each end port, and each usable switch's blocks.
+-- The plan of a view: a LID for each end port, and the blocks of each usable switch.
 use Rattle.std.specs.Prelude.{◌≡◌, ℕ, List, map, Option, ◌==◌, option_and_then, slice_get}
 use Rattle.std.specs.List.{find}
 use Rattle.std.specs.List.Sorted.{IsStrictlyIncreasing}
@@ -9,17 +9,17 @@ use Rattle.lft_blocks.specs.Rules.{RuleValue, routing_by}
 use Rattle.lft_blocks.specs.LidNumbers.{lid_numbers, numbered}
 use Rattle.lft_blocks.specs.Entries.{Next, attachment_of_lid, block_count, blocks}
 
--- a usable switch and its blocks from 0 on
+-- the GUID of a usable switch, and its blocks from 0 on
 pub record SwitchTable : Type 0 where
   pub guid : ℕ
   pub blocks : List (List ℕ)
 
--- the end ports in their order with their LIDs, and the tables of the usable switches by rising GUID
+-- the LIDs of the end ports in their order, and the tables of the usable switches by rising GUID
 pub record PlanValue : Type 0 where
   pub given : Given
   pub tables : List SwitchTable
 
--- the table of each of these switches
+-- the table of each switch of the list
 abbrev pub tables_of : (ℕ → Option (ℕ × ℕ)) → Next → ℕ → List ℕ → List SwitchTable
 tables_of attachments next count guids = map (λ s. record { guid = s; blocks = blocks attachments next count s }) guids
 
@@ -38,7 +38,7 @@ plan_by rule lmc cells =
           tables_of (attachment_of_lid cells given) rule.next (block_count (top_of given)) (switches cells);
     }
 
--- the routing of LIDs by a rule that can be asked for: each LID goes as its number does
+-- the routing of LIDs by a rule that can be asked for: each LID is routed as its number
 abbrev pub lid_routing : RuleValue → ℕ → Cells → Given → Routing
 lid_routing rule lmc cells given = numbered (lid_numbers lmc cells given) (routing_by rule cells)
 
@@ -46,7 +46,7 @@ lid_routing rule lmc cells given = numbered (lid_numbers lmc cells given) (routi
 abbrev pub plan_of : RuleValue → ℕ → Cells → PlanValue
 plan_of rule lmc cells = plan_by (lid_routing rule lmc cells (lids lmc cells)) lmc cells
 
--- block b of a switch; None if the GUID is no usable switch's, or there is no such block
+-- block b of a switch; None if the GUID is not that of a usable switch, or there is no such block
 abbrev pub block_at : PlanValue → ℕ → ℕ → Option (List ℕ)
 block_at plan guid b =
     option_and_then (λ table. slice_get table.blocks b) (find (λ table. table.guid == guid) plan.tables)
@@ -55,7 +55,7 @@ block_at plan guid b =
 abbrev pub switches_of : PlanValue → List ℕ
 switches_of plan = map (λ table. table.guid) plan.tables
 
--- the switches are those of the tables, by rising GUID
+-- the GUIDs are those of the tables, and rise strictly
 pub record AreTables (guids : List ℕ) (tables : List SwitchTable) : Type 0 where
   pub theirs : guids ≡ map (λ table. table.guid) tables
   pub rising : IsStrictlyIncreasing guids

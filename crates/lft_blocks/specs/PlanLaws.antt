@@ -11,12 +11,12 @@ use Rattle.lft_blocks.specs.Rules.{RuleValue, order_of, spread_in}
 use Rattle.lft_blocks.specs.Entries.{Next, attachment_of_lid, entry, block, block_count, blocks}
 use Rattle.lft_blocks.specs.Plan.{plan_by, plan_of, block_at}
 
--- once the LIDs of a view are claimed, its plan stays
+-- if each end port claims its LID and nothing else changes, there is still room and the plan stays
 abbrev pub PlansStay : Type 0
 PlansStay = (rule : RuleValue) (lmc : ℕ) (x y : Facts) → ¬ (IsNoRoom lmc (cells_of x)) → IsClaimed lmc x y
     → ¬ (IsNoRoom lmc (cells_of y)) × (plan_of rule lmc (cells_of y) ≡ plan_of rule lmc (cells_of x))
 
--- LIDs that are claimed stay in plans, whatever end ports come
+-- end ports keep their LIDs in plans if they claim them, whatever other end ports are added
 abbrev pub LidsStayInPlans : Type 0
 LidsStayInPlans = (rule : RuleValue) (lmc : ℕ) (x z : Facts) → ¬ (IsNoRoom lmc (cells_of x))
     → ¬ (IsNoRoom lmc (cells_of z)) → GrowsFrom lmc (cells_of x) (cells_of z)
@@ -37,17 +37,19 @@ HasBlock lmc cells g b = IsUsable cells g × (b < block_count (top_of (lids lmc 
 abbrev pub block_of : Routing → ℕ → Cells → ℕ → ℕ → List ℕ
 block_of rule lmc cells g b = block (attachment_of_lid cells (lids lmc cells)) rule.next g b
 
--- a plan has exactly these blocks, by any rule
+-- by any rule, a plan has exactly the blocks of usable switches up to the block of the greatest LID, with the switch's
+-- entries
 abbrev pub BlocksAreOfSwitches : Type 0
 BlocksAreOfSwitches = (rule : Routing) (lmc : ℕ) (facts : Facts) (g b : ℕ)
     → MatchOption (block_at (plan_by rule lmc (cells_of facts)) g b) (¬ (HasBlock lmc (cells_of facts) g b))
     (λ x. HasBlock lmc (cells_of facts) g b × (x ≡ block_of rule lmc (cells_of facts) g b))
 
--- switches that are named in the order of a plan are in that order again, and give an equal plan
+-- if the switches are named in the order of a plan, the order stays the same and the plan is equal
 pub record OrderHolds (order : OrderValue) (lmc : ℕ) (cells : Cells) : Type 0 where
   pub order_stands : order_of (named_in order (order_of order cells)) cells ≡ order_of order cells
   pub plan_stands : plan_of (spread_in (named_in order (order_of order cells))) lmc cells
       ≡ plan_of (spread_in order) lmc cells
 
+-- each order satisfies `OrderHolds`, in each view and under each LMC
 abbrev pub OrdersHold : Type 0
 OrdersHold = (order : OrderValue) (lmc : ℕ) (facts : Facts) → OrderHolds order lmc (cells_of facts)

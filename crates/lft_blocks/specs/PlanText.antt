@@ -16,11 +16,11 @@ lmc_text lmc = if lmc == 0 then [] else codes " lmc " ++ decimal lmc
 abbrev pub lid_line : ℕ × ℕ × EndPort → List ℕ
 lid_line x = codes "lid " ++ decimal x.0 ++ codes " " ++ port_text x.2.node x.2.port ++ lmc_text x.1 ++ codes "\n"
 
--- the line of a LID, if an end port has it
+-- the line of a LID; empty if no end port has it
 abbrev pub owner_line : Given → ℕ → List ℕ
 owner_line given lid = option_map_or (λ port. lid_line (lid, lmc_of given port, port)) (owner_of given lid) []
 
--- a line for each LID, rising
+-- the lines of all LIDs, in rising order
 abbrev pub lids_text : Given → List ℕ
 lids_text given = flat_map (owner_line given) (rising_lids given)
 
@@ -32,18 +32,18 @@ switch_line top guid = codes "switch " ++ guid_text guid ++ codes " top " ++ dec
 abbrev pub block_line : ℕ × List ℕ → List ℕ
 block_line x = codes "block " ++ decimal x.0 ++ codes " " ++ encode_lower x.1 ++ codes "\n"
 
--- a line for each block
+-- the lines of the blocks, in turn
 abbrev pub blocks_text : List (List ℕ) → List ℕ
 blocks_text blocks = flat_map block_line (enumerate_from 0 blocks)
 
--- the line of a switch with the greatest LID, and its blocks
+-- the line of a switch with the greatest LID, and the lines of its blocks
 abbrev pub table_text : ℕ → SwitchTable → List ℕ
 table_text top table = switch_line top table.guid ++ blocks_text table.blocks
 
--- the switches, if there is a LID
+-- the lines of all switches and blocks; empty if there is no LID
 abbrev pub tables_text : PlanValue → List ℕ
 tables_text plan = option_map_or (λ top. flat_map (table_text top) plan.tables) (top_of plan.given) []
 
--- the lines of the LIDs, and then of the switches
+-- the lines of the LIDs, and then the lines of the switches
 abbrev pub plan_text : PlanValue → List ℕ
 plan_text plan = lids_text plan.given ++ tables_text plan

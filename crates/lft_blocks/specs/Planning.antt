@@ -4,19 +4,20 @@ use Rattle.std.specs.Coded.{Coded, code_by, coded×, coded_bool, coded_ℕ, code
 use Rattle.lft_blocks.specs.Rules.{RuleValue, spread_in, up_and_down}
 use Rattle.spread_routes.specs.SwitchOrders.{OrderValue, as_named, balanced_as, from_roots, least_loaded}
 
--- the LMC of adapter ports, and the rule of routing
+-- the LMC of adapter ports and the rule of routing
 pub record Planning : Type 0 where
   pub lmc : ℕ
   pub rule : RuleValue
 
--- an order is stored by its GUIDs, if it has some, by whether they are named in its order, and by whether loads are
--- balanced
+-- an order is stored by whether it names all switches in turn, by whether loads are balanced, and by its GUIDs;
+-- `least_loaded` is stored as None
 abbrev guids_in : OrderValue → Option (Bool × (Bool × List ℕ))
 guids_in (from_roots roots) = Some (false, (false, roots))
 guids_in (as_named switches) = Some (true, (false, switches))
 guids_in (balanced_as switches) = Some (true, (true, switches))
 guids_in least_loaded = None
 
+-- the order that is stored in this way
 abbrev order_by : Option (Bool × (Bool × List ℕ)) → OrderValue
 order_by (Some (false, (balanced, roots))) = from_roots roots
 order_by (Some (true, (false, switches))) = as_named switches
@@ -29,16 +30,18 @@ same_order (as_named switches) = refl
 same_order (balanced_as switches) = refl
 same_order least_loaded = refl
 
+-- the code of an order
 abbrev order_code : Coded OrderValue
 order_code =
     code_by (Option (Bool × (Bool × List ℕ))) (coded_option (coded× coded_bool (coded× coded_bool (coded_list coded_ℕ))))
     guids_in order_by same_order
 
--- a rule is stored by its order; up and down has none
+-- a rule is stored by its order; up and down is stored as None
 abbrev order_in : RuleValue → Option OrderValue
 order_in up_and_down = None
 order_in (spread_in order) = Some order
 
+-- the rule that is stored in this way
 abbrev rule_by : Option OrderValue → RuleValue
 rule_by None = up_and_down
 rule_by (Some order) = spread_in order
@@ -47,6 +50,7 @@ pub same_rule : (rule : RuleValue) → rule_by (order_in rule) ≡ rule
 same_rule up_and_down = refl
 same_rule (spread_in order) = refl
 
+-- the code of a rule
 abbrev rule_code : Coded RuleValue
 rule_code = code_by (Option OrderValue) (coded_option order_code) order_in rule_by same_rule
 

@@ -1,4 +1,4 @@
--- The entries of each switch, LID by LID, as they are written target by target.
+-- The entries of each switch by LID, as they are written target by target.
 use Rattle.std.specs.Prelude.{◌≡◌, ◌<◌, ℕ, ◌+◌, ◌*◌, Bool, false, List, [], map, filter, length, Option, None, Some, ◌==◌, nat_lt, unwrap_or, option_map, slice_index, slice_index_or, if◌then◌else◌}
 use Rattle.std.specs.List.{range_with_len}
 use Rattle.spread_labels.specs.Orders.{numbers_from}
@@ -21,28 +21,27 @@ abbrev pub lids_at : List (Option Attachment) → ℕ → List ℕ
 lids_at attachments t =
     filter (λ lid. is_attachment_at t (slice_index_or attachments lid None)) (numbers_from 0 (length attachments))
 
--- the LIDs less than n that are attached to the switch at index t
+-- the LIDs below n that are attached to the switch at index t
 abbrev pub lids_before : List (Option Attachment) → ℕ → ℕ → List ℕ
 lids_before attachments n t =
     filter (λ lid. is_attachment_at t (slice_index_or attachments lid None)) (numbers_from 0 n)
 
--- for each switch the LIDs less than n that are attached to it
+-- the lists have, for each switch, the LIDs below n that are attached to it
 pub record AreLidsAt (attachments : List (Option Attachment)) (n switches : ℕ) (lists : List (List ℕ)) : Type 0 where
   pub all : length lists ≡ switches
   pub each : (t : ℕ) → t < switches → slice_index_or lists t [] ≡ lids_before attachments n t
 
--- the port of an attachment, 255 if there is none
+-- the port of an attachment; 255 if there is none
 abbrev pub attachment_port : Option Attachment → ℕ
 attachment_port None = 255
 attachment_port (Some h) = h.port
 
--- the entry for a LID: its attachment's port at the attachment's switch; elsewhere `port`, and 255 if there is none
+-- the entry for a LID: the port of its attachment if `is_own`, and otherwise `port`; 255 if there is none
 abbrev pub entry_by : List (Option Attachment) → Bool → ℕ → Option ℕ → ℕ
 entry_by attachments is_own lid port =
     if is_own then attachment_port (slice_index_or attachments lid None) else unwrap_or port 255
 
--- the entry for a LID of the switch at index `own`, if the index of its attachment's switch is less than t, and else
--- 255
+-- the entry for a LID of the switch at index `own`; 255 if the index of its attachment's switch is not below t
 abbrev pub entry_before : Next → List ℕ → ℕ → ℕ → ℕ → Option Attachment → ℕ
 entry_before next guids t own lid None = 255
 entry_before next guids t own lid (Some h) =
@@ -50,14 +49,15 @@ entry_before next guids t own lid (Some h) =
     (if h.switch == own then h.port else unwrap_or (next lid (slice_index guids own) (slice_index guids h.switch))
     255) else 255
 
--- the row of the switch at index `own`, with the entries for LIDs that are attached to the first t switches
+-- the row of the switch at index `own` has the entries for LIDs that are attached to the first t switches, and 255 for
+-- the others
 pub record IsRow (next : Next) (guids : List ℕ) (attachments : List (Option Attachment)) (t own : ℕ) (row : List ℕ) :
     Type 0 where
   pub all : length row ≡ length attachments
   pub entries : (lid : ℕ) → lid < length attachments → slice_index row lid
       ≡ entry_before next guids t own lid (slice_index_or attachments lid None)
 
--- the rows of all switches, with the entries for LIDs that are attached to the first t switches
+-- the rows of all switches have the entries for LIDs that are attached to the first t switches
 pub record AreRows (next : Next) (guids : List ℕ) (attachments : List (Option Attachment)) (t : ℕ)
     (rows : List (List ℕ)) : Type 0 where
   pub all : length rows ≡ length guids

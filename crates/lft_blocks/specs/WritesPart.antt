@@ -1,9 +1,9 @@
--- What a call that writes a part of a text, possibly an empty one, promises.
+-- The promise of a call that writes a part of a text. The part may be empty.
 use Rattle.std.specs.Prelude.{ℕ, Bool, List, Option, Result, OnOk, OnErr, IsTrue}
 use Rattle.std.specs.Io.KnownBytes.{Appends}
 use Rattle.byte_io.specs.declared.sink.WriteFault.{WriteFault}
 
--- at Ok the sink's bytes have grown by the part, and at Err the sink has failed
+-- if the result is Ok, the sink's bytes have grown by the part; if it is Err, the sink has failed
 pub record WritesPart {W : Type 0} (written : W → Option (List ℕ)) (has_failed : W
     → Bool) (result : Result (Unit {0}) WriteFault) (old new : W)
     (text : List ℕ) : Type 0 where

@@ -21,7 +21,8 @@ pub(crate) struct Attachment {
     pub(crate) port: PortNum,
 }
 
-/// Returns the attachment of each LID that has an entry in the first `count` blocks, at the LID.
+/// Returns the attachment of each LID that has an entry in the first `count` blocks. The index of an attachment is its
+/// LID.
 pub(crate) fn attachments(
     alloc: Global,
     wires: &Wires,
@@ -43,7 +44,8 @@ pub(crate) fn attachments(
     Ok(attachments)
 }
 
-/// Returns the attachment of a LID. Takes some six searches.
+/// Returns the attachment of `lid`. Returns `None` if no end port has `lid`, or its owner is not attached to a usable
+/// switch. Takes about six searches.
 fn attachment_of_lid(wires: &Wires, guids: &[Guid], lids: &LidMap, lid: Lid) -> Option<Attachment>
     requires { guids.now ≡ switches (cells_of wires.now) }
     ensures { IsIndexed guids.now (attachment_of_lid (cells_of wires.now) lids.now lid) result }
@@ -53,7 +55,8 @@ fn attachment_of_lid(wires: &Wires, guids: &[Guid], lids: &LidMap, lid: Lid) -> 
     Some(Attachment { switch, port })
 }
 
-/// Returns the usable switch and its port at which an end port is attached.
+/// Returns the GUID of the usable switch and its port at which `port` is attached, or `None` if there is none. A port
+/// of a usable switch is attached at the switch's own port 0.
 fn attachment_of(wires: &Wires, port: EndPort) -> Option<(Guid, PortNum)>
     ensures { result ≡ attachment_of (cells_of wires.now) port }
 {
@@ -64,7 +67,7 @@ fn attachment_of(wires: &Wires, port: EndPort) -> Option<(Guid, PortNum)>
     }
 }
 
-/// Returns the index of a GUID among rising GUIDs. Takes a search.
+/// Returns the index of `guid` among `guids`, or `None` if it is not there. Takes a search.
 pub(crate) fn index_of(guids: &[Guid], guid: Guid) -> Option<usize>
     requires { IsStrictlyIncreasing guids.now }
     ensures { IsIndexIn guids.now guid result }

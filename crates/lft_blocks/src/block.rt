@@ -7,7 +7,7 @@ use crate::attachment::Attachment;
 use smp_bytes::{Lid, NO_ENTRY};
 use std::alloc::{AllocError, Global};
 
-/// Returns the number of blocks that hold all LIDs up to `top`.
+/// Returns the number of blocks that hold all LIDs up to `top`, or 0 if `top` is `None`.
 pub fn block_count(top: Option<Lid>) -> usize
     ensures count { result ≡ block_count top }
     ensures few { result ≤ 1024 }
@@ -18,7 +18,7 @@ pub fn block_count(top: Option<Lid>) -> usize
     }
 }
 
-/// Returns the blocks of the switch at the index `own`, given its row of ports.
+/// Returns the first `count` blocks of the switch at the index `own`. `row` has its port towards each switch.
 pub(crate) fn blocks(
     alloc: Global,
     attachments: &[Option<Attachment>],
@@ -38,7 +38,7 @@ pub(crate) fn blocks(
     Ok(blocks)
 }
 
-/// Returns block `b` of the switch at the index `own`.
+/// Returns block `b` of the switch at the index `own`. `row` has its port towards each switch.
 fn block(attachments: &[Option<Attachment>], row: &[u8], own: usize, b: usize) -> [u8; 64]
     requires within { AreWithin (length row.now) attachments.now }
     requires few { b < 1024 }
@@ -51,7 +51,7 @@ fn block(attachments: &[Option<Attachment>], row: &[u8], own: usize, b: usize) -
     block
 }
 
-/// Returns the entry of the switch at the index `own` for a LID.
+/// Returns the entry for `lid` of the switch at the index `own`, or 255 if `lid` has no attachment.
 fn entry(attachments: &[Option<Attachment>], row: &[u8], own: usize, lid: usize) -> u8
     requires { AreWithin (length row.now) attachments.now }
     ensures { result ≡ entry_in attachments.now row.now own lid }

@@ -1,4 +1,4 @@
-//! The numbers by which LIDs take their turns among ports.
+//! The numbers by which LIDs take turns among the ports of switches.
 ghost use Rattle.std.specs.Prelude.{◌≡◌, ◌<◌, IfOk, length};
 ghost use Rattle.lft_blocks.specs.Attachments.{AreWithin};
 ghost use Rattle.lft_blocks.specs.LidNumbers.{indexed_number, indexed_numbers, number_at, numbering_by};
@@ -10,7 +10,7 @@ use std::alloc::{AllocError, Global};
 use std::marker::Model;
 use subnet_view::SwitchGraph;
 
-/// What the numbers of LIDs follow from.
+/// The values that the numbers of LIDs are computed from.
 #[derive(Drop)]
 pub(crate) struct Numbering {
     pub(crate) lmc: Lmc,
@@ -28,8 +28,8 @@ impl Model for Numbering {
     ghost view = { λ a. record { lmc = a.lmc; leaf_numbers = a.leaf_numbers.items; most = a.most } };
 }
 
-/// Finds what the numbers of LIDs follow from, given the number of adapters at each switch, by rising GUID. Takes what the
-/// numbers of leaf switches take.
+/// Returns the values that the numbers of LIDs are computed from, given the number of adapters at each switch, by
+/// rising GUID. Takes as long as `leaf_numbers`.
 pub(crate) fn find_numbering(
     alloc: Global,
     graph: &SwitchGraph,
@@ -47,7 +47,7 @@ pub(crate) fn find_numbering(
     })
 }
 
-/// Returns the number of each LID that has an entry, at the LID: 0 if it has no attachment.
+/// Returns the number of each LID that has an entry, or 0 if it has no attachment. The index of a number is its LID.
 pub(crate) fn lid_numbers(
     alloc: Global,
     by: &Numbering,
@@ -63,7 +63,7 @@ pub(crate) fn lid_numbers(
     Ok(numbers)
 }
 
-/// Returns the number of a LID, 0 if it has no attachment.
+/// Returns the number of `lid`, or 0 if it has no attachment.
 fn number_of(by: &Numbering, attachments: &[Option<Attachment>], lid: usize) -> u16
     requires { AreWithin (length by.now.leaf_numbers) attachments.now }
     ensures { result ≡ indexed_number by.now attachments.now lid }
@@ -74,7 +74,7 @@ fn number_of(by: &Numbering, attachments: &[Option<Attachment>], lid: usize) -> 
     }
 }
 
-/// Returns the number of a LID with this attachment, counted round at 2^16.
+/// Returns the number of `lid` at `attachment`, modulo 2^16.
 fn number_at(by: &Numbering, attachment: Attachment, lid: usize) -> u16
     requires { attachment.switch < length by.now.leaf_numbers }
     ensures { result ≡ number_at by.now attachment.switch attachment.port lid }

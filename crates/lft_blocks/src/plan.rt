@@ -53,9 +53,9 @@ impl Model for Plan {
 }
 
 impl Plan {
-    /// Plans a view by a rule of routing, with 2^LMC LIDs for each adapter port. Takes what LIDs and routes take, some
-    /// six searches for each LID, and two steps for each entry. The plan takes 64 bytes for each block of each switch
-    /// and, while it is made, 2 more for each two switches.
+    /// Plans a view by a rule of routing, with 2^LMC LIDs for each adapter port. Takes the time to assign the LIDs and
+    /// to compute the routes, about six searches for each LID, and two steps for each entry. The plan takes 64 bytes
+    /// for each block of each switch. While it is made, it takes 2 more bytes for each pair of switches.
     ///
     /// # Errors
     ///
@@ -77,14 +77,14 @@ impl Plan {
         })
     }
 
-    /// Returns the LID of each end port.
+    /// Returns the LIDs of the end ports.
     pub fn lids(&self) -> &LidMap
         ensures { result.now ≡ self.now.given }
     {
         &self.lids
     }
 
-    /// Returns the greatest LID. Takes one step.
+    /// Returns the greatest LID, or `None` if no end port has a LID. Takes one step.
     pub fn top(&self) -> Option<Lid>
         ensures { result ≡ top_of self.now.given }
     {
@@ -98,9 +98,10 @@ impl Plan {
         &self.switches
     }
 
-    /// Returns block `b` of a switch. Entry `i` has the port by which packets for the LID `64 * b + i` leave: 0 if the
-    /// switch has that LID itself, and 255 if nobody has it or no way leads there. Returns `None` exactly if the GUID
-    /// is no usable switch's, or the block is behind that of the greatest LID. Takes a search.
+    /// Returns block `b` of the switch `guid`. Entry `i` is the port by which packets for the LID `64 * b + i` leave.
+    /// It is 0 if the switch has that LID itself, and 255 if nobody has it or no way leads to its owner. Returns `None`
+    /// exactly if `guid` is not the GUID of a usable switch, or `b` is greater than the number of the greatest LID's
+    /// block. Takes a search.
     pub fn block(&self, guid: Guid, b: usize) -> Option<&[u8; 64]>
         ensures { option_copied result ≡ block_at self.now guid b }
     {

@@ -1,4 +1,4 @@
-//! A plan as text: a line for each LID, and for each switch a line and one for each of its blocks.
+//! A plan as text: a line for each LID, and for each switch a line, followed by a line for each of its blocks.
 ghost use Rattle.std.specs.Prelude.{List, Option, None, Some, IsTrue, OnOk};
 ghost use Rattle.std.specs.Option.{option_map_or};
 ghost use Rattle.std.specs.List.{flat_map};
@@ -16,9 +16,9 @@ use lid_assign::LidMap;
 use smp_bytes::{Guid, Lid};
 use subnet_view::EndPort;
 
-/// Writes a line for each LID, rising; then for each usable switch, by rising GUID, a line with the greatest LID and a
-/// line for each block; and flushes. Without end ports there are no lines. Takes no memory, and writes each block's
-/// digits at once.
+/// Writes a line for each LID, in rising order, and then for each usable switch, by rising GUID, a line with the
+/// greatest LID and a line for each block. Flushes at the end. Without end ports there are no lines. Takes no memory,
+/// and writes the digits of each block at once.
 pub fn write_plan<W: Sink>(sink: &mut W, plan: &Plan) -> Result<(), WriteFault>
     ensures writes { Writes W.written W.has_failed result sink.old sink.new (plan_text plan.now) }
     ensures flushed { OnOk result (IsTrue (W.is_flushed sink.new)) }
@@ -28,7 +28,7 @@ pub fn write_plan<W: Sink>(sink: &mut W, plan: &Plan) -> Result<(), WriteFault>
     sink.flush()
 }
 
-/// Writes a line for each LID, rising. Writes nothing if there is no end port.
+/// Writes a line for each LID, in rising order. Writes nothing if there is no end port.
 pub fn write_lids<W: Sink>(sink: &mut W, lids: &LidMap) -> Result<(), WriteFault>
     ensures { WritesPart W.written W.has_failed result sink.old sink.new (lids_text lids.now) }
 {
@@ -38,7 +38,7 @@ pub fn write_lids<W: Sink>(sink: &mut W, lids: &LidMap) -> Result<(), WriteFault
     Ok(())
 }
 
-/// Writes the line of a LID, if an end port has it.
+/// Writes the line of `lid` if an end port has it, and nothing otherwise.
 fn write_owner<W: Sink>(sink: &mut W, lids: &LidMap, lid: Lid) -> Result<(), WriteFault>
     ensures { WritesPart W.written W.has_failed result sink.old sink.new (owner_line lids.now lid) }
 {
@@ -51,7 +51,7 @@ fn write_owner<W: Sink>(sink: &mut W, lids: &LidMap, lid: Lid) -> Result<(), Wri
     }
 }
 
-/// Writes the line of a LID: `lid`, the LID, the end port that has it, and its LMC, unless that is 0.
+/// Writes the line of a LID: `lid`, the LID, the end port that has it, and its LMC if that is not 0.
 pub fn write_lid<W: Sink>(sink: &mut W, lid: Lid, lmc: Lmc, port: EndPort) -> Result<(), WriteFault>
     ensures { Writes W.written W.has_failed result sink.old sink.new (lid_line (lid, lmc, port)) }
 {
@@ -63,7 +63,7 @@ pub fn write_lid<W: Sink>(sink: &mut W, lid: Lid, lmc: Lmc, port: EndPort) -> Re
     sink.write(b"\n")
 }
 
-/// Writes an LMC, unless it is 0.
+/// Writes ` lmc ` and the number of `lmc`, or nothing if the number is 0.
 fn write_lmc<W: Sink>(sink: &mut W, lmc: Lmc) -> Result<(), WriteFault>
     ensures { WritesPart W.written W.has_failed result sink.old sink.new (lmc_text lmc) }
 {
@@ -74,7 +74,7 @@ fn write_lmc<W: Sink>(sink: &mut W, lmc: Lmc) -> Result<(), WriteFault>
     write_number(sink, u64::from(lmc.number()))
 }
 
-/// Writes the switches, if there is a LID.
+/// Writes the lines of all switches and their blocks if there is a LID, and nothing otherwise.
 fn write_tables<W: Sink>(sink: &mut W, plan: &Plan) -> Result<(), WriteFault>
     ensures { WritesPart W.written W.has_failed result sink.old sink.new (tables_text plan.now) }
 {
@@ -84,7 +84,7 @@ fn write_tables<W: Sink>(sink: &mut W, plan: &Plan) -> Result<(), WriteFault>
     }
 }
 
-/// Writes the switches of these tables.
+/// Writes the lines of the switches of `tables` and of their blocks.
 fn write_each_table<W: Sink>(sink: &mut W, top: Lid, tables: &[Table]) -> Result<(), WriteFault>
     ensures { WritesPart W.written W.has_failed result sink.old sink.new
         (flat_map (table_text top) tables.now) }
@@ -95,7 +95,7 @@ fn write_each_table<W: Sink>(sink: &mut W, top: Lid, tables: &[Table]) -> Result
     Ok(())
 }
 
-/// Writes the line of a switch, and those of its blocks.
+/// Writes the line of a switch and the lines of its blocks.
 fn write_table<W: Sink>(sink: &mut W, top: Lid, table: &Table) -> Result<(), WriteFault>
     ensures { WritesPart W.written W.has_failed result sink.old sink.new (table_text top table.now) }
 {
@@ -103,7 +103,7 @@ fn write_table<W: Sink>(sink: &mut W, top: Lid, table: &Table) -> Result<(), Wri
     write_blocks(sink, table.blocks())
 }
 
-/// Writes the line of a switch: `switch`, its GUID, `top`, and the greatest LID.
+/// Writes the line of a switch: `switch`, `guid`, `top`, and the greatest LID, which is `top`.
 pub fn write_switch<W: Sink>(sink: &mut W, top: Lid, guid: Guid) -> Result<(), WriteFault>
     ensures { Writes W.written W.has_failed result sink.old sink.new (switch_line top guid) }
 {
@@ -124,7 +124,7 @@ fn write_blocks<W: Sink>(sink: &mut W, blocks: &[[u8; 64]]) -> Result<(), WriteF
     Ok(())
 }
 
-/// Writes the line of a block: `block`, its number, and two hex digits for each of its entries.
+/// Writes the line of a block: `block`, its number `b`, and two hex digits for each of its entries.
 pub fn write_block<W: Sink>(sink: &mut W, b: usize, block: &[u8; 64]) -> Result<(), WriteFault>
     ensures { Writes W.written W.has_failed result sink.old sink.new (block_line (b, block.now)) }
 {

@@ -12,7 +12,7 @@ use fact_store::Store;
 use std::alloc::{AllocError, Global};
 use std::marker::Model;
 
-/// How a manager plans. Managers of one subnet are to plan alike.
+/// How a manager plans. All managers of a subnet should plan alike.
 #[derive(Drop)]
 pub struct Planning {
     /// The LMC: an adapter port has 2^LMC LIDs.
@@ -40,7 +40,7 @@ impl Planning {
         Planning { lmc, rule }
     }
 
-    /// Returns a copy. Takes one step for each root of the rule.
+    /// Returns a copy. Takes one step for each GUID that the rule names.
     pub fn try_clone(&self, alloc: Global) -> Result<Self, AllocError>
         ensures { IfOk result (λ planning. planning ≡ self.now) }
     {
@@ -50,7 +50,7 @@ impl Planning {
         })
     }
 
-    /// Plans what a store holds.
+    /// Plans the view that `store` holds.
     ///
     /// # Errors
     ///

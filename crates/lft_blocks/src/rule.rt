@@ -7,17 +7,17 @@ use std::alloc::{AllocError, Global};
 /// A rule of routing: how packets are routed between switches.
 #[derive(Drop)]
 pub enum Rule {
-    /// Up as far as needed, towards the root of the component, and then down, by the least port each time.
+    /// Goes up towards the root of the component as far as needed, and then down. Takes the least port at each switch.
     UpDown,
-    /// Spread over the wires, by an order of switches.
+    /// Spreads packets over the wires, by an order of switches.
     Spread {
-        /// What that order grows by.
+        /// What the order grows by.
         order: SwitchOrder,
     },
 }
 
 impl Rule {
-    /// Returns a copy. Takes one step for each GUID that the order grows by.
+    /// Returns a copy. Takes one step for each GUID that the order names.
     pub fn try_clone(&self, alloc: Global) -> Result<Self, AllocError>
         ensures { IfOk result (λ copy. value_of copy ≡ value_of self.now) }
     {

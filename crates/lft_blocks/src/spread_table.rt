@@ -23,7 +23,8 @@ use std::alloc::{AllocError, Global};
 use std::mem;
 use subnet_view::{SwitchGraph, Wires};
 
-/// Returns the table of each switch by the rule that spreads, in an order of switches.
+/// Returns the table of each switch by the rule that spreads, with the switches in `order`. Each table has `count`
+/// blocks.
 pub(crate) fn spread_tables(
     alloc: Global,
     wires: &Wires,
@@ -87,7 +88,7 @@ fn rows(
     Ok(rows)
 }
 
-/// Writes the entries of all switches for the LIDs that are attached to one of the targets.
+/// Writes the entries of all switches for the LIDs that are attached to one of the targets of `towards`.
 fn write_rows<'s>(
     alloc: Global,
     rows: &mut [TableRow],
@@ -123,8 +124,8 @@ fn write_rows<'s>(
     Ok(())
 }
 
-/// Writes the entries of the switch at index `own` for the LIDs that are attached to one of the targets. Replaces what
-/// `exits` had before.
+/// Writes the entries of the switch at the index `own` for the LIDs that are attached to one of the targets of
+/// `towards`. Replaces the contents of `exits`.
 fn write_row<'s>(
     row: &mut TableRow,
     own: usize,
@@ -161,7 +162,7 @@ fn write_row<'s>(
     Ok(())
 }
 
-/// Returns `switches` rows of `len` entries, with no way to any LID.
+/// Returns `switches` rows of `len` entries that have no way to any LID.
 fn no_ways(alloc: Global, switches: usize, len: usize) -> Result<Vec<TableRow>, AllocError>
     ensures { IfOk result (λ rows. rows.items ≡ replicate switches (replicate len 255)) }
 {
@@ -172,7 +173,8 @@ fn no_ways(alloc: Global, switches: usize, len: usize) -> Result<Vec<TableRow>, 
     Ok(rows)
 }
 
-/// Returns the tables of switches with these entries. Drops each row once its table is made.
+/// Returns the table of each switch, with the entries of its row in `count` blocks. Frees each row once its table is
+/// made.
 fn tables_of(
     alloc: Global,
     guids: &[Guid],

@@ -5,7 +5,8 @@ use crate::block::blocks;
 use smp_bytes::Guid;
 use std::marker::Model;
 
-/// The forwarding table of a switch: its blocks, at most as many as hold all LIDs that a packet can name.
+/// The forwarding table of a switch, in blocks of 64 entries. It has at most 1024 blocks, which hold all LIDs that a
+/// packet can name.
 #[derive(Drop)]
 pub struct Table {
     pub(crate) guid: Guid,
@@ -39,14 +40,14 @@ impl Table {
         self.guid
     }
 
-    /// Returns block `b`, if there is one.
+    /// Returns block `b`, or `None` if there is no such block.
     pub(crate) fn block(&self, b: usize) -> Option<&[u8; 64]>
         ensures { option_copied result ≡ slice_get self.now.blocks b }
     {
         self.blocks.get(b)
     }
 
-    /// Returns the blocks from 0 on.
+    /// Returns the blocks, from block 0 on.
     pub fn blocks(&self) -> &[[u8; 64]]
         ensures blocks { result.now ≡ self.now.blocks }
         ensures few { length result.now ≤ 1024 }

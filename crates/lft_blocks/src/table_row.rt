@@ -1,4 +1,4 @@
-//! The entries of switches, LID by LID, written target by target.
+//! The entries of switches by LID, written target by target.
 ghost use Rattle.std.specs.Prelude.{◌≡◌, ◌<◌, ◌≤◌, ◌+◌, ◌*◌, [], All, IfOk, None, length, map, replicate};
 ghost use Rattle.std.specs.Prelude.{slice_index, slice_index_or};
 ghost use Rattle.spread_routes.specs.Tables.{port_by, with_entries};
@@ -11,7 +11,7 @@ use spread_routes::Exits;
 use std::alloc::{AllocError, Global};
 use std::marker::Model;
 
-/// The entries of a switch, each at its LID.
+/// The entries of a switch. The index of an entry is its LID.
 #[derive(Drop)]
 pub(crate) struct TableRow {
     entries: Vec<u8>,
@@ -26,7 +26,7 @@ impl Model for TableRow {
 }
 
 impl TableRow {
-    /// Creates a row of `len` entries, from LID 0 on, with no way to any LID.
+    /// Creates a row of `len` entries, from LID 0 on, that has no way to any LID.
     pub(crate) fn new(alloc: Global, len: usize) -> Result<Self, AllocError>
         ensures { IfOk result (λ row. row ≡ replicate len 255) }
     {
@@ -43,8 +43,9 @@ impl TableRow {
         }
     }
 
-    /// Writes the entries for these LIDs, which are attached to a target of the exits: the attachments' ports if
-    /// `is_own`, and otherwise the ports by which packets leave for the target. Each LID chooses by its number in `numbers`.
+    /// Writes the entries for `lids`, which are attached to `target` of the exits. If `is_own`, these are the ports of
+    /// the attachments, and otherwise the ports by which packets leave for `target`. Each LID chooses by its number in
+    /// `numbers`.
     pub(crate) fn write(
         &mut self,
         attachments: &[Option<Attachment>],
@@ -82,7 +83,7 @@ impl TableRow {
     }
 }
 
-/// Writes the entries for these LIDs at the switch that they are attached to.
+/// Writes the entries for `lids` at the switch that they are attached to.
 fn write_own(entries: &mut [u8], attachments: &[Option<Attachment>], lids: &[Lid])
     requires lids { All (λ lid. lid < length entries.old) lids.now }
     requires attachments { length entries.old ≡ length attachments.now }
@@ -107,7 +108,7 @@ fn block(entries: &[u8], b: usize) -> [u8; 64]
     block
 }
 
-/// Returns the port of a LID's attachment, or 255 if it has none.
+/// Returns the port of the attachment of `lid`, or 255 if `lid` has none.
 fn own_entry(attachments: &[Option<Attachment>], lid: Lid) -> u8
     requires { lid < length attachments.now }
     ensures { result ≡ attachment_port (slice_index_or attachments.now lid None) }
@@ -118,7 +119,7 @@ fn own_entry(attachments: &[Option<Attachment>], lid: Lid) -> u8
     }
 }
 
-/// Returns for each switch the LIDs that are attached to it, rising.
+/// Returns for each switch the LIDs that are attached to it, in rising order.
 pub(crate) fn lids_by_switch(
     alloc: Global,
     attachments: &[Option<Attachment>],

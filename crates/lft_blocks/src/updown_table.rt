@@ -10,7 +10,7 @@ use smp_bytes::{Guid, NO_ENTRY};
 use std::alloc::{AllocError, Global};
 use updown_routes::Routes;
 
-/// Returns the table of each switch. Takes two steps for each entry.
+/// Returns the table of each switch, with `count` blocks. Takes two steps for each entry.
 pub(crate) fn tables(
     alloc: Global,
     routes: &Routes,
@@ -54,7 +54,8 @@ fn table_at(
     })
 }
 
-/// Returns the next port from the switch at the index `own` towards each of `len` switches, or 255 if there is no way.
+/// Returns the next port from the switch at the index `own` towards each of the first `len` switches, or 255 if there
+/// is no way.
 fn row(alloc: Global, routes: &Routes, own: usize, len: usize) -> Result<Vec<u8>, AllocError>
     ensures { IfOk result (λ row. row.items ≡ row_of routes.now own len) }
 {
@@ -65,7 +66,8 @@ fn row(alloc: Global, routes: &Routes, own: usize, len: usize) -> Result<Vec<u8>
     Ok(row)
 }
 
-/// Returns the next port from the switch at the index `own` towards the one at `to`, or 255 if there is no way.
+/// Returns the next port from the switch at the index `own` towards the switch at the index `to`, or 255 if there is no
+/// way.
 fn port_towards(routes: &Routes, own: usize, to: usize) -> u8
     ensures { result ≡ unwrap_or (next_port_at routes.now own to) 255 }
 {

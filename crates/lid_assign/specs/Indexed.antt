@@ -36,7 +36,7 @@ node_port_cmp a b = ordering_then (nat_cmp a.0 b.0) (nat_cmp a.1 b.1)
 abbrev pub ByPort : List (EndPort × ℕ) → BTreeMap (ℕ × ℕ) ℕ → Type 0
 ByPort given lids = (e : EndPort) → get node_port_cmp lids (e.node, e.port) ≡ lid_among given e
 
--- the tables of a map are those of `given`, and no number of it lies past the unicast LIDs
+-- the tables of a map are the tables of `given`, and all its numbers are unicast LIDs
 pub record IsIndexed (given : Given) (owners : List (Option EndPort)) (lids : BTreeMap (ℕ × ℕ) ℕ) (top : Option ℕ)
     (rising : List ℕ) : Type 0 where
   pub owned : AreOwners given owners

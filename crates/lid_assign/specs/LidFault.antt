@@ -16,12 +16,12 @@ abbrev pub is_memory : LidFault → Bool
 is_memory (NoRoom why) = false
 is_memory Memory = true
 
--- the number of end ports and the room, if an end port finds no LID
+-- the number of end ports and the room if an end port finds no LID, otherwise None
 abbrev pub no_room : ℕ → Cells → Option Room
 no_room lmc cells =
     if is_no_room lmc cells then Some (record { endports = length (end_ports cells); room = room cells }) else None
 
--- why no LIDs are assigned, except for memory
+-- why no LIDs are assigned; None if there is room
 abbrev pub lid_fault : Option Room → Option LidFault
 lid_fault None = None
 lid_fault (Some why) = Some (NoRoom why)

@@ -21,11 +21,11 @@ room cells = least_room (filter_map (cap_of cells) (switches cells))
 
 -- claims that are kept: -----------------------------------------------------------
 
--- the number c, if the range from it on fits
+-- c if its range fits, otherwise None
 abbrev pub if_fits : ℕ → ℕ → EndPort → ℕ → Option ℕ
 if_fits room lmc e c = if fits room (range_at lmc e c) then Some c else None
 
--- the number that an end port claims, if its range fits
+-- the number that an end port claims if its range fits, otherwise None
 abbrev pub fitting_claim : ℕ → Cells → EndPort → Option ℕ
 fitting_claim lmc cells e = option_and_then (if_fits (room cells) lmc e) (claim_of cells e.node e.port)
 
@@ -33,15 +33,15 @@ fitting_claim lmc cells e = option_and_then (if_fits (room cells) lmc e) (claim_
 abbrev pub claims : ℕ → Cells → Range → EndPort → Bool
 claims lmc cells r e = option_map_or (λ c. meets r (range_at lmc e c)) (fitting_claim lmc cells e) false
 
--- the number c, if none of the end ports `earlier` claims a range that fits and meets that of c
+-- c if no end port of `earlier` claims a range that fits and meets the range of c, otherwise None
 abbrev pub if_first : ℕ → Cells → List EndPort → EndPort → ℕ → Option ℕ
 if_first lmc cells earlier e c = if list_any (claims lmc cells (range_at lmc e c)) earlier then None else Some c
 
--- the claim that an end port keeps; `earlier` are the end ports before it
+-- the claim that an end port keeps; None if it keeps none; `earlier` are the end ports before it
 abbrev pub kept_claim : ℕ → Cells → List EndPort → EndPort → Option ℕ
 kept_claim lmc cells earlier e = option_and_then (if_first lmc cells earlier e) (fitting_claim lmc cells e)
 
--- end ports in their order, each with the claim that it keeps; `earlier` come before them
+-- the end ports in their order, each with the claim that it keeps; `earlier` are the end ports before them
 abbrev pub with_kept : ℕ → Cells → List EndPort → List EndPort → List (EndPort × Option ℕ)
 with_kept lmc cells earlier [] = []
 with_kept lmc cells earlier (e ∷ rest) = (e, kept_claim lmc cells earlier e) ∷ with_kept lmc cells (e ∷ earlier) rest
@@ -50,7 +50,7 @@ with_kept lmc cells earlier (e ∷ rest) = (e, kept_claim lmc cells earlier e) �
 abbrev pub kept : ℕ → Cells → List (EndPort × Option ℕ)
 kept lmc cells = with_kept lmc cells [] (end_ports cells)
 
--- the range of a claim that is kept
+-- the range of a claim that is kept; None if none is kept
 abbrev pub kept_range : ℕ → EndPort × Option ℕ → Option Range
 kept_range lmc x = option_map (range_at lmc x.0) x.1
 
@@ -65,12 +65,13 @@ count_up start (suc n) = start ∷ count_up (suc start) n
 abbrev pub is_open : ℕ → List Range → Range → Bool
 is_open room taken r = fits room r && not (list_any (meets r) taken)
 
--- the least number whose range of this width fits and meets none of the ranges `taken`
+-- the least number whose range of this width fits and meets none of the ranges `taken`; None if there is none
 abbrev pub least_open : ℕ → List Range → ℕ → Option ℕ
 least_open room taken width =
     find (λ c. is_open room taken (record { first = c; width = width })) (count_up 1 (room - 1))
 
--- kept claims stay, and each other end port in turn takes the least number whose range is open; None if one finds none
+-- kept claims stay, and each other end port, in order, takes the least number whose range is open; None if one finds
+-- none
 abbrev pub hand_out : ℕ → ℕ → List Range → List (EndPort × Option ℕ) → Option (List (EndPort × ℕ))
 hand_out room lmc taken [] = Some []
 hand_out room lmc taken ((e, Some c) ∷ rest) = option_map (λ given. (e, c) ∷ given) (hand_out room lmc taken rest)
@@ -78,7 +79,7 @@ hand_out room lmc taken ((e, None) ∷ rest) =
     option_and_then (λ c. option_map (λ given. (e, c) ∷ given) (hand_out room lmc (range_at lmc e c ∷ taken) rest))
     (least_open room taken (width_of lmc e))
 
--- the end ports in their order, with their LIDs, if each finds one
+-- the end ports in their order, each with its LID; None if one of them finds none
 abbrev pub handed_out : ℕ → Cells → Option (List (EndPort × ℕ))
 handed_out lmc cells = hand_out (room cells) lmc (filter_map (kept_range lmc) (kept lmc cells)) (kept lmc cells)
 
@@ -95,6 +96,7 @@ lids lmc cells = record { lmc = lmc; ports = unwrap_or (handed_out lmc cells) []
 abbrev pub is_no_room : ℕ → Cells → Bool
 is_no_room lmc cells = not (is_some (handed_out lmc cells))
 
+-- an end port finds no LID, as a statement
 abbrev pub IsNoRoom : ℕ → Cells → Type 0
 IsNoRoom lmc cells = IsTrue (is_no_room lmc cells)
 
@@ -104,7 +106,7 @@ IsNoRoom lmc cells = IsTrue (is_no_room lmc cells)
 abbrev pub has_number : ℕ → ℕ → EndPort × ℕ → Bool
 has_number lmc n x = is_in (range_at lmc x.0 x.1) n
 
--- the end port whose range has a number
+-- the end port whose range has the number n; None if there is none
 abbrev pub owner_of : Given → ℕ → Option EndPort
 owner_of given n = option_map (λ x. x.0) (find (has_number given.lmc n) given.ports)
 
@@ -112,7 +114,7 @@ owner_of given n = option_map (λ x. x.0) (find (has_number given.lmc n) given.p
 abbrev pub is_end_port_at : EndPort → EndPort × ℕ → Bool
 is_end_port_at e x = e.node == x.0.node && e.port == x.0.port
 
--- the LID that an end port has, the first number of its range
+-- the LID that an end port has, the first number of its range; None if it has none
 abbrev pub lid_among : List (EndPort × ℕ) → EndPort → Option ℕ
 lid_among given e = option_map (λ x. x.1) (find (is_end_port_at e) given)
 
@@ -123,7 +125,7 @@ lid_of given e = lid_among given.ports e
 abbrev pub lmc_of : Given → EndPort → ℕ
 lmc_of given e = lmc_at given.lmc e
 
--- the LID and the LMC that an end port has
+-- the LID and the LMC that an end port has; None if it has no LID
 abbrev pub range_of : Given → EndPort → Option (ℕ × ℕ)
 range_of given e = option_map (λ lid. (lid, lmc_of given e)) (lid_of given e)
 
@@ -141,7 +143,7 @@ abbrev pub top_among : ℕ → List (EndPort × ℕ) → Option ℕ
 top_among lmc [] = None
 top_among lmc (x ∷ given) = Some (max (last_of lmc x) (greatest (map (last_of lmc) given)))
 
--- the greatest number that an end port has
+-- the greatest number that an end port has; None if there are no end ports
 abbrev pub top_of : Given → Option ℕ
 top_of given = top_among given.lmc given.ports
 
@@ -181,7 +183,7 @@ Keeps lmc cells e c =
 abbrev pub KeepsNothing : ℕ → Cells → EndPort → Type 0
 KeepsNothing lmc cells e = (c : ℕ) → Keeps lmc cells e c → ⊥
 
--- the number n is in the range of an earlier end port, or of one that keeps its claim
+-- the number n is in the range of an earlier end port, or of an end port that keeps its claim
 pub record WasTaken (lmc : ℕ) (cells : Cells) (earlier given : List (EndPort × ℕ)) (n : ℕ) : Type 0 where
   pub by : EndPort
   pub lid : ℕ
@@ -189,8 +191,8 @@ pub record WasTaken (lmc : ℕ) (cells : Cells) (earlier given : List (EndPort �
   pub is_before : Contains earlier (by, lid) ⊎ Keeps lmc cells by lid
   pub is_its : IsIn (range_at lmc by lid) n
 
--- the end ports in order, each with the claim that it keeps, or the least number whose range fits and has no number
--- that was taken
+-- the end ports in order, each with the claim that it keeps or, if it keeps none, with the least number whose range
+-- fits and has no number that was taken
 pub record AreLids (lmc : ℕ) (cells : Cells) (given : List (EndPort × ℕ)) : Type 0 where
   pub end_ports_in_order : map (λ x. x.0) given ≡ end_ports cells
   pub each_fits : (e : EndPort) (n : ℕ) → Contains given (e, n) → Fits (room cells) (range_at lmc e n)
@@ -202,17 +204,17 @@ pub record AreLids (lmc : ℕ) (cells : Cells) (given : List (EndPort × ℕ)) :
       → Fits (room cells) (range_at lmc e m) → m < n → (k : ℕ) × IsIn (range_at lmc e m) k
       × WasTaken lmc cells earlier given k
 
--- if there is room, the LIDs satisfy the law
+-- if there is room, the LIDs that are assigned satisfy `AreLids`
 abbrev pub LidsLaw : Type 0
 LidsLaw = (lmc : ℕ) (facts : Facts) → ¬ (IsNoRoom lmc (cells_of facts))
     → AreLids lmc (cells_of facts) (lids lmc (cells_of facts)).ports
 
--- no other LIDs satisfy the law
+-- no other LIDs satisfy `AreLids`
 abbrev pub LidsAreUnique : Type 0
 LidsAreUnique = (lmc : ℕ) (facts : Facts) (given : List (EndPort × ℕ)) → AreLids lmc (cells_of facts) given
     → given ≡ (lids lmc (cells_of facts)).ports
 
--- there is no room exactly if no LIDs satisfy the law
+-- there is no room exactly if no LIDs satisfy `AreLids`
 abbrev pub NoRoomLaw : Type 0
 NoRoomLaw = (lmc : ℕ) (facts : Facts) → IsNoRoom lmc (cells_of facts)
     ↔ ((given : List (EndPort × ℕ)) → AreLids lmc (cells_of facts) given → ⊥)
@@ -236,7 +238,7 @@ OwnersAreInverse = (lmc : ℕ) (facts : Facts) → ¬ (IsNoRoom lmc (cells_of fa
     ↔ ((lid : ℕ) × (lid_of (lids lmc (cells_of facts)) e ≡ Some lid)
     × IsTrue (has_lid lid (lmc_of (lids lmc (cells_of facts)) e) n))
 
--- the rising LIDs are those that are assigned, each once
+-- the rising LIDs are the LIDs that are assigned, each once
 abbrev pub RisingLidsLaw : Type 0
 RisingLidsLaw = (given : Given)
     → ((n : ℕ) → Contains (rising_lids given) n ↔ ((e : EndPort) × Contains given.ports (e, n)))

@@ -27,23 +27,23 @@ pub record AreMarkedMore (r : Option Range) (old new : List Bool) : Type 0 where
   pub all : length new ≡ length old
   pub each : (n : ℕ) → n < length old → is_marked new n ≡ (is_in_some r n || is_marked old n)
 
--- the number c, if the range of this width from it on fits
+-- c if the range of this width from c on fits, otherwise None
 abbrev pub if_within : ℕ → ℕ → ℕ → Option ℕ
 if_within room width c = if fits room (from_on width c) then Some c else None
 
--- the claim, if its range fits
+-- the claim if its range fits, otherwise None
 abbrev pub fitting : ℕ → ℕ → Option ℕ → Option ℕ
 fitting room width claim = option_and_then (if_within room width) claim
 
--- the number c, if nothing in the range from it on is marked
+-- c if nothing in the range from c on is marked, otherwise None
 abbrev pub if_unmarked : List Bool → ℕ → ℕ → Option ℕ
 if_unmarked marks width c = if any_marked marks (from_on width c) then None else Some c
 
--- the claim that is kept: its range fits, and has no mark
+-- the claim if it is kept: its range fits, and has no mark; otherwise None
 abbrev pub unmarked : List Bool → ℕ → Option ℕ → Option ℕ
 unmarked marks width claim = option_and_then (if_unmarked marks width) (fitting (length marks) width claim)
 
--- the range from a number on fits, and has no mark
+-- the range from c on fits, and has no mark
 pub record IsUnmarked (marks : List Bool) (width c : ℕ) : Type 0 where
   pub is_fit : fits (length marks) (from_on width c) ≡ true
   pub is_open : any_marked marks (from_on width c) ≡ false
@@ -58,7 +58,7 @@ pub record IsLeastUnmarked (marks : List Bool) (width low c : ℕ) : Type 0 wher
   pub from_low : low ≤ c
   pub none_before : NoneUnmarked marks width low c
 
--- the marked numbers are those of the ranges, below the room
+-- the marked numbers are the numbers of the ranges, below the room
 pub record AreTaken (room : ℕ) (ranges : List Range) (marks : List Bool) : Type 0 where
   pub all : length marks ≡ room
   pub each : (n : ℕ) → n < room → is_marked marks n ≡ list_any (λ r. is_in r n) ranges

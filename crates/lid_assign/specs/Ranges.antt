@@ -1,9 +1,9 @@
--- The numbers of an end port: as many as its port has LIDs, from its LID on (addressing chapter, base LID and LMC).
+-- The numbers of an end port, from its LID on, as many as it has LIDs (addressing chapter, base LID and LMC).
 use Rattle.std.specs.Prelude.{◌≡◌, ◌↔◌, ◌<◌, ◌≤◌, ◌+◌, ◌%◌, ◌^◌, ℕ, Bool, ◌==◌, ◌&&◌, nat_le, nat_lt, IsTrue, if◌then◌else◌}
 use Rattle.smp_bytes.specs.LidRange.{is_among}
 use Rattle.subnet_view.specs.declared.end_port.EndPort.{EndPort}
 
--- the LMC of an end port: 0 for port 0, which is a switch's, and otherwise the subnet's
+-- the LMC of an end port: 0 for port 0, which is a switch's, otherwise the subnet's
 abbrev pub lmc_at : ℕ → EndPort → ℕ
 lmc_at lmc e = if e.port == 0 then 0 else lmc
 
@@ -38,16 +38,17 @@ fits room r = nat_le 1 r.first && (r.first % r.width == 0 && nat_le (r.first + r
 abbrev pub IsIn : Range → ℕ → Type 0
 IsIn r n = (r.first ≤ n) × (n < r.first + r.width)
 
--- a number that two ranges have in common
+-- the number is in both ranges
 abbrev pub IsInBoth : Range → Range → ℕ → Type 0
 IsInBoth a b n = IsIn a n × IsIn b n
 
+-- the range begins at a multiple of its width, not at 0, and its last number is below the room
 pub record Fits (room : ℕ) (r : Range) : Type 0 where
   pub not_0 : 1 ≤ r.first
   pub aligned : r.first % r.width ≡ 0
   pub in_room : r.first + r.width ≤ room
 
--- the tests agree with the statements, if the ranges are not empty
+-- `is_in`, `meets` and `fits` agree with `IsIn`, `IsInBoth` and `Fits` if the ranges are not empty
 abbrev pub RangesLaw : Type 0
 RangesLaw = (room n : ℕ) (a b : Range) → 1 ≤ a.width → 1 ≤ b.width
     → (IsTrue (is_in a n) ↔ IsIn a n) × (IsTrue (meets a b) ↔ ((k : ℕ) × IsInBoth a b k))

@@ -10,6 +10,6 @@ abbrev pub cap_if : Cells → Option ℕ → Option ℕ
 cap_if cells None = None
 cap_if cells (Some guid) = cap_of cells guid
 
--- the table room of a cell's node, if that is a usable switch
+-- the table room of a cell's node if that is a usable switch, otherwise None
 abbrev pub usable_cap : Cells → Key × Cell Value → Option ℕ
 usable_cap cells cell = cap_if cells (usable_guid cells cell)

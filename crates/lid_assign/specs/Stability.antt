@@ -17,12 +17,12 @@ DifferInClaims x y = (key : Key) → ((g p : ℕ) → key ≢ Claim g p) → cel
 abbrev pub ClaimLids : ℕ → Cells → Cells → Type 0
 ClaimLids lmc x y = (e : EndPort) (lid : ℕ) → lid_of (lids lmc x) e ≡ Some lid → claim_of y e.node e.port ≡ Some lid
 
--- view y is x once its LIDs are claimed
+-- view y is view x after its LIDs are claimed
 pub record IsClaimed (lmc : ℕ) (x y : Facts) : Type 0 where
   pub same : DifferInClaims x y
   pub claimed : ClaimLids lmc (cells_of x) (cells_of y)
 
--- once the LIDs of a view are claimed, they are assigned again under the same LMC
+-- after the LIDs of a view are claimed, they are assigned again under the same LMC
 abbrev pub LidsSettle : Type 0
 LidsSettle = (lmc : ℕ) (x y : Facts) → ¬ (IsNoRoom lmc (cells_of x)) → IsClaimed lmc x y
     → ¬ (IsNoRoom lmc (cells_of y)) × (lids lmc (cells_of y) ≡ lids lmc (cells_of x))
@@ -38,7 +38,7 @@ pub record GrowsFrom (lmc : ℕ) (x z : Cells) : Type 0 where
   pub others : (e : EndPort) → Contains (end_ports z) e → (Contains (end_ports x) e → ⊥) → ClaimsNothing z e
   pub in_room : (top : ℕ) → top_of (lids lmc x) ≡ Some top → top < room z
 
--- LIDs that are claimed stay under the same LMC, whatever end ports come
+-- LIDs that are claimed stay under the same LMC, whatever end ports are added
 abbrev pub LidsStay : Type 0
 LidsStay = (lmc : ℕ) (x z : Facts) → ¬ (IsNoRoom lmc (cells_of x)) → ¬ (IsNoRoom lmc (cells_of z))
     → GrowsFrom lmc (cells_of x) (cells_of z)

@@ -17,11 +17,11 @@ use smp_bytes::Lid;
 use std::alloc::Global;
 use subnet_view::{EndPort, end_ports};
 
-/// Assigns a LID to each end port of the view. A switch has that one number, and an adapter's port has 2^LMC numbers
-/// from it on: its range. A range fits if it begins at a multiple of its width, not at 0, and ends below the room of
-/// every usable switch's table. An end port keeps its claim if the claim's range fits and meets no range that fits and
-/// that an earlier end port claims. Each other end port in turn takes the least number whose range is open. Walks the
-/// cells twice, and takes a search for each end port.
+/// Assigns a LID to each end port of the view. A switch has a range of one number, its LID, and an adapter's port has a
+/// range of 2^`lmc` numbers, from its LID on. A range fits if it begins at a multiple of its width, not at 0, and ends
+/// below the room of every usable switch's table. An end port keeps its claim if the claim's range fits and meets no
+/// range that fits and that an earlier end port claims. Each other end port, in order, takes the least number whose
+/// range is open. Walks the cells twice, and takes a search for each end port.
 ///
 /// # Errors
 ///
@@ -37,8 +37,7 @@ pub fn assign(alloc: Global, store: &Store, lmc: Lmc) -> Result<LidMap, LidFault
     }
 }
 
-/// Returns the fault if memory runs out before the LIDs are known: `NoRoom` if there is no room, and otherwise
-/// `Memory`.
+/// Returns the fault if memory runs out before the LIDs are known: `NoRoom` if there is no room, otherwise `Memory`.
 fn out_of_memory(store: &Store, lmc: Lmc) -> LidFault
     ensures { result ≡ unwrap_or (lid_fault (no_room lmc (cells_of store.now))) Memory }
 {

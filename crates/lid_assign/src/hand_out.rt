@@ -46,7 +46,7 @@ pub(crate) fn hand_out(
     Ok(Some(given))
 }
 
-/// Returns the least numbers that fit.
+/// Returns the first numbers to try: 1 for switches, and 2^`lmc` for adapter ports.
 pub(crate) fn first(lmc: Lmc) -> Next
     ensures { result ≡ record { switch = 1; adapter = 2 ^ lmc } }
 {
@@ -56,7 +56,7 @@ pub(crate) fn first(lmc: Lmc) -> Next
     }
 }
 
-/// Takes and returns the least number whose range fits an end port and is open.
+/// Takes and returns the least number whose range fits an end port and is open, or returns `None` if there is none.
 pub(crate) fn take(taken: &mut [bool], next: &mut Next, lmc: Lmc, port: EndPort) -> Option<Lid>
     requires room { length taken.old ≤ 0xC000 }
     requires passed { ArePassed lmc taken.old next.old }
@@ -74,7 +74,8 @@ pub(crate) fn take(taken: &mut [bool], next: &mut Next, lmc: Lmc, port: EndPort)
     }
 }
 
-/// Takes and returns the least number whose range is open. It is not below `next`.
+/// Takes and returns the least number whose range is open, or returns `None` if there is none. The number is not below
+/// `next`.
 fn take_from(taken: &mut [bool], next: &mut usize, width: usize) -> Option<Lid>
     requires some { 1 ≤ width }
     requires few { width ≤ 128 }
@@ -91,7 +92,7 @@ fn take_from(taken: &mut [bool], next: &mut usize, width: usize) -> Option<Lid>
     Some(Lid::new(first as u16))
 }
 
-/// Returns the least number from `next` on whose range has no mark.
+/// Returns the least number from `next` on whose range has no mark, or `None` if there is none.
 fn least_unmarked(marks: &[bool], mut next: usize, width: usize) -> Option<usize>
     requires some { 1 ≤ width }
     requires few { width ≤ 128 }

@@ -4,25 +4,25 @@ ghost use Rattle.lid_assign.specs.Lids.{OwnersAreInverse, RisingLidsLaw};
 ghost use Rattle.lid_assign.specs.Ranges.{RangesLaw};
 ghost use Rattle.lid_assign.specs.Stability.{LidsSettle, LidsStay};
 
-/// The tests of a number in a range, of two ranges that meet, and of a range that fits below a room agree with the
-/// statements, if the ranges are not empty.
+/// The tests of a number in a range, of two ranges that meet, and of a range that fits below a room agree with `IsIn`,
+/// `IsInBoth` and `Fits`, if the ranges are not empty.
 pub fn ranges_law()
     ensures { RangesLaw }
 {}
 
 /// If there is room, each end port has one LID, whose range fits below the room, and no two ranges have a number in
-/// common; an end port keeps its claim if the claim's range fits and meets no range that fits and that an earlier end
-/// port claims; and each other end port has the least number whose range fits and has no number that was taken before.
+/// common. An end port keeps its claim if the claim's range fits and meets no range that fits and that an earlier end
+/// port claims. Each other end port has the least number whose range fits and has no number that was taken before.
 pub fn lids_law()
     ensures { LidsLaw }
 {}
 
-/// No other LIDs satisfy the law of LIDs.
+/// No other LIDs satisfy `AreLids`.
 pub fn lids_are_unique()
     ensures { LidsAreUnique }
 {}
 
-/// There is no room exactly if no LIDs satisfy the law of LIDs.
+/// There is no room exactly if no LIDs satisfy `AreLids`.
 pub fn no_room_law()
     ensures { NoRoomLaw }
 {}
@@ -43,19 +43,19 @@ pub fn owners_are_inverse()
     ensures { OwnersAreInverse }
 {}
 
-/// The rising LIDs are those that are assigned, each once.
+/// The rising LIDs are the LIDs that are assigned, each once.
 pub fn rising_lids_law()
     ensures { RisingLidsLaw }
 {}
 
-/// All LIDs stay, and there is room, if the facts differ only in claims from those of a view with room, and each end
-/// port claims the LID that it has there.
+/// If facts differ only in claims from the facts of a view with room, and each end port claims the LID that it has in
+/// that view, there is room and all LIDs stay.
 pub fn lids_settle()
     ensures { LidsSettle }
 {}
 
-/// End ports that claim the LIDs that they have in one view keep them in each view with room, if the other end ports
-/// claim nothing or 0 there, and the tables have room for the ranges of these LIDs.
+/// If end ports claim in a view with room the LIDs that they have in another view with room, all other end ports claim
+/// nothing or 0, and the tables have room for the ranges of these LIDs, the end ports keep them.
 pub fn lids_stay()
     ensures { LidsStay }
 {}

@@ -63,7 +63,7 @@ impl LidMap {
         })
     }
 
-    /// Returns the LMC of an end port: 0 for port 0, which is a switch's, and otherwise the map's LMC.
+    /// Returns the LMC of an end port: 0 for port 0, which is a switch's, otherwise the map's LMC.
     pub fn lmc_of(&self, port: &EndPort) -> Lmc
         ensures { result ≡ lmc_of self.now port.now }
     {
@@ -77,7 +77,7 @@ impl LidMap {
         &self.given
     }
 
-    /// Returns the end port whose range has the number `lid`. Takes one step.
+    /// Returns the end port whose range has the number `lid`, or `None` if there is none. Takes one step.
     pub fn owner(&self, lid: Lid) -> Option<EndPort>
         ensures owner { result ≡ owner_of self.now lid }
         ensures unicast { IfSome result (λ port. lid < 0xC000) }
@@ -88,7 +88,7 @@ impl LidMap {
             .flatten()
     }
 
-    /// Returns the LID of an end port, the first number of its range. Takes a search.
+    /// Returns the LID of an end port, the first number of its range, or `None` if it has none. Takes a search.
     pub fn lid_of(&self, port: EndPort) -> Option<Lid>
         ensures { result ≡ lid_of self.now port }
     {
@@ -102,7 +102,7 @@ impl LidMap {
         &self.rising
     }
 
-    /// Returns the greatest number that an end port has, the last of the highest range. Takes one step.
+    /// Returns the greatest number that an end port has, or `None` if there are no end ports. Takes one step.
     pub fn top(&self) -> Option<Lid>
         ensures { result ≡ top_of self.now }
     {
@@ -110,8 +110,8 @@ impl LidMap {
     }
 }
 
-/// Returns, for each number below `end`, the end port that has it. Writes the first end port's entries last, as the
-/// first owner counts.
+/// Returns, for each number below `end`, the end port that has it. Writes the entries of the first end port last, so
+/// that the first owner of a number wins.
 fn owners(
     alloc: Global,
     lmc: Lmc,
@@ -184,8 +184,8 @@ fn end(top: &Option<Lid>) -> usize
     }
 }
 
-/// Returns the LID of each end port, by node and port. Writes the first end port's entry last, as the first one
-/// counts.
+/// Returns the LID of each end port, by node and port. Writes the entry of the first end port last, so that the first
+/// LID wins.
 fn by_port(
     alloc: Global,
     given: &[(EndPort, Lid)],
@@ -199,7 +199,7 @@ fn by_port(
     Ok(lids)
 }
 
-/// Returns the greatest number that an end port has.
+/// Returns the greatest number that an end port has, or `None` if there are no end ports.
 fn top(lmc: Lmc, given: &[(EndPort, Lid)]) -> Option<Lid>
     requires { AreBelow 0xC000 lmc given.now }
     ensures { result ≡ top_among lmc given.now }
@@ -219,7 +219,7 @@ fn last(lmc: Lmc, port: EndPort, lid: Lid) -> Lid
     Lid::new(lid.number() + width(lmc, port) as u16 - 1)
 }
 
-/// Returns the greater of two numbers, the first of which may be missing.
+/// Returns the greater of `top`, if there is one, and `lid`.
 fn greater(top: Option<Lid>, lid: Lid) -> Lid
     ensures { result ≡ max lid (unwrap_or top 0) }
 {

@@ -6,7 +6,7 @@ ghost use Rattle.lid_assign.specs.Marks.{any_marked, from_on, AreMarkedMore};
 use attr_codec::Lmc;
 use subnet_view::EndPort;
 
-/// Returns the LMC of an end port: 0 for port 0, which is a switch's, and otherwise `lmc`.
+/// Returns the LMC of an end port: 0 for port 0, which is a switch's, otherwise `lmc`.
 pub(crate) fn lmc_at(lmc: Lmc, port: EndPort) -> Lmc
     ensures { result ≡ lmc_at lmc port }
 {

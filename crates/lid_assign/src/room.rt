@@ -12,9 +12,9 @@ use fact_store::{Sighting, Store};
 use smp_bytes::Lid;
 use subnet_view::{count_end_ports, usable_guid};
 
-/// Returns the room and the number of end ports if an end port of the view finds no LID, and otherwise `None`. Takes no
+/// Returns the room and the number of end ports if an end port of the view finds no LID, otherwise `None`. Takes no
 /// memory. Walks the cells twice if there are at least as many end ports as the room, or if their ranges fit side by
-/// side (which is always so with LMC 0); otherwise twice for each end port.
+/// side (as they always do with LMC 0). Otherwise walks them twice for each end port.
 pub fn no_room(store: &Store, lmc: Lmc) -> Option<NoRoom>
     ensures { result ≡ no_room lmc (cells_of store.now) }
 {
@@ -65,7 +65,7 @@ pub(crate) fn room(store: &Store) -> u16
     least
 }
 
-/// Returns the table room of a cell's node, if that is a usable switch.
+/// Returns the table room of a cell's node if that is a usable switch, otherwise `None`.
 fn usable_cap(store: &Store, sighting: &Sighting) -> Option<u16>
     requires { cell_for store.now sighting.now.0 ≡ Some sighting.now.1 }
     ensures { result ≡ usable_cap (cells_of store.now) sighting.now }

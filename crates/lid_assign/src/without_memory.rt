@@ -1,4 +1,4 @@
-//! Finds whether LIDs run out without memory: searches all cells for each next end port.
+//! Finds out without memory whether LIDs run out, by searching all cells for each next end port.
 ghost use Rattle.std.specs.Prelude.{◌≡◌, ◌≤◌, false, replicate};
 ghost use Rattle.std.specs.List.{filter_map};
 ghost use Rattle.fact_store.specs.View.{cells_of};

@@ -1,4 +1,4 @@
--- A sweep with every answer has found the part of the fabric that is joined to its seat, all of it and nothing else.
+-- A sweep with every answer has found exactly the part of the fabric that is joined to its seat.
 use Rattle.std.specs.Prelude.{◌≡◌, ℕ, true, List, Some, All, flat_map}
 use Rattle.fabric_model.specs.declared.cable.NodePort.{NodePort}
 use Rattle.fabric_model.specs.Fabric.{Fabric, IsNodeAt, Node}
@@ -19,7 +19,7 @@ use Rattle.manager_laws.specs.Pings.{EachPingArrives}
 use Rattle.manager_laws.specs.Sweeping.{Sweeping, SweepEvent, CanBe, Begins, after_sweep_events}
 
 -- the sweep has every answer: nothing is to be sent or waits, only requests for SMInfo, which has no facts, were not
--- answered, and none needed a path that is too long
+-- answered, and no request needed a path that is too long
 pub record IsWhole (s : Sweep) : Type 0 where
   pub done : is_done s ≡ true
   pub answered : s.unanswered ≡ s.silent_managers
@@ -33,7 +33,7 @@ facts_of reports = view (flat_map sightings_of reports)
 abbrev pub AgreeWith : List Report → Simulation → NodePort → Type 0
 AgreeWith reports s seat = AgreesOn (IsJoinedTo (fabric_of s) seat) (cells_of (facts_of reports)) (fabric_of s)
 
--- the path that the sweep has for an end port leads there from its seat: to the port of an adapter, or to a switch
+-- the path that the sweep has for an end port leads to it from the seat: to the port of an adapter, or to a switch
 pub record HasWay (f : Fabric) (seat : NodePort) (s : Sweep) (guid port : ℕ) : Type 0 where
   pub path : List ℕ
   pub told : path_to s guid port ≡ Some path
@@ -52,13 +52,13 @@ pub record HasFoundAll (begun ended : Sweeping) : Type 0 where
   pub ways : (guid port : ℕ) → IsEndPort (cells_of (facts_of ended.reports)) guid port
       → HasWay (fabric_of begun.scene.fabric) begun.seat ended.sweep guid port
 
--- a sweep that has every answer has found all that is joined to its seat, whatever else happens
+-- whatever else happens, a sweep that has every answer has found exactly what is joined to its seat
 abbrev pub DoneSweepsAreComplete : Type 0
 DoneSweepsAreComplete =
     (w : Sweeping) (generation first : ℕ) (events : List SweepEvent) → Begins w generation first → All CanBe events
     → IsWhole (after_sweep_events events w).sweep → HasFoundAll w (after_sweep_events events w)
 
--- once what is joined to the seat holds the plan of what the sweep has found, each ping there arrives
+-- once the part that is joined to the seat holds the plan of what the sweep has found, each ping there arrives
 abbrev pub SweptPingsArrive : Type 0
 SweptPingsArrive =
     (rule : RuleValue) (lmc : ℕ) (w : Sweeping) (generation first : ℕ) (events : List SweepEvent)
@@ -80,7 +80,7 @@ pub record SomeSweepIsWhole : Type 0 where
   pub can_be : All CanBe events
   pub whole : IsWhole (after_sweep_events events sweeping).sweep
 
--- a sweep that has every answer while a manager is silent
+-- a sweep that has every answer although a manager is silent
 pub record SomeManagerIsSilent : Type 0 where
   pub some : SomeSweepIsWhole
   pub silent : (after_sweep_events some.events some.sweeping).sweep.silent_managers ≡ 1

@@ -1,4 +1,4 @@
--- A manager at its seat on a fabric where other managers work too: its calls, and the packets that it gave out.
+-- A manager at its seat on a fabric where other managers work too: the calls on it, and the packets that it gave out.
 use Rattle.std.specs.Prelude.{◌≡◌, ◌<◌, ◌≢◌, ℕ, true, false, List, [], ◌∷◌, ◌++◌, All, slice_get, if◌then◌else◌, Option, Some, None, IsTrue}
 use Rattle.std.specs.Option.{unwrap_or}
 use Rattle.fabric_model.specs.declared.cable.NodePort.{NodePort}
@@ -19,15 +19,15 @@ use Rattle.manager_laws.specs.Scene as around
 use Rattle.manager_laws.specs.Scene.{Handed, Scene, Event, CanHappen, IsQuiet, after_event, sent_from}
 use Rattle.manager_laws.specs.Truth.{AreGuidsDistinct}
 
--- the scene, the manager's seat, the manager, and the packets that it gave out
+-- the scene, and the manager with its seat and the packets that it gave out
 pub record Managing : Type 0 where
   pub scene : Scene
   pub seat : NodePort
   pub manager : Manager
   pub out : List Outgoing
 
--- Something happens on the fabric; the manager is told to begin a sweep, or to write its plan; it gives its first
--- packet out; a packet that it gave out is sent from its seat, and may be sent again; a packet that was handed up at
+-- Something happens on the fabric; the manager is told to begin a sweep, or to write its plan; it gives out its first
+-- queued packet; a packet that it gave out is sent from its seat, and may be sent again; a packet that was handed up at
 -- its seat is given to it, and may be given again; one of its requests times out; its floor is raised; facts of others
 -- at a floor are merged with its own; it is told to poll a LID, or a manager that its last sweep saw; it is told to
 -- hand over.
@@ -46,11 +46,13 @@ pub data ManagerEvent : Type 0 where
 
 -- which events there are --------------------------------------------------------------------------
 
--- other managers send from other seats
+-- the event is not a packet that another manager sends from this seat
 abbrev pub IsElsewhere : NodePort → Event → Type 0
 IsElsewhere seat (around.Send other sending) = other ≢ seat
 IsElsewhere seat event = Unit {0}
 
+-- the event can be: one on the fabric can happen and is not a packet that another manager sends from this seat; a floor
+-- and merged facts are in range
 abbrev pub CanBe : NodePort → ManagerEvent → Type 0
 CanBe seat (Around event) = CanHappen event × IsElsewhere seat event
 CanBe seat (Raise floor) = IsTrue (is_generation floor)
@@ -59,14 +61,16 @@ CanBe seat event = Unit {0}
 
 -- what events do ---------------------------------------------------------------------------------
 
--- the manager is called; a call that it refuses leaves it as it was
+-- the manager is called; a call that it refuses leaves it unchanged
 abbrev pub calling : Managing → Call → Managing
 calling w call = record w { manager = after_call w.manager call }
 
+-- the packets with one more, if there is one
 abbrev pub one_more : List Outgoing → Option Outgoing → List Outgoing
 one_more out None = out
 one_more out (Some packet) = out ++ packet ∷ []
 
+-- the manager has given out its first packet, if it had one
 abbrev pub taking : Managing → Taken → Managing
 taking w t = record w { manager = t.manager; out = one_more w.out t.packet }
 
@@ -74,6 +78,7 @@ taking w t = record w { manager = t.manager; out = one_more w.out t.packet }
 abbrev pub packet_of : Outgoing → Packet
 packet_of o = record { bytes = o.packet; slid = permissive_lid; dlid = unwrap_or o.to permissive_lid }
 
+-- the packet, if there is one, is sent from the manager's seat
 abbrev pub sending : Managing → Option Outgoing → Managing
 sending w None = w
 sending w (Some o) = record w { scene = sent_from w.scene w.seat (packet_of o) }
@@ -84,6 +89,7 @@ hearing w None = w
 hearing w (Some h) =
     if is_same_port h.at w.seat then calling w (calls.Packet h.packet.bytes (Some h.packet.slid)) else w
 
+-- the managing after an event
 abbrev pub after_manager_event : Managing → ManagerEvent → Managing
 after_manager_event w (Around event) = record w { scene = after_event w.scene event }
 after_manager_event w Begin = calling w calls.BeginSweep
@@ -97,6 +103,7 @@ after_manager_event w (Merge floor sightings) = calling w (calls.Merge floor sig
 after_manager_event w (Poll lid) = calling w (calls.Poll lid)
 after_manager_event w HandOver = calling w calls.Handover
 
+-- the managing after these events, in turn
 abbrev pub after_manager_events : List ManagerEvent → Managing → Managing
 after_manager_events [] w = w
 after_manager_events (event ∷ events) w = after_manager_events events (after_manager_event w event)
@@ -111,24 +118,24 @@ pub record IsAtRest (m : Manager) : Type 0 where
   pub pending : m.pending ≡ []
   -- no packet is to be sent
   pub outgoing : m.outgoing ≡ []
-  -- what it knows has keys, generations and values in their ranges
+  -- the facts that it knows have keys, generations and values in their ranges
   pub facts : AreInRange m.store
   pub floor : IsTrue (is_generation m.store.floor)
 
--- where a run starts
+-- the state in which a run starts
 pub record Starts (w : Managing) : Type 0 where
   -- no packet is on its way or was handed up; the agents may be in any state
   pub quiet : IsQuiet w.scene
-  -- no two nodes have one GUID
+  -- no two nodes have the same GUID
   pub distinct : AreGuidsDistinct (fabric_of w.scene.fabric)
   -- the manager sits at a port of an adapter
   pub seat : is_seat_at w.scene.fabric w.seat ≡ true
-  -- the manager was told the port's number
+  -- the manager has the port's number
   pub port : w.manager.port ≡ w.seat.port
   -- the manager's LMC is at most 7
   pub lmc : w.manager.planning.lmc < 8
   pub at_rest : IsAtRest w.manager
-  -- the manager has given no packet out
+  -- the manager has not given out a packet
   pub out : w.out ≡ []
 
 -- a new manager is at rest

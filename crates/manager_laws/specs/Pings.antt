@@ -23,14 +23,14 @@ pub record PingArrives (rule : RuleValue) (part : Part) (cells : Cells) (s : Sim
   pub arrives : Arrives rule part cells (fabric_of s) lid source owner
   pub reached : ping (fabric_of s) lid source ≡ Reached arrives.target (length arrives.hops)
 
--- each ping arrives, from each end port of what `origin` is joined to, for each LID of the plan
+-- each ping from an end port that `origin` is joined to, for each LID of the plan, arrives
 abbrev pub EachPingArrives : RuleValue → Cells → PlanValue → Simulation → NodePort → Type 0
 EachPingArrives rule cells plan s origin =
     (source : NodePort) → IsEndPort (fabric_of s) source → IsJoinedTo (fabric_of s) origin source
     → (lid : ℕ) (owner : EndPort) → owner_of plan.given lid ≡ Some owner
     → PingArrives rule (IsJoinedTo (fabric_of s) origin) cells s lid source owner
 
--- pings arrive in the part that an end port is joined to, if the facts describe it exactly and it holds their plan
+-- if facts describe the part that an end port is joined to exactly, and it holds their plan, pings arrive there
 abbrev pub PingsArrive : Type 0
 PingsArrive = (rule : RuleValue) (lmc : ℕ) (facts : Facts) (s : Simulation) (origin : NodePort)
     → ¬ (IsNoRoom lmc (cells_of facts)) → IsSimulation s → IsEndPort (fabric_of s) origin

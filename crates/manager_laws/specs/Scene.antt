@@ -1,4 +1,5 @@
--- A fabric on which subnet managers work, and what was handed up to them: what may happen there while no cable changes.
+-- A fabric on which subnet managers work, the packets that were handed up to them, and what may happen while no cable
+-- changes.
 use Rattle.std.specs.Prelude.{◌≡◌, ℕ, ◌<◌, ◌≤◌, ◌^◌, Bool, false, ◌&&◌, not, List, [], ◌∷◌, ◌++◌, length, slice_get, ◌==◌, if◌then◌else◌, Option, Some, None, Result, Ok, Err}
 use Rattle.fabric_model.specs.declared.cable.NodePort.{NodePort}
 use Rattle.fabric_model.specs.Cables.{is_same_port}
@@ -16,7 +17,7 @@ use Rattle.fabric_sim.specs.Delivery.{after_deliver}
 use Rattle.fabric_sim.specs.Changes.{after_inject, after_repeat, after_lose}
 use Rattle.fabric_sim.specs.ThereAndBack.{BeginsWith, directed_packet}
 
--- a packet that a delivery handed up, and the port at which it did
+-- a packet that was handed up, and the port at which it was
 pub record Handed : Type 0 where
   pub at : NodePort
   pub packet : Packet
@@ -26,14 +27,14 @@ pub record Scene : Type 0 where
   pub fabric : Simulation
   pub handed : List Handed
 
--- what a manager may send from its port: any packet that is forwarded by LIDs; a request along a path; the answer to a
--- request for SMInfo that was handed up there
+-- what a manager may send from its port: any packet that is forwarded by LIDs, a request along a path, or the answer to
+-- a request for SMInfo that was handed up there
 pub data Sending : Type 0 where
   ByLid : (packet : Packet) → Sending
   ByPath : (method attribute modifier tid : ℕ) (path payload : List ℕ) → Sending
   Answer : (which status : ℕ) (payload : List ℕ) → Sending
 
--- what may happen
+-- an event on the fabric: a packet takes a step, is lost or is copied, or a manager sends from its seat
 pub data Event : Type 0 where
   Deliver : (serial : ℕ) → Event
   Lose : (serial : ℕ) → Event
@@ -50,6 +51,7 @@ CanSend seat (ByPath method attribute modifier tid path payload) =
     × BeginsWith seat.port path
 CanSend seat (Answer which status payload) = (status < 2 ^ 15) × (length payload ≡ 64)
 
+-- the event can happen: a manager sends only what it may
 abbrev pub CanHappen : Event → Type 0
 CanHappen (Send seat sending) = CanSend seat sending
 CanHappen (Deliver serial) = Unit {0}
@@ -61,6 +63,7 @@ CanHappen (Repeat serial) = Unit {0}
 abbrev pub with_fabric : Scene → Simulation → Scene
 with_fabric s fabric = record s { fabric = fabric }
 
+-- what a delivery handed up; nothing if it did not hand the packet up
 abbrev pub handed_by : Result Delivered FabricFault → List Handed
 handed_by (Ok (ToManager at packet)) = record { at = at; packet = packet } ∷ []
 handed_by (Ok (Moved serial)) = []
@@ -68,11 +71,11 @@ handed_by (Ok (Answered serial)) = []
 handed_by (Ok (Discarded reason)) = []
 handed_by (Err fault) = []
 
--- the packet is sent from the seat, if one is there and a serial number is left
+-- the packet is sent from the seat, if there is a seat and a serial number is left
 abbrev pub sent_from : Scene → NodePort → Packet → Scene
 sent_from s seat packet = with_fabric s (after_inject s.fabric seat packet).fabric
 
--- what was handed up at the seat is a request for SMInfo
+-- whether a packet that was handed up at the seat is a request for SMInfo
 abbrev pub asks_manager : NodePort → Handed → Bool
 asks_manager seat h =
     is_same_port h.at seat && not (is_response h.packet.bytes) && number_in attribute_id h.packet.bytes == sm_info
@@ -85,17 +88,20 @@ answer_to request status payload =
     if is_directed request.bytes then directed_packet answer
     else record { bytes = answer; slid = request.dlid; dlid = request.slid }
 
+-- the answer to a request that was handed up is sent from the seat; nothing if there is no such request
 abbrev pub answered_from : Scene → NodePort → ℕ → List ℕ → Option Handed → Scene
 answered_from s seat status payload None = s
 answered_from s seat status payload (Some h) =
     if asks_manager seat h then sent_from s seat (answer_to h.packet status payload) else s
 
+-- the scene once a manager has sent from its seat
 abbrev pub sent : Scene → NodePort → Sending → Scene
 sent s seat (ByLid packet) = sent_from s seat packet
 sent s seat (ByPath method attribute modifier tid path payload) =
     sent_from s seat (directed_packet (directed method attribute modifier tid path payload))
 sent s seat (Answer which status payload) = answered_from s seat status payload (slice_get s.handed which)
 
+-- the scene after an event
 abbrev pub after_event : Scene → Event → Scene
 after_event s (Deliver serial) =
     let done = after_deliver s.fabric serial in
@@ -104,11 +110,12 @@ after_event s (Lose serial) = with_fabric s (after_lose s.fabric serial).fabric
 after_event s (Repeat serial) = with_fabric s (after_repeat s.fabric serial).fabric
 after_event s (Send seat sending) = sent s seat sending
 
+-- the scene after these events, in turn
 abbrev pub after_events : List Event → Scene → Scene
 after_events [] s = s
 after_events (event ∷ events) s = after_events events (after_event s event)
 
--- a fabric with agents in any state, nothing on its way, and nothing handed up
+-- a fabric with agents in any state, no packet on its way, and nothing handed up
 pub record IsQuiet (s : Scene) : Type 0 where
   pub fabric : IsSimulation s.fabric
   pub flights : s.fabric.flights ≡ []

@@ -1,5 +1,5 @@
--- Sets that agents take, and when they carry a plan's values. InfiniBand Architecture Specification, Volume 1: subnet
--- management, PortInfo (LID), SwitchInfo (LinearFDBTop) and LinearForwardingTable.
+-- Sets that agents take, and when they carry the values of a plan. InfiniBand Architecture Specification, Volume 1:
+-- subnet management, PortInfo (LID), SwitchInfo (LinearFDBTop) and LinearForwardingTable.
 use Rattle.std.specs.Prelude.{◌≡◌, ◌⊎◌, ℕ, List, Contains, Ok, Some}
 use Rattle.fabric_model.specs.declared.cable.NodePort.{NodePort}
 use Rattle.fabric_model.specs.Fabric.{Fabric}
@@ -22,7 +22,7 @@ use Rattle.fabric_sim.specs.Simulation.{Simulation, agent_at, port_of, flight_wi
 use Rattle.fabric_sim.specs.Delivery.{after_deliver}
 use Rattle.manager_laws.specs.Scene.{Event, Deliver}
 
--- the delivery of a packet makes an agent take a Set that came to one of its ports
+-- the delivery of a packet makes an agent take a Set that reached one of its ports
 pub record TakesSet (s : Simulation) (serial : ℕ) (at : NodePort) (a : Agent) (packet : List ℕ) : Type 0 where
   pub flight : Flight
   pub waits : flight_with s.flights serial ≡ Some flight
@@ -33,8 +33,8 @@ pub record TakesSet (s : Simulation) (serial : ℕ) (at : NodePort) (a : Agent) 
   pub method : number_in method packet ≡ set
   pub done : status (after_answer a packet at.port).packet ≡ done
 
--- what a Set would write at an agent is what the plan has there, if it has anything: the LID and the LMC of the port
--- that is meant, the switch's top, and the block
+-- if the plan has values for what a Set would write at an agent, the Set has these values: the LID and the LMC of the
+-- port that is meant, the switch's top, and the block
 pub record Carries (plan : PlanValue) (a : Agent) (arrival : ℕ) (packet : List ℕ) : Type 0 where
   pub lids : number_in attribute_id packet ≡ port_info
       → (port : ℕ) (range : ℕ × ℕ) → port_meant a (number_in attribute_modifier packet) arrival ≡ Some port
@@ -47,7 +47,8 @@ pub record Carries (plan : PlanValue) (a : Agent) (arrival : ℕ) (packet : List
       → (block : List ℕ) → block_at plan a.node.guid (number_in attribute_modifier packet) ≡ Some block
       → bytes_in attribute_data packet ≡ block
 
--- the packet at `at` asks for what a step of these phases sets, and the step's path leads from the seat to `at`
+-- the packet at the port `at` asks for what a step of these phases sets, and the step's path leads from the seat to
+-- `at`
 pub record IsOwnSet (f : Fabric) (seat : NodePort) (phases : List Phase) (at : NodePort) (packet : List ℕ) : Type 0
   where
     pub phase : Phase
@@ -59,7 +60,7 @@ pub record IsOwnSet (f : Fabric) (seat : NodePort) (phases : List Phase) (at : N
     pub modifier : number_in attribute_modifier packet ≡ step.modifier
     pub payload : bytes_in attribute_data packet ≡ step.payload
 
--- which Sets are a writing's own, by the port that they come to and what they ask for
+-- for a port and a packet that reaches it, whether the packet is one of a writing's own Sets
 abbrev pub OwnSets : Type 1
 OwnSets = NodePort → List ℕ → Type 0
 

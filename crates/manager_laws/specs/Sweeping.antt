@@ -1,4 +1,4 @@
--- A sweep on a fabric where other managers work too: what it asks, and which replies it accepts.
+-- A sweep on a fabric where other managers work too: the requests that it makes, and the replies that it accepts.
 use Rattle.std.specs.Prelude.{◌≡◌, ℕ, ◌<◌, ◌≤◌, ◌^◌, Bool, true, List, [], ◌∷◌, ◌++◌, All, slice_get, if◌then◌else◌, Option, Some, None, Result, Ok, Err}
 use Rattle.fabric_model.specs.declared.cable.NodePort.{NodePort}
 use Rattle.fabric_model.specs.Cables.{is_same_port}
@@ -22,7 +22,7 @@ pub record Sweeping : Type 0 where
   pub asked : List (List ℕ)
   pub reports : List Report
 
--- something happens on the fabric; the sweep gives its next request out; a request that it gave out is sent from its
+-- something happens on the fabric; the sweep gives out its next request; a request that it gave out is sent from its
 -- seat, and may be sent again; a packet that was handed up at its seat is given to it, and may be given again; one of
 -- its requests times out
 pub data SweepEvent : Type 0 where
@@ -32,6 +32,7 @@ pub data SweepEvent : Type 0 where
   Hear : (which : ℕ) → SweepEvent
   TimeOut : (transaction : ℕ) → SweepEvent
 
+-- the event can be: one on the fabric must be able to happen
 abbrev pub CanBe : SweepEvent → Type 0
 CanBe (Around event) = CanHappen event
 CanBe Ask = Unit {0}
@@ -41,32 +42,38 @@ CanBe (TimeOut transaction) = Unit {0}
 
 -- what events do --------------------------------------------------------------------------------
 
+-- the requests with one more, if there is one
 abbrev pub one_more : List (List ℕ) → Option (List ℕ) → List (List ℕ)
 one_more asked None = asked
 one_more asked (Some packet) = asked ++ packet ∷ []
 
+-- the sweep has given out its next request, if it had one
 abbrev pub asking_more : Sweeping → Sent → Sweeping
 asking_more w s = record w { sweep = s.sweep; asked = one_more w.asked s.packet }
 
+-- the request, if there is one, is sent from the sweep's seat
 abbrev pub sending : Sweeping → Option (List ℕ) → Sweeping
 sending w None = w
 sending w (Some packet) = record w { scene = sent_from w.scene w.seat (directed_packet packet) }
 
--- what a manager says of itself is not a report
+-- the reports of an answer; what a manager reports about itself is not a report
 abbrev pub reports_of : Answer → List Report
 reports_of (Facts report) = report ∷ []
 reports_of (Seen guid port info) = []
 
+-- the sweep has taken the reply, unless it refuses it
 abbrev pub with_answer : Sweeping → List ℕ → Result Answer SweepFault → Sweeping
 with_answer w packet (Ok answer) =
     record w { sweep = after_reply w.sweep packet; reports = w.reports ++ reports_of answer }
 with_answer w packet (Err fault) = w
 
+-- the sweep is given a packet that was handed up at its seat, if there is one
 abbrev pub hearing : Sweeping → Option Handed → Sweeping
 hearing w None = w
 hearing w (Some h) =
     if is_same_port h.at w.seat then with_answer w h.packet.bytes (judged w.sweep h.packet.bytes) else w
 
+-- the sweeping after an event
 abbrev pub after_sweep_event : Sweeping → SweepEvent → Sweeping
 after_sweep_event w (Around event) = record w { scene = after_event w.scene event }
 after_sweep_event w Ask = asking_more w (after_next_request w.sweep)
@@ -74,6 +81,7 @@ after_sweep_event w (Send which) = sending w (slice_get w.asked which)
 after_sweep_event w (Hear which) = hearing w (slice_get w.scene.handed which)
 after_sweep_event w (TimeOut transaction) = record w { sweep = after_timeout w.sweep transaction }
 
+-- the sweeping after these events, in turn
 abbrev pub after_sweep_events : List SweepEvent → Sweeping → Sweeping
 after_sweep_events [] w = w
 after_sweep_events (event ∷ events) w = after_sweep_events events (after_sweep_event w event)
@@ -85,7 +93,7 @@ AlwaysSo is_so (event ∷ events) w =
     is_so (after_sweep_event w event).scene × AlwaysSo is_so events (after_sweep_event w event)
 
 -- a fabric where nothing is going on and whose nodes have different GUIDs, and a sweep that has just begun at a seat,
--- with the number of the seat's port; it may keep images
+-- with the number of the seat's port; the sweep may keep images
 pub record Begins (w : Sweeping) (at from : ℕ) : Type 0 where
   pub quiet : IsQuiet w.scene
   pub distinct : AreGuidsDistinct (fabric_of w.scene.fabric)
@@ -97,7 +105,7 @@ pub record Begins (w : Sweeping) (at from : ℕ) : Type 0 where
   pub asked : w.asked ≡ []
   pub reports : w.reports ≡ []
 
--- each fact of a report that the sweep accepts is true of the fabric, whatever happens
+-- whatever happens, each fact of a report that the sweep accepts is true of the fabric
 abbrev pub AcceptedFactsAreTrue : Type 0
 AcceptedFactsAreTrue =
     (w : Sweeping) (generation first : ℕ) (events : List SweepEvent) → Begins w generation first → All CanBe events

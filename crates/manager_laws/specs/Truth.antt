@@ -13,12 +13,12 @@ use Rattle.reply_facts.specs.declared.value.Value.{Value}
 use Rattle.reply_facts.specs.declared.value.Value.TheVariants.{Kind, Guid, Peer, Up, Lid, Count}
 use Rattle.fabric_sim.specs.Tells.{IsUp}
 
--- the node with this GUID, and its id
+-- the node has this GUID and this id
 pub record HasNode (f : Fabric) (guid id : ℕ) (node : fabric.Node) : Type 0 where
   pub there : IsNodeAt f id node
   pub named : node.guid ≡ guid
 
--- a cable from a port to a port of the node with GUID `peer`
+-- a cable leads from the port to the port `via` of the node with the GUID `peer`
 pub record HasCable (f : Fabric) (id port peer via : ℕ) : Type 0 where
   pub far : NodePort
   pub other : fabric.Node
@@ -26,7 +26,7 @@ pub record HasCable (f : Fabric) (id port peer via : ℕ) : Type 0 where
   pub node : HasNode f peer far.node other
   pub port_is : far.port ≡ via
 
--- the fabric has this value of the key
+-- the fabric has this value for the key
 abbrev pub IsTrueOf : Fabric → Key → Value → Type 0
 IsTrueOf f (Node guid) (Kind kind ports) =
     (id : ℕ) × (node : fabric.Node) × HasNode f guid id node × (node.kind ≡ kind) × (node.ports ≡ ports)
@@ -41,7 +41,7 @@ IsTrueOf f (Cap guid) (Count cap) =
     (id : ℕ) × (node : fabric.Node) × HasNode f guid id node × (is_switch node.kind ≡ true) × (node.cap ≡ cap)
 IsTrueOf f key value = ⊥
 
--- the fabric has what a sighting says; a reply never says that a fact is disputed
+-- the sighting's value is true of the fabric; a reply never reports that a fact is disputed
 abbrev pub IsTrueSighting : Fabric → Key × Cell Value → Type 0
 IsTrueSighting f (key, Known generation value) = IsTrueOf f key value
 IsTrueSighting f (key, Disputed generation) = ⊥

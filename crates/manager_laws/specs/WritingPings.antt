@@ -11,13 +11,14 @@ use Rattle.manager_laws.specs.Complete.{IsWhole}
 use Rattle.manager_laws.specs.Managing.{Managing, ManagerEvent, Begin, Raise, Merge, after_manager_event, after_manager_events}
 use Rattle.manager_laws.specs.Written.{IsWritingRun, at_writing, at_end, plan_at}
 
--- no other sweep begins, no facts of others are merged, and no floor is given above that of the store
+-- no other sweep begins, no facts of others are merged, and no floor above that of the store is given
 abbrev pub BeginsNoSweep : Managing → ManagerEvent → Type 0
 BeginsNoSweep w Begin = begin_fault w.manager ≢ None
 BeginsNoSweep w (Raise floor) = floor ≤ w.manager.store.floor
 BeginsNoSweep w (Merge floor sightings) = (sightings ≡ []) × (floor ≤ w.manager.store.floor)
 BeginsNoSweep w event = Unit {0}
 
+-- none of these events begins another sweep or brings in other facts
 abbrev pub AreNoSweeps : List ManagerEvent → Managing → Type 0
 AreNoSweeps [] w = Unit {0}
 AreNoSweeps (event ∷ events) w = BeginsNoSweep w event × AreNoSweeps events (after_manager_event w event)
@@ -36,8 +37,8 @@ pub record BringsUp (w : Managing) (before between after : List ManagerEvent) : 
   -- the plan is written in the end
   pub written : is_written (at_end w before between after).manager ≡ true
 
--- if a manager brings the subnet up, each ping from an end port of what the seat is joined to, for each LID of the
--- plan, reaches the LID's owner
+-- if a manager brings the subnet up, each ping from an end port that the seat is joined to, for each LID of the plan,
+-- reaches the LID's owner
 abbrev pub PingsArriveOnceWritten : Type 0
 PingsArriveOnceWritten =
     (w : Managing) (before between after : List ManagerEvent) → BringsUp w before between after
@@ -45,7 +46,7 @@ PingsArriveOnceWritten =
     (cells_of (at_writing w before between).manager.store) (plan_at (at_writing w before between))
     (at_end w before between after).scene.fabric w.seat
 
--- a new manager that brings a subnet up: the fabric, and what happens there
+-- a new manager that brings a subnet up, with the fabric and what happens there
 pub record SomeManagerBringsUp : Type 0 where
   pub managing : Managing
   pub port_guid : ℕ

@@ -1,4 +1,4 @@
--- Once a plan is written, the fabric holds it wherever the sweep before the writing reached, whatever else happened.
+-- Once a plan is written, the fabric holds it as far as the sweep before the writing reached, whatever else happened.
 -- InfiniBand Architecture Specification, Volume 1: subnet management, initialization.
 use Rattle.std.specs.Prelude.{◌≡◌, ◌≢◌, ◌⊎◌, ℕ, true, List, [], ◌∷◌, All, Contains, Some, None, IsSome}
 use Rattle.fabric_model.specs.declared.cable.NodePort.{NodePort}
@@ -23,7 +23,7 @@ use Rattle.manager_laws.specs.Sets.{IsOwnSet, OwnSets, KeepsPlan}
 
 -- a plan where a sweep reached ----------------------------------------------------------------------
 
--- the sweep reached a switch, by port 0, or an adapter's port
+-- the sweep reached this port: a switch at port 0, or an adapter's port
 abbrev pub IsReached : Sweep → ℕ → ℕ → Type 0
 IsReached s guid port = IsSome (path_to s guid port)
 
@@ -41,15 +41,17 @@ pub record IsHeldWhere (plan : PlanValue) (s : Sweep) (f : Fabric) : Type 0 wher
 
 -- runs -------------------------------------------------------------------------------------------
 
+-- the event begins a sweep
 abbrev pub BeginsSweep : Managing → ManagerEvent → Type 0
 BeginsSweep w Begin = begin_fault w.manager ≡ None
 BeginsSweep w event = ⊥
 
+-- the event begins no writing
 abbrev pub BeginsNoWriting : Managing → ManagerEvent → Type 0
 BeginsNoWriting w Write = writing_fault w.manager ≢ None
 BeginsNoWriting w event = Unit {0}
 
--- no writing begins before a sweep does
+-- no writing begins before a sweep begins
 abbrev pub SweepsFirst : List ManagerEvent → Managing → Type 0
 SweepsFirst [] w = Unit {0}
 SweepsFirst (event ∷ events) w =
@@ -67,15 +69,17 @@ abbrev pub Keeps : PlanValue → OwnSets → Managing → ManagerEvent → Type 
 Keeps plan own w (Around event) = KeepsPlan plan own w.scene.fabric event
 Keeps plan own w event = BeginsNoWriting w event
 
+-- each of these events keeps the plan: none begins a writing, and each Set that an agent takes is one of the writing's
+-- own or carries the plan's values
 abbrev pub AllKeep : PlanValue → OwnSets → List ManagerEvent → Managing → Type 0
 AllKeep plan own [] w = Unit {0}
 AllKeep plan own (event ∷ events) w = Keeps plan own w event × AllKeep plan own events (after_manager_event w event)
 
--- when the writing begins: after a sweep began, and more events
+-- the managing when the writing begins: after the sweep began, and more events
 abbrev pub at_writing : Managing → List ManagerEvent → List ManagerEvent → Managing
 at_writing w before between = after_manager_events between (after_manager_event (after_manager_events before w) Begin)
 
--- the plan that is written, under the manager's LMC
+-- the plan that is written, by the manager's rule and LMC
 abbrev pub plan_at : Managing → PlanValue
 plan_at w = plan_of w.manager.planning.rule w.manager.planning.lmc (cells_of w.manager.store)
 
@@ -83,32 +87,32 @@ plan_at w = plan_of w.manager.planning.rule w.manager.planning.lmc (cells_of w.m
 abbrev pub own_sets : Managing → Managing → OwnSets
 own_sets start w = IsOwnSet (fabric_of start.scene.fabric) start.seat (phases_by w.manager w.manager.sweep)
 
--- when the writing's first steps are to be sent
+-- the managing when the writing's first steps are queued
 abbrev pub at_first_steps : Managing → List ManagerEvent → List ManagerEvent → Managing
 at_first_steps w before between = after_manager_event (at_writing w before between) Write
 
--- at the end
+-- the managing at the end of the run
 abbrev pub at_end : Managing → List ManagerEvent → List ManagerEvent → List ManagerEvent → Managing
 at_end w before between after = after_manager_events after (at_first_steps w before between)
 
--- A sweep begins, and some time later a writing.
+-- A sweep begins, and later a writing.
 pub record IsWritingRun (w : Managing) (before between after : List ManagerEvent) : Type 0 where
   pub starts : Starts w
   -- only events that can be happen before the sweep, between the sweep and the writing, and after the writing began
   pub before_can : All (CanBe w.seat) before
   pub between_can : All (CanBe w.seat) between
   pub after_can : All (CanBe w.seat) after
-  -- no writing begins before a sweep, so none goes over the paths of a sweep from before the run
+  -- no writing begins before a sweep, and thus none goes over the paths of a sweep from before the run
   pub sweeps_first : SweepsFirst before w
   -- neither the sweep nor the writing is refused
   pub sweep_begins : begin_fault (after_manager_events before w).manager ≡ None
   pub writing_begins : writing_fault (at_writing w before between).manager ≡ None
-  -- from the writing's first step on, no other writing begins, and each Set that an agent takes, unless it is one of
-  -- the writing's own, carries the plan's values
+  -- after the writing began, no other writing begins, and each Set that an agent takes is one of the writing's own or
+  -- carries the plan's values
   pub keep : AllKeep (plan_at (at_writing w before between)) (own_sets w (at_writing w before between)) after
       (at_first_steps w before between)
 
--- once the plan is written, all that the last sweep before the writing reached holds it
+-- once the plan is written, each end port and switch that the last sweep before the writing reached holds it
 abbrev pub WrittenPlansAreHeld : Type 0
 WrittenPlansAreHeld =
     (w : Managing) (before between after : List ManagerEvent) → IsWritingRun w before between after

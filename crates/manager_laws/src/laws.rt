@@ -1,4 +1,4 @@
-//! The laws of what holds after any events on a fabric: of sweeps, of plans that are written, and of pings.
+//! The laws of what holds after any events on a fabric: of sweeps, of written plans, and of pings.
 ghost use Rattle.manager_laws.specs.AnswersTell.{AnswersTell};
 ghost use Rattle.manager_laws.specs.Complete.{DoneSweepsAreComplete, SomeManagerIsSilent, SomeSweepIsWhole};
 ghost use Rattle.manager_laws.specs.Complete.{SweptPingsArrive};
@@ -8,16 +8,16 @@ ghost use Rattle.manager_laws.specs.Sweeping.{AcceptedFactsAreTrue};
 ghost use Rattle.manager_laws.specs.WritingPings.{PingsArriveOnceWritten, SomeManagerBringsUp};
 ghost use Rattle.manager_laws.specs.Written.{NewManagersSweepFirst, WrittenPlansAreHeld};
 
-/// A directed answer that comes back to a manager tells of the end of the path that it was asked over: the node, its
-/// port or its forwarding table's size, as they are. Other managers may send, each from its own port, packets that are
-/// forwarded by LIDs, requests over paths that leave by that port, and answers to requests for SMInfo. Packets may be
-/// lost, copied and reordered on the way. No cable changes.
+/// A directed answer that comes back to a manager reports the end of the path over which it was asked: the node, its
+/// port or the size of its forwarding table, as they are. Other managers may send, each from its own port, packets that
+/// are forwarded by LIDs, requests over paths that leave by that port, and answers to requests for SMInfo. Packets may
+/// be lost, copied and reordered on the way. No cable changes.
 #[tactic(auto, using(crate::proofs::Answers::answers_tell))]
 pub fn answers_tell()
     ensures { AnswersTell }
 {}
 
-/// Each fact of a report that a sweep accepts is true of the fabric, but for the LIDs that ports claim, of which
+/// Each fact of a report that a sweep accepts is true of the fabric, except for the LIDs that ports claim, about which
 /// nothing is said. The fabric is any whose nodes have different GUIDs. Other managers may send what `answers_tell`
 /// names, packets may be lost, copied and reordered, and requests may be sent and replies given to the sweep however
 /// often or late.
@@ -25,47 +25,47 @@ pub fn accepted_facts_are_true()
     ensures { AcceptedFactsAreTrue }
 {}
 
-/// A ping from each end port of a part, for each LID of a plan, reaches the end port that owns the LID, if the part is
-/// what an end port of a simulated fabric is joined to, a view with room describes it exactly, and it holds the view's
-/// plan.
+/// If a part is what an end port of a simulated fabric is joined to, a view with room describes it exactly, and it
+/// holds the view's plan, a ping from each end port of the part, for each LID of the plan, reaches the end port that
+/// owns the LID.
 pub fn pings_arrive()
     ensures { PingsArrive }
 {}
 
-/// The facts of a sweep's reports describe exactly the part of the fabric that is joined to its seat, as it was when
-/// the sweep began and as it is when the sweep is done, if each of its requests but those for SMInfo was answered and
-/// none was wanted over a path that is too long: they tell the part's end ports, switches and wires, and no others. The
-/// path that the sweep has for each of these end ports leads there. The fabric is any whose nodes have different GUIDs.
-/// Other managers may send what `manager_laws::laws::answers_tell` names, packets may be lost, copied and reordered,
-/// and requests may be sent and replies given to the sweep however often or late. A manager that is asked for SMInfo
-/// may answer anything, or nothing at all.
+/// If each request of a sweep, except those for SMInfo, was answered and none was wanted over a path that is too long,
+/// the facts of its reports describe exactly the part of the fabric that is joined to its seat, as it was when the
+/// sweep began and as it is when the sweep is done. They contain the part's end ports, switches and wires, and no
+/// others. The path that the sweep has for each of these end ports leads there. The fabric is any whose nodes have
+/// different GUIDs. Other managers may send what `manager_laws::laws::answers_tell` names, packets may be lost, copied
+/// and reordered, and requests may be sent and replies given to the sweep however often or late. A manager that is
+/// asked for SMInfo may answer anything, or nothing at all.
 pub fn done_sweeps_are_complete()
     ensures { DoneSweepsAreComplete }
 {}
 
-/// A ping from each end port that is joined to a sweep's seat, for each LID of the plan of what the sweep has found,
-/// reaches the end port that owns the LID, if the sweep has every answer, the LIDs fit, and the part that is joined to
-/// the seat holds the plan.
+/// If a sweep has every answer, the LIDs fit, and the part that is joined to the sweep's seat holds the plan of what
+/// the sweep has found, a ping from each end port of the part, for each LID of the plan, reaches the end port that owns
+/// the LID.
 pub fn swept_pings_arrive()
     ensures { SweptPingsArrive }
 {}
 
 /// Some sweep has every answer: one on an adapter, a switch with a loop in a port, and another adapter, which has a
-/// port without a cable and a manager at its other port, after twelve requests and their answers, the manager's among
-/// them.
+/// port without a cable and a manager at its other port. It takes twelve requests and their answers, including that of
+/// the manager.
 #[tactic(auto, using(crate::proofs::Example::some_sweep_is_whole))]
 pub fn some_sweep_is_whole()
     ensures { SomeSweepIsWhole }
 {}
 
-/// Some sweep has every answer while a manager is silent: the one of `some_sweep_is_whole`, if the last request, for
+/// Some sweep has every answer although a manager is silent: that of `some_sweep_is_whole`, if its last request, for
 /// SMInfo, is lost and given up.
 #[tactic(auto, using(crate::proofs::Example::some_manager_is_silent))]
 pub fn some_manager_is_silent()
     ensures { SomeManagerIsSilent }
 {}
 
-/// A new manager waits for nothing and has nothing to send, so the runs of other laws can begin with it.
+/// A new manager waits for nothing and has nothing to send. The runs of other laws can therefore begin with it.
 pub fn new_managers_rest()
     ensures { NewManagersRest }
 {}
@@ -80,21 +80,21 @@ pub fn new_managers_sweep_first()
 /// agents in any state. Other managers may send from their seats what `manager_laws::laws::answers_tell` names, packets
 /// may be lost, copied and reordered, packets of the manager may be sent or given to it however often or late, and
 /// anything may be asked of it. No cable changes, no other writing of the manager begins, and each Set that an agent
-/// takes from the writing's first step on, unless it is one of the writing's own, carries the plan's values.
+/// takes after the writing began is one of the writing's own or carries the plan's values.
 pub fn written_plans_are_held()
     ensures { WrittenPlansAreHeld }
 {}
 
-/// Each ping from an end port of what a manager's seat is joined to, for each LID of the plan, reaches the end port
-/// that owns the LID, once the manager, which held no facts, at whatever floor, has swept, with every answer but other
-/// managers' and nothing out of reach, and the plan of what it was told is written.
+/// If a manager that held no facts, at whatever floor, has swept with every answer, except those of other managers, and
+/// with nothing out of reach, and the plan of what it learned is written, each ping from an end port that its seat is
+/// joined to, for each LID of the plan, reaches the end port that owns the LID.
 pub fn pings_arrive_once_written()
     ensures { PingsArriveOnceWritten }
 {}
 
-/// Some manager brings its subnet up: one that was just made, on an adapter wired to a switch, as is another adapter,
-/// where another manager sits and answers it. LIDs come in pairs (LMC 1). The first request is lost and sent again, and
-/// then copied. After the sweep's ten requests come the plan's five Sets.
+/// Some manager brings its subnet up: a new one on an adapter that is wired to a switch. Another adapter is wired to
+/// the switch, and another manager sits there and answers it. LIDs come in pairs (LMC 1). The first request is lost and
+/// sent again, and then copied. After the sweep's ten requests come the plan's five Sets.
 pub fn some_manager_brings_up()
     ensures { SomeManagerBringsUp }
 {}

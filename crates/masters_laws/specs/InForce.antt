@@ -31,8 +31,8 @@ abbrev pub HoldsLids : Part → PlanValue → Fabric → Type 0
 HoldsLids part plan f = (port : NodePort) (node : fabric.Node) → IsEndPortIn part f port node
     → range_of plan.given (record { node = node.guid; port = port.port }) ≡ Some (range_at f port)
 
--- Facts describe all that is joined to each seat exactly, and its end ports have the LIDs of their plan, by the rule
--- and the LMC of every manager.
+-- Facts describe exactly the part that is joined to each seat, and its end ports have the LIDs of their plan, by the
+-- rule and the LMC of every manager.
 pub record ShareLids (facts : Facts) (planning : Planning) (t : Masters) : Type 0 where
   pub starts : StartTogether t
   pub has_room : ¬ (IsNoRoom planning.lmc (cells_of facts))
@@ -42,8 +42,8 @@ pub record ShareLids (facts : Facts) (planning : Planning) (t : Masters) : Type 
   pub lids : (which : ℕ) (m : Seated) → IsAt t which m
       → HoldsLids (IsJoinedTo (fabric_of t.scene.fabric) m.seat) (plan_by_it planning facts) (fabric_of t.scene.fabric)
 
--- After a cut: earlier facts tell each end port that is joined to a seat, and it has the LID and the LMC of their plan;
--- they may tell of others, which are gone. The facts describe what is left, and claim the LIDs that it has.
+-- After a cut: earlier facts contain each end port that is joined to a seat, and it has the LID and the LMC of their
+-- plan; they may contain others, which are gone. The facts describe what is left, and claim the LIDs that it has.
 pub record ShareRest (earlier facts : Facts) (planning : Planning) (t : Masters) : Type 0 where
   pub starts : StartTogether t
   pub had_room : ¬ (IsNoRoom planning.lmc (cells_of earlier))
@@ -65,11 +65,13 @@ RestSharesLids =
     (earlier facts : Facts) (planning : Planning) (t : Masters) → ShareRest earlier facts planning t
     → ShareLids facts planning t
 
--- other senders set nothing but SMInfo, and a manager knows what it writes from one sweep, which has every answer
+-- other senders set only SMInfo, and a manager begins a writing only if all that it knows is from one sweep with every
+-- answer
 abbrev pub SweepsWhole : Masters → MastersEvent → Type 0
 SweepsWhole t (Around event) = SetsInfoOnly event
 SweepsWhole t (At which event) = (m : Seated) → IsAt t which m → WritesWhole m event
 
+-- each of these events satisfies `SweepsWhole` when it happens
 abbrev pub AllSweepWhole : List MastersEvent → Masters → Type 0
 AllSweepWhole [] t = Unit {0}
 AllSweepWhole (event ∷ events) t = SweepsWhole t event × AllSweepWhole events (after_masters_event t event)
@@ -81,7 +83,7 @@ MastersKeepLids =
     → AllCanBe events t → AllSweepWhole events t
     → HasLidsOf (fabric_of t.scene.fabric) (after_masters_events events t).scene
 
--- a manager that knows one sweep with every answer would write the plan of these facts
+-- a manager that knows one sweep with every answer writes the plan of these facts
 abbrev pub MastersWriteTheSame : Type 0
 MastersWriteTheSame =
     (facts : Facts) (planning : Planning) (t : Masters) (events : List MastersEvent) → ShareLids facts planning t
@@ -92,12 +94,12 @@ MastersWriteTheSame =
 
 -- on a subnet that holds a plan -------------------------------------------------------------------
 
--- what is joined to each seat holds the plan
+-- the part that is joined to each seat holds the plan
 abbrev pub AllHold : Facts → Planning → Masters → Type 0
 AllHold facts planning t = (which : ℕ) (m : Seated) → IsAt t which m
     → HoldsPlan (IsJoinedTo (fabric_of t.scene.fabric) m.seat) (plan_by_it planning facts) (fabric_of t.scene.fabric)
 
--- what is joined to each seat holds the plan, and each ping there arrives
+-- the part that is joined to each seat holds the plan, and each ping there arrives
 abbrev pub AllInUse : Facts → Planning → Masters → Type 0
 AllInUse facts planning t =
     (which : ℕ) (m : Seated) → IsAt t which m
@@ -115,12 +117,13 @@ WritesNothing which t (Around event) = Unit {0}
 WritesNothing which t (At other event) =
     which ≡ other → (m : Seated) → IsAt t which m → BeginsNoWriting (seen_by t.scene m) event
 
+-- in none of these events the manager at index `which` begins a writing
 abbrev pub WriteNothing : ℕ → List MastersEvent → Masters → Type 0
 WriteNothing which [] t = Unit {0}
 WriteNothing which (event ∷ events) t =
     WritesNothing which t event × WriteNothing which events (after_masters_event t event)
 
--- a manager begins a writing, and no other one since, and the plan counts as written
+-- a manager begins a writing and no other one later, and in the end its plan counts as written
 pub record HasWritten (t : Masters) (before after : List MastersEvent) (which : ℕ) : Type 0 where
   pub writer : Seated
   pub there : IsAt (after_masters_events before t) which writer
@@ -130,7 +133,8 @@ pub record HasWritten (t : Masters) (before after : List MastersEvent) (which : 
   pub there_later : IsAt (after_masters_events (before ++ At which one.Write ∷ after) t) which later
   pub written : is_written later.manager ≡ true
 
--- once one manager has written its plan, all that is joined to the seats holds it, whatever the others do meanwhile
+-- once a manager has written its plan, the part that is joined to each seat holds it, whatever the other managers do
+-- meanwhile
 abbrev pub WrittenByOneIsHeld : Type 0
 WrittenByOneIsHeld =
     (facts : Facts) (planning : Planning) (t : Masters) (before after : List MastersEvent) (which : ℕ)
@@ -160,6 +164,7 @@ new_at seat port_guid planning =
       knows_one_sweep = false;
     }
 
+-- two new managers that write one subnet at once, and what happens to them
 pub record SomeMastersWriteAtOnce : Type 0 where
   pub masters : Masters
   pub held : Facts
@@ -171,7 +176,7 @@ pub record SomeMastersWriteAtOnce : Type 0 where
   pub other_seat : NodePort
   pub other_guid : ℕ
   pub are_new : masters.managers ≡ new_at seat guid planning ∷ new_at other_seat other_guid planning ∷ []
-  -- what happens until they are told to write, and from then on
+  -- the events until the managers are told to write, and those after it
   pub sweeping : List MastersEvent
   pub writing : List MastersEvent
   pub can_be : AllCanBe (sweeping ++ At 0 one.Write ∷ At 1 one.Write ∷ writing) masters

@@ -21,18 +21,19 @@ LearnsNothingElse which t (Around event) = Unit {0}
 LearnsNothingElse which t (At other event) =
     which ≡ other → (m : Seated) → IsAt t which m → BeginsNoSweep (seen_by t.scene m) event
 
+-- in these events the manager at index `which` learns nothing else
 abbrev pub LearnNothingElse : ℕ → List MastersEvent → Masters → Type 0
 LearnNothingElse which [] t = Unit {0}
 LearnNothingElse which (event ∷ events) t =
     LearnsNothingElse which t event × LearnNothingElse which events (after_masters_event t event)
 
--- the manager held no facts when it began a sweep, and has learnt of nothing else since
+-- the manager held no facts when it began a sweep, and has learned nothing else since
 pub record LearntFromOne (t : Masters) (events : List MastersEvent) (which : ℕ) : Type 0 where
   pub swept : BeganSweep t events which
   pub knew_nothing : cells_of swept.then.manager.store ≡ []
   pub alone : LearnNothingElse which swept.between (after_masters_events (swept.before ++ At which one.Begin ∷ []) t)
 
--- a manager that knew no sweep at first knows one exactly if it learnt from one
+-- a manager that knew no sweep at first knows one exactly if it learned only from one
 abbrev pub KnowsOneSweepMeans : Type 0
 KnowsOneSweepMeans =
     (t : Masters) (events : List MastersEvent) (which : ℕ) (m later : Seated) → IsAt t which m

@@ -15,8 +15,8 @@ use Rattle.manager_laws.specs.Managing as one
 use Rattle.manager_laws.specs.Managing.{Managing, ManagerEvent, Starts, IsElsewhere, after_manager_event}
 use Rattle.manager_laws.specs.Complete.{IsWhole}
 
--- a manager at its seat, the packets that it gave out, whether a sweep of it began in the run, and whether all that it
--- knows is from one sweep: its last one, which began when it held no facts
+-- a manager with its seat and the packets that it gave out, whether it began a sweep in the run, and whether all that
+-- it knows is from one sweep: its last one, which began when it held no facts
 pub record Seated : Type 0 where
   pub seat : NodePort
   pub manager : Manager
@@ -38,19 +38,19 @@ pub data MastersEvent : Type 0 where
 abbrev pub IsAt : Masters → ℕ → Seated → Type 0
 IsAt t which m = slice_get t.managers which ≡ Some m
 
--- one of several managers on its own, to which the others are what happens around it
+-- one of the managers on its own, for which the others are what happens around it
 abbrev pub seen_by : Scene → Seated → Managing
 seen_by scene m = record { scene = scene; seat = m.seat; manager = m.manager; out = m.out }
 
 -- what events do --------------------------------------------------------------------------
 
--- whether a sweep has begun after the event
+-- whether the manager has begun a sweep, after the event
 abbrev pub has_swept_after : Seated → ManagerEvent → Bool
 has_swept_after m one.Begin = if is_none (begin_fault m.manager) then true else m.has_swept
 has_swept_after m event = m.has_swept
 
--- whether all that the manager knows after the event is from one sweep: so from the moment at which a sweep begins
--- while it holds no facts, until facts of others are merged or its floor is raised
+-- whether all that the manager knows after the event is from one sweep; this holds from the moment at which a sweep
+-- begins while it holds no facts, until facts of others are merged or its floor is raised
 abbrev pub knows_one_after : Seated → ManagerEvent → Bool
 knows_one_after m one.Begin =
     if is_none (begin_fault m.manager) then length (cells_of m.manager.store) == 0 else m.knows_one_sweep
@@ -59,6 +59,7 @@ knows_one_after m (one.Merge floor sightings) =
     m.knows_one_sweep && (length sightings == 0 && nat_le floor m.manager.store.floor)
 knows_one_after m event = m.knows_one_sweep
 
+-- a manager at its seat after an event, given its managing after it
 abbrev pub seated_after : Seated → ManagerEvent → Managing → Seated
 seated_after m event w =
     record {
@@ -69,23 +70,26 @@ seated_after m event w =
       knows_one_sweep = knows_one_after m event;
     }
 
+-- the event happens to the manager at index `which`, if there is one
 abbrev pub acting : Masters → ℕ → ManagerEvent → Option Seated → Masters
 acting t which event None = t
 acting t which event (Some m) =
     let w = after_manager_event (seen_by t.scene m) event in
     record { scene = w.scene; managers = slice_set t.managers which (seated_after m event w) }
 
+-- the managers and the scene after an event
 abbrev pub after_masters_event : Masters → MastersEvent → Masters
 after_masters_event t (Around event) = record t { scene = after_event t.scene event }
 after_masters_event t (At which event) = acting t which event (slice_get t.managers which)
 
+-- the managers and the scene after these events, in turn
 abbrev pub after_masters_events : List MastersEvent → Masters → Masters
 after_masters_events [] t = t
 after_masters_events (event ∷ events) t = after_masters_events events (after_masters_event t event)
 
 -- which events there may be ----------------------------------------------------------------
 
--- other senders set nothing but SMInfo
+-- other senders set only SMInfo
 abbrev pub SetsInfoOnly : Event → Type 0
 SetsInfoOnly (around.Send seat (ByLid packet)) =
     number_in method packet.bytes ≡ set → number_in attribute_id packet.bytes ≡ sm_info
@@ -98,22 +102,25 @@ abbrev pub IsItsOwn : ManagerEvent → Type 0
 IsItsOwn (one.Around event) = ⊥
 IsItsOwn event = Unit {0}
 
+-- there is a sweep, and it has every answer
 abbrev pub IsWholeSweep : Option Sweep → Type 0
 IsWholeSweep None = ⊥
 IsWholeSweep (Some s) = IsWhole s
 
--- the manager begins a writing only if all that it knows is from one sweep, which has every answer
+-- the manager begins a writing only if all that it knows is from one sweep that has every answer
 abbrev pub WritesWhole : Seated → ManagerEvent → Type 0
 WritesWhole m one.Write =
     writing_fault m.manager ≡ None → (m.knows_one_sweep ≡ true) × IsWholeSweep m.manager.sweep
 WritesWhole m event = Unit {0}
 
+-- the event can be, for all managers at their seats
 abbrev pub CanBe : Masters → MastersEvent → Type 0
 CanBe t (Around event) =
     CanHappen event × ((which : ℕ) (m : Seated) → IsAt t which m → IsElsewhere m.seat event)
 CanBe t (At which event) =
     (m : Seated) → IsAt t which m → IsItsOwn event × one.CanBe m.seat event
 
+-- each of these events can be when it happens
 abbrev pub AllCanBe : List MastersEvent → Masters → Type 0
 AllCanBe [] t = Unit {0}
 AllCanBe (event ∷ events) t = CanBe t event × AllCanBe events (after_masters_event t event)

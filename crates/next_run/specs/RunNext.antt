@@ -36,15 +36,16 @@ use Rattle.next_run.specs.declared.step_rule.StepChoice.{StepChoice}
 abbrev pub planned : ℕ → RuleValue → Facts → HeldPlan
 planned lmc rule facts = held_plan (plan_of rule lmc (cells_of facts))
 
--- how a step towards the plan chooses entries: by the order of the plan's switches if the held tables are right by that
--- order, else by settled entries
+-- how a step towards the plan chooses entries: by the order of the plan's switches if the held tables are right by it,
+-- otherwise by settled entries
 abbrev pub chosen_by : Cells → List ℕ → HeldPlan → StepRuleValue
 chosen_by cells positions held = if are_right cells (position_at positions) held then by_order positions else settled_first
 
+-- how a step towards the plan of `facts` by `rule` chooses entries
 abbrev pub step_rule : RuleValue → Facts → HeldPlan → StepRuleValue
 step_rule rule facts held = chosen_by (cells_of facts) (positions_by rule (cells_of facts)) held
 
--- the tables to write next towards the plan, unless a step goes by the order that the held tables tell
+-- the tables to write next towards the plan, if the step does not go by the order that the held tables imply
 abbrev pub stepped : ℕ → RuleValue → Facts → HeldPlan → HeldPlan
 stepped lmc rule facts held = next_tables (cells_of facts) (step_rule rule facts held) held (planned lmc rule facts)
 
@@ -52,6 +53,7 @@ stepped lmc rule facts held = next_tables (cells_of facts) (step_rule rule facts
 abbrev pub text_of_step : ℕ → RuleValue → Facts → HeldPlan → List ℕ
 text_of_step lmc rule facts next = next_text (plan_of rule lmc (cells_of facts)).given next
 
+-- the text of a step towards the plan
 abbrev pub step_text : ℕ → RuleValue → Facts → HeldPlan → List ℕ
 step_text lmc rule facts held = text_of_step lmc rule facts (stepped lmc rule facts held)
 
@@ -63,35 +65,37 @@ pub record Choice : Type 0 where
 abbrev pub choice_of : StepChoice → Choice
 choice_of choice = record { by = value_of choice.by; goal = choice.goal }
 
--- the goal of a step by the order that the held tables tell; None unless `told`, and None if the held tables are right
--- by the order of the plan's switches
+-- the goal of a step by the order that the held tables imply; None if `told` is false or the held tables are right by
+-- the order of the plan's switches
 abbrev pub IsGoalFrom : Bool → Bool → Cells → HeldPlan → HeldPlan → List ℕ → Option Goal → Type 0
 IsGoalFrom false right cells held plan positions goal = goal ≡ None
 IsGoalFrom true true cells held plan positions goal = goal ≡ None
 IsGoalFrom true false cells held plan positions goal = IsGoal cells held plan positions goal
 
+-- the goal of a step towards the plan of `facts` by `rule`, if the step may go by the order that the held tables imply
 abbrev pub IsGoalOf : Bool → RuleValue → Facts → HeldPlan → HeldPlan → Option Goal → Type 0
 IsGoalOf told rule facts held plan goal =
     IsGoalFrom told (are_right (cells_of facts) (position_at (positions_by rule (cells_of facts))) held) (cells_of facts)
     held plan (positions_by rule (cells_of facts)) goal
 
--- if there is a goal, a step goes by the order that the held tables tell, towards the goal's tables
+-- a step with a goal goes by the order that the held tables imply, towards the goal's tables
 abbrev pub choice_by : RuleValue → Facts → HeldPlan → Option Goal → Choice
 choice_by rule facts held None = record { by = step_rule rule facts held; goal = None }
 choice_by rule facts held (Some goal) = record { by = by_order goal.positions; goal = Some goal.tables }
 
+-- `choice` is how a step chooses entries, and the tables that it goes towards
 pub record IsChoice (told : Bool) (rule : RuleValue) (facts : Facts) (held plan : HeldPlan) (choice : Choice)
     : Type 0 where
   pub goal : Option Goal
   pub goal_is : IsGoalOf told rule facts held plan goal
   pub is : choice ≡ choice_by rule facts held goal
 
--- the tables to write next, towards the goal if there is one, else towards the plan
+-- the tables to write next, towards the goal if there is one, otherwise towards the plan
 abbrev pub next_towards : RuleValue → Facts → HeldPlan → HeldPlan → Option Goal → HeldPlan
 next_towards rule facts held plan None = next_tables (cells_of facts) (step_rule rule facts held) held plan
 next_towards rule facts held plan (Some goal) = next_tables (cells_of facts) (by_order goal.positions) held goal.tables
 
--- `next` are the tables to write next; `told` says whether the step may go by the order that the held tables tell
+-- `next` are the tables to write next; `told` says whether the step may go by the order that the held tables imply
 pub record IsNextStep (told : Bool) (rule : RuleValue) (facts : Facts) (held plan next : HeldPlan) : Type 0 where
   pub goal : Option Goal
   pub goal_is : IsGoalOf told rule facts held plan goal
@@ -114,7 +118,7 @@ IsSaid written has_failed old new text = IsTrue (has_failed new) ⊎ Appends (wr
 
 -- There is room for the plan, and no LID moves. `prints` holds of the step's text, and `says` of the text of a shortest
 -- credit loop, or that there is none. `passed` says whether there is none. `told` says whether the step may go by the
--- order that the held tables tell
+-- order that the held tables imply
 pub record IsStep (lmc : ℕ) (told : Bool) (rule : RuleValue) (facts : Facts) (held : HeldPlan) (prints says : List ℕ
     → Type 0) (passed : Bool) : Type 0 where
   pub has_room : no_room lmc (cells_of facts) ≡ None
@@ -133,18 +137,19 @@ abbrev pub fault_of_step : ℕ → StepFault → Fault
 fault_of_step at (steps.Moves lid) = Text at (Moves lid)
 fault_of_step at steps.Memory = Memory
 
--- why there are no next tables: the plan gives a LID of the held tables, the input `at`, to another end port; else
--- memory was refused
+-- why there are no next tables: the plan gives a LID of the held tables, the input `at`, to another end port, or memory
+-- ran out
 abbrev pub StopsBy : ℕ → Option ℕ → Fault → Type 0
 StopsBy at moved (Text input (Moves lid)) = (input ≡ at) × (moved ≡ Some lid)
 StopsBy at moved Memory = Unit {0}
 StopsBy at moved fault = ⊥
 
+-- why there are no next tables from `held` towards `plan`
 abbrev pub StopsNext : ℕ → HeldPlan → HeldPlan → Fault → Type 0
 StopsNext at held plan = StopsBy at (first_moved held plan)
 
--- why there is no step: the plan has no room, or it gives a LID of the held tables, the input `at`, to another end
--- port; else the output has failed, or memory was refused
+-- why there is no step: the plan has no room, it gives a LID of the held tables, the input `at`, to another end port,
+-- the output has failed, or memory ran out
 abbrev pub StopsStep : ℕ → ℕ → RuleValue → Facts → HeldPlan → Bool → Fault → Type 0
 StopsStep at lmc rule facts held sink_failed (NoRoom why) = no_room lmc (cells_of facts) ≡ Some why
 StopsStep at lmc rule facts held sink_failed (Text input (Moves lid)) =

@@ -29,25 +29,25 @@ use tables_file::write_next;
 pub struct StepAsked {
     /// Each adapter port has 2^LMC LIDs in the plan.
     pub lmc: Lmc,
-    /// The rule that the plan is made by.
+    /// The rule by which the plan is made.
     pub rule: RuleAsked,
     /// Facts of generations before this one are ignored.
     pub floor: Generation,
-    /// Whether the step may go by the order that the held tables tell, if they are not right by the order of the plan's
-    /// switches.
+    /// Whether the step may go by the order that the held tables imply, if they are not right by the order of the
+    /// plan's switches.
     pub told: bool,
 }
 
 /// Reads the inputs in order (`read_inputs`): the text that the rule takes, the text of the held tables, then the
-/// files. Writes to `sink` the tables to write next, towards the plan of what the files say together. Writes to `told`
-/// whether channels can wait for each other by any mixtures of both tables, in a line like an audit's; if they can,
-/// another line has the LIDs. Returns whether they cannot.
+/// files. Writes to `sink` the tables to write next, towards the plan of the subnet that the files describe together.
+/// Writes to `told` whether channels can wait for each other by any mixtures of both tables, in a line like an audit's.
+/// If they can, another line has the LIDs. Returns whether they cannot.
 ///
 /// # Errors
 ///
-/// Returns the first fault of the inputs; or else, that the plan has no room; or else, that the plan gives a LID to an
-/// end port while another one holds it. If an input is refused or memory runs out, nothing is written. If a write
-/// fails, how much was written before is unspecified.
+/// Returns the first fault of the inputs. If they have none, reports that the plan has no room for its LIDs. If it has
+/// room, reports that it gives a LID to an end port while another one holds it. If an input is refused or memory runs
+/// out, nothing is written. If a write fails, how much was written before is unspecified.
 pub fn run_next<S: Source, W: Sink, E: Sink>(
     alloc: Global,
     inputs: &mut [S],
@@ -84,7 +84,7 @@ pub fn run_next<S: Source, W: Sink, E: Sink>(
 }
 
 /// Writes the step from the held tables towards the plan of the facts in `store`. `input` is the number of the held
-/// tables' text. `by_told` says whether the step may go by the order that the held tables tell. Writes to `told`
+/// tables' text. `by_told` says whether the step may go by the order that the held tables imply. Writes to `told`
 /// whether channels can wait for each other in the step, and returns whether they cannot.
 fn step<W: Sink, E: Sink>(
     alloc: Global,
@@ -123,8 +123,8 @@ fn step<W: Sink, E: Sink>(
     Ok(found.is_none())
 }
 
-/// Returns the tables to write next from those of the network `from`, towards a plan of the same facts by `rule`.
-/// `told` says whether the step may go by the order that the tables of `from` tell. `input` is the number of the held
+/// Returns the tables to write next from the tables of the network `from`, towards a plan of the same facts by `rule`.
+/// `told` says whether the step may go by the order that the tables of `from` imply. `input` is the number of the held
 /// tables' text, for faults.
 fn next_by(
     alloc: Global,
@@ -155,7 +155,7 @@ fn next_by(
     }
 }
 
-/// Returns the tables to write next by the rule `by`, from those of the network `from` towards the tables `goal`.
+/// Returns the tables to write next by the rule `by`, from the tables of the network `from` towards the tables `goal`.
 /// `input` is the number of the held tables' text, for faults.
 fn next_towards_goal(
     alloc: Global,
@@ -177,8 +177,8 @@ fn next_towards_goal(
     next_towards(alloc, input, by, from, &to)
 }
 
-/// Returns the tables to write next by the rule `by`, from those of the network `from` towards those of the network
-/// `to`. `input` is the number of the held tables' text, for faults.
+/// Returns the tables to write next by the rule `by`, from the tables of the network `from` towards the tables of the
+/// network `to`. `input` is the number of the held tables' text, for faults.
 fn next_towards(
     alloc: Global,
     input: usize,
@@ -198,7 +198,8 @@ fn next_towards(
     }
 }
 
-/// Returns the credit loop that some mixture of the network's tables and the next ones can make, if there is one.
+/// Returns a shortest credit loop that some mixture of the network's tables and the next tables makes, or an empty one
+/// if there is none.
 fn loop_towards(
     alloc: Global,
     store: &Store,

@@ -48,7 +48,7 @@ impl StepLoop {
         self.channels.is_empty()
     }
 
-    /// Writes the channels, and after them their LIDs.
+    /// Writes the line of the channels, and then the line of their LIDs, if there are any.
     pub fn write<W: Sink>(&self, sink: &mut W, network: &Network) -> Result<(), WriteFault>
         ensures { WritesPart W.written W.has_failed result sink.old sink.new
             (loop_text (cells_of network.now.facts) self.now.channels.items self.now.lids.items) }

@@ -26,10 +26,10 @@ pub(crate) struct StepChoice {
     pub goal: Option<Held>,
 }
 
-/// Returns how a step from the tables of `from` towards those of `plan` chooses entries. `plan` is the plan of the same
-/// facts by `rule`. The step goes by the order of the plan's switches if the tables of `from` are right by it. If they
-/// are not, and `told` is true, it goes by the order that they tell, towards tables between that order and the plan's,
-/// if they tell one. Else it goes by settled entries.
+/// Returns how a step from the tables of `from` towards the tables of `plan` chooses entries. `plan` is the plan of the
+/// same facts by `rule`. The step goes by the order of the plan's switches if the tables of `from` are right by it.
+/// Otherwise, if `told` is true and the tables imply an order, it goes by that order, towards tables between that order
+/// and the plan's. Otherwise it goes by settled entries.
 pub(crate) fn step_choice(
     alloc: Global,
     told: bool,
@@ -64,7 +64,8 @@ pub(crate) fn step_choice(
     }
 }
 
-/// Returns the goal of a step by the order that the tables of `from` tell, if `told` is true and they tell one.
+/// Returns the goal of a step by the order that the tables of `from` imply, or `None` if `told` is false or they imply
+/// no order.
 fn goal_between(
     alloc: Global,
     told: bool,

@@ -22,13 +22,13 @@ block_in columns index b = map (λ i. entry_in columns index (64 * b + i)) (rang
 abbrev pub some_blocks : List (List ℕ) → ℕ → ℕ → List HeldBlock
 some_blocks columns index count = blocks_from index 0 (map (block_in columns index) (range_with_len 0 count))
 
--- the blocks of `switches`, the first of which has the index `index`
+-- the blocks of `switches`; the first switch has the index `index`
 abbrev pub all_blocks : List (List ℕ) → ℕ → List HeldSwitch → List HeldBlock
 all_blocks columns index [] = []
 all_blocks columns index (s ∷ switches) =
     some_blocks columns index (block_count (Some s.top)) ++ all_blocks columns (suc index) switches
 
--- the plan's LIDs, and each usable switch with the greater of its tops and its entries in `columns`, which has the
+-- the plan's LIDs and, for each usable switch, the greater of its tops and its entries in `columns`; `columns` has the
 -- entries of all usable switches for each LID
 abbrev pub tables_with : Cells → HeldPlan → HeldPlan → List (List ℕ) → HeldPlan
 tables_with cells held plan columns = record {
@@ -37,6 +37,6 @@ tables_with cells held plan columns = record {
   blocks = all_blocks columns 0 (map (next_switch held plan) (switches cells));
 }
 
--- the number of blocks up to the greatest top
+-- the number of blocks up to the greatest top in both tables
 abbrev pub most_blocks : Cells → HeldPlan → HeldPlan → ℕ
 most_blocks cells held plan = block_count (Some (max (greatest_top cells held) (greatest_top cells plan)))

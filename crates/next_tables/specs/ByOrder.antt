@@ -14,7 +14,7 @@ use Rattle.held_tables.specs.Tables.{owners_of, entry_for}
 use Rattle.packet_walks.specs.HopsByTables.{is_at}
 use Rattle.next_tables.specs.Next.{step_at, comes_to, delivers}
 
--- `q` gives each usable switch, by its index, a position
+-- `q` gives each usable switch, by its index, a position below the number of switches
 abbrev pub IsOrder : Cells → (ℕ → ℕ) → Type 0
 IsOrder cells q = (i : ℕ) → i < length (switches cells) → q i < length (switches cells)
 
@@ -26,7 +26,7 @@ position_at positions i = slice_index_or positions i 0
 abbrev pub switch_at : Cells → ℕ → ℕ
 switch_at cells i = slice_index_or (switches cells) i 0
 
--- a wire leads from the switch at index i to the one at index j
+-- a wire leads from the switch at index i to the switch at index j
 abbrev pub IsWired : Cells → ℕ → ℕ → Type 0
 IsWired cells i j = (p : ℕ) × (slice_index_or (row_of cells (switch_at cells i)) p Nothing ≡ Switch j)
 
@@ -35,10 +35,11 @@ abbrev pub AreApart : Cells → (ℕ → ℕ) → Type 0
 AreApart cells q =
     (i j : ℕ) → i < length (switches cells) → j < length (switches cells) → IsWired cells i j → q i ≡ q j → i ≡ j
 
--- a channel leads down to a switch that is no earlier, and up to one that is no later
+-- the channel from i to j leads down: j is no earlier in the order than i
 abbrev pub is_down : (ℕ → ℕ) → ℕ → ℕ → Bool
 is_down q i j = not (nat_lt (q j) (q i))
 
+-- the channel from i to j leads up: j is no later in the order than i
 abbrev pub is_up : (ℕ → ℕ) → ℕ → ℕ → Bool
 is_up q i j = not (nat_lt (q i) (q j))
 
@@ -46,18 +47,18 @@ is_up q i j = not (nat_lt (q i) (q j))
 abbrev pub is_bad : (ℕ → ℕ) → ℕ → ℕ → ℕ → Bool
 is_bad q i j k = is_down q i j && is_up q j k
 
--- the switch at index i forwards packets for `lid` by `tables` to the one at index j
+-- the switch at index i forwards packets for `lid` by `tables` to the switch at index j
 pub record Leads (cells : Cells) (tables : HeldPlan) (lid i j : ℕ) : Type 0 where
   pub switch : ℕ
   pub is_there : slice_get (switches cells) i ≡ Some switch
   pub goes : step_at cells tables lid switch ≡ To j
 
--- no packet for `lid` comes to a switch by `before` and leaves it by `now` with a bad turn
+-- no packet for `lid` that reaches a switch by `before` and leaves it by `now` makes a bad turn
 abbrev pub TurnsWell : Cells → (ℕ → ℕ) → HeldPlan → HeldPlan → ℕ → Type 0
 TurnsWell cells q before now lid =
     (i j k : ℕ) → Leads cells before lid i j → Leads cells now lid j k → is_bad q i j k ≡ false
 
--- `tables` are right by the order for `lid`
+-- no packet for `lid` makes a bad turn by `tables`: they are right by the order
 abbrev pub AreRight : Cells → (ℕ → ℕ) → HeldPlan → ℕ → Type 0
 AreRight cells q tables lid = TurnsWell cells q tables tables lid
 
@@ -105,33 +106,35 @@ may_change cells q held goal line i g =
     turns_well cells q held goal line.lid i (step_at cells goal line.lid g)
     && (not (delivers cells held line g) || leads_in cells held line (step_at cells goal line.lid g))
 
--- the entry that a switch tries: the goal's if it may change to it, else the held one
+-- the entry that a switch tries: the goal's entry if it may change to it, otherwise the held entry
 abbrev pub tried_entry : Cells → (ℕ → ℕ) → HeldPlan → HeldPlan → HeldLid → ℕ → ℕ → ℕ
 tried_entry cells q held goal line i g =
     if may_change cells q held goal line i g then entry_for goal line.lid g else entry_for held line.lid g
 
+-- the next hop of the switch at index i by the entry that it tries
 abbrev pub tried_at : Cells → (ℕ → ℕ) → HeldPlan → HeldPlan → HeldLid → ℕ → NextHop
 tried_at cells q held goal line i =
     if may_change cells q held goal line i (switch_at cells i) then step_at cells goal line.lid (switch_at cells i) else
     step_at cells held line.lid (switch_at cells i)
 
+-- the next hop of each switch by the entry that it tries
 abbrev pub tried : Cells → (ℕ → ℕ) → HeldPlan → HeldPlan → HeldLid → List NextHop
 tried cells q held goal line = map (tried_at cells q held goal line) (range_with_len 0 (length (switches cells)))
 
--- the tried entry if the tried entries deliver from the switch, else 255
+-- the tried entry if the packet arrives from the switch by the tried entries, otherwise 255
 abbrev pub next_by_order : Cells → (ℕ → ℕ) → HeldPlan → HeldPlan → HeldLid → ℕ → ℕ → ℕ
 next_by_order cells q held goal line i g =
     if comes_to line.port (tried cells q held goal line) (To i) then tried_entry cells q held goal line i g else 255
 
--- `next` has the next entries by the order for the LID of `line`, and the LID's owners stay
+-- `next` has the next entries by the order for the LID of `line`, and the LID's owners stay the same
 pub record IsNextByOrder (cells : Cells) (q : ℕ → ℕ) (held goal : HeldPlan) (line : HeldLid) (next : HeldPlan) : Type 0
   where
     pub owners : owners_of next line.lid ≡ owners_of held line.lid
     pub entries : (i g : ℕ) → slice_get (switches cells) i ≡ Some g
         → entry_for next line.lid g ≡ next_by_order cells q held goal line i g
 
--- like `IsNextByOrder`, but `next` may also have a tried entry that does not deliver, which does not matter to packets
--- that arrive
+-- as `IsNextByOrder`, but a switch from which the packet does not arrive by the tried entries may have either its tried
+-- entry or 255
 pub record IsTriedByOrder (cells : Cells) (q : ℕ → ℕ) (held goal : HeldPlan) (line : HeldLid) (next : HeldPlan) : Type 0
   where
     pub owners : owners_of next line.lid ≡ owners_of held line.lid
@@ -139,7 +142,7 @@ pub record IsTriedByOrder (cells : Cells) (q : ℕ → ℕ) (held goal : HeldPla
         → (entry_for next line.lid g ≡ tried_entry cells q held goal line i g)
         ⊎ ((comes_to line.port (tried cells q held goal line) (To i) ≡ false) × (entry_for next line.lid g ≡ 255))
 
--- each entry of `next` for `lid` is the held one, or 255, or the goal's if that turns well; which one is open
+-- each entry of `next` for `lid` is the held entry, 255, or the goal's entry if that turns well
 abbrev pub IsChoice : Cells → (ℕ → ℕ) → HeldPlan → HeldPlan → ℕ → HeldPlan → Type 0
 IsChoice cells q held goal lid next =
     (i g : ℕ) → slice_get (switches cells) i ≡ Some g
@@ -152,6 +155,7 @@ IsChoice cells q held goal lid next =
 abbrev pub channel_number : ℕ → ℕ → ℕ → ℕ
 channel_number n a b = if nat_lt b a then n - b else n + 1 + b
 
+-- the number of a channel from the switch at index i, by where its wire leads; 0 if it leads to no switch
 abbrev pub number_over : ℕ → (ℕ → ℕ) → ℕ → Far → ℕ
 number_over n q i Nothing = 0
 number_over n q i (Switch j) = channel_number n (q i) (q j)

@@ -1,5 +1,5 @@
--- A fabric whose switches change their tables while a packet travels. Its wiring stands still. InfiniBand Architecture
--- Specification, Volume 1: switches, unicast forwarding by the linear forwarding table; subnet management,
+-- A fabric whose switches change their tables while a packet travels. Its wiring does not change. InfiniBand
+-- Architecture Specification, Volume 1: switches, unicast forwarding by the linear forwarding table; subnet management,
 -- LinearForwardingTable and SwitchInfo (LinearFDBTop), which are written block by block.
 use Rattle.std.specs.Prelude.{◌≡◌, ◌≤◌, ◌⊎◌, ℕ, suc, ◌+◌, ◌*◌, List, [], ◌∷◌, length, Some, IsTrue}
 use Rattle.fabric_model.specs.declared.cable.NodePort.{NodePort}
@@ -27,13 +27,13 @@ use Rattle.next_tables.specs.NextTables.{IsKept, StepRuleValue, next_tables, set
 abbrev pub entry_now : Fabric → ℕ → ℕ → ℕ
 entry_now now lid number = counted lid (now.top number) (now.entry number lid)
 
--- `entry` is the held one or the next one; if switch `g` drops the packet by the held tables, it may be any
+-- `entry` is the held or the next entry; if switch `g` drops the packet by the held tables, `entry` may be anything
 abbrev pub IsLooseEntry : Cells → HeldPlan → HeldPlan → ℕ → ℕ → ℕ → Type 0
 IsLooseEntry cells held next lid g entry =
     (entry ≡ entry_for held lid g)
     ⊎ ((entry ≡ entry_for next lid g) ⊎ ((x : ℕ) × (cause : Cause) × (step_at cells held lid g ≡ Ends (Lost x cause))))
 
--- nodes and cables are as before, and the part's owners of the LID stay
+-- nodes and cables are as before, and the part's owners of the LID stay the same
 pub record StandsStill (part : Part) (lid : ℕ) (before now : Fabric) : Type 0 where
   pub nodes : now.nodes ≡ before.nodes
   pub cables : (p : NodePort) → now.across p ≡ before.across p
@@ -47,13 +47,14 @@ pub record IsInChange (part : Part) (cells : Cells) (held next : HeldPlan) (lid 
     pub entries : (port : NodePort) (node : Node) → IsEndPortIn part before port node → IsTrue (is_switch node.kind)
         → IsLooseEntry cells held next lid node.guid (entry_now now lid port.node)
 
--- the fabric is in the change whenever the packet reaches a node; `fabrics k` is the fabric when it reaches its k-th
+-- the fabric is in the change whenever the packet reaches a node; `fabrics k` is the fabric when the packet has passed
+-- k wires
 abbrev pub ChangesMeanwhile : Part → Cells → HeldPlan → HeldPlan → ℕ → Fabric → (ℕ → Fabric) → Type 0
 ChangesMeanwhile part cells held next lid before fabrics =
     (k : ℕ) → IsInChange part cells held next lid before (fabrics k)
 
--- while tables are written, each switch has its old top or that of the next tables, and its old entry for the LID or
--- that of the next tables; top and entry are written in any order
+-- while tables are being written, each switch has its old or its next top, and its old or its next entry for the LID;
+-- the top and the entry may be written in any order
 pub record IsBeingWritten (part : Part) (next : HeldPlan) (lid : ℕ) (before now : Fabric) : Type 0 where
   pub still : StandsStill part lid before now
   pub tops : (port : NodePort) (node : Node) → IsEndPortIn part before port node → IsTrue (is_switch node.kind)
@@ -62,7 +63,7 @@ pub record IsBeingWritten (part : Part) (next : HeldPlan) (lid : ℕ) (before no
       → (now.entry port.node lid ≡ before.entry port.node lid)
       ⊎ (now.entry port.node lid ≡ entry_of next node.guid lid)
 
--- a packet goes from `s` to `end` over these wires in turn, and each node forwards it by the fabric at that time
+-- a packet goes from `s` to `end` over these wires in order, and each node forwards it by the fabric at that time
 abbrev pub GoesMeanwhile : (ℕ → Fabric) → ℕ → Standing → List Hop → Standing → Type 0
 GoesMeanwhile fabrics lid s [] end = s ≡ end
 GoesMeanwhile fabrics lid s (h ∷ hops) end =
@@ -70,7 +71,8 @@ GoesMeanwhile fabrics lid s (h ∷ hops) end =
     (course now lid s ≡ LeavesBy h.out) × (now.across h.out ≡ Some h.into)
     × GoesMeanwhile (λ k. fabrics (suc k)) lid (arrived_at h.into) hops end
 
--- a packet from `source` is delivered at `target` over these wires, in the fabric as it is when the packet gets there
+-- a packet from `source` is delivered at `target` over these wires; each node acts by the fabric when the packet
+-- reaches it
 abbrev pub IsDeliveredMeanwhile : (ℕ → Fabric) → ℕ → NodePort → List Hop → NodePort → Type 0
 IsDeliveredMeanwhile fabrics lid source hops target =
     (end : Standing) × GoesMeanwhile fabrics lid (sent_from source) hops end
@@ -86,9 +88,9 @@ pub record ArrivesMeanwhile (fabrics : ℕ → Fabric) (lid : ℕ) (source : Nod
   pub nowhere_else : (others : List Hop) (other : NodePort) → IsDeliveredMeanwhile fabrics lid source others other
       → other ≡ target
 
--- a packet that the held tables deliver is delivered while the switches go over to the next tables, each at its own
--- time, if one end port alone holds its LID in the held tables and in the plan, the facts describe what is joined to an
--- end port, and the end ports and switches there hold the tables at first
+-- if one end port alone holds a LID in the held tables and in the plan, the facts describe all that is joined to an end
+-- port, and the end ports and switches there hold the tables at first, a packet that the held tables deliver is
+-- delivered while the switches change to the next tables, each at its own time
 abbrev pub PacketsArriveWhileTablesChange : Type 0
 PacketsArriveWhileTablesChange =
     (facts : Facts) (held plan : HeldPlan) (line : HeldLid) (before : Fabric) (origin : NodePort)

@@ -1,4 +1,4 @@
--- What becomes of packets while switches go over from the held tables to the next ones, each block at its own time.
+-- What becomes of packets while switches change from the held tables to the next tables, each block at its own time.
 use Rattle.std.specs.Prelude.{◌≡◌, ◌≤◌, ◌<◌, ◌⊎◌, ℕ, zero, suc, List, [], ◌∷◌, Contains, Option, Some, slice_get, slice_index_or}
 use Rattle.port_graph.specs.declared.edge.Edge.{Edge}
 use Rattle.audit_channels.specs.Columns.{TakesAcross}
@@ -24,18 +24,19 @@ pub record IsMixed (cells : Cells) (held next : HeldPlan) (lid : ℕ) (mixed : H
   pub entries : (g : ℕ) → Contains (switches cells) g → (entry_for mixed lid g ≡ entry_for held lid g)
       ⊎ (entry_for mixed lid g ≡ entry_for next lid g)
 
--- the step after n steps, the k-th of them by `steps k`
+-- the step n steps after `s`, if step number k is taken by `steps k`
 abbrev pub after_by : ℕ → (ℕ → List NextHop) → NextHop → NextHop
 after_by zero steps s = s
 after_by (suc n) steps s = after_by n (λ k. steps (suc k)) (onward (steps 0) s)
 
--- a packet ends at `end` by tables that change; `tables k` are held when it has met k switches
+-- the packet that `e` sends for `lid` ends at `end` by tables that change; `tables k` are the tables when it has passed
+-- k switches
 abbrev pub IsBroughtBy : Cells → (ℕ → HeldPlan) → ℕ → EndPort → End → Type 0
 IsBroughtBy cells tables lid e end =
     (n : ℕ) × (after_by n (λ k. next_hops_of cells (tables k) lid)
     (first_hop (owners_of (tables 0) lid) (sender_of cells e)) ≡ Ends end)
 
--- a mixture in which a switch that drops the packet by the held tables may do anything, since its top is raised before
+-- as `IsMixed`, but a switch that drops the packet by the held tables may have any entry; its top may be raised before
 -- its blocks are written
 pub record IsLoose (cells : Cells) (held next : HeldPlan) (lid : ℕ) (mixed : HeldPlan) : Type 0 where
   pub owners : owners_of mixed lid ≡ owners_of held lid
@@ -75,7 +76,7 @@ pub record AreSteps (cells : Cells) (plan : HeldPlan) (line : HeldLid) (tables :
   pub owners : owners_of plan line.lid ≡ owners_of (tables 0) line.lid
   pub steps : (n : ℕ) → IsNext cells (tables n) plan line (tables (suc n))
 
--- if the plan's way from a switch meets n switches, the switch has the plan's entry after n steps, and from then on
+-- if the plan's route from a switch passes n switches, the switch has the plan's entry after n or more steps
 abbrev pub EndInThePlan : Type 0
 EndInThePlan =
     (cells : Cells) (plan : HeldPlan) (line : HeldLid) (tables : ℕ → HeldPlan) → AreSteps cells plan line tables
@@ -112,6 +113,7 @@ TakesInStep held next a b =
 abbrev pub WaitsAcross : Cells → HeldPlan → HeldPlan → ℕ → ℕ → ℕ → Type 0
 WaitsAcross cells before now lid a b = TakesBy (edges_of cells before lid) (edges_of cells now lid) a b
 
+-- packets for `lid` that hold channel a take b next, each by the held or by the next tables
 abbrev pub WaitsInStep : Cells → HeldPlan → HeldPlan → ℕ → ℕ → ℕ → Type 0
 WaitsInStep cells held next lid a b = TakesInStep (edges_of cells held lid) (edges_of cells next lid) a b
 
@@ -122,8 +124,8 @@ MixturesWaitSo =
     → IsMixed cells held next lid now
     → (a b : ℕ) → WaitsAcross cells before now lid a b → WaitsInStep cells held next lid a b
 
--- each channel has a number less than those of the channels that it waits for in the step, for every LID, whether or
--- not a port holds it
+-- each channel has a number less than the number of each channel that it waits for in the step, for every LID, whether
+-- or not a port holds the LID
 abbrev pub RiseInStep : Cells → HeldPlan → HeldPlan → List ℕ → Type 0
 RiseInStep cells held next numbers =
     (lid a b : ℕ) → 1 ≤ lid → WaitsInStep cells held next lid a b → slice_index_or numbers a 0
@@ -139,6 +141,8 @@ pub record WaitsMixed (cells : Cells) (held next : HeldPlan) (a b : ℕ) : Type 
   pub now_is : IsMixed cells held next lid now
   pub waits : WaitsAcross cells before now lid a b
 
+-- in the list that has `channel`, then the given channels, then `last`, each channel waits for the next one in some
+-- mixtures
 abbrev pub WaitOnMixed : Cells → HeldPlan → HeldPlan → ℕ → List ℕ → ℕ → Type 0
 WaitOnMixed cells held next channel [] last = WaitsMixed cells held next channel last
 WaitOnMixed cells held next channel (c ∷ later) last =

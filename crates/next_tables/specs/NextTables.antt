@@ -1,4 +1,4 @@
--- The tables to write next, whole.
+-- The tables to write next, for all LIDs.
 use Rattle.std.specs.Prelude.{◌≡◌, ℕ, ◌+◌, ◌*◌, Bool, true, false, List, [], ◌∷◌, Option, None, Some, map, max, not, option_map, unwrap_or, if◌then◌else◌}
 use Rattle.std.specs.List.{find, range_with_len}
 use Rattle.subnet_view.specs.declared.end_port.EndPort.{EndPort}
@@ -23,34 +23,35 @@ use Rattle.next_tables.specs.Next.{next_entry}
 abbrev pub moves : HeldPlan → HeldLid → Bool
 moves held line = not (is_sole line.port (owners_of held line.lid))
 
--- the first LID that the plan gives to an end port and the held tables give to another
+-- the first LID that the plan gives to an end port and the held tables give to another; None if there is none
 abbrev pub first_moved : HeldPlan → HeldPlan → Option ℕ
 first_moved held plan = option_map (λ line. line.lid) (find (moves held) plan.lids)
 
--- `e`, if it is the only end port in the list
+-- `e` if it is the only end port in the list, otherwise None
 abbrev pub kept_by : EndPort → List EndPort → Option EndPort
 kept_by e [] = None
 kept_by e (x ∷ []) = if is_same_end e x then Some e else None
 kept_by e (x ∷ y ∷ xs) = None
 
--- the end port that is the only owner of a LID both in the plan and in the held tables; the lists are the LID's owners
--- in each
+-- the end port that is the only owner of a LID in the plan and in the held tables, by the LID's owners in each; None if
+-- there is none
 abbrev pub keeper : List EndPort → List EndPort → Option EndPort
 keeper [] held = None
 keeper (e ∷ []) held = kept_by e held
 keeper (e ∷ x ∷ es) held = None
 
--- the plan's entry for a LID that the plan has, else 255
+-- the plan's entry for a LID that the plan has, otherwise 255
 abbrev pub if_owned : List EndPort → ℕ → ℕ
 if_owned [] entry = 255
 if_owned (e ∷ es) entry = entry
 
+-- the next entry by settled entries: towards the end port that keeps the LID, otherwise the plan's entry
 abbrev pub next_for : Cells → HeldPlan → HeldPlan → ℕ → List EndPort → Option EndPort → ℕ → ℕ
 next_for cells held plan lid planned None g = if_owned planned (entry_for plan lid g)
 next_for cells held plan lid planned (Some port) g = next_entry cells held plan (record { lid = lid; port = port }) g
 
--- how a step chooses entries: a switch takes the plan's entry once each switch on the plan's way has it; or entries are
--- chosen by an order, which is the position of each switch, by rising GUID
+-- how a step chooses entries: a switch takes the plan's entry once each switch on the plan's route has it; or entries
+-- are chosen by an order, which is the position of each switch, by rising GUID
 pub data StepRuleValue : Type 0 where
   settled_first : StepRuleValue
   by_order : List ℕ → StepRuleValue
@@ -59,18 +60,18 @@ abbrev pub value_of : StepRule → StepRuleValue
 value_of SettledFirst = settled_first
 value_of (ByOrder positions) = by_order positions.items
 
--- the index of switch `g`
+-- the index of switch `g`; 0 if it is no usable switch
 abbrev pub index_at : Cells → ℕ → ℕ
 index_at cells g = unwrap_or (index_in (switches cells) g) 0
 
--- the next entry by an order: towards the first owner of the LID in the plan, else 255
+-- the next entry by an order, towards the first owner of the LID in the plan; 255 if it has no owner
 abbrev pub ordered_for : Cells → (ℕ → ℕ) → HeldPlan → HeldPlan → ℕ → List EndPort → ℕ → ℕ → ℕ
 ordered_for cells q held plan lid [] i g = 255
 ordered_for cells q held plan lid (port ∷ ports) i g =
     next_by_order cells q held plan (record { lid = lid; port = port }) i g
 
--- the next entry of switch `g` for `lid`. By settled entries it is `next_entry` if one end port alone holds the LID in
--- both tables, else the plan's. By an order it is the order's, for each LID
+-- the next entry of switch `g` for `lid`. By settled entries, it is `next_entry` if one end port alone holds the LID in
+-- both tables, otherwise the plan's entry. By an order, it is `ordered_for`
 unfoldable pub next_at : Cells → StepRuleValue → HeldPlan → HeldPlan → ℕ → ℕ → ℕ
 next_at cells settled_first held plan lid g =
     next_for cells held plan lid (owners_of plan lid) (keeper (owners_of plan lid) (owners_of held lid)) g
@@ -81,29 +82,31 @@ next_at cells (by_order positions) held plan lid g =
 abbrev pub column_of : Cells → StepRuleValue → HeldPlan → HeldPlan → ℕ → List ℕ
 column_of cells rule held plan lid = map (next_at cells rule held plan lid) (switches cells)
 
--- the end port of a line alone holds its LID, in the plan and in the held tables
+-- the end port of `line` alone holds its LID, in the plan and in the held tables
 pub record IsKept (held plan : HeldPlan) (line : HeldLid) : Type 0 where
   pub in_plan : owners_of plan line.lid ≡ line.port ∷ []
   pub in_held : owners_of held line.lid ≡ line.port ∷ []
 
--- the greater of the switch's tops
+-- the greater of the switch's tops in the held tables and in the plan
 abbrev pub next_top : HeldPlan → HeldPlan → ℕ → ℕ
 next_top held plan g = max (top_of held g) (top_of plan g)
 
+-- switch `g` with the greater of its tops
 abbrev pub next_switch : HeldPlan → HeldPlan → ℕ → HeldSwitch
 next_switch held plan g = record { guid = g; top = next_top held plan g }
 
--- the blocks of the switch, up to that of its top
+-- the block `b` of switch `g`, with the next entries
 abbrev pub next_block : Cells → StepRuleValue → HeldPlan → HeldPlan → ℕ → ℕ → List ℕ
 next_block cells rule held plan g b = map (λ i. next_at cells rule held plan (64 * b + i) g) (range_with_len 0 64)
 
+-- the blocks of switch `g` with the next entries, up to the block of its top
 abbrev pub next_table : Cells → StepRuleValue → HeldPlan → HeldPlan → ℕ → SwitchTable
 next_table cells rule held plan g = record {
   guid = g;
   blocks = map (next_block cells rule held plan g) (range_with_len 0 (block_count (Some (next_top held plan g))));
 }
 
--- the plan's LIDs, and each usable switch with the greater of its tops and its next entries
+-- the plan's LIDs and, for each usable switch, the greater of its tops and its next entries
 unfoldable pub next_tables : Cells → StepRuleValue → HeldPlan → HeldPlan → HeldPlan
 next_tables cells rule held plan = record {
   lids = plan.lids;
@@ -111,7 +114,7 @@ next_tables cells rule held plan = record {
   blocks = blocks_of 0 (map (next_table cells rule held plan) (switches cells));
 }
 
--- why there are no next tables, except for lack of memory
+-- the fault of a step if this LID moves; None if no LID moves
 abbrev pub step_fault : Option ℕ → Option StepFault
 step_fault None = None
 step_fault (Some lid) = Some (Moves lid)

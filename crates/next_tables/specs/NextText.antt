@@ -24,7 +24,7 @@ NextTextsAreRead =
     (facts : Facts) (by : StepRuleValue) (held : HeldPlan) (plan : PlanValue) → AreInRange facts → IsHeldInRange held
     → IsPlanInRange plan → IsStepRead facts by held plan
 
--- the text of a step from what any text says towards the plan of a view with room is read
+-- the text of a step is read if the step goes from the tables of any text towards the plan of a view with room
 abbrev pub StepTextsAreRead : Type 0
 StepTextsAreRead =
     (rule : RuleValue) (lmc : ℕ) (facts : Facts) (by : StepRuleValue) (text : List ℕ) → lmc ≤ 7 → AreInRange facts

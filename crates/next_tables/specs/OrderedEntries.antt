@@ -22,18 +22,21 @@ is_differing held goal = not (held.entry == goal.entry)
 abbrev pub delivered_of : EndPort → List SwitchStep → List Bool
 delivered_of port held = map (λ x. comes_to port (hops_of held) x.hop) held
 
--- a switch sends the packet up by an entry that is not the goal's
+-- the switch sends the packet up by an entry that is not the goal's
 abbrev pub goes_up_by : List ℕ → ℕ × Both → Bool
 goes_up_by positions x = goes_up (position_at positions) x.0 x.1.0.hop && is_differing x.1.0 x.1.1
 
+-- for each switch, whether it sends the packet up by an entry that is not the goal's
 abbrev pub going_up_of : List ℕ → List SwitchStep → List SwitchStep → List Bool
 going_up_of positions held goal = map (goes_up_by positions) (enumerate_from 0 (zip held goal))
 
--- the packet comes down from the switch at `index` to the one at i, by an entry that is not the goal's
+-- the packet comes down from the switch at `index` to the switch at i, by an entry that is not the goal's
 abbrev pub enters : List ℕ → ℕ → SwitchStep → SwitchStep → ℕ → Bool
 enters positions index held goal i =
     comes_down (position_at positions) index i held.hop && is_differing held goal
 
+-- the packet comes down from a switch, given by its index and its steps, to the switch at i, by an entry that is not
+-- the goal's
 abbrev pub enters_from : List ℕ → ℕ → ℕ × Both → Bool
 enters_from positions i x = enters positions x.0 x.1.0 x.1.1 i
 
@@ -41,10 +44,11 @@ enters_from positions i x = enters positions x.0 x.1.0 x.1.1 i
 abbrev pub is_entered : List ℕ → List SwitchStep → List SwitchStep → ℕ → Bool
 is_entered positions held goal i = list_any (enters_from positions i) (enumerate_from 0 (zip held goal))
 
+-- for each switch, whether the packet comes down to it by an entry that is not the goal's
 abbrev pub entered_of : List ℕ → List SwitchStep → List SwitchStep → List Bool
 entered_of positions held goal = map (is_entered positions held goal) (range_with_len 0 (length held))
 
--- no packet can go up after a channel down if the switch at index i takes the hop
+-- if the switch at index i takes the hop, no packet can go down and then up
 abbrev pub turns_well_by : List ℕ → List Bool → List Bool → ℕ → NextHop → Bool
 turns_well_by positions going_up entered i (To j) =
     (not (is_up (position_at positions) i j) || not (flag entered i))
@@ -61,20 +65,22 @@ abbrev pub may_change_by : List ℕ → EndPort → List Bool → List Bool → 
 may_change_by positions port delivered going_up entered i hop =
     turns_well_by positions going_up entered i hop && (not (flag delivered i) || leads_in port delivered hop)
 
--- the step that a switch tries: the goal's if it may change to that, else the held one
+-- the step that a switch tries: the goal's step if it may change to it, otherwise the held step
 abbrev pub tried_by : List ℕ → EndPort → List Bool → List Bool → List Bool → ℕ × Both → SwitchStep
 tried_by positions port delivered going_up entered x =
     if may_change_by positions port delivered going_up entered x.0 x.1.1.hop then x.1.1 else x.1.0
 
+-- the step that each switch tries
 abbrev pub tried_of : List ℕ → EndPort → List Bool → List Bool → List Bool → List SwitchStep → List SwitchStep
     → List SwitchStep
 tried_of positions port delivered going_up entered held goal =
     map (tried_by positions port delivered going_up entered) (enumerate_from 0 (zip held goal))
 
--- the entry of a tried step, if the walk from the switch arrives at the port, else 255
+-- the entry of a tried step if the walk from the switch arrives at the port, otherwise 255
 abbrev pub entry_by : (NextHop → Bool) → ℕ × SwitchStep → ℕ
 entry_by comes x = if comes (To x.0) then x.1.entry else 255
 
+-- for each switch, the entry of its tried step if the walk from there arrives at the port, otherwise 255
 abbrev pub entries_by : EndPort → List SwitchStep → List ℕ
 entries_by port tried = map (entry_by (comes_to port (hops_of tried))) (enumerate_from 0 tried)
 

@@ -14,13 +14,14 @@ use Rattle.next_tables.specs.Mixtures.{IsBroughtBy, IsLoose, IsMixed}
 use Rattle.next_tables.specs.Next.{IsNext}
 use Rattle.next_tables.specs.NextTables.{IsKept, StepRuleValue, next_at, next_tables, next_top, settled_first}
 
--- `next` has the plan's owners, and at each usable switch the greater top and the next entry for each LID
+-- `next` has the plan's owners and, at each usable switch, the greater top and the next entry for each LID
 pub record AreNextTables (cells : Cells) (rule : StepRuleValue) (held plan next : HeldPlan) : Type 0 where
   pub owners : (lid : ℕ) → owners_of next lid ≡ owners_of plan lid
   pub tops : (g : ℕ) → Contains (switches cells) g → top_of next g ≡ next_top held plan g
   pub entries : (g lid : ℕ) → Contains (switches cells) g → entry_for next lid g
       ≡ next_at cells rule held plan lid g
 
+-- what `next_tables` gives are next tables
 abbrev pub NextTablesAreSo : Type 0
 NextTablesAreSo =
     (cells : Cells) (rule : StepRuleValue) (held plan : HeldPlan)
@@ -53,7 +54,7 @@ abbrev pub stepped : Cells → HeldPlan → HeldPlan → ℕ → HeldPlan
 stepped cells plan held zero = held
 stepped cells plan held (suc n) = next_tables cells settled_first (stepped cells plan held n) plan
 
--- if the plan's way from a switch meets n switches, the switch has the plan's entry after n steps, and from then on
+-- if the plan's route from a switch passes n switches, the switch has the plan's entry after n or more steps
 abbrev pub StepsEndInThePlan : Type 0
 StepsEndInThePlan =
     (cells : Cells) (held plan : HeldPlan) (line : HeldLid) → IsKept held plan line

@@ -15,10 +15,12 @@ use Rattle.next_tables.specs.Next.{comes_to}
 abbrev pub Both : Type 0
 Both = SwitchStep × SwitchStep
 
--- the next hop if the entries in both tables are equal; a switch with different entries drops the packet
+-- the next hop of a switch if its entries in both tables are equal; a switch with different entries drops the packet
 abbrev pub agreed_by : Both → NextHop
 agreed_by x = if x.0.entry == x.1.entry then x.1.hop else Ends (Lost x.0.switch NoEntry)
 
+-- for each switch, its next hop if its entries in both tables are equal; a switch with different entries drops the
+-- packet
 abbrev pub agreed_of : List SwitchStep → List SwitchStep → List NextHop
 agreed_of held plan = map agreed_by (zip held plan)
 
@@ -26,17 +28,20 @@ agreed_of held plan = map agreed_by (zip held plan)
 abbrev pub hops_of : List SwitchStep → List NextHop
 hops_of steps = map (λ x. x.hop) steps
 
--- the held hop and entry if the switch forwards the packet, else the plan's
+-- the held hop if the switch forwards the packet, otherwise the plan's hop
 abbrev pub patch_by : Both → NextHop
 patch_by x = if is_to x.0.hop then x.0.hop else x.1.hop
 
+-- the held entry if the switch forwards the packet, otherwise the plan's entry
 abbrev pub patch_entry_by : Both → ℕ
 patch_entry_by x = if is_to x.0.hop then x.0.entry else x.1.entry
 
--- the hop while mending: delivery at the port if the held tables deliver, else the held hop or the plan's
+-- what becomes of a packet at a switch while mending: it is delivered at the port if the held tables deliver it,
+-- otherwise it takes the held hop or the plan's
 abbrev pub mending_by : EndPort → (NextHop → Bool) → Both → NextHop
 mending_by port delivers x = if delivers x.0.hop then Ends (Taken port) else patch_by x
 
+-- what becomes of a packet at each switch while mending
 abbrev pub mending_of : EndPort → (NextHop → Bool) → List SwitchStep → List SwitchStep → List NextHop
 mending_of port delivers held plan = map (mending_by port delivers) (zip held plan)
 
@@ -48,11 +53,12 @@ next_by port leads delivers mends x =
     (if delivers x.0.hop then x.0.entry else
     (if mends (mending_by port delivers x) then patch_entry_by x else 255))
 
+-- the next entry of each switch
 abbrev pub chosen_by : EndPort → (NextHop → Bool) → (NextHop → Bool) → (NextHop → Bool) → List SwitchStep
     → List SwitchStep → List ℕ
 chosen_by port leads delivers mends held plan = map (next_by port leads delivers mends) (zip held plan)
 
--- from each switch the plan leads on or the held tables deliver, so nothing is to be mended
+-- from each switch, the plan's entry leads on or the held tables deliver: nothing is to be mended
 abbrev pub is_whole : (NextHop → Bool) → (NextHop → Bool) → List SwitchStep → List SwitchStep → Bool
 is_whole leads delivers held plan = list_all (λ x. leads x.1.hop || delivers x.0.hop) (zip held plan)
 
@@ -60,6 +66,7 @@ is_whole leads delivers held plan = list_all (λ x. leads x.1.hop || delivers x.
 abbrev pub mends_of : EndPort → (NextHop → Bool) → List SwitchStep → List SwitchStep → NextHop → Bool
 mends_of port delivers held plan = comes_to port (mending_of port delivers held plan)
 
+-- the next entries of all switches, from what each switch does by the held tables and by the plan
 unfoldable pub next_of : EndPort → List SwitchStep → List SwitchStep → List ℕ
 next_of port held plan =
     chosen_by port (comes_to port (agreed_of held plan)) (comes_to port (hops_of held))

@@ -11,9 +11,9 @@ use packet_walks::Network;
 use smp_bytes::{Lid, NO_ENTRY};
 use std::alloc::{AllocError, Global};
 
-/// Returns tables with the plan's LIDs. For each usable switch they have the greater of its tops in both tables, and
+/// Returns tables with the plan's LIDs. For each usable switch, they have the greater of its tops in both tables, and
 /// its entries in `columns` up to that top. `columns` has, for each LID, the entries of all usable switches, by rising
-/// GUID; a missing entry is 255. Takes a step for each entry.
+/// GUID. A missing entry is 255. Takes a step for each entry.
 pub fn tables_with(
     alloc: Global,
     held: &Network,

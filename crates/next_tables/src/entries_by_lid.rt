@@ -96,7 +96,7 @@ fn column(
     }
 }
 
-/// Returns the entries of all usable switches for `lid`, by an order of the switches.
+/// Returns the entries of all usable switches for `lid`, by the order `positions`.
 fn ordered_column(
     alloc: Global,
     positions: &[usize],
@@ -169,7 +169,7 @@ fn settled_column(
     next_entries(alloc, &port, &held_steps, &plan_steps)
 }
 
-/// Returns the first of `owners`.
+/// Returns the first of `owners`, or `None` if there is none.
 pub fn first_owner(owners: &[EndPort]) -> Option<EndPort>
     ensures { result ≡ slice_get owners.now 0 }
 {
@@ -190,14 +190,14 @@ pub fn no_entries(alloc: Global, count: usize) -> Result<Vec<u8>, AllocError>
     vec![in alloc; NO_ENTRY; count]
 }
 
-/// Returns whether the entries are equal.
+/// Returns whether the two lists of entries are equal.
 fn are_same(entries: &[u8], others: &[u8]) -> bool
     ensures { IsTrue result ↔ (entries.now ≡ others.now) }
 {
     entries == others
 }
 
-/// Returns the end port that is the only owner of a LID both in the plan and in the held tables, if there is one.
+/// Returns the end port that is the only owner of a LID in the plan and in the held tables, or `None` if there is none.
 /// `planned` and `held` are the LID's owners in each.
 fn keeper(planned: &[EndPort], held: &[EndPort]) -> Option<EndPort>
     ensures { result ≡ keeper planned.now held.now }
@@ -208,7 +208,7 @@ fn keeper(planned: &[EndPort], held: &[EndPort]) -> Option<EndPort>
     }
 }
 
-/// Returns `port`, if it is the only end port in `held`.
+/// Returns `port` if it is the only end port in `held`, otherwise `None`.
 fn kept_by(port: &EndPort, held: &[EndPort]) -> Option<EndPort>
     ensures { result ≡ kept_by port.now held.now }
 {

@@ -1,4 +1,4 @@
-//! The laws of a step from the tables that switches hold towards those of a plan.
+//! The laws of a step from the tables that switches hold towards a plan.
 ghost use Rattle.next_tables.specs.ChangingFabric.{PacketsArriveWhileTablesChange, WrittenTablesAreInChange};
 ghost use Rattle.next_tables.specs.Mixtures.{NoneIsLost, NoneGoesRound, EndInThePlan, StillIsThePlan};
 ghost use Rattle.next_tables.specs.Mixtures.{HealInTwo, NextDeliverOrDrop};
@@ -18,7 +18,7 @@ pub fn none_goes_round()
     ensures law { NoneGoesRound }
 {}
 
-/// If the plan's way from a switch meets n switches, the switch has the plan's entry after n steps, and from then on.
+/// If the plan's route from a switch passes n switches, the switch has the plan's entry after n or more steps.
 pub fn end_in_the_plan()
     ensures law { EndInThePlan }
 {}
@@ -57,8 +57,8 @@ pub fn next_tables_are_so()
     ensures law { NextTablesAreSo }
 {}
 
-/// The tables that `next_tables` returns by settled entries have the next entries for each LID, if one end port alone
-/// holds it in the held tables and in the plan.
+/// The tables that `next_tables` returns by settled entries have the next entries for each LID that one end port alone
+/// holds in the held tables and in the plan.
 pub fn steps_follow_the_rule()
     ensures law { StepsFollowTheRule }
 {}
@@ -75,9 +75,8 @@ pub fn steps_send_none_round()
     ensures law { StepsSendNoneRound }
 {}
 
-/// Steps of `next_tables` by settled entries end in the plan: if the plan's way from a switch meets n switches, the
-/// switch has the plan's entry after n steps, and from then on, if one end port alone holds the LID in the held tables
-/// and in the plan.
+/// If one end port alone holds a LID in the held tables and in the plan, and the plan's route from a switch passes n
+/// switches, the switch has the plan's entry after n or more steps of `next_tables` by settled entries.
 pub fn steps_end_in_the_plan()
     ensures law { StepsEndInThePlan }
 {}
@@ -88,11 +87,10 @@ pub fn steps_heal_in_two()
     ensures law { StepsHealInTwo }
 {}
 
-/// A packet that the held tables deliver is delivered at its LID's end port while the fabric's switches go over to what
-/// `next_tables` returns by settled entries, each at its own time, if one end port alone holds the LID in the held
-/// tables and in the plan, the facts describe what is joined to an end port, and the end ports and switches there held
-/// the tables when the change began. The packet takes at most twice as many wires as there are usable switches, and one
-/// more.
+/// If one end port alone holds a LID in the held tables and in the plan, the facts describe all that is joined to an
+/// end port of a fabric, and the end ports and switches there hold the tables when a change begins, a packet that the
+/// held tables deliver is delivered at the LID's end port while the switches change to what `next_tables` returns by
+/// settled entries, each at its own time. The packet takes at most 2n + 1 wires, for n usable switches.
 pub fn packets_arrive_while_tables_change()
     ensures law { PacketsArriveWhileTablesChange }
 {}
@@ -109,8 +107,8 @@ pub fn next_texts_are_read()
     ensures law { NextTextsAreRead }
 {}
 
-/// The text of a step from what any text says towards the plan of a view with room has no fault and is read as the
-/// step's tables, if the view is as a store holds it.
+/// If the facts of a view are in range and there is room for the LIDs, the text of a step from the tables of any text
+/// towards the view's plan has no fault and is read as the step's tables.
 pub fn step_texts_are_read()
     ensures law { StepTextsAreRead }
 {}

@@ -28,7 +28,7 @@ struct SwitchFlags {
 
 /// Returns the next entries of the switches towards `port`, from each switch's position and what it does by the held
 /// tables and by the goal's. Follows the walks from all switches twice. Each time takes some steps for each switch, in
-/// proportion to the number of binary digits of the longest way's length.
+/// proportion to the number of binary digits of the longest walk's length.
 pub(crate) fn ordered_entries(
     alloc: Global,
     port: &EndPort,
@@ -124,7 +124,7 @@ fn entered(
     Ok(entered)
 }
 
-/// Returns `count` flags that are not set.
+/// Returns a list of `count` flags, all false.
 fn none_entered(alloc: Global, count: usize) -> Result<Vec<bool>, AllocError>
     ensures { IfOk result (λ flags. flags.items ≡ replicate count false) }
 {
@@ -151,7 +151,7 @@ fn enter(
     }
 }
 
-/// Returns the step that each switch tries: the goal's if it may change to that, otherwise the held one.
+/// Returns the step that each switch tries: the goal's step if it may change to it, otherwise the held step.
 fn tried(
     alloc: Global,
     port: &EndPort,
@@ -189,7 +189,7 @@ fn tried_by(
     }
 }
 
-/// Returns whether the switch at `index` may take the goal's entry; `hop` is its next hop by that entry.
+/// Returns whether the switch at `index` may take the goal's entry. `hop` is its next hop by that entry.
 fn may_change(
     port: &EndPort,
     positions: &[usize],
@@ -204,9 +204,8 @@ fn may_change(
         && (!flag(&flags.delivered, index) || leads_in(port, &flags.delivered, hop))
 }
 
-/// Returns whether no packet can go up after a channel down if the switch at `index` takes the goal's entry. That entry
-/// may lead up only if the packet does not come down to the switch, and down only if the next switch does not send it
-/// up.
+/// Returns whether no packet can go down and then up if the switch at `index` takes the goal's entry. That entry may
+/// lead up only if the packet does not come down to the switch, and down only if the next switch does not send it up.
 fn turns_well(positions: &[usize], flags: &SwitchFlags, index: usize, hop: &NextHop) -> bool
     ensures { result ≡ turns_well_by positions.now flags.now.going_up.items flags.now.entered.items index hop.now }
 {

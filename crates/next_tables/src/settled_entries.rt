@@ -13,7 +13,7 @@ use subnet_view::EndPort;
 /// Returns the next entries of the switches, from what each switch does by the held tables and by the plan. Follows the
 /// walks from all switches once. Follows them a second time if the held tables and the plan differ, and once more if
 /// there is a switch from which neither the plan leads on nor the held tables deliver. Each time takes some steps for
-/// each switch, in proportion to the number of binary digits of the longest way's length.
+/// each switch, in proportion to the number of binary digits of the longest walk's length.
 pub(crate) fn next_entries(
     alloc: Global,
     port: &EndPort,
@@ -34,7 +34,7 @@ pub(crate) fn next_entries(
 }
 
 /// Returns the next entries of the switches. `settled` has the ends of the walks by entries that are in both tables,
-/// `delivered` the ends of the walks by the held tables.
+/// and `delivered` has the ends of the walks by the held tables.
 fn entries_by(
     alloc: Global,
     port: &EndPort,

@@ -39,7 +39,8 @@ pub fn next_tables(
     }
 }
 
-/// Returns the first LID that the plan gives to an end port and the held tables give to another.
+/// Returns the first LID that the plan gives to an end port and the held tables give to another, or `None` if there is
+/// none.
 fn first_moved(held: &Network, plan: &Network) -> Option<Lid>
     ensures { result ≡ first_moved held.now.held plan.now.held }
 {

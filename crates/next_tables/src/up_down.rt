@@ -2,14 +2,15 @@
 ghost use Rattle.std.specs.Prelude.{◌≡◌};
 ghost use Rattle.next_tables.specs.ByOrder.{is_down, is_up, position_at};
 
-/// Returns whether a channel from the switch at `from` to the one at `to` leads up: to a position that is no later.
+/// Returns whether a channel from the switch at `from` to the switch at `to` leads up: to a position that is no later.
 pub fn is_up(positions: &[usize], from: usize, to: usize) -> bool
     ensures { result ≡ is_up (position_at positions.now) from to }
 {
     position(positions, to) <= position(positions, from)
 }
 
-/// Returns whether a channel from the switch at `from` to the one at `to` leads down: to a position that is no earlier.
+/// Returns whether a channel from the switch at `from` to the switch at `to` leads down: to a position that is no
+/// earlier.
 pub fn is_down(positions: &[usize], from: usize, to: usize) -> bool
     ensures { result ≡ is_down (position_at positions.now) from to }
 {

@@ -39,7 +39,7 @@ base_lid_at a port = (port_at a port).base_lid
 abbrev pub lmc_at : Agent → ℕ → ℕ
 lmc_at a port = (port_at a port).lmc
 
--- the subnet manager's LID that was set at a port
+-- the LID of the subnet manager that was set at a port; 0 if none was set
 abbrev pub master_sm_lid_at : Agent → ℕ → ℕ
 master_sm_lid_at a port = (port_at a port).master_sm_lid
 
@@ -47,7 +47,7 @@ master_sm_lid_at a port = (port_at a port).master_sm_lid
 abbrev pub range_at : Agent → ℕ → ℕ × ℕ
 range_at a port = (base_lid_at a port, lmc_at a port)
 
--- the LID is one of the port's own
+-- the LID is one of the port's LIDs
 abbrev pub owns : Agent → ℕ → ℕ → Bool
 owns a port lid = is_lid_of (base_lid_at a port) (lmc_at a port) lid
 
@@ -59,11 +59,11 @@ has_seat a port = (port_at a port).is_sm
 abbrev pub no_port : ℕ
 no_port = 255
 
--- the port by which the switch forwards packets for a LID; no port if the table has no such entry
+-- the port by which the switch forwards packets for a LID; `no_port` if the table has no such entry
 abbrev pub entry_at : Agent → ℕ → ℕ
 entry_at a lid = slice_index_or a.table lid no_port
 
--- the GUID of a port: the node's own for a switch; for an adapter the node's GUID plus the port's number
+-- the GUID of a port: for a switch, the node's GUID; for an adapter, the node's GUID plus the port's number
 abbrev pub port_guid : AgentNode → ℕ → ℕ
 port_guid node port = if types.is_switch node.kind then node.guid else node.guid + port
 
@@ -109,8 +109,8 @@ fresh_agent node =
       top = 0;
     }
 
--- nodes that can be built: a GUID of 64 bits, 1 to 254 ports, a table of unicast LIDs only at a switch, and a GUID for
--- each port
+-- the node can be built: its GUID has 64 bits, it has 1 to 254 ports, only a switch has a table, which has at most
+-- 49,152 entries, and the GUID of each port has 64 bits
 pub record IsAgentNode (node : AgentNode) : Type 0 where
   pub guid : node.guid < 2 ^ 64
   pub ports : (1 ≤ node.ports) × (node.ports ≤ 254)
@@ -118,8 +118,8 @@ pub record IsAgentNode (node : AgentNode) : Type 0 where
   pub no_table : types.is_switch node.kind ≡ false → node.cap ≡ 0
   pub port_guids : types.is_switch node.kind ≡ false → node.guid + node.ports < 2 ^ 64
 
--- what holds of each port of an agent: it has a state, a LID below the end of the unicast LIDs, and no subnet manager
--- if it is a switch's
+-- what holds of each port of an agent: its state is not "no change", its LID is below the end of the unicast LIDs, and
+-- no subnet manager sits there if the node is a switch
 pub record IsPort (kind : NodeType) (port : Port) : Type 0 where
   pub state : port.state ≢ NoChange
   pub base_lid : port.base_lid < lid_end

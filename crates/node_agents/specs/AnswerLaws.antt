@@ -23,11 +23,11 @@ pub record KeepsShape (old new : Agent) : Type 0 where
   pub down : (port : ℕ) → (state_at new port ≡ Down) ↔ (state_at old port ≡ Down)
   pub seats : (port : ℕ) → has_seat new port ≡ has_seat old port
 
--- no request changes the shape
+-- no request changes the node, which ports are down, or where subnet managers sit
 abbrev pub AnsweredKeepsShape : Type 0
 AnsweredKeepsShape = (a : Agent) (packet : List ℕ) (arrival : ℕ) → KeepsShape a (after_answer a packet arrival).agent
 
--- an agent stays one, whatever it answers
+-- an agent stays an agent, whatever it answers
 abbrev pub AnsweredIsAgent : Type 0
 AnsweredIsAgent =
     (a : Agent) (packet : List ℕ) (arrival : ℕ) → IsAgent a → IsAgent (after_answer a packet arrival).agent
@@ -61,7 +61,7 @@ RefusalsChangeNothing =
 
 -- what is said ------------------------------------------------------------------------------
 
--- what PortInfo says: the port that it is about, and its state, which is Down exactly if the port is
+-- what PortInfo says: the state of the port that it is about; it is Down exactly if the port is down
 pub record SaysPort (a : Agent) (modifier arrival number : ℕ) : Type 0 where
   pub port : ℕ
   pub meant : port_meant a modifier arrival ≡ Some port
@@ -70,12 +70,12 @@ pub record SaysPort (a : Agent) (modifier arrival number : ℕ) : Type 0 where
   pub known : state ≢ NoChange
   pub down : (state ≡ Down) ↔ (state_at a port ≡ Down)
 
--- what SwitchInfo says: how many entries the switch's forwarding table has room for
+-- what SwitchInfo says: the number of entries that the switch's forwarding table has room for
 pub record SaysSwitch (a : Agent) (cap : ℕ) : Type 0 where
   pub kind : is_switch a ≡ true
   pub cap_is : cap ≡ a.node.cap
 
--- what an answer says of its agent, by attribute; `arrival` is the port that the request came to
+-- what an answer says about its agent, by attribute; `arrival` is the port at which the request arrived
 pub record Says (a : Agent) (arrival : ℕ) (answer : List ℕ) : Type 0 where
   pub node : number_in attribute_id answer ≡ node_info → node_info_in (bytes_in attribute_data answer)
       ≡ node_info_of a.node arrival
@@ -84,7 +84,7 @@ pub record Says (a : Agent) (arrival : ℕ) (answer : List ℕ) : Type 0 where
   pub switch : number_in attribute_id answer ≡ switch_info
       → SaysSwitch a (number_in linear_fdb_cap (bytes_in attribute_data answer))
 
--- an answer with status 0, to a Get or a Set, says what is true of the node, except for LIDs and tables
+-- an answer with status 0, to a Get or a Set, says what is true of the node (LIDs and table entries are not covered)
 abbrev pub AnswersSay : Type 0
 AnswersSay =
     (a : Agent) (packet : List ℕ) (arrival : ℕ) → IsAgent a → IsPacket packet → arrival ≤ a.node.ports
@@ -92,7 +92,7 @@ AnswersSay =
 
 -- Sets ------------------------------------------------------------------------------------
 
--- a packet sets an attribute, and the agent accepts it
+-- the packet sets the attribute `number`, and the agent accepts it
 pub record IsTaken (a : Agent) (packet : List ℕ) (arrival number : ℕ) : Type 0 where
   pub agent : IsAgent a
   pub whole : IsPacket packet
@@ -105,7 +105,7 @@ pub record IsAboutTheSame (p q : List ℕ) : Type 0 where
   pub attribute : number_in attribute_id p ≡ number_in attribute_id q
   pub modifier : number_in attribute_modifier p ≡ number_in attribute_modifier q
 
--- a Get right after a Set, of the same attribute and modifier and by the same port, returns what the answer to the Set
+-- a Get right after a Set, of the same attribute and modifier and at the same port, returns what the answer to the Set
 -- returned
 abbrev pub GetsTellAsSets : Type 0
 GetsTellAsSets =
@@ -114,7 +114,7 @@ GetsTellAsSets =
     → bytes_in attribute_data (after_answer (after_answer a p arrival).agent q arrival).packet
     ≡ bytes_in attribute_data (after_answer a p arrival).packet
 
--- a block that is set is returned, stands in the table at its offset, and nothing else is changed
+-- the block that is set is returned, and is in the table at its offset; nothing else changes
 pub record SetsBlock (a after : Agent) (block : ℕ) (payload told : List ℕ) : Type 0 where
   pub is_told : told ≡ payload
   pub inside : (i : ℕ) → i < 64 → entry_at after (64 * block + i) ≡ slice_index payload i
@@ -129,7 +129,7 @@ BlocksAreSet =
     (bytes_in attribute_data packet)
     (bytes_in attribute_data (after_answer a packet arrival).packet)
 
--- the top that is set is returned, and nothing else is changed
+-- the top that is set is returned; nothing else changes
 pub record SetsTop (a after : Agent) (payload told : List ℕ) : Type 0 where
   pub is_told : number_in linear_fdb_top told ≡ number_in linear_fdb_top payload
   pub all_else : after ≡ record a { top = number_in linear_fdb_top payload }
@@ -141,8 +141,8 @@ TopsAreSet =
     → SetsTop a (after_answer a packet arrival).agent (bytes_in attribute_data packet)
     (bytes_in attribute_data (after_answer a packet arrival).packet)
 
--- the LID and the LMC that are set at a port with a LID are returned, and so is the state, unless it is 0 (no change);
--- no other port and nothing else is changed
+-- the LID and the LMC that are set at a port with a LID are returned, and so is the state unless it is 0 (no change);
+-- no other port and nothing else changes
 pub record SetsPort (a after : Agent) (port : ℕ) (payload told : List ℕ) : Type 0 where
   pub lids : has_lid a port ≡ true → range_at after port ≡ range_in payload
   pub lids_told : has_lid a port ≡ true → range_in told ≡ range_in payload
@@ -160,8 +160,8 @@ PortsAreSet =
 
 -- from outside ------------------------------------------------------------------------------
 
--- a fresh agent is an agent, and so is one that is wired at a port from 1 on, or given a subnet manager at an adapter's
--- port
+-- a fresh agent is an agent, and an agent stays one if a port from 1 on is wired or unwired, or a subnet manager is
+-- seated at a port of an adapter
 pub record AgentsAreMade : Type 0 where
   pub fresh : (node : AgentNode) → IsAgentNode node → length node.description ≡ 64 → IsAgent (fresh_agent node)
   pub wired : (a : Agent) (port : ℕ) (is_wired : Bool) → IsAgent a → 1 ≤ port

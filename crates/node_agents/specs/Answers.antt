@@ -59,6 +59,7 @@ abbrev pub met_set : Agent → Result Agent Refusal → List ℕ → ℕ → Met
 met_set a (Ok after) packet arrival = record { told = get_of after packet arrival; agent = after }
 met_set a (Err refusal) packet arrival = record { told = Err refusal; agent = a }
 
+-- the attribute that answers the packet, or why it is refused, and the agent afterwards
 abbrev pub after_request : Agent → List ℕ → ℕ → Met
 after_request a packet arrival =
     if number_in method packet == get then record { told = get_of a packet arrival; agent = a }
@@ -70,11 +71,12 @@ abbrev pub status_told : Result (List ℕ) Refusal → ℕ
 status_told (Ok payload) = done
 status_told (Err refusal) = status_of refusal
 
--- the attribute in an answer; a refusal returns the request's
+-- the attribute in an answer; for a refusal, it is the request's attribute
 abbrev pub payload_told : Result (List ℕ) Refusal → List ℕ → List ℕ
 payload_told (Ok payload) packet = payload
 payload_told (Err refusal) packet = bytes_in attribute_data packet
 
+-- the answer to a request, by the attribute or the refusal
 abbrev pub answer_with : List ℕ → Result (List ℕ) Refusal → List ℕ
 answer_with packet told = answer_packet packet (status_told told) (payload_told told packet)
 

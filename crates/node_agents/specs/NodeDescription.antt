@@ -1,4 +1,4 @@
--- Node description: what a Get returns. It can't be set.
+-- Node description: what a Get returns. It cannot be set.
 -- InfiniBand Architecture Specification, Volume 1: subnet management, NodeDescription.
 use Rattle.std.specs.Prelude.{ℕ, List}
 use Rattle.node_agents.specs.Agent.{Agent}

@@ -1,4 +1,4 @@
--- Node information: what a Get returns. It can't be set.
+-- Node information: what a Get returns. It cannot be set.
 -- InfiniBand Architecture Specification, Volume 1: subnet management, NodeInfo.
 use Rattle.std.specs.Prelude.{ℕ, List}
 use Rattle.attr_codec.specs.declared.node_info.NodeInfo.{NodeInfo}
@@ -7,7 +7,7 @@ use Rattle.attr_codec.specs.NodeTypeNumber.{number_of_type}
 use Rattle.node_agents.specs.declared.agent_node.AgentNode.{AgentNode}
 use Rattle.node_agents.specs.Agent.{Agent, port_guid}
 
--- the NodeInfo of the node, for a request that came by the port `arrival`
+-- the NodeInfo of the node, for a request that arrived at the port `arrival`
 abbrev pub node_info_of : AgentNode → ℕ → NodeInfo
 node_info_of node arrival =
     record {

@@ -11,7 +11,7 @@ use Rattle.node_agents.specs.declared.port.Port.{Port}
 use Rattle.node_agents.specs.Agent.{Agent, is_switch, port_at, with_port}
 
 -- the port that a request means: for a switch, any port from 0 on; for an adapter, the port at which the request
--- arrived, if the modifier is 0 or its number
+-- arrived, if the modifier is 0 or its number; None if there is no such port
 abbrev pub port_meant : Agent → ℕ → ℕ → Option ℕ
 port_meant a modifier arrival =
     if is_switch a then (if nat_le modifier a.node.ports then Some modifier else None)
@@ -20,7 +20,7 @@ port_meant a modifier arrival =
 
 -- Get ---------------------------------------------------------------------------------
 
--- the PortInfo of `port`, for a request that came by the port `arrival`; all else is 0
+-- the PortInfo of `port`, for a request that arrived at the port `arrival`; all else is 0
 abbrev pub port_info_of : Port → ℕ → List ℕ
 port_info_of port arrival =
     with_bits port_state (number_of_state port.state) (with_bits lmc port.lmc (with_bits is_sm_bit (flag port.is_sm)
@@ -28,13 +28,14 @@ port_info_of port arrival =
     ∷ record { field = master_sm_lid; number = port.master_sm_lid }
     ∷ record { field = local_port_num; number = arrival } ∷ []))))
 
+-- the PortInfo that a Get returns; None if the modifier means no port
 abbrev pub get_port_info : Agent → ℕ → ℕ → Option (List ℕ)
 get_port_info a modifier arrival =
     option_map (λ port. port_info_of (port_at a port) arrival) (port_meant a modifier arrival)
 
 -- Set ---------------------------------------------------------------------------------
 
--- each port of an adapter has a LID, and of a switch only port 0
+-- the port has a LID of its own: each port of an adapter does, but only port 0 of a switch
 abbrev pub has_lid : Agent → ℕ → Bool
 has_lid a port = not (is_switch a) || port == 0
 
@@ -53,7 +54,7 @@ state_after state wish =
     else if is_next_state state wish then Some wish
     else None
 
--- the port in state `state`, with the LIDs and the LMC of the payload if it has LIDs
+-- the port in the state `state`, with the LIDs and the LMC of the payload if it has LIDs
 abbrev pub port_with : Port → Bool → List ℕ → PortState → Port
 port_with port has_lid payload state =
     record port {
@@ -68,7 +69,8 @@ abbrev pub are_lids_taken : ℕ → List ℕ → Bool
 are_lids_taken max_lmc payload =
     nat_le (bits_in lmc payload) max_lmc && may_have (number_in base_lid payload) (bits_in lmc payload)
 
--- the port after a Set, if it may have the LIDs of the payload, and the state that the payload asks for is granted
+-- the port after a Set; None if it may not have the LIDs of the payload, or the state that the payload asks for is
+-- refused
 abbrev pub port_after : Port → Bool → ℕ → List ℕ → Option Port
 port_after port has_lid max_lmc payload =
     if are_lids_taken max_lmc payload
@@ -76,12 +78,13 @@ port_after port has_lid max_lmc payload =
     (option_and_then (state_after port.state) (state_of_number (bits_in port_state payload)))
     else None
 
--- the port that a Set means, and that port afterwards
+-- the port that a Set means, and this port afterwards; None if the Set is refused
 unfoldable pub changed_port : Agent → ℕ → ℕ → List ℕ → Option (ℕ × Port)
 changed_port a modifier arrival payload =
     option_and_then (λ port. option_map (λ after. (port, after))
     (port_after (port_at a port) (has_lid a port) (max_lmc a port) payload)) (port_meant a modifier arrival)
 
+-- the agent after a Set of PortInfo; None if the Set is refused
 abbrev pub set_port_info : Agent → ℕ → ℕ → List ℕ → Option Agent
 set_port_info a modifier arrival payload =
     option_map (λ changed. with_port a changed.0 changed.1) (changed_port a modifier arrival payload)

@@ -6,13 +6,14 @@ use Rattle.attr_codec.specs.Image.{image}
 use Rattle.attr_codec.specs.SwitchInfo.{linear_fdb_cap, linear_fdb_top}
 use Rattle.node_agents.specs.Agent.{Agent}
 
--- the number of entries that the table has room for, and the greatest LID that is forwarded; all else is 0
+-- the SwitchInfo that a Get returns: the number of entries that the table has room for, and the greatest LID that is
+-- forwarded; all else is 0
 abbrev pub get_switch_info : Agent → List ℕ
 get_switch_info a =
     image (record { field = linear_fdb_cap; number = a.node.cap } ∷ record { field = linear_fdb_top; number = a.top }
     ∷ [])
 
--- the agent with the payload's greatest LID, if the table has room for it; all else in the payload is ignored
+-- the agent with the payload's greatest LID; None if the table has no room for it; all else in the payload is ignored
 abbrev pub set_switch_info : Agent → List ℕ → Option Agent
 set_switch_info a payload = let top =
     number_in linear_fdb_top payload in if nat_lt top a.node.cap then Some (record a { top = top }) else None

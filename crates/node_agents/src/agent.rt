@@ -90,7 +90,7 @@ impl Agent {
         self.node.ports
     }
 
-    /// Returns LinearFDBCap: the number of entries that the forwarding table has room for, 0 if there is no table.
+    /// Returns LinearFDBCap: the number of entries that the forwarding table has room for, or 0 if there is no table.
     pub fn cap(&self) -> u16
         ensures { result ≡ self.now.node.cap }
     {
@@ -125,36 +125,38 @@ impl Agent {
         }
     }
 
-    /// Returns the link state of a port, Down if the node does not have the port. A switch's port 0 is always Active.
+    /// Returns the link state of a port, or Down if the node does not have the port. A switch's port 0 is always
+    /// Active.
     pub fn port_state(&self, port: PortNum) -> PortState
         ensures { result ≡ state_at self.now port }
     {
         self.port(port).state
     }
 
-    /// Returns the LID of a port, 0 for none.
+    /// Returns the LID of a port, or 0 if it has none.
     pub fn base_lid(&self, port: PortNum) -> Lid
         ensures { result ≡ base_lid_at self.now port }
     {
         self.port(port).base_lid
     }
 
-    /// Returns the LMC of a port, which has 2^LMC LIDs from its own on; 0 for a switch, and if nothing was set.
+    /// Returns the LMC of a port. The port has 2^LMC LIDs, from its base LID on. The LMC is 0 for port 0 of a switch,
+    /// and if none was set.
     pub fn lmc(&self, port: PortNum) -> Lmc
         ensures { result ≡ lmc_at self.now port }
     {
         self.port(port).lmc
     }
 
-    /// Returns the subnet manager's LID that was set at a port, 0 for none.
+    /// Returns the LID of the subnet manager that was set at a port, or 0 if none was set.
     pub fn master_sm_lid(&self, port: PortNum) -> Lid
         ensures { result ≡ master_sm_lid_at self.now port }
     {
         self.port(port).master_sm_lid
     }
 
-    /// Returns whether `lid` is one of the port's own, so that a packet for it has arrived there. A port with LID 0
-    /// owns only LID 0.
+    /// Returns whether `lid` is one of the port's LIDs: a packet for it has then arrived. A port with LID 0 owns only
+    /// LID 0.
     pub fn owns(&self, port: PortNum, lid: Lid) -> bool
         ensures { result ≡ owns self.now port lid }
     {
@@ -175,7 +177,8 @@ impl Agent {
         self.port(port).is_sm
     }
 
-    /// Plugs a cable into a port, or takes it out. The port becomes Initialize if it is plugged in, and otherwise Down.
+    /// Plugs a cable into a port, or takes it out. The port becomes Initialize if a cable is plugged in, and otherwise
+    /// Down.
     pub fn set_wired(&mut self, port: PortNum, is_wired: bool)
         requires least { 1 ≤ port }
         requires most { port ≤ self.old.node.ports }

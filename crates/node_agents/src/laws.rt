@@ -3,14 +3,14 @@ ghost use Rattle.node_agents.specs.AnswerLaws.{AgentsAreMade, AnsweredIsAgent, A
 ghost use Rattle.node_agents.specs.AnswerLaws.{AnswersSay, GetsChangeNothing, RefusalsChangeNothing};
 ghost use Rattle.node_agents.specs.AnswerLaws.{GetsTellAsSets, BlocksAreSet, TopsAreSet, PortsAreSet};
 
-/// A fresh agent is an agent, and an agent stays one when a port from 1 on is wired, or a subnet manager is seated at
-/// an adapter's port.
+/// A fresh agent is an agent, and an agent stays one if a port from 1 on is wired or unwired, or a subnet manager is
+/// seated at an adapter's port.
 #[tactic(auto, using(crate::proofs::Made::agents_are_made))]
 pub fn agents_are_made()
     ensures { AgentsAreMade }
 {}
 
-/// An agent stays one, whatever it answers.
+/// An agent stays an agent, whatever it answers.
 #[tactic(auto, using(crate::proofs::Shapes::answered_is_agent))]
 pub fn answered_is_agent()
     ensures { AnsweredIsAgent }
@@ -47,26 +47,26 @@ pub fn refusals_change_nothing()
     ensures { RefusalsChangeNothing }
 {}
 
-/// A Get right after a Set that is taken, of the same attribute and modifier and by the same port, returns what the
+/// A Get right after a Set that is accepted, of the same attribute and modifier and at the same port, returns what the
 /// answer to the Set returned.
 pub fn gets_tell_as_sets()
     ensures { GetsTellAsSets }
 {}
 
-/// A block that is set is returned and stands in the table at its offset, and nothing else is changed.
+/// A block that is set is returned, and is in the table at its offset; nothing else changes.
 #[tactic(auto, using(crate::proofs::Sets::blocks_are_set))]
 pub fn blocks_are_set()
     ensures { BlocksAreSet }
 {}
 
-/// The greatest LID to forward that is set is returned, and nothing else is changed.
+/// The greatest LID to forward that is set is returned; nothing else changes.
 #[tactic(auto, using(crate::proofs::Sets::tops_are_set))]
 pub fn tops_are_set()
     ensures { TopsAreSet }
 {}
 
 /// The LID and the LMC that are set at a port with a LID are returned, and so is a state other than 0 (no change); no
-/// other port and nothing else is changed.
+/// other port and nothing else changes.
 pub fn ports_are_set()
     ensures { PortsAreSet }
 {}

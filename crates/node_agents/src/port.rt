@@ -6,9 +6,9 @@ use smp_bytes::Lid;
 /// A port's values as its agent holds them.
 #[derive(Clone, Copy)]
 pub struct Port {
-    /// The port's own LID, 0 for none.
+    /// The port's base LID, 0 for none.
     pub(crate) base_lid: Lid,
-    /// The LMC: the port has 2^LMC LIDs, from its own on.
+    /// The LMC: the port has 2^LMC LIDs, from its base LID on.
     pub(crate) lmc: Lmc,
     /// The LID of the subnet manager.
     pub(crate) master_sm_lid: Lid,

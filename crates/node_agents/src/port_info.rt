@@ -58,7 +58,7 @@ fn changed_port(
 }
 
 /// Returns the port that a request means: for a switch, any port from 0 on; for an adapter, the port at which the
-/// request arrived, if the modifier is 0 or its number.
+/// request arrived, if the modifier is 0 or its number. Returns `None` if there is no such port.
 fn port_meant(agent: &Agent, modifier: u32, arrival: PortNum) -> Option<PortNum>
     ensures port { result ≡ port_meant agent.now modifier arrival }
 {
@@ -72,7 +72,7 @@ fn port_meant(agent: &Agent, modifier: u32, arrival: PortNum) -> Option<PortNum>
     }
 }
 
-/// Returns the PortInfo of `port`, for a request that came by the port `arrival`.
+/// Returns the PortInfo of `port`, for a request that arrived at the port `arrival`.
 fn info_of(port: Port, arrival: PortNum) -> [u8; 64]
     ensures { result ≡ port_info_of port arrival }
 {
@@ -86,14 +86,14 @@ fn info_of(port: Port, arrival: PortNum) -> [u8; 64]
     info.encode()
 }
 
-/// Returns whether the port has a LID of its own: each port of an adapter has one, and port 0 of a switch.
+/// Returns whether the port has a LID of its own. Each port of an adapter does, but only port 0 of a switch.
 fn has_lid(agent: &Agent, port: PortNum) -> bool
     ensures { result ≡ has_lid agent.now port }
 {
     !agent.node.is_switch() || port.number() == 0
 }
 
-/// Returns the greatest LMC that can be set at a port: 0 for port 0 of a switch, which has one LID.
+/// Returns the greatest LMC that can be set at a port: 0 for port 0 of a switch, which has one LID, otherwise 7.
 fn max_lmc(agent: &Agent, port: PortNum) -> u8
     ensures { result ≡ max_lmc agent.now port }
 {
@@ -144,7 +144,7 @@ fn port_after(port: Port, has_lid: bool, max_lmc: u8, payload: &[u8; 64]) -> Opt
 }
 
 /// Returns the link state after the request `wish`: no change, the present state, or the next one on the way to Active.
-/// Returns `None` if the request is none of these.
+/// Returns `None` for any other request.
 fn state_after(state: PortState, wish: PortState) -> Option<PortState>
     ensures { result ≡ state_after state wish }
 {

@@ -1,5 +1,5 @@
--- What a run that tells the order of tables does: it reads all files and writes the order, or returns the fault of a
--- file.
+-- What a run that writes the order that tables imply does: it reads all files and writes the order, or returns the
+-- fault of a file.
 use Rattle.std.specs.Prelude.{◌≡◌, ◌⊎◌, ℕ, Bool, List, [], Option, None, Some, is_some, length, map, reverse}
 use Rattle.std.specs.List.{range_with_len}
 use Rattle.byte_io.specs.Source.{SourceState}
@@ -14,27 +14,27 @@ use Rattle.sm_cli.specs.declared.fault.Fault.{Fault}
 use Rattle.sm_cli.specs.declared.input_tables.TablesAndFacts.{TablesAndFacts}
 use Rattle.audit_report.specs.RunAudit.{IsAnswerFault}
 
--- the switches of a told order from the first one on, none if no order is told; `taken` has the last switch first
+-- the switches of an order from the first one on, or none if there is no order; `taken` has the last switch first
 abbrev pub told_switches : Cells → Option (List ℕ) → List ℕ
 told_switches cells None = []
 told_switches cells (Some taken) = map (switch_at cells) (reverse taken)
 
--- the order that the tables tell was written. Of several switches that may be taken, the one with the greatest GUID is.
--- `has_order` says whether they tell an order
+-- the order that the tables imply was written. Of several switches that may be taken, the switch with the greatest GUID
+-- is. `has_order` says whether the tables imply an order
 pub record IsTelling (facts : Facts) (held : HeldPlan) (prints : List ℕ → Type 0) (has_order : Bool) : Type 0 where
   pub order : Option (List ℕ)
   pub told : IsTold (cells_of facts) held (range_with_len 0 (length (switches (cells_of facts)))) order
   pub written : prints (order_text (told_switches (cells_of facts) order))
   pub judged : has_order ≡ is_some order
 
--- the tables and then the files were read, and their order was written
+-- the tables and then the files were read, and the order of the tables was written
 pub record HasTold {S : Type 0} (state : S → SourceState) (floor : ℕ) (olds news : List S)
     (prints : List ℕ → Type 0) (has_order : Bool) : Type 0 where
   pub read_are : TablesAndFacts
   pub read : AreTablesAndFiles state floor olds news read_are
   pub telling : IsTelling read_are.store read_are.held prints has_order
 
--- the inputs were read, and their order was not written
+-- the inputs were read, and the order of the tables was not written
 pub record FailsToTell {S : Type 0} (state : S → SourceState) (floor : ℕ) (olds news : List S)
     (sink_failed : Bool) (fault : Fault) : Type 0 where
   pub read_are : TablesAndFacts

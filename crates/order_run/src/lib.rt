@@ -1,4 +1,4 @@
-//! The order of the switches that tables tell, from files. Reads the tables that switches hold, and the files that
+//! The order of the switches that tables imply, from files. Reads the tables that switches hold, and the files that
 //! describe the subnet.
 #![tactic(auto)]
 

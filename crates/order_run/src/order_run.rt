@@ -1,4 +1,4 @@
-//! The order of the switches that a text of tables tells, in the subnet that files describe.
+//! The order of the switches that a text of tables implies, in the subnet that files describe.
 ghost use Rattle.std.specs.Prelude.{◌≡◌, ◌≤◌, ◌⊎◌, Err, IfErr, IfOk, IsTrue, OnErr, OnOk, false, length, map, reverse};
 ghost use Rattle.std.specs.List.{range_with_len};
 ghost use Rattle.std.specs.Io.KnownBytes.{Appends};
@@ -48,7 +48,7 @@ pub fn run_order_of<S: Source, W: Sink>(
     }
 }
 
-/// Writes the order that tables tell, and flushes. Returns whether they tell one.
+/// Writes the order that the tables imply, and flushes. Returns whether they imply an order.
 fn answer<W: Sink>(alloc: Global, sink: &mut W, store: &Store, held: &Held) -> Result<bool, Fault>
     ensures told { IfOk result (IsTelling store.now held.now
         (Appends (W.written sink.old) (W.written sink.new))) }
@@ -70,8 +70,8 @@ fn answer<W: Sink>(alloc: Global, sink: &mut W, store: &Store, held: &Held) -> R
     Ok(order.is_some())
 }
 
-/// Returns the order that the network's tables tell, as indices of switches, the last switch first. Of several switches
-/// that may be taken, the one with the greatest GUID is taken.
+/// Returns the order that the network's tables imply, as indices of switches, the last switch first, or `None` if they
+/// imply no order. If several switches may be taken, the switch with the greatest GUID is taken.
 fn order_of(alloc: Global, network: &Network) -> Result<Option<Vec<usize>>, AllocError>
     ensures { IfOk result (λ order. IsTold (cells_of network.now.facts) network.now.held
         (range_with_len 0 (length (switches (cells_of network.now.facts)))) (option_map (λ taken. taken.items) order)) }
@@ -87,8 +87,8 @@ fn indices(alloc: Global, count: usize) -> Result<Vec<usize>, AllocError>
     (0..count).collect(alloc)
 }
 
-/// Returns the switches of a told order from the first one on, or none if there is no order. `order` has the last
-/// switch first.
+/// Returns the switches of an order from the first one on, or none if there is no order. `order` has the last switch
+/// first.
 fn told_switches(
     alloc: Global,
     network: &Network,

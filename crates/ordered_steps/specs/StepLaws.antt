@@ -22,7 +22,7 @@ use Rattle.next_tables.specs.Next.{step_at}
 use Rattle.next_tables.specs.NextTables.{IsKept, by_order, next_tables, ordered_for}
 use Rattle.next_tables.specs.ByOrder.{IsOrder, AreApart, IsWired, Leads, is_up, switch_at, TurnsWell, AreRight, IsChoice, IsNextByOrder, IsTriedByOrder, numbers_by, position_at}
 
--- no turn is bad, whichever mixture is held when a packet comes to a switch, and whichever when it leaves
+-- no packet makes a bad turn, whatever the mixture is when it reaches a switch and whatever it is when it leaves
 abbrev pub NoBadTurn : Type 0
 NoBadTurn =
     (cells : Cells) (q : ℕ → ℕ) (held goal next : HeldPlan) (lid : ℕ) → AreRight cells q held lid
@@ -43,14 +43,14 @@ pub record IsStep (cells : Cells) (q : ℕ → ℕ) (held goal next : HeldPlan) 
   pub goal_right : (lid : ℕ) → 1 ≤ lid → AreRight cells q goal lid
   pub choice : (lid : ℕ) → 1 ≤ lid → IsChoice cells q held goal lid next
 
--- in a step the channels' numbers by the order rise from each channel to the channels that it waits for, whatever the
+-- in a step, the channels' numbers by the order rise from each channel to the channels that it waits for, whatever the
 -- mixtures
 abbrev pub NumbersRiseByOrder : Type 0
 NumbersRiseByOrder =
     (cells : Cells) (q : ℕ → ℕ) (held goal next : HeldPlan) → IsStep cells q held goal next
     → RiseInStep cells held next (numbers_by cells q)
 
--- in a step channels never wait in a cycle, whatever the mixtures
+-- in a step, channels never wait in a cycle, whatever the mixtures
 abbrev pub NoCycleByOrder : Type 0
 NoCycleByOrder =
     (cells : Cells) (q : ℕ → ℕ) (held goal next : HeldPlan) → IsStep cells q held goal next
@@ -62,7 +62,7 @@ RuleIsChoice =
     (cells : Cells) (q : ℕ → ℕ) (held goal next : HeldPlan) (line : HeldLid) → IsNextByOrder cells q held goal line next
     → IsChoice cells q held goal line.lid next
 
--- the next entries by the order are the tried ones, or 255 if those do not deliver
+-- the next entries by the order are the tried entries, or 255 if they do not deliver
 abbrev pub RuleIsTried : Type 0
 RuleIsTried =
     (cells : Cells) (q : ℕ → ℕ) (held goal next : HeldPlan) (line : HeldLid) → IsNextByOrder cells q held goal line next
@@ -87,12 +87,13 @@ NoneIsLostByOrder =
     → (source : EndPort) → IsBrought cells held line.lid source (Some (Taken line.port))
     → IsBroughtBy cells mixed line.lid source (Taken line.port)
 
--- tables deliver a packet for the line's LID at its port from the switch at index i
+-- `tables` deliver a packet for the line's LID from the switch at index i at the line's port
 abbrev pub DeliverFrom : Cells → HeldPlan → HeldLid → ℕ → Type 0
 DeliverFrom cells tables line i = IsEndOf (next_hops_of cells tables line.lid) (To i) (Some (Taken line.port))
 
 -- steps towards a goal, by an order in which two switches that a wire joins never have equal positions. If a switch
--- forwards packets by the first tables to one from which the goal delivers, the goal delivers from this switch too
+-- forwards packets by the first tables to a switch from which the goal delivers, the goal delivers from the first
+-- switch too
 pub record AreStepsByOrder (cells : Cells) (q : ℕ → ℕ) (goal : HeldPlan) (line : HeldLid) (tables : ℕ → HeldPlan)
     : Type 0 where
   pub order : IsOrder cells q
@@ -104,16 +105,16 @@ pub record AreStepsByOrder (cells : Cells) (q : ℕ → ℕ) (goal : HeldPlan) (
       → DeliverFrom cells goal line i
   pub steps : (n : ℕ) → IsTriedByOrder cells q (tables n) goal line (tables (suc n))
 
--- `depth` says how many steps a switch takes: more than the next switch by the goal takes; and if the goal's entry
--- leads up, more than each earlier switch takes that is wired to it
+-- `depth` says how many steps a switch takes: more than the next switch by the goal; and, if the goal's entry leads up,
+-- more than each earlier switch that is wired to it and from which the goal delivers
 pub record IsDepth (cells : Cells) (q : ℕ → ℕ) (goal : HeldPlan) (line : HeldLid) (depth : ℕ → ℕ) : Type 0 where
   pub first : (i : ℕ) → 1 ≤ depth i
   pub next : (i j : ℕ) → Leads cells goal line.lid i j → DeliverFrom cells goal line j → depth j < depth i
   pub earlier : (i j x : ℕ) → Leads cells goal line.lid i j → is_up q i j ≡ true → x < length (switches cells)
       → DeliverFrom cells goal line x → q x < q i → IsWired cells x i → depth x < depth i
 
--- after as many steps as its depth, a switch from which the goal delivers has the goal's entry, and the tables deliver
--- from it, from then on
+-- after as many steps as its depth, and from then on, a switch from which the goal delivers has the goal's entry, and
+-- the tables deliver from it
 abbrev pub EndInTheGoal : Type 0
 EndInTheGoal =
     (cells : Cells) (q : ℕ → ℕ) (goal : HeldPlan) (line : HeldLid) (tables : ℕ → HeldPlan)
@@ -122,7 +123,8 @@ EndInTheGoal =
     → (i g m : ℕ) → slice_get (switches cells) i ≡ Some g → DeliverFrom cells goal line i → depth i ≤ m
     → (entry_for (tables m) line.lid g ≡ entry_for goal line.lid g) × DeliverFrom cells (tables m) line i
 
--- a switch from which the goal delivers has the goal's entry after twice as many steps as there are switches
+-- after twice as many steps as there are switches, a switch from which the goal delivers has the goal's entry, and the
+-- tables deliver from it
 abbrev pub EndInTwiceAsMany : Type 0
 EndInTwiceAsMany =
     (cells : Cells) (q : ℕ → ℕ) (goal : HeldPlan) (line : HeldLid) (tables : ℕ → HeldPlan)
@@ -140,9 +142,9 @@ HealByOrder =
     → (m : ℕ) → 2 * length (switches cells) ≤ m
     → IsBrought cells (tables m) line.lid source (Some (Taken line.port))
 
--- if the goal delivers from each switch that sends packets straight to the end port by the first tables, no other
--- switch has an entry in the end: the tables are then right by each order by which the goal is right, and steps may go
--- on by that order
+-- if the goal delivers from each switch that sends packets straight to the end port by the first tables, then after
+-- twice as many steps as there are switches, and at least one, the tables are right by each order by which the goal is
+-- right
 abbrev pub EndRightByAny : Type 0
 EndRightByAny =
     (cells : Cells) (q : ℕ → ℕ) (goal : HeldPlan) (line : HeldLid) (tables : ℕ → HeldPlan)
@@ -153,7 +155,7 @@ EndRightByAny =
     → (other : ℕ → ℕ) → AreRight cells other goal line.lid
     → (m : ℕ) → 1 ≤ m → 2 * length (switches cells) ≤ m → AreRight cells other (tables m) line.lid
 
--- a packet for `lid`, wherever it is sent, ends by any mixtures of the held and the next tables: none loops for ever
+-- a packet for `lid`, wherever it is sent, ends by any mixtures of the held and the next tables: none loops forever
 abbrev pub AllEndByOrder : Type 0
 AllEndByOrder =
     (cells : Cells) (q : ℕ → ℕ) (held goal next : HeldPlan) (lid : ℕ) → IsOrder cells q → AreRight cells q held lid
@@ -169,13 +171,13 @@ NextDeliverOrDropByOrder =
     → (i g : ℕ) → slice_get (switches cells) i ≡ Some g
     → (entry_for next line.lid g ≡ 255) ⊎ DeliverFrom cells next line i
 
--- the next tables of all LIDs: the goal's owners, and the next entries by the order
+-- `next` has the goal's owners and, for each LID, the next entries by the order
 pub record AreNextByOrder (cells : Cells) (q : ℕ → ℕ) (held goal next : HeldPlan) : Type 0 where
   pub owners : (lid : ℕ) → owners_of next lid ≡ owners_of goal lid
   pub entries : (i g lid : ℕ) → slice_get (switches cells) i ≡ Some g
       → entry_for next lid g ≡ ordered_for cells q held goal lid (owners_of goal lid) i g
 
--- the next tables are a step, and are right for every LID, if the held tables and the goal are
+-- the next tables are a step and are right for every LID if the held tables and the goal are right
 abbrev pub AllAreStep : Type 0
 AllAreStep =
     (cells : Cells) (q : ℕ → ℕ) (held goal next : HeldPlan) → IsOrder cells q
@@ -189,9 +191,8 @@ AllFollowTheRule =
     (cells : Cells) (q : ℕ → ℕ) (held goal next : HeldPlan) (line : HeldLid) → AreNextByOrder cells q held goal next
     → IsKept held goal line → IsNextByOrder cells q held goal line next
 
--- a packet that the held tables deliver at the end port of a line is delivered there while the fabric's switches go
--- over to the next tables, each at its own time, over at most twice as many wires as there are usable switches, and one
--- more
+-- a packet that the held tables deliver at the end port of a line is delivered there while the fabric's switches change
+-- to the next tables, each at its own time, over at most 2n + 1 wires, for n usable switches
 abbrev pub PacketsArriveByOrder : Type 0
 PacketsArriveByOrder =
     (facts : Facts) (q : ℕ → ℕ) (held goal next : HeldPlan) (line : HeldLid) (before : Fabric) (origin : NodePort)
@@ -208,7 +209,7 @@ PacketsArriveByOrder =
     }) (Some (Taken line.port))
     → ArrivesMeanwhile fabrics line.lid source line.port (2 * length (switches (cells_of facts)) + 1)
 
--- what `next_tables` returns by an order are next tables by that order
+-- what `next_tables` returns by an order has the next entries by that order
 abbrev pub OrderedTablesAreNext : Type 0
 OrderedTablesAreNext =
     (facts : Facts) (positions : List ℕ) (held goal : HeldPlan)

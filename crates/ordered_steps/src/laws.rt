@@ -43,7 +43,7 @@ pub fn none_is_lost_by_order()
     ensures law { NoneIsLostByOrder }
 {}
 
-/// A switch from which the goal delivers has the goal's entry after as many steps as its depth, and from then on; and
+/// After as many steps as its depth, and from then on, a switch from which the goal delivers has the goal's entry, and
 /// the tables deliver from it.
 pub fn end_in_the_goal()
     ensures law { EndInTheGoal }
@@ -65,7 +65,7 @@ pub fn end_right_by_any()
     ensures law { EndRightByAny }
 {}
 
-/// Every packet ends by any mixtures of the held and the next tables, wherever it is sent: none loops for ever.
+/// Every packet, wherever it is sent, ends by any mixtures of the held and the next tables: none loops forever.
 pub fn all_end_by_order()
     ensures law { AllEndByOrder }
 {}
@@ -75,7 +75,7 @@ pub fn next_deliver_or_drop_by_order()
     ensures law { NextDeliverOrDropByOrder }
 {}
 
-/// The next tables of all LIDs, including new ones and ones that are gone, are a step and are right by the order, if
+/// The next tables for all LIDs, including new LIDs and LIDs that are gone, are a step and are right by the order, if
 /// the held tables and the goal are.
 pub fn all_are_step()
     ensures law { AllAreStep }
@@ -98,10 +98,10 @@ pub fn all_follow_the_rule()
     ensures law { AllFollowTheRule }
 {}
 
-/// A packet that the held tables deliver at the end port of a line is delivered there while the fabric's switches go
-/// over to the next tables, each at its own time, over at most twice as many wires as there are usable switches, and
-/// one more, if the facts describe what is joined to an end port, and the end ports and switches there held the tables
-/// when the change began.
+/// If the facts describe all that is joined to an end port, and the end ports and switches there hold the tables when a
+/// change begins, a packet that the held tables deliver at the end port of a line is delivered there while the fabric's
+/// switches change to the next tables, each at its own time. The packet takes at most 2n + 1 wires, for n usable
+/// switches.
 pub fn packets_arrive_by_order()
     ensures law { PacketsArriveByOrder }
 {}

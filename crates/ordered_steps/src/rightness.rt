@@ -11,9 +11,9 @@ use port_graph::Edge;
 use smp_bytes::Lid;
 use std::alloc::{AllocError, Global};
 
-/// Returns whether no packet, for any LID, goes down and then up again by the tables of `held` and the order.
-/// `positions` has the position of each usable switch, by rising GUID. Takes a step for each switch and each LID up to
-/// the greatest top.
+/// Returns whether no packet, for any LID, goes down and then up again by the tables of `held`, in the order that
+/// `positions` gives. `positions` has the position of each usable switch, by rising GUID. Takes a step for each switch
+/// and each LID up to the greatest top.
 pub fn are_right(alloc: Global, held: &Network, positions: &[usize]) -> Result<bool, AllocError>
     ensures { IfOk result (λ right.
         right ≡ are_right (cells_of held.now.facts) (position_at positions.now) held.now.held) }
@@ -30,8 +30,8 @@ pub fn are_right(alloc: Global, held: &Network, positions: &[usize]) -> Result<b
     Ok(true)
 }
 
-/// Returns whether packets for a LID never go down and then up again. `edges` has the edge by which they leave each
-/// switch.
+/// Returns whether packets for a LID never go down and then up again. `edges` has the edge by which the packets leave
+/// each switch.
 fn is_right_column(positions: &[usize], edges: &[Option<Edge>]) -> bool
     ensures { result ≡ is_right_column (position_at positions.now) edges.now }
 {

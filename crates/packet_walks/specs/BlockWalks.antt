@@ -14,10 +14,11 @@ use Rattle.packet_walks.specs.HopsByTables.{is_at, next_hop_of}
 use Rattle.held_tables.specs.Owners.{sole_among}
 use Rattle.packet_walks.specs.EndsBySwitch.{IsEndOf, onward}
 
--- the only end port that holds the LID at `index` of the block `number`
+-- the only end port that holds the LID at `index` of the block `number`; None if none or several do
 abbrev pub target_at : List Owner → ℕ → ℕ → Option EndPort
 target_at owners number index = sole_among (slice_index_or owners (64 * number + index) Several)
 
+-- the list of the owners, if `None` stands for none
 abbrev pub owners_in : Option EndPort → List EndPort
 owners_in None = []
 owners_in (Some port) = port ∷ []
@@ -26,21 +27,22 @@ owners_in (Some port) = port ∷ []
 abbrev pub hops_for : List AuditedSwitch → List (List ℕ) → ℕ → Option EndPort → List NextHop
 hops_for nodes rows lid target = map (next_hop_of (owners_in target) rows lid) nodes
 
+-- the next hop of each switch for packets for the LID at `index` of the block `number`
 abbrev pub hops_at : List AuditedSwitch → List Owner → List (List ℕ) → ℕ → ℕ → List NextHop
 hops_at nodes owners rows number index = hops_for nodes rows (64 * number + index) (target_at owners number index)
 
--- packets get from `switch` to the end port
+-- packets from `switch` reach the end port `target`
 pub record Comes (hops : List NextHop) (target : Option EndPort) (switch : ℕ) : Type 0 where
   pub port : EndPort
   pub is_target : target ≡ Some port
   pub ends : IsEndOf hops (To switch) (Some (Taken port))
 
--- the LIDs whose packets are seen to arrive from `switch`
+-- the LIDs whose packets are seen to arrive from `switch`; none if there is no such switch
 abbrev pub lids_at : List LidSet → ℕ → LidSet
 lids_at arrived switch = slice_index_or arrived switch no_lids
 
--- packets for the LIDs in `arrived` get from these switches to their end port by the hops at each index of the block,
--- and switches forward by `exits`
+-- packets from a switch for its LIDs in `arrived` reach their end port, and each exit leads from its switch to the
+-- next, by the hops at each index of the block
 pub record AreSeen (count : ℕ) (hops : ℕ → List NextHop) (target : ℕ → Option EndPort) (arrived : List LidSet)
     (exits : List Exit) : Type 0 where
   pub as_many : length arrived ≡ count
@@ -49,75 +51,81 @@ pub record AreSeen (count : ℕ) (hops : ℕ → List NextHop) (target : ℕ →
   pub lead : (k index : ℕ) (exit : Exit) → slice_get exits k ≡ Some exit → has exit.lids index ≡ true
       → onward (hops index) (To exit.from) ≡ To exit.to
 
+-- `AreSeen` by the tables `rows` and the sole owners of the LIDs of the block `number`
 abbrev pub AreSeenBy : List AuditedSwitch → List Owner → List (List ℕ) → ℕ → List LidSet → List Exit → Type 0
 AreSeenBy nodes owners rows number arrived exits =
     AreSeen (length nodes) (hops_at nodes owners rows number) (target_at owners number) arrived exits
 
--- packets for a LID get from each of `count` switches to the LID's end port
+-- there is a `target`, and packets from each of `count` switches reach it
 pub record ComeFromEach (count : ℕ) (hops : List NextHop) (target : Option EndPort) : Type 0 where
   pub port : EndPort
   pub is_target : target ≡ Some port
   pub each : (switch : ℕ) → switch < count → IsEndOf hops (To switch) (Some (Taken port))
 
--- packets for each of `lids` get from every switch to the LID's end port
+-- packets from every switch for each of `lids` reach the LID's end port
 abbrev pub AreDelivered : List AuditedSwitch → List Owner → List (List ℕ) → ℕ → LidSet → Type 0
 AreDelivered nodes owners rows number lids = (index : ℕ) → has lids index ≡ true
     → ComeFromEach (length nodes) (hops_at nodes owners rows number index) (target_at owners number index)
 
--- packets for the LID at `index` arrive from `switch` too
+-- `arrived`, with the LID at `index` added to the LIDs of `switch`
 abbrev pub arrived_more : List LidSet → ℕ → ℕ → List LidSet
 arrived_more arrived switch index = slice_set arrived switch (with_lid (lids_at arrived switch) index)
 
+-- `arrived`, with the LID at `index` added to the LIDs of `switch` if `more`
 abbrev pub arrived_if : Bool → List LidSet → ℕ → ℕ → List LidSet
 arrived_if more arrived switch index = if more then arrived_more arrived switch index else arrived
 
--- the exit at `slot` leads from `from` to `to`, with these LIDs
+-- the exit at `slot` leads from `from` to `to`, and its LIDs are `lids`
 abbrev pub IsExit : List Exit → ℕ → ℕ → ℕ → LidSet → Type 0
 IsExit exits slot from to lids = slice_get exits slot ≡ Some (record { from = from; to = to; lids = lids })
 
--- the LID at `index` is added to an exit that was already there
+-- `new` is `old` with the LID at `index` added to an exit from `from` to `to`
 pub record IsExitMore (old : List Exit) (from to index : ℕ) (new : List Exit) : Type 0 where
   pub slot : ℕ
   pub lids : LidSet
   pub there : IsExit old slot from to lids
   pub put : new ≡ slice_set old slot (record { from = from; to = to; lids = with_lid lids index })
 
--- the LID at `index` is added to an exit that was already there, or a new exit with it is appended
+-- `new` is `old` with the LID at `index` added to an exit from `from` to `to`, or with a new exit that has only this
+-- LID
 abbrev pub IsWithExit : List Exit → ℕ → ℕ → ℕ → List Exit → Type 0
 IsWithExit old from to index new =
     IsExitMore old from to index new
     ⊎ (new ≡ old ++ record { from = from; to = to; lids = with_lid no_lids index } ∷ [])
 
--- the switch's hop for the LID at `index`, which `port` holds, is added
+-- `more` and `others` are `arrived` and `exits` with the hop of `switch` for the LID at `index` added; `port` holds the
+-- LID
 abbrev pub IsWithHop : List LidSet → List Exit → ℕ → ℕ → EndPort → NextHop → List LidSet → List Exit → Type 0
 IsWithHop arrived exits switch index port (To to) more others =
     (more ≡ arrived) × IsWithExit exits switch to index others
 IsWithHop arrived exits switch index port (Ends end) more others =
     (more ≡ arrived_if (is_at port (Some end)) arrived switch index) × (others ≡ exits)
 
--- packets for the exit's LIDs that arrive from `exit.to` arrive from `exit.from` too
+-- packets for the LIDs of `exit` arrive from `exit.from` too if they arrive from `exit.to`
 abbrev pub back_over : Exit → List LidSet → List LidSet
 back_over exit arrived =
     slice_set arrived exit.from (either (lids_at arrived exit.from) (both (lids_at arrived exit.to) exit.lids))
 
--- arrivals are carried back along each exit in turn
+-- `arrived` after arrivals are carried back along each exit in turn
 abbrev pub back_by : List Exit → List LidSet → List LidSet
 back_by [] arrived = arrived
 back_by (exit ∷ exits) arrived = back_by exits (back_over exit arrived)
 
+-- `arrived` after `n` rounds over the exits
 abbrev pub back_times : ℕ → List Exit → List LidSet → List LidSet
 back_times zero exits arrived = arrived
 back_times (suc n) exits arrived = back_by exits (back_times n exits arrived)
 
--- `new` is `old` after some rounds
+-- `new` is `old` after some number of rounds
 abbrev pub AreAfterRounds : List Exit → List LidSet → List LidSet → Type 0
 AreAfterRounds exits old new = (n : ℕ) × (new ≡ back_times n exits old)
 
--- the LIDs that are in each set
+-- the LIDs that are in `lids` and in each set
 abbrev pub in_each : LidSet → List LidSet → LidSet
 in_each lids [] = lids
 in_each lids (more ∷ later) = in_each (both lids more) later
 
+-- the LIDs that are in each set; none if there is no set
 abbrev pub from_each : List LidSet → LidSet
 from_each [] = no_lids
 from_each (lids ∷ later) = in_each lids later

@@ -15,14 +15,14 @@ use Rattle.packet_walks.specs.EndsBySwitch.{IsEndOf}
 abbrev pub is_delivered : Deliveries → ℕ → Bool
 is_delivered deliveries lid = lid / 64 == deliveries.number && has deliveries.lids (lid % 64)
 
--- packets for `lid` get from each usable switch to the only end port that holds it
+-- packets from each usable switch for `lid` reach the only end port that holds it
 pub record ComeToOwner (cells : Cells) (held : HeldPlan) (lid : ℕ) : Type 0 where
   pub port : EndPort
   pub owner_is : owners_of held lid ≡ port ∷ []
   pub each : (switch : ℕ) → switch < length (switches cells)
       → IsEndOf (next_hops_of cells held lid) (To switch) (Some (Taken port))
 
--- packets for each of the deliveries get from each usable switch to its end port
+-- packets from each usable switch for each of the deliveries reach the LID's end port
 abbrev pub AreDeliveries : Cells → HeldPlan → Deliveries → Type 0
 AreDeliveries cells held deliveries =
     (lid : ℕ) → is_delivered deliveries lid ≡ true → ComeToOwner cells held lid

@@ -10,12 +10,12 @@ use Rattle.packet_walks.specs.HopsByTables.{first_hop, is_at}
 use Rattle.held_tables.specs.Owners.{is_sole}
 use Rattle.packet_walks.specs.EndsBySwitch.{end_of, onward}
 
--- for each end port, in order, where its packet ends; None if it loops for ever
+-- for each end port, in order, where its packet for the LID of `port` ends; None if it loops forever
 pub record Ended : Type 0 where
   pub port : EndPort
   pub ends : List (Option End)
 
--- where the packet of `source` ends
+-- where the packet of `source` ends; None if it loops forever
 abbrev pub end_from : List EndPort → List NextHop → Sender → Option End
 end_from owners walks source = end_of (onward walks (first_hop owners source))
 
@@ -23,7 +23,7 @@ end_from owners walks source = end_of (onward walks (first_hop owners source))
 abbrev pub arrivals : EndPort → List NextHop → List Bool
 arrivals port walks = map (λ walk. is_at port (end_of walk)) walks
 
--- whether the walk from the switch ends at the port
+-- the walk from this switch ends at the port; false if there is no switch
 abbrev pub comes_by : Option ℕ → List Bool → Bool
 comes_by None arrive = false
 comes_by (Some index) arrive = slice_index_or arrive index false
@@ -32,8 +32,8 @@ comes_by (Some index) arrive = slice_index_or arrive index false
 abbrev pub all_come : Bool → List Bool → Bool → Bool
 all_come begin arrive sole = begin && sole && list_all (λ arrives. arrives) arrive
 
--- `firsts` has the first switches of the packets, `arrive` whether the walk from each switch ends at the port, and
--- `sole` and `all` follow from these
+-- `firsts` has the first switch of each packet, and `arrive` whether the walk from each switch ends at `port`; `sole`
+-- and `all` have the values that follow
 pub record AreEnds (port : EndPort) (sources : List Sender) (firsts : List (Option ℕ)) (owners : List EndPort)
     (walks : List NextHop) (arrive : List Bool)
     (sole all : Bool) : Type 0 where

@@ -1,4 +1,4 @@
--- When facts describe a fabric that holds tables, and what then becomes of packets there. InfiniBand Architecture
+-- When facts describe a fabric that holds tables, and what then becomes of packets in it. InfiniBand Architecture
 -- Specification, Volume 1: subnet management, PortInfo (LID), SwitchInfo (LinearFDBTop) and LinearForwardingTable;
 -- switches, unicast forwarding by the linear forwarding table.
 use Rattle.std.specs.Prelude.{◌≡◌, ◌≤◌, ℕ, List, Option, None, Some, IsTrue}
@@ -16,8 +16,9 @@ use Rattle.packet_walks.specs.declared.packet_end.End.TheVariants.{Taken, Lost}
 use Rattle.packet_walks.specs.HopsByTables.{IsBrought}
 use Rattle.held_tables.specs.Tables.{owners_of, is_owner, counted, entry_for}
 
--- An end port owns exactly the LIDs that its lines say. A switch's effective entry, by its agent's top and table, is
--- the one by its lines: 255 for LIDs over the top and in a block without a line. The rest of its table may be anything.
+-- An end port owns exactly the LIDs that its lines give. The effective entry of a switch, by its agent's top and table,
+-- is the effective entry by its lines: 255 for LIDs above the top and in a block without a line. The other entries of
+-- its table may be anything.
 pub record HoldsTables (held : HeldPlan) (f : Fabric) : Type 0 where
   pub lids : (port : NodePort) (node : Node) (lid : ℕ) → IsNodeAt f port.node node → IsEndPort f port → 1 ≤ lid
       → owns f port lid ≡ is_owner (owners_of held lid) (record { node = node.guid; port = port.port })
@@ -30,27 +31,27 @@ pub record IsSeen (cells : Cells) (held : HeldPlan) (f : Fabric) : Type 0 where
   pub agrees : AgreesOn WholeFabric cells f
   pub holds : HoldsTables held f
 
--- the end ports and switches of the part hold the tables
+-- the end ports and switches of `part` hold the tables
 pub record HoldsTablesIn (part : Part) (held : HeldPlan) (f : Fabric) : Type 0 where
   pub lids : (port : NodePort) (node : Node) (lid : ℕ) → IsEndPortIn part f port node → 1 ≤ lid
       → owns f port lid ≡ is_owner (owners_of held lid) (record { node = node.guid; port = port.port })
   pub entries : (port : NodePort) (node : Node) (lid : ℕ) → IsEndPortIn part f port node → IsTrue (is_switch node.kind)
       → counted lid (f.top port.node) (f.entry port.node lid) ≡ entry_for held lid node.guid
 
--- the facts describe the part, whatever else they say, and the part holds the tables
+-- the facts describe `part`, whatever else they say, and the part holds the tables
 pub record IsSeenIn (part : Part) (cells : Cells) (held : HeldPlan) (f : Fabric) : Type 0 where
   pub is_fabric : IsFabric f
   pub covers : Covers part cells f
   pub holds : HoldsTablesIn part held f
 
--- a packet that ends at a port is delivered there, and any other is lost
+-- a packet that ends at a port is delivered there; any other packet is lost
 abbrev pub EndsAs : Fabric → ℕ → NodePort → Option End → Type 0
 EndsAs f lid source (Some (Taken e)) =
     (hops : List Hop) × (target : NodePort) × IsPortNamed f e.node e.port target × IsDelivered f lid source hops target
 EndsAs f lid source (Some (Lost g cause)) = (hops : List Hop) × (id : ℕ) × IsLost f lid source hops id
 EndsAs f lid source None = (hops : List Hop) × (id : ℕ) × IsLost f lid source hops id
 
--- in a fabric that the facts describe exactly and that holds the tables, packets of each end port end as facts and
+-- if the facts describe a fabric exactly and it holds the tables, packets of each end port end there as facts and
 -- tables say
 abbrev pub PacketsEndAsTold : Type 0
 PacketsEndAsTold = (facts : Facts) (held : HeldPlan) (f : Fabric) → IsSeen (cells_of facts) held f
@@ -59,8 +60,8 @@ PacketsEndAsTold = (facts : Facts) (held : HeldPlan) (f : Fabric) → IsSeen (ce
     → IsBrought (cells_of facts) held lid (record { node = node.guid; port = source.port }) end
     → EndsAs f lid source end
 
--- packets of the end ports that are joined to `origin` end as facts and tables say, if the facts describe that part and
--- it holds the tables
+-- if the facts describe all that is joined to `origin`, and this part holds the tables, packets of its end ports end as
+-- facts and tables say
 abbrev pub PacketsEndAsToldInParts : Type 0
 PacketsEndAsToldInParts = (facts : Facts) (held : HeldPlan) (f : Fabric) (origin : NodePort) → IsEndPort f origin
     → IsSeenIn (IsJoinedTo f origin) (cells_of facts) held f

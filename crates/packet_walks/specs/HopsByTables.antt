@@ -21,11 +21,11 @@ use Rattle.held_tables.specs.Switches.{row_of, sender_of}
 use Rattle.held_tables.specs.Tables.{owners_of, is_owner, is_same_end, counted, entry_for, top_of}
 use Rattle.packet_walks.specs.EndsBySwitch.{IsEndOf, after, end_of}
 
--- an adapter port takes a packet if it holds the LID; otherwise the packet is lost there
+-- where a packet that reaches the port `e` ends: it is delivered if `e` holds the LID, otherwise lost
 abbrev pub at_port : List EndPort → EndPort → End
 at_port owners e = if is_owner owners e then Taken e else Lost e.node Foreign
 
--- what becomes of a packet that leaves node `g` over the wire in a port; without a wire it is lost for `cause`
+-- what becomes of a packet that leaves node `g` over a wire; if there is no wire, it is lost for `cause`
 abbrev pub over : List EndPort → ℕ → Cause → Far → NextHop
 over owners g cause Nothing = Ends (Lost g cause)
 over owners g cause (Switch index) = To index
@@ -61,9 +61,11 @@ entry_among rows index lid = option_map_or (λ k. slice_index_or (slice_index_or
 abbrev pub node_entry : List (List ℕ) → ℕ → AuditedSwitch → ℕ
 node_entry rows lid node = counted lid node.top (entry_among rows node.index lid)
 
+-- the next hop of a switch for `lid`, if it has this entry
 abbrev pub next_hop_by : List EndPort → ℕ → AuditedSwitch → ℕ → NextHop
 next_hop_by owners lid node entry = by_entry owners node.guid (cause_by node.ports node.top lid entry) node.row entry
 
+-- the next hop of a switch for `lid`, by its entry in `rows`
 abbrev pub next_hop_of : List EndPort → List (List ℕ) → ℕ → AuditedSwitch → NextHop
 next_hop_of owners rows lid node = next_hop_by owners lid node (node_entry rows lid node)
 
@@ -75,29 +77,32 @@ switch_step cells held lid g = record {
   hop = by_entry (owners_of held lid) g (cause_of cells held lid g) (row_of cells g) (entry_for held lid g);
 }
 
--- a switch with the given entry, and its next hop
+-- a switch with this entry for `lid`, and its next hop
 abbrev pub switch_step_by : List EndPort → ℕ → AuditedSwitch → ℕ → SwitchStep
 switch_step_by owners lid node entry =
     record { switch = node.guid; entry = entry; hop = next_hop_by owners lid node entry }
 
+-- a switch with its entry for `lid` in `rows`, and its next hop
 abbrev pub switch_step_of : List EndPort → List (List ℕ) → ℕ → AuditedSwitch → SwitchStep
 switch_step_of owners rows lid node = switch_step_by owners lid node (node_entry rows lid node)
 
--- a switch's packet begins at the switch; an adapter port takes its own LID, and sends any other out by its port
+-- a packet sent by a switch begins at the switch; an adapter port takes a packet for its own LID, and sends any other
+-- over its wire
 abbrev pub sent : List EndPort → EndPort → Option ℕ → Far → NextHop
 sent owners e (Some index) far = To index
 sent owners e None far = if is_owner owners e then Ends (Taken e) else over owners e.node NoLink far
 
--- where the packet of `source` begins
+-- where a packet sent by `source` begins
 abbrev pub first_hop : List EndPort → Sender → NextHop
 first_hop owners source = sent owners source.port source.switch source.far
 
--- the packet that `e` sends for `lid` ends at `end`; None if it loops for ever
+-- the packet that `e` sends for `lid` ends at `end`; None if it loops forever
 abbrev pub IsBrought : Cells → HeldPlan → ℕ → EndPort → Option End → Type 0
 IsBrought cells held lid e end =
     IsEndOf (next_hops_of cells held lid) (first_hop (owners_of held lid) (sender_of cells e)) end
 
--- the end of a packet after as many steps as there are switches; None if it has not ended by then
+-- where the packet that `e` sends for `lid` has ended after as many steps as there are switches; None if it has not
+-- ended
 abbrev pub end_for : Cells → HeldPlan → ℕ → EndPort → Option End
 end_for cells held lid e =
     end_of (after (length (switches cells)) (next_hops_of cells held lid)
@@ -112,7 +117,7 @@ EndsAreFound = (cells : Cells) (held : HeldPlan) (lid : ℕ) (e : EndPort) (end 
 abbrev pub entry_by : Cells → HeldPlan → ℕ → ℕ → Option ℕ
 entry_by cells held g lid = if is_usable cells g then Some (entry_for held lid g) else None
 
--- `ends` has, for each end port in order, where its packet ends
+-- `ends` has, for each end port in order, where its packet for `lid` ends
 pub record AreBrought (cells : Cells) (held : HeldPlan) (lid : ℕ) (ends : List (Option End)) : Type 0 where
   pub as_many : length ends ≡ length (end_ports cells)
   pub brought : (k : ℕ) (e : EndPort) (end : Option End) → slice_get (end_ports cells) k ≡ Some e → slice_get ends k

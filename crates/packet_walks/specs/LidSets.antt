@@ -1,4 +1,4 @@
--- Some of the 64 LIDs of a block, as the bits of a word.
+-- A set of LIDs of one block, as the bits of a 64-bit word.
 use Rattle.std.specs.Prelude.{ℕ, ◌*◌, ◌%◌, ◌^◌, ◌==◌, Bool, bit_and, bit_or}
 use Rattle.std.specs.Int.{bit_at}
 use Rattle.packet_walks.specs.declared.lid_set.LidSet.{LidSet}
@@ -10,13 +10,14 @@ no_lids = record { bits = 0 }
 abbrev pub with_lid : LidSet → ℕ → LidSet
 with_lid set index = record { bits = bit_or set.bits (1 * 2 ^ index % 2 ^ 64) }
 
--- the LIDs that are in either set, and in both
+-- the LIDs that are in either set
 abbrev pub either : LidSet → LidSet → LidSet
 either set other = record { bits = bit_or set.bits other.bits }
 
+-- the LIDs that are in both sets
 abbrev pub both : LidSet → LidSet → LidSet
 both set other = record { bits = bit_and set.bits other.bits }
 
--- whether the set has the LID at `index`
+-- the set has the LID at `index`
 unfoldable pub has : LidSet → ℕ → Bool
 has set index = bit_at set.bits index == 1

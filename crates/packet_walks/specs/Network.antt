@@ -1,4 +1,4 @@
--- What a view says of a subnet, with the tables that its switches hold.
+-- What a view says about a subnet, with the tables that its switches hold.
 use Rattle.std.specs.Prelude.{◌≡◌, ℕ, Bool, List, Option, length, map}
 use Rattle.subnet_view.specs.Reading.{Cells, switches}
 use Rattle.subnet_view.specs.EndPorts.{end_ports}
@@ -23,14 +23,15 @@ pub record Seen : Type 0 where
   pub facts : Facts
   pub held : HeldPlan
 
--- facts and tables are stored as a pair
+-- the stored form of facts and tables: a pair
 abbrev pub seen_code : Coded Seen
 seen_code = code_by (Facts
     × HeldPlan) (coded× facts_code (held.the_row).coded) (λ s. (s.facts, s.held)) (λ p.
     record { facts = p.0; held = p.1 }) (λ _. refl)
 
--- what a network has: the usable switches by rising GUID, the end ports as senders in their order, the first switches
--- of their packets, whether each has one, the chains of the blocks' numbers, the held LIDs, and who holds each
+-- the fields of a network: the usable switches by rising GUID, the end ports as senders, the first switch of each
+-- sender's packets, whether each sender has one, the chains of the blocks' numbers, the held LIDs, and who holds each
+-- LID
 pub record IsNetwork (cells : Cells) (held : HeldPlan) (nodes : List AuditedSwitch) (sources : List Sender)
     (firsts : List (Option ℕ)) (begin : Bool) (chains : Chains) (lines : List HeldLid) (owners : List Owner) : Type 0
   where

@@ -15,8 +15,7 @@ use smp_bytes::Lid;
 use std::alloc::{AllocError, Global};
 use subnet_view::EndPort;
 
-/// The LIDs of a block that exactly one end port holds and whose packets are seen to get there from every usable
-/// switch.
+/// The LIDs of a block that exactly one end port holds, if their packets are seen to reach it from every usable switch.
 #[derive(Clone, Copy, Debug, PartialEq, Eq)]
 pub struct Deliveries {
     /// The block's number.
@@ -41,26 +40,26 @@ pub(crate) struct Exit {
     pub(crate) lids: LidSet,
 }
 
-/// What has been seen so far of the packets for those LIDs of a block that exactly one end port holds.
+/// What is known so far about the packets for the LIDs of a block that exactly one end port holds.
 #[derive(Drop)]
 pub(crate) struct BlockWalks {
-    /// For each switch, the LIDs whose packets are seen to get from there to the LID's end port.
+    /// For each switch, the LIDs whose packets are seen to reach their end port from there.
     pub(crate) arrived: Vec<LidSet>,
     /// Which switches forward to which, and for which LIDs.
     pub(crate) exits: Vec<Exit>,
-    /// For each switch, the index of the last exit that leads there, or 0.
+    /// For each switch, the index of the last exit that leads there, or 0 if there is none.
     slots: Vec<usize>,
 }
 
 /// Blocks from this number on have no LIDs.
 const NUMBERS: u16 = 0x400;
 
-/// The most rounds in which walks are followed. A walk over more switches is seen to arrive only if few of its switches
-/// have exits listed before those of the next switches on the walk.
+/// The maximum number of rounds in which arrivals are carried back. On a longer walk, arrivals may be missed if its
+/// exits are listed in the wrong order.
 const MOST_ROUNDS: usize = 64;
 
-/// Returns the LIDs of the block `number` that exactly one end port holds and whose packets are seen to get there from
-/// every switch. Takes a step for each switch and LID. In each round it also takes a step for each pair of switches if
+/// Returns the LIDs of the block `number` that exactly one end port holds, if their packets are seen to reach it from
+/// every switch. Takes a step for each switch and LID. Each round also takes a step for each pair of switches of which
 /// one forwards packets to the other. There are at most as many rounds as the longest walk has switches, and at most
 /// 64.
 pub(crate) fn delivered(
@@ -122,8 +121,8 @@ impl BlockWalks {
         Ok(())
     }
 
-    /// Adds what the switch does with packets for the LID at `index`. The caller has checked that it does not forward
-    /// them to another switch.
+    /// Adds what the switch at index `switch` does with packets for the LID at `index`, if exactly one end port holds
+    /// the LID. The caller has checked that the switch does not forward them to another switch.
     fn add_last(
         &mut self,
         nodes: &[AuditedSwitch],
@@ -148,7 +147,7 @@ impl BlockWalks {
         Ok(())
     }
 
-    /// Adds `hop`, the switch's next hop for the LID at `index`; `port` is the only end port that holds the LID.
+    /// Adds `hop`, the next hop of `switch` for the LID at `index`. `port` is the only end port that holds the LID.
     fn add_hop(
         &mut self,
         switch: usize,
@@ -210,7 +209,7 @@ fn add_exit(
     Ok(())
 }
 
-/// Returns the LIDs of the exit at `slot`, if that leads from `from` to `to`.
+/// Returns the LIDs of the exit at `slot`, or `None` if that does not lead from `from` to `to`.
 fn lids_of(exits: &[Exit], slot: usize, from: usize, to: usize) -> Option<LidSet>
     ensures { IfSome result (IsExit exits.now slot from to) }
 {
@@ -237,7 +236,8 @@ fn put_slot(slots: &mut Vec<usize>, switch: usize, slot: usize) {
     }
 }
 
-/// Records that packets for the LID at `index` get from the switch to the LID's end port.
+/// Records that packets from `switch` for the LID at `index` reach the LID's end port. Changes nothing if there is no
+/// such switch.
 fn add_lid(arrived: &mut Vec<LidSet>, switch: usize, index: usize)
     requires { index < 64 }
     ensures { arrived.new.items ≡ arrived_more arrived.old.items switch index }
@@ -246,7 +246,7 @@ fn add_lid(arrived: &mut Vec<LidSet>, switch: usize, index: usize)
     put_lids(arrived, switch, lids);
 }
 
-/// Returns the LIDs whose packets are seen to arrive from a switch.
+/// Returns the LIDs whose packets are seen to arrive from `switch`; none if there is no such switch.
 fn lids_at(arrived: &[LidSet], switch: usize) -> LidSet
     ensures { result ≡ lids_at arrived.now switch }
 {
@@ -256,7 +256,7 @@ fn lids_at(arrived: &[LidSet], switch: usize) -> LidSet
     }
 }
 
-/// Sets the LIDs whose packets are seen to arrive from a switch, if there is such a switch.
+/// Sets the LIDs whose packets are seen to arrive from `switch`, if there is such a switch.
 fn put_lids(arrived: &mut Vec<LidSet>, switch: usize, lids: LidSet)
     ensures { arrived.new.items ≡ slice_set arrived.old.items switch lids }
 {
@@ -265,8 +265,8 @@ fn put_lids(arrived: &mut Vec<LidSet>, switch: usize, lids: LidSet)
     }
 }
 
-/// Carries arrivals back along the exits, in rounds until nothing changes: packets that a switch forwards arrive if
-/// they arrive from the next switch.
+/// Carries arrivals back along the exits, in rounds, until nothing changes or 64 rounds are done. If packets arrive
+/// from a switch, they also arrive from each switch that forwards them there.
 fn go_back(arrived: &mut Vec<LidSet>, exits: &[Exit])
     ensures { AreAfterRounds exits.now arrived.old.items arrived.new.items }
 {
@@ -277,7 +277,7 @@ fn go_back(arrived: &mut Vec<LidSet>, exits: &[Exit])
     }
 }
 
-/// Carries arrivals back along each exit once. Returns whether more LIDs arrive.
+/// Carries arrivals back along each exit once. Returns whether any LID was added.
 fn go_back_once(arrived: &mut Vec<LidSet>, exits: &[Exit]) -> bool
     ensures { arrived.new.items ≡ back_by exits.now arrived.old.items }
 {
@@ -293,7 +293,7 @@ fn go_back_once(arrived: &mut Vec<LidSet>, exits: &[Exit]) -> bool
     more
 }
 
-/// Returns the LIDs whose packets arrive from every switch; none if there is no switch.
+/// Returns the LIDs whose packets arrive from every switch, or none if there is no switch.
 fn from_each(arrived: &[LidSet]) -> LidSet
     ensures { result ≡ from_each arrived.now }
 {

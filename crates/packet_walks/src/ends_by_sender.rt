@@ -29,7 +29,7 @@ pub struct Ends<'a> {
     walks: Vec<NextHop>,
     /// For each switch, whether the walk from there ends at `port`.
     arrive: Vec<bool>,
-    /// Whether no other end port holds the LID.
+    /// Whether no end port other than `port` holds the LID.
     sole: bool,
     /// Whether the other fields show that all packets end at `port`.
     all: bool,
@@ -48,7 +48,7 @@ impl<'a> Model for Ends<'a> {
 }
 
 impl<'a> Ends<'a> {
-    /// Builds the ends from the owners of the LID and the ends of the walks from the switches.
+    /// Builds the ends from the owners of the LID and from `walks`, the ends of the walks from the switches.
     pub(crate) fn new(
         alloc: Global,
         port: EndPort,
@@ -78,15 +78,16 @@ impl<'a> Ends<'a> {
         })
     }
 
-    /// Returns where the packet of the end port at `index` ends, or `None` if it loops for ever. Takes some steps.
+    /// Returns where the packet of the end port at `index` ends, or `None` if it loops forever or there is no such end
+    /// port. Takes a step for each owner of the LID.
     pub fn at(&self, index: usize) -> Option<End>
         ensures { result ≡ slice_index_or self.now.ends index None }
     {
         end_at(&self.owners, &self.walks, self.sources, index)
     }
 
-    /// Returns whether the packet of the end port at `index` arrives at the port. Takes a step or two if it arrives and
-    /// no other end port holds the LID.
+    /// Returns whether the packet of the end port at `index` arrives at the port. Takes a step or two if the packet
+    /// arrives by way of a switch and no other end port holds the LID.
     pub fn arrives(&self, index: usize) -> bool
         ensures { result ≡ is_at self.now.port (slice_index_or self.now.ends index None) }
     {
@@ -108,7 +109,8 @@ impl<'a> Ends<'a> {
         self.look_elsewhere()
     }
 
-    /// Returns the index of the first end port whose packet does not end at the port, looking at each.
+    /// Returns the index of the first end port whose packet does not end at the port, or `None` if all do. Looks at
+    /// each end port.
     fn look_elsewhere(&self) -> Option<usize>
         ensures { result ≡ position (λ end. not (is_at self.now.port end)) self.now.ends }
     {
@@ -128,7 +130,7 @@ impl<'a> Ends<'a> {
     }
 }
 
-/// Returns where the packet of the source at `index` ends; `None` also if there is no such source.
+/// Returns where the packet of the source at `index` ends, or `None` if it loops forever or there is no such source.
 #[tactic(auto, using(crate::proofs::Arrivals::found_there, crate::proofs::Arrivals::none_there))]
 fn end_at(owners: &[EndPort], walks: &[NextHop], sources: &[Sender], index: usize) -> Option<End>
     ensures { result ≡ slice_index_or (map (end_from owners.now walks.now) sources.now) index None }
@@ -140,28 +142,29 @@ fn end_at(owners: &[EndPort], walks: &[NextHop], sources: &[Sender], index: usiz
     }
 }
 
-/// Returns where the packet of `source` ends.
+/// Returns where the packet of `source` ends, or `None` if it loops forever.
 fn end_from(owners: &[EndPort], walks: &[NextHop], source: &Sender) -> Option<End>
     ensures { result ≡ end_from owners.now walks.now source.now }
 {
     end_of(onward(walks, first_hop(owners, source)))
 }
 
-/// Returns whether the port alone holds the LID and the packet of the source at `index` reaches it by way of a switch.
+/// Returns whether `sole` is true and the packet of the source at `index` reaches the port by way of a switch.
 fn comes_there(sole: bool, firsts: &[Option<usize>], arrive: &[bool], index: usize) -> bool
     ensures { result ≡ (sole && comes_by (slice_index_or firsts.now index None) arrive.now) }
 {
     sole && comes_by(first_at(firsts, index), arrive)
 }
 
-/// Returns the index of the first switch that the packet of the source at `index` reaches.
+/// Returns the index of the first switch that the packet of the source at `index` reaches, or `None` if it reaches
+/// none.
 fn first_at(firsts: &[Option<usize>], index: usize) -> Option<usize>
     ensures { result ≡ slice_index_or firsts.now index None }
 {
     firsts.get(index).copied().flatten()
 }
 
-/// Returns whether the walk from the switch `first` ends at the port.
+/// Returns whether the walk from the switch `first` ends at the port. Returns false if there is no such switch.
 fn comes_by(first: Option<usize>, arrive: &[bool]) -> bool
     ensures { result ≡ comes_by first arrive.now }
 {
@@ -188,7 +191,7 @@ fn is_sole(port: &EndPort, owners: &[EndPort]) -> bool
     owners.iter().all(|owner| is_same_end(port, owner))
 }
 
-/// Returns whether all packets are seen to end at the port.
+/// Returns whether the arguments show that all packets end at the port.
 fn all_come(begin: bool, arrive: &[bool], sole: bool) -> bool
     ensures { result ≡ all_come begin arrive.now sole }
 {

@@ -1,13 +1,13 @@
-//! The ends of walks from switch to switch, found in rounds: in each round every walk goes on from where it has got to.
+//! The ends of walks from switch to switch, found in rounds. In each round every walk goes on from where it is.
 ghost use Rattle.std.specs.Prelude.{◌≡◌, count_by};
 ghost use Rattle.packet_walks.specs.EndsBySwitch.{AreFurther, HaveEnded, end_of, is_to, onward};
 
 use crate::next_hop::NextHop;
 use crate::packet_end::End;
 
-/// Returns where the walks from the switches end. A walk without an end in the result goes on for ever. A round takes a
-/// step for each switch. There are at most as many rounds as the longest walk's length has binary digits, and one more
-/// if some walk loops for ever.
+/// Returns where the walks from the switches end. A walk that still leads to a switch in the result goes on forever. A
+/// round takes a step for each switch. There are at most as many rounds as the longest walk's length has binary digits,
+/// and one more if some walk loops forever.
 pub fn ends(steps: Vec<NextHop>) -> Vec<NextHop>
     ensures { HaveEnded steps.items result.items }
 {
@@ -23,7 +23,7 @@ pub fn ends(steps: Vec<NextHop>) -> Vec<NextHop>
     jumps
 }
 
-/// Takes each walk further, one after the other. Returns how many have not ended.
+/// Takes each walk further, one after the other. Returns the number of walks that have not ended.
 fn go_further(jumps: &mut Vec<NextHop>) -> usize
     ensures further { AreFurther jumps.old.items jumps.new.items }
     ensures left { result ≡ count_by is_to jumps.new.items }
@@ -46,7 +46,7 @@ pub fn is_to(step: &NextHop) -> bool
     matches!(step, NextHop::To(_))
 }
 
-/// Returns the step after `step`, by the steps of the switches.
+/// Returns the step after `step`, by the steps of the switches. An end stays as it is.
 pub fn onward(steps: &[NextHop], step: NextHop) -> NextHop
     ensures { result ≡ onward steps.now step }
 {
@@ -56,7 +56,7 @@ pub fn onward(steps: &[NextHop], step: NextHop) -> NextHop
     }
 }
 
-/// Returns the end of a walk that has got to `step`, or `None` if it has got to a switch.
+/// Returns the end of a walk that has reached `step`, or `None` if it has reached a switch.
 pub fn end_of(step: NextHop) -> Option<End>
     ensures { result ≡ end_of step }
 {

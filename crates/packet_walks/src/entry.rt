@@ -6,7 +6,7 @@ use crate::hops_by_tables::counted;
 use held_tables::{Held, HeldBlock, index_of, top_at};
 use smp_bytes::{Guid, Lid, NO_ENTRY};
 
-/// Returns the switch's effective entry for `lid`: 255 for LID 0 and above the top.
+/// Returns the effective entry of `switch` for `lid`: 255 for LID 0, for LIDs above the top, and if none is held.
 pub(crate) fn entry_for(held: &Held, switch: Guid, lid: Lid) -> u8
     ensures { result ≡ entry_for held.now lid switch }
 {
@@ -14,7 +14,7 @@ pub(crate) fn entry_for(held: &Held, switch: Guid, lid: Lid) -> u8
     counted(lid, top_at(held, index), entry_at(held, index, lid))
 }
 
-/// Returns the entry for `lid` of the switch at `index` of the held switches; 255 if none is held.
+/// Returns the entry for `lid` of the held switch at `index`, or 255 if none is held.
 fn entry_at(held: &Held, index: Option<usize>, lid: Lid) -> u8
     ensures { result ≡ entry_at held.now index lid }
 {
@@ -27,7 +27,7 @@ fn entry_at(held: &Held, index: Option<usize>, lid: Lid) -> u8
     }
 }
 
-/// Returns the last held block `number` of the switch at `index`.
+/// Returns the last held block `number` of the switch at `index`, or `None` if there is none.
 fn block_at(held: &Held, index: usize, number: u16) -> Option<HeldBlock>
     ensures { result ≡ block_at held.now index number }
 {

@@ -22,7 +22,7 @@ pub(crate) fn is_owner(owners: &[EndPort], port: &EndPort) -> bool
         .any(|owner| owner.node == port.node && owner.port == port.port)
 }
 
-/// Returns the next hop of each switch.
+/// Returns the next hop of each switch for packets for `lid`.
 pub(crate) fn steps(
     alloc: Global,
     nodes: &[AuditedSwitch],
@@ -38,7 +38,7 @@ pub(crate) fn steps(
         .collect(alloc)
 }
 
-/// Returns the next hop of a switch.
+/// Returns the next hop of a switch for packets for `lid`.
 pub(crate) fn next_hop_at(
     owners: &[EndPort],
     rows: &[[u8; 64]],
@@ -50,7 +50,7 @@ pub(crate) fn next_hop_at(
     next_hop_by(owners, lid, node, entry_of(rows, lid, node))
 }
 
-/// Returns the next hop of a switch by its entry.
+/// Returns the next hop of a switch for packets for `lid`, if its entry is `entry`.
 fn next_hop_by(owners: &[EndPort], lid: Lid, node: &AuditedSwitch, entry: u8) -> NextHop
     ensures { result ≡ next_hop_by owners.now lid node.now entry }
 {
@@ -70,7 +70,7 @@ fn next_hop_by(owners: &[EndPort], lid: Lid, node: &AuditedSwitch, entry: u8) ->
     }
 }
 
-/// Returns the entry of each switch, and its next hop.
+/// Returns the entry of each switch for `lid`, and its next hop.
 pub(crate) fn switch_steps(
     alloc: Global,
     nodes: &[AuditedSwitch],
@@ -86,7 +86,7 @@ pub(crate) fn switch_steps(
         .collect(alloc)
 }
 
-/// Returns the entry of a switch, and its next hop.
+/// Returns the entry of a switch for `lid`, and its next hop.
 fn switch_step_at(
     owners: &[EndPort],
     rows: &[[u8; 64]],
@@ -103,7 +103,8 @@ fn switch_step_at(
     }
 }
 
-/// Returns why a switch with `ports` ports and this top does not forward a packet by its entry.
+/// Returns why a switch with `ports` ports and this top does not forward a packet for `lid` by its entry: the first
+/// cause that applies.
 fn cause_by(ports: u8, top: Lid, lid: Lid, entry: u8) -> Cause
     ensures { result ≡ cause_by ports top lid entry }
 {
@@ -118,7 +119,7 @@ fn cause_by(ports: u8, top: Lid, lid: Lid, entry: u8) -> Cause
     }
 }
 
-/// Returns the entry of each switch.
+/// Returns the effective entry of each switch for `lid`.
 pub(crate) fn entries(
     alloc: Global,
     nodes: &[AuditedSwitch],
@@ -133,7 +134,7 @@ pub(crate) fn entries(
         .collect(alloc)
 }
 
-/// Returns the effective entry of a switch.
+/// Returns the effective entry of a switch for `lid`.
 pub(crate) fn entry_of(rows: &[[u8; 64]], lid: Lid, node: &AuditedSwitch) -> u8
     ensures { result ≡ node_entry rows.now lid node.now }
 {
@@ -164,7 +165,8 @@ pub(crate) fn counted(lid: Lid, top: Lid, entry: u8) -> u8
     }
 }
 
-/// Returns, for each switch, the port by which it forwards packets to another usable switch, if it does.
+/// Returns, for each switch, the port by which it forwards packets for `lid` to another usable switch, and the index of
+/// that switch; `None` if it does not.
 pub(crate) fn edges(
     alloc: Global,
     nodes: &[AuditedSwitch],
@@ -187,7 +189,7 @@ pub(crate) fn edges(
     Ok(edges)
 }
 
-/// Returns the index of the usable switch to which a switch forwards packets by `entry`.
+/// Returns the index of the usable switch to which a switch forwards packets by `entry`, or `None` if it does not.
 pub(crate) fn switch_by(node: &AuditedSwitch, entry: u8) -> Option<usize>
     ensures { result ≡ switch_by node.now.row entry }
 {
@@ -197,8 +199,8 @@ pub(crate) fn switch_by(node: &AuditedSwitch, entry: u8) -> Option<usize>
     node.row.switch(entry)
 }
 
-/// Returns what becomes of a packet that leaves `node` over a wire to `far`. Without a wire the packet is lost for
-/// `cause`.
+/// Returns what becomes of a packet that leaves `node` over a wire to `far`. If there is no wire, the packet is lost
+/// for `cause`.
 fn over(owners: &[EndPort], node: Guid, cause: Cause, far: Far) -> NextHop
     ensures { result ≡ over owners.now node cause far }
 {
@@ -209,7 +211,8 @@ fn over(owners: &[EndPort], node: Guid, cause: Cause, far: Far) -> NextHop
     }
 }
 
-/// Returns what becomes of a packet that reaches an adapter port.
+/// Returns where a packet that reaches the port of an adapter ends. It is delivered if `port` is one of `owners`,
+/// otherwise lost.
 fn at_port(owners: &[EndPort], port: &EndPort) -> End
     ensures { result ≡ at_port owners.now port.now }
 {
@@ -220,7 +223,7 @@ fn at_port(owners: &[EndPort], port: &EndPort) -> End
     }
 }
 
-/// Returns where the packet of `source` begins.
+/// Returns where a packet sent by `source` begins. If an adapter port owns the LID, the packet ends at once.
 pub(crate) fn first_hop(owners: &[EndPort], source: &Sender) -> NextHop
     ensures { result ≡ first_hop owners.now source.now }
 {

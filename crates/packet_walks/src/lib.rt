@@ -1,4 +1,4 @@
-//! Where packets get to by the forwarding tables that a subnet's switches hold, whoever wrote them.
+//! Where packets end by the forwarding tables that a subnet's switches hold, whoever wrote them.
 #![tactic(auto)]
 
 mod block_deliveries;

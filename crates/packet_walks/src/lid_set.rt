@@ -1,8 +1,8 @@
-//! Some of the 64 LIDs of a block.
+//! A set of LIDs of one block.
 ghost use Rattle.std.specs.Prelude.{◌≡◌, ◌<◌};
 ghost use Rattle.packet_walks.specs.LidSets.{both, either, has, no_lids, with_lid};
 
-/// Some of the LIDs of a block: a bit for each, at its index in the block.
+/// A set of the 64 LIDs of a block. Each has the bit at its index in the block.
 #[derive(Clone, Copy, Debug, PartialEq, Eq)]
 pub(crate) struct LidSet {
     pub(crate) bits: u64,

@@ -42,7 +42,7 @@ pub struct Network<'a> {
     firsts: Vec<Option<usize>>,
     /// Whether each sender's packets first reach a switch.
     begin: bool,
-    /// For each held block, the next one with its number.
+    /// For each held block, the index of the next one with its number.
     chains: Chains,
     /// The held LIDs; each pair of a LID and an end port that holds it occurs once.
     lines: Vec<HeldLid>,
@@ -97,8 +97,8 @@ impl<'a> Network<'a> {
         })
     }
 
-    /// Returns the blocks `number`, which have the 64 LIDs from 64 * `number` on. Takes a step for each held switch and
-    /// each held block with this number.
+    /// Returns the blocks `number`, which have the entries for the 64 LIDs from 64 * `number` on. Takes a step for each
+    /// held switch and each held block with this number.
     pub fn blocks(&self, alloc: Global, number: u16) -> Result<Blocks, AllocError>
         ensures { IfOk result (λ blocks. AreBlocks self.now.held blocks.number blocks.rows.items
             × (blocks.number ≡ number)) }
@@ -107,7 +107,7 @@ impl<'a> Network<'a> {
         Ok(Blocks { number, rows })
     }
 
-    /// Returns the blocks for `lid`: `blocks` itself if it has the right number.
+    /// Returns the blocks that have the entries for `lid`. This is `blocks` itself if it has the right number.
     pub fn blocks_for(&self, alloc: Global, blocks: Blocks, lid: Lid) -> Result<Blocks, AllocError>
         requires { AreBlocks self.now.held blocks.number blocks.rows.items }
         ensures { IfOk result (λ blocks. AreBlocks self.now.held blocks.number blocks.rows.items
@@ -119,9 +119,9 @@ impl<'a> Network<'a> {
         self.blocks(alloc, lid.block())
     }
 
-    /// Returns where packets for the LID of `line` end, for each end port that sends one, in order; `None` if the
-    /// packet loops for ever. For each switch it takes some steps, in proportion to the number of binary digits of the
-    /// longest way's length. If several end ports hold the LID, it also walks the held LIDs.
+    /// Returns where packets for the LID of `line` end, for each end port that sends one, in order, or `None` if the
+    /// packet loops forever. For each switch, it takes steps in proportion to the number of binary digits of the
+    /// longest walk's length. If several end ports hold the LID, it also walks the held LIDs.
     pub fn ends<'s>(
         &'s self,
         alloc: Global,
@@ -147,8 +147,8 @@ impl<'a> Network<'a> {
         )
     }
 
-    /// Returns the entry of each usable switch for `lid`, by rising GUID, and what the switch does by it. Takes a step
-    /// for each switch. If several end ports hold the LID, it also walks the held LIDs.
+    /// Returns, for each usable switch by rising GUID, its entry for `lid` and what it does with packets by this entry.
+    /// Takes a step for each switch. If several end ports hold the LID, it also walks the held LIDs.
     pub fn switch_steps(
         &self,
         alloc: Global,
@@ -175,10 +175,10 @@ impl<'a> Network<'a> {
         entries(alloc, &self.nodes, &blocks.rows, lid)
     }
 
-    /// Returns the LIDs of a block that exactly one end port holds and whose packets are seen to get there from every
-    /// usable switch. Takes a step for each switch and LID. In each round it also takes a step for each pair of
-    /// switches if one forwards some of these packets to the other. There are at most as many rounds as the longest way
-    /// has switches, and at most 64.
+    /// Returns the LIDs of a block that exactly one end port holds, if their packets are seen to reach it from every
+    /// usable switch. Takes a step for each switch and LID. Each round also takes a step for each pair of switches of
+    /// which one forwards packets to the other. There are at most as many rounds as the longest walk has switches, and
+    /// at most 64.
     pub fn deliveries(&self, alloc: Global, blocks: &Blocks) -> Result<Deliveries, AllocError>
         requires { AreBlocks self.now.held blocks.now.number blocks.now.rows.items }
         ensures { IfOk result (AreDeliveries (cells_of self.now.facts) self.now.held) }
@@ -196,7 +196,7 @@ impl<'a> Network<'a> {
         })
     }
 
-    /// Returns the deliveries of `blocks`: `deliveries` itself if it has the right number.
+    /// Returns the deliveries of `blocks`. This is `deliveries` itself if it has the right number.
     pub fn deliveries_for(
         &self,
         alloc: Global,
@@ -213,8 +213,8 @@ impl<'a> Network<'a> {
         self.deliveries(alloc, blocks)
     }
 
-    /// Returns whether all packets that end ports send to the line's LID are seen to arrive at the line's port. Takes a
-    /// step or two, unless several end ports hold the LID.
+    /// Returns whether all packets that end ports send to the line's LID are seen to arrive at the line's port. If it
+    /// returns false, they may arrive as well. Takes a step or two, unless several end ports hold the LID.
     pub fn all_arrive(&self, deliveries: &Deliveries, line: &HeldLid) -> bool
         requires { AreDeliveries (cells_of self.now.facts) self.now.held deliveries.now }
         ensures { result ≡ true → LineArrives (cells_of self.now.facts) self.now.held line.now }
@@ -237,7 +237,8 @@ impl<'a> Network<'a> {
         is_sole_owner(&self.lines, &self.owners, line)
     }
 
-    /// Returns whether more than one port holds `lid`. Takes no memory, and a step or two if the LID is below 49152.
+    /// Returns whether more than one end port holds `lid`. Takes no memory, and a step or two if the LID is below
+    /// 49152.
     pub fn is_told_twice(&self, lid: Lid) -> bool
         ensures { result ≡ is_told_twice (lines_of self.now.held) lid }
     {
@@ -258,8 +259,8 @@ impl<'a> Network<'a> {
         self.held
     }
 
-    /// Returns the top of the usable switch at `index`, by rising GUID; 0 if there is no such switch or no top is held.
-    /// Takes one step.
+    /// Returns the top of the usable switch at `index`, counted by rising GUID, or 0 if there is no such switch or no
+    /// top is held. Takes one step.
     pub fn top(&self, index: usize) -> Lid
         ensures { result
             ≡ option_map_or (top_of self.now.held) (slice_get (switches (cells_of self.now.facts)) index) 0 }
@@ -271,7 +272,7 @@ impl<'a> Network<'a> {
     }
 
     /// Returns, for each usable switch by rising GUID, the port by which it forwards packets for `lid` to another
-    /// usable switch, and that switch's index; `None` if it does not. Takes a step for each switch.
+    /// usable switch, and the index of that switch; `None` if it does not. Takes a step for each switch.
     pub fn edges(
         &self,
         alloc: Global,
@@ -300,7 +301,8 @@ impl<'a> Network<'a> {
         greatest_top(&self.nodes)
     }
 
-    /// Returns the GUID of the usable switch at `index`, by rising GUID. Takes one step.
+    /// Returns the GUID of the usable switch at `index`, counted by rising GUID, or `None` if there is none. Takes one
+    /// step.
     pub fn switch(&self, index: usize) -> Option<Guid>
         ensures { result ≡ slice_get (switches (cells_of self.now.facts)) index }
     {
@@ -309,7 +311,7 @@ impl<'a> Network<'a> {
     }
 
     /// Returns where the wire in a port of a usable switch leads. `number` is 256 times the switch's index, plus the
-    /// port. Takes one step.
+    /// port. Returns `Nothing` if there is no such switch. Takes one step.
     pub fn far(&self, number: usize) -> Far
         ensures { result ≡ far_by (cells_of self.now.facts) number }
     {
@@ -333,8 +335,9 @@ impl<'a> Network<'a> {
         &self.lines
     }
 
-    /// Returns the entry by which a usable switch forwards packets for `lid` (255 means no entry), or `None` for
-    /// another node. Takes two searches, a walk over the held switches and one over their blocks.
+    /// Returns the entry by which the usable switch `node` forwards packets for `lid` (255 means no entry), or `None`
+    /// if `node` is no usable switch. Takes two searches, a walk over the held switches and a walk over the held
+    /// blocks.
     pub fn entry(&self, node: Guid, lid: Lid) -> Option<u8>
         ensures { result ≡ entry_by (cells_of self.now.facts) self.now.held node lid }
     {
@@ -383,7 +386,7 @@ fn lines_and_owners(alloc: Global, held: &Held) -> Result<(Vec<HeldLid>, Vec<Own
     Ok((lines, owners))
 }
 
-/// Returns the greatest top, or 0 if there are no switches.
+/// Returns the greatest top, or 0 if there is no switch.
 fn greatest_top(nodes: &[AuditedSwitch]) -> Lid
     ensures { result ≡ greatest (map (λ node. node.top) nodes.now) }
 {

@@ -9,7 +9,7 @@ pub enum NextHop {
     Ends(End),
 }
 
-/// A usable switch's entry for a LID, and what the switch does by it.
+/// A usable switch's entry for a LID, and what the switch does with packets by this entry.
 #[derive(Clone, Copy, Debug, PartialEq, Eq)]
 pub struct SwitchStep {
     pub switch: Guid,

@@ -1,7 +1,7 @@
 use smp_bytes::Guid;
 use subnet_view::EndPort;
 
-/// The end of a packet that does not loop for ever.
+/// The end of a packet that does not loop forever.
 #[derive(Clone, Copy, Debug, PartialEq, Eq)]
 pub enum End {
     /// The packet is delivered at this port.
@@ -10,12 +10,13 @@ pub enum End {
     Lost(Guid, Cause),
 }
 
-/// Why a packet is dropped at a node: at a switch, the first of the first four causes that applies.
+/// Why a packet is dropped at a node. At a switch, this is the first of `AboveTop`, `NoEntry`, `NoPort` and `NoLink`
+/// that applies.
 #[derive(Clone, Copy, Debug, PartialEq, Eq)]
 pub enum Cause {
     /// The LID is above the switch's top.
     AboveTop,
-    /// The entry is 255. This includes the case that no block is held.
+    /// The entry is 255. It is also 255 if no block is held.
     NoEntry,
     /// The entry is above the number of the switch's ports.
     NoPort,

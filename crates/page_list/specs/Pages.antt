@@ -1,4 +1,4 @@
--- How a list lies in pages, each with the index of its first item, and spare empty pages.
+-- How a list is divided into pages, each with the index of its first item, and spare empty pages.
 use Rattle.std.specs.Prelude.{◌≡◌, ℕ, ◌+◌, ◌<◌, ◌≤◌, ◌^◌, List, [], ◌∷◌, length, take, slice_index, slice_index_or, All}
 use Rattle.std.specs.List.{flat_map}
 use Rattle.std.specs.Prelude.{Vec}
@@ -15,12 +15,12 @@ abbrev pub starts_from : {T : Type 0} → ℕ → List (Vec T Global) → List �
 starts_from at [] = []
 starts_from at (p ∷ pages) = at ∷ starts_from (at + length p.items) pages
 
--- a page has room for 256 items, and has at most 256
+-- the page has at most 256 items, and room for 256
 pub record IsPage {T : Type 0} (page : Vec T Global) : Type 0 where
   pub bounded : length page.items ≤ 256
   pub roomy : 256 ≤ vec_capacity page
 
--- an empty page has room for 256 items
+-- the page is empty, and has room for 256 items
 pub record IsEmptyPage {T : Type 0} (page : Vec T Global) : Type 0 where
   pub empty : page.items ≡ []
   pub roomy : 256 ≤ vec_capacity page

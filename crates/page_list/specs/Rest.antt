@@ -1,4 +1,4 @@
--- What an iterator still has to give.
+-- What an iterator has left.
 use Rattle.std.specs.Prelude.{List, ◌++◌}
 use Rattle.page_list.specs.declared.iter.Iter.{Iter}
 use Rattle.page_list.specs.Pages.{items_of}

@@ -63,16 +63,16 @@ impl<T: Copy> PageList<T> {
         self.len
     }
 
-    /// Returns the item at index `i`. Takes one step if the first or the last page contains it, otherwise a binary
-    /// search among the pages.
+    /// Returns the item at index `i`, or `None` if there is none. Takes one step if the first or the last page contains
+    /// it, otherwise a binary search among the pages.
     pub fn get(&self, i: usize) -> Option<T>
         ensures { result ≡ slice_get self.now.items i }
     {
         self.get_near(i, Slot::first()).copied()
     }
 
-    /// Returns the item at index `i`. Takes one step if the page of `near` contains it, otherwise a binary search among
-    /// the pages.
+    /// Returns the item at index `i`, or `None` if there is none. Takes one step if the page of `near` contains it,
+    /// otherwise a binary search among the pages.
     pub fn get_near(&self, i: usize, near: Slot) -> Option<&T>
         ensures { option_copied result ≡ slice_get self.now.items i }
     {
@@ -83,7 +83,7 @@ impl<T: Copy> PageList<T> {
         Some(&self.pages[at.page][at.offset])
     }
 
-    /// Returns the index that `slot` stands for, or `None` if the list has no such page or index. Takes one step.
+    /// Returns the index that `slot` stands for, or `None` if the list has no such index. Takes one step.
     pub fn index_at(&self, slot: Slot) -> Option<usize>
         ensures { IfSome result (λ i. i < length self.now.items) }
     {
@@ -177,7 +177,7 @@ impl<T: Copy> PageList<T> {
         Ok(())
     }
 
-    /// Keeps the first `n` items, if there are more. Frees the pages behind the one with index `n`.
+    /// Keeps the first `n` items, if there are more. Frees the pages after the page of index `n`.
     pub fn truncate(&mut self, n: usize)
         ensures items { self.new.items ≡ take n self.old.items }
         ensures room { self.new.room ≡ self.old.room }
@@ -226,7 +226,7 @@ impl<T: Copy> PageList<T> {
     }
 }
 
-/// Returns the slot of an item that was inserted at `at` into a full page, once that page is halved.
+/// Returns the slot of an item that was inserted at `at` into a full page, after the page was halved.
 fn slot_in_halves(at: Slot) -> Slot {
     if at.offset <= PAGE / 2 {
         return at;

@@ -72,8 +72,8 @@ impl<T: Copy> PageList<T> {
     }
 }
 
-/// Returns `wished` if it is in the part and at most `most` items are on either side of it, and otherwise the index in
-/// the middle.
+/// Returns `wished` if it is in the part and at most `most` items are on either side of it, otherwise the index in the
+/// middle.
 fn fair_index(low: usize, high: usize, most: usize, wished: usize) -> usize
     requires part { low < high }
     requires halves { high ≤ low + 2 * most + 1 }

@@ -1,4 +1,4 @@
-//! The order of the switches by which a rule of routing plans.
+//! The order of the switches that a rule of routing plans by.
 #![tactic(auto)]
 
 mod positions;

@@ -1,4 +1,4 @@
-//! Positions of switches by rank.
+//! The positions of switches by rank.
 ghost use Rattle.std.specs.Prelude.{◌≡◌, IfOk, count_by, map};
 ghost use Rattle.subnet_view.specs.Graph.{guids_of};
 ghost use Rattle.plan_order.specs.PlanOrder.{comes_before, rank_position, ranked};
@@ -8,7 +8,7 @@ use std::alloc::{AllocError, Global};
 use updown_routes::Graph;
 
 /// Returns for each switch, by rising GUID, how many switches come before it, by rank and then by GUID. Takes a search
-/// for each switch, and one step for each two.
+/// for each switch, and one step for each pair of switches.
 pub(crate) fn rank_positions(alloc: Global, graph: &Graph) -> Result<Vec<usize>, AllocError>
     ensures { IfOk result (λ positions.
         positions.items ≡ map (rank_position graph.now) (guids_of graph.now)) }
@@ -17,7 +17,7 @@ pub(crate) fn rank_positions(alloc: Global, graph: &Graph) -> Result<Vec<usize>,
     counts_before(alloc, &ranked)
 }
 
-/// Counts for each switch those that come before it.
+/// Counts for each switch the switches that come before it.
 fn counts_before(alloc: Global, ranked: &[(usize, Guid)]) -> Result<Vec<usize>, AllocError>
     ensures { IfOk result (λ counts. counts.items
         ≡ map (λ own. count_by (λ other. comes_before other own) ranked.now) ranked.now) }
@@ -49,7 +49,8 @@ fn count_before(ranked: &[(usize, Guid)], own: &(usize, Guid)) -> usize
         .count()
 }
 
-/// Returns whether a switch comes before another: its rank is less, or equal and its GUID is less.
+/// Returns whether the switch `other` comes before the switch `own`: its rank is less, or the ranks are equal and its
+/// GUID is less.
 fn comes_before(other: &(usize, Guid), own: &(usize, Guid)) -> bool
     ensures { result ≡ comes_before other.now own.now }
 {

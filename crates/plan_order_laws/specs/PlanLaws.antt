@@ -15,7 +15,8 @@ use Rattle.next_tables.specs.ByOrder.{AreApart, AreRight, IsNextByOrder, IsOrder
 use Rattle.next_tables.specs.Mixtures.{RiseInStep}
 use Rattle.ordered_steps.specs.StepLaws.{AreNextByOrder, DeliverFrom}
 
--- a plan sends packets for a LID over two channels in turn only if the rule's numbers rise
+-- if a plan sends packets for a LID over two channels one after the other, the rule's number of the second is greater
+-- than that of the first
 abbrev pub PlanTurnsRise : Type 0
 PlanTurnsRise =
     (rule : RuleValue) (lmc : ℕ) (facts : Facts) → AreInRange facts → ¬ (IsNoRoom lmc (cells_of facts))
@@ -53,8 +54,8 @@ PlansCover =
     → DeliverFrom (cells_of facts) (held_plan (plan_of rule lmc (cells_of facts))) line j
     → DeliverFrom (cells_of facts) (held_plan (plan_of rule lmc (cells_of facts))) line i
 
--- a step towards a plan, for all LIDs, from tables that are right by the plan's positions, has no credit loop in any
--- mixture, since numbers rise, and ends in tables that are right by them
+-- in a step towards a plan, for all LIDs, from tables that are right by the plan's positions, the channels' numbers
+-- rise, and the next tables are right by these positions
 abbrev pub StepsTowardsPlans : Type 0
 StepsTowardsPlans =
     (rule : RuleValue) (lmc : ℕ) (facts : Facts) → AreInRange facts → ¬ (IsNoRoom lmc (cells_of facts))

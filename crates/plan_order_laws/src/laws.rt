@@ -2,8 +2,8 @@
 ghost use Rattle.plan_order_laws.specs.PlanLaws.{PlanOrdersAreOrders, PlanTurnsRise, PlansAreRight, PlansCover};
 ghost use Rattle.plan_order_laws.specs.PlanLaws.{StepsEndInPlans, StepsTowardsPlans};
 
-/// The plan of a view with room sends packets over two channels in turn only if the rule's numbers rise from the first
-/// to the second.
+/// If the plan of a view with room sends packets over two channels one after the other, the rule's numbers rise from
+/// the first to the second.
 pub fn plan_turns_rise()
     ensures law { PlanTurnsRise }
 {}
@@ -23,14 +23,14 @@ pub fn plans_cover()
     ensures law { PlansCover }
 {}
 
-/// A step towards a plan can make no credit loop in any mixture, and ends in tables that are right by the plan's
+/// A step towards a plan can make no credit loop in any mixture, and leads to tables that are right by the plan's
 /// positions, if it begins with tables that are right by them.
 pub fn steps_towards_plans()
     ensures law { StepsTowardsPlans }
 {}
 
 /// After twice as many steps as there are switches, each switch from which the plan delivers has the plan's entry, if
-/// the first tables are right by the plan's positions for the LID, and the same end ports hold it in them and in the
+/// the first tables are right by the plan's positions for the LID, and the LID has the same owners in them as in the
 /// plan.
 pub fn steps_end_in_plans()
     ensures law { StepsEndInPlans }

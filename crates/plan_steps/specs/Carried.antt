@@ -37,7 +37,7 @@ subnet_timeout = record { at = 51; shift = 0; width = 5 }
 
 -- what is changed of what was read ---------------------------------------------------------------
 
--- some bits, and the number that a Set carries in them
+-- bits, and the number that a Set carries in them
 pub record Change : Type 0 where
   pub bits : Bits
   pub number : ℕ
@@ -55,7 +55,7 @@ or_default otherwise number = if number == 0 then otherwise else number
 abbrev pub link_local_prefix : ℕ
 link_local_prefix = 0xFE80000000000000
 
--- the value of bits that a Set is to leave unchanged
+-- the number that makes a Set leave bits unchanged
 abbrev pub no_change : ℕ
 no_change = 0
 
@@ -66,8 +66,8 @@ quarter_second = 16
 abbrev pub one_second : ℕ
 one_second = 18
 
--- the MTU of a port on a wire: the lesser of the MTUs that its two ends can take, if both say one, and otherwise as it
--- was read
+-- the MTU of a port on a wire: the lesser of the MTUs that its two ends can take, if both report one, and otherwise as
+-- it was read
 abbrev pub mtu_of : List ℕ → Option (List ℕ) → ℕ
 mtu_of own None = bits_in neighbor_mtu own
 mtu_of own (Some far) = or_default (bits_in neighbor_mtu own) (min (bits_in mtu_cap own) (bits_in mtu_cap far))
@@ -93,11 +93,11 @@ switch_changes read =
 
 -- what was read ---------------------------------------------------------------------------------------
 
--- PortInfo that was read of the port across, if there is one and it is kept
+-- the PortInfo that was read of the port across; None if there is no such port or it is not kept
 abbrev pub far_image : Cells → Sweep → ℕ → ℕ → Option (List ℕ)
 far_image cells sweep guid port = option_and_then (λ far. port_image sweep far.0 far.1) (across cells guid port)
 
--- PortInfo that was read of a port, if it is kept, and of the port across
+-- the PortInfo that was read of a port and of the port across; None if that of the port is not kept
 abbrev pub port_read : Cells → Sweep → ℕ → ℕ → Option PortRead
 port_read cells sweep guid port =
     option_map (λ own. record { own = own; far = far_image cells sweep guid port }) (port_image sweep guid port)

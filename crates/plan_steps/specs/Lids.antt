@@ -19,29 +19,28 @@ use Rattle.plan_steps.specs.declared.carried.PortRead.{PortRead}
 use Rattle.plan_steps.specs.Carried.{carried_port, port_read}
 use Rattle.plan_steps.specs.Step.{step_at}
 
--- the end port `e` has the number `port`, and is known to have the GUID `port_guid`
+-- whether the end port `e` has the number `port`, and is known to have the GUID `port_guid`
 abbrev pub is_own_port : Cells → ℕ → ℕ → EndPort → Bool
 is_own_port cells port_guid port e =
     e.port == port && option_map_or (λ guid. guid == port_guid) (port_guid_of cells e.node e.port) false
 
--- the LID of the manager at the port with this GUID and number: the LID of the first end port that has both, or 0 if
--- there is none
+-- the LID of the manager at the port with this GUID and number: that of the first end port that has both; 0 if there is
+-- none
 abbrev pub own_lid : Cells → List (EndPort × ℕ) → ℕ → ℕ → ℕ
 own_lid cells given port_guid port = option_map_or (λ x. x.1) (find (λ x. is_own_port cells port_guid port x.0) given) 0
 
--- PortInfo with a LID and an LMC, the manager's LID and the state that is asked for; everything else is as a Set
--- carries it
+-- PortInfo with a LID and an LMC, the manager's LID and a state; everything else is as a Set carries it
 abbrev pub port_data : Option PortRead → ℕ × ℕ → ℕ → PortState → List ℕ
 port_data read range master state =
     with_bits port_state (number_of_state state)
     (with_bits lmc range.1 (with_number master_sm_lid master (with_number base_lid range.0 (carried_port read))))
 
--- the step that sets the LID and the LMC of an end port, and the manager's LID
+-- the step that sets the LID and the LMC of an end port, and the manager's LID; None if the sweep did not reach it
 abbrev pub lid_step : Cells → Sweep → ℕ → ℕ × ℕ → EndPort → Option Step
 lid_step cells sweep master range e =
     step_at sweep e.node e.port port_info e.port (port_data (port_read cells sweep e.node e.port) range master NoChange)
 
--- the step of the end port that owns `lid`
+-- the step of the end port that owns `lid`; None if there is none, or the sweep did not reach it
 abbrev pub owner_step : Cells → Sweep → ℕ → Given → ℕ → Option Step
 owner_step cells sweep master given lid =
     option_and_then (λ e. lid_step cells sweep master (lid, lmc_of given e) e) (owner_of given lid)
@@ -68,12 +67,12 @@ abbrev pub HasNoOwnPort : Cells → List (EndPort × ℕ) → ℕ → ℕ → Ty
 HasNoOwnPort cells given port_guid port =
     (e : EndPort) (n : ℕ) → Contains given (e, n) → IsOwnPort cells port_guid port e → ⊥
 
--- `lid` is the LID of the manager's end port, or 0 if there is none
+-- `lid` is the LID of the manager's end port, or 0 if the manager has none
 abbrev pub IsOwnLidOr0 : Cells → List (EndPort × ℕ) → ℕ → ℕ → ℕ → Type 0
 IsOwnLidOr0 cells given port_guid port lid =
     IsOwnLid cells given port_guid port lid ⊎ (HasNoOwnPort cells given port_guid port × (lid ≡ 0))
 
--- if there is room for the LIDs, the manager's LID is the LID of its end port, or 0 if there is none
+-- if there is room for the LIDs, the manager's LID is that of its end port, or 0 if it has none
 abbrev pub OwnLidLaw : Type 0
 OwnLidLaw =
     (lmc : ℕ) (facts : Facts) → ¬ (IsNoRoom lmc (cells_of facts)) → (port_guid port : ℕ)

@@ -1,4 +1,4 @@
--- Laws of what Sets of PortInfo and SwitchInfo say and carry.
+-- Laws of what Sets of PortInfo and SwitchInfo contain.
 use Rattle.std.specs.Prelude.{◌≡◌, ℕ, ◌<◌, ◌^◌, Bool, true, ◌&&◌, List, [], ◌∷◌, Contains, Option, Some, length, map}
 use Rattle.smp_bytes.specs.Field.{Bits, Field, are_apart, are_bits_apart, bits_in, number_in, with_bits}
 use Rattle.attr_codec.specs.PortInfo.{base_lid, gid_prefix, lmc, master_sm_lid, number_of_state, port_state, range_in}
@@ -30,7 +30,7 @@ pub record SaysTop (top : ℕ) (payload : List ℕ) : Type 0 where
   pub whole : length payload ≡ 64
   pub top_is : number_in linear_fdb_top payload ≡ top
 
--- whatever was read, a Set says what the plan asks for
+-- whatever was read, a Set contains what the plan asks for
 pub record SetsSayThePlan : Type 0 where
   pub port : (read : Option PortRead) (range : ℕ × ℕ) (master : ℕ) (state : PortState)
       → range.0 < 2 ^ 16 → range.1 < 8 → master < 2 ^ 16
@@ -39,23 +39,25 @@ pub record SetsSayThePlan : Type 0 where
 
 -- all else -------------------------------------------------------------------------------------------
 
--- the bits are apart from all others
+-- the bits are disjoint from all the others
 abbrev pub are_apart_from : List Bits → Bits → Bool
 are_apart_from [] b = true
 are_apart_from (other ∷ others) b = are_bits_apart b other && are_apart_from others b
 
--- the bits are in no byte of the fields
+-- the byte of the bits is in none of the fields
 abbrev pub are_outside : List Field → Bits → Bool
 are_outside [] b = true
 are_outside (f ∷ fields) b = are_apart (record { at = b.at; len = 1 }) f && are_outside fields b
 
+-- the bits of these changes
 abbrev pub bits_of : List Change → List Bits
 bits_of changes = map (λ c. c.bits) changes
 
--- the fields in which a Set of PortInfo may differ from what was read; `port_bits` has the bits
+-- the fields of PortInfo in which a Set may differ from what was read
 abbrev pub port_fields : List Field
 port_fields = base_lid ∷ master_sm_lid ∷ gid_prefix ∷ []
 
+-- the bits of PortInfo in which a Set may differ from what was read
 abbrev pub port_bits : PortRead → List Bits
 port_bits read = port_state ∷ lmc ∷ bits_of (port_changes read)
 
@@ -81,8 +83,8 @@ pub record SetsChangeNothingElse : Type 0 where
 
 -- two Sets of one port -------------------------------------------------------------------------------
 
--- the Set of a state at an end port says what the Set of its LID says, except for the state, so that neither undoes the
--- other's LID and LMC, whichever comes last
+-- the Set of a state at an end port contains what the Set of its LID contains, except for the state; thus neither
+-- undoes the other's LID and LMC, whichever comes last
 abbrev pub LidAndStateAgree : Type 0
 LidAndStateAgree =
     (cells : Cells) (sweep : Sweep) (given : Given) (master : ℕ) (state : PortState) (e : EndPort) (range : ℕ × ℕ)

@@ -9,8 +9,8 @@ use Rattle.plan_steps.specs.declared.step.Step.{Step}
 abbrev pub set_packet : ℕ → Step → List ℕ
 set_packet transaction step = directed set step.attribute step.modifier transaction step.path step.payload
 
--- a step for a vertex, a switch (port 0) or an adapter's port, over the path that first reached it; None if the sweep
--- did not reach it
+-- a step for a vertex, which is a switch (port 0) or an adapter's port, over the path that first reached it; None if
+-- the sweep did not reach it
 abbrev pub step_at : Sweep → ℕ → ℕ → ℕ → ℕ → List ℕ → Option Step
 step_at sweep guid vertex attribute modifier payload =
     option_map (λ path. record {

@@ -14,7 +14,7 @@ use Rattle.plan_steps.specs.declared.step.Step.{Step}
 use Rattle.plan_steps.specs.Carried.{carried_switch}
 use Rattle.plan_steps.specs.Step.{step_at}
 
--- the step that sets block b of a switch
+-- the step that sets block b of a switch; None if there is no such block, or the sweep did not reach the switch
 abbrev pub block_step : Sweep → PlanValue → ℕ → ℕ → Option Step
 block_step sweep plan guid b = option_and_then (step_at sweep guid 0 linear_forwarding_table b) (block_at plan guid b)
 
@@ -31,9 +31,10 @@ block_steps sweep plan = flat_map (switch_steps sweep plan) (switches_of plan)
 abbrev pub top_data : Option (List ℕ) → ℕ → List ℕ
 top_data read top = with_number linear_fdb_top top (carried_switch read)
 
+-- the step that sets the greatest LID at a switch; None if the sweep did not reach it
 abbrev pub top_step : Sweep → ℕ → ℕ → Option Step
 top_step sweep top guid = step_at sweep guid 0 switch_info 0 (top_data (switch_image sweep guid) top)
 
--- the steps that set the greatest LID, if any, for each usable switch that was reached, by rising GUID
+-- the steps that set the greatest LID for each usable switch that was reached, by rising GUID; none if there is no LID
 abbrev pub top_steps : Sweep → PlanValue → List Step
 top_steps sweep plan = option_map_or (λ top. filter_map (top_step sweep top) (switches_of plan)) (top_of plan.given) []

@@ -46,7 +46,8 @@ fn add_switch_steps(
     Ok(())
 }
 
-/// Builds the step of block `b`.
+/// Builds the step of block `b` of the switch `guid`. Returns `None` if the plan has no such block, or the sweep did
+/// not reach the switch.
 fn block_step(sweep: &Sweep, plan: &Plan, guid: Guid, b: usize) -> Option<Step>
     requires { b < 1024 }
     ensures { result ≡ block_step sweep.now plan.now guid b }
@@ -62,8 +63,8 @@ fn block_step(sweep: &Sweep, plan: &Plan, guid: Guid, b: usize) -> Option<Step>
     )
 }
 
-/// Builds the step of the greatest LID, if any, for each switch that was reached, by rising GUID. Takes two searches
-/// for each switch.
+/// Builds the step of the greatest LID for each switch that was reached, by rising GUID. Builds none if there is no
+/// LID. Takes two searches for each switch.
 pub(crate) fn top_steps(alloc: Global, sweep: &Sweep, plan: &Plan) -> Result<Vec<Step>, AllocError>
     ensures { IfOk result (λ steps. steps.items ≡ top_steps sweep.now plan.now) }
 {
@@ -93,7 +94,7 @@ fn steps_with_top(
     Ok(steps)
 }
 
-/// Builds the step that sets the greatest LID at a switch.
+/// Builds the step that sets the greatest LID at the switch `guid`. Returns `None` if the sweep did not reach it.
 fn top_step(sweep: &Sweep, top: Lid, guid: Guid) -> Option<Step>
     ensures { result ≡ top_step sweep.now top guid }
 {
@@ -108,7 +109,7 @@ fn top_step(sweep: &Sweep, top: Lid, guid: Guid) -> Option<Step>
     )
 }
 
-/// Returns the SwitchInfo with `top` as the greatest LID that is forwarded, and everything else as a Set carries it.
+/// Returns SwitchInfo with `top` as the greatest LID that is forwarded, and everything else as a Set carries it.
 fn top_data(read: Option<SwitchInfo>, top: Lid) -> [u8; 64]
     ensures { result ≡ top_data read top }
 {

@@ -12,8 +12,8 @@ const NUMBERS: usize = Lid::UNICAST_END as usize;
 /// The number of blocks that hold `NUMBERS` entries.
 const BLOCKS: usize = NUMBERS / 64;
 
-/// Returns the most steps that a phase of the plan of `store` can have, or 2^64 - 1 if that is less. Takes no memory,
-/// and walks the cells.
+/// Returns the greatest number of steps that a phase of the plan of `store` can have, but at most 2^64 - 1. Takes no
+/// memory, and walks the cells.
 pub fn most_steps(store: &Store) -> usize
     ensures { result ≡ min (most_steps (cells_of store.now)) (2 ^ 64 - 1) }
 {

@@ -13,13 +13,13 @@ use sweep::Sweep;
 /// The prefix of link-local GIDs, fe80::/64 (addressing).
 const LINK_LOCAL_PREFIX: u64 = 0xFE80_0000_0000_0000;
 
-/// HOQLife: how long a packet may stay at the head of its queue, 4.096 us * 2^16.
+/// HOQLife: the time that a packet may stay at the head of its queue, 4.096 us * 2^16.
 const QUARTER_SECOND: u8 = 16;
 
 /// SubnetTimeOut and LifeTimeValue: 4.096 us * 2^18.
 const ONE_SECOND: u8 = 18;
 
-/// The further fields of PortInfo: the byte, the lowest bit and the number of bits of each.
+/// Further fields of PortInfo: the byte, the lowest bit and the number of bits of each.
 macro_rules! port_bits {
     ($access:ident link_width_enabled $args:tt) => { $access::<29, 0, 8> $args };
     ($access:ident neighbor_mtu $args:tt) => { $access::<36, 4, 4> $args };
@@ -31,17 +31,17 @@ macro_rules! port_bits {
     ($access:ident client_reregister $args:tt) => { $access::<51, 7, 1> $args };
 }
 
-/// PortInfo that was read of a port, and of the port across if it is on a wire and was read too.
+/// The PortInfo that was read of a port, and that of the port across if it is on a wire and was read too.
 #[derive(Clone, Copy, Debug, PartialEq, Eq)]
 pub struct PortRead {
-    /// What the port itself said.
+    /// The PortInfo of the port itself.
     pub own: PortInfo,
-    /// What the port across said.
+    /// The PortInfo of the port across.
     pub far: Option<PortInfo>,
 }
 
-/// Returns what was read of a port, if it is kept, and of the port across. Takes some ten searches if images are kept,
-/// otherwise one.
+/// Returns the PortInfo that was read of a port and of the port across, or `None` if that of the port is not kept.
+/// Takes about ten searches if images are kept, and one otherwise.
 pub(crate) fn port_read(store: &Store, sweep: &Sweep, guid: Guid, port: PortNum) -> Option<PortRead>
     ensures { result ≡ port_read (cells_of store.now) sweep.now guid port }
 {
@@ -50,7 +50,7 @@ pub(crate) fn port_read(store: &Store, sweep: &Sweep, guid: Guid, port: PortNum)
     Some(PortRead { own, far })
 }
 
-/// Returns what was read of the port across, if there is one and it is kept.
+/// Returns the PortInfo that was read of the port across, or `None` if there is no such port or it is not kept.
 fn far_image(store: &Store, sweep: &Sweep, guid: Guid, port: PortNum) -> Option<PortInfo>
     ensures { result ≡ far_image (cells_of store.now) sweep.now guid port }
 {
@@ -58,8 +58,8 @@ fn far_image(store: &Store, sweep: &Sweep, guid: Guid, port: PortNum) -> Option<
     sweep.port_image(far_node, far_port)
 }
 
-/// Returns PortInfo as a Set carries it: as it was read, with defaults for what no manager has set, the MTU of the
-/// wire, and "no change" where what is read must not be written back; zeros if nothing was kept.
+/// Returns PortInfo as a Set carries it: as it was read, except for defaults for what no manager has set, the MTU of
+/// the wire, and "no change" if a value must not be written back. Returns zeros if nothing was kept.
 pub(crate) fn carried_port(read: Option<PortRead>) -> PortInfo
     ensures { result ≡ carried_port read }
 {
@@ -93,8 +93,8 @@ fn carried_port_of(own: &[u8; 64], far: Option<PortInfo>) -> [u8; 64]
     bytes
 }
 
-/// Returns the lesser of the MTUs that the two ends of a wire can take, if both say one. Otherwise returns the port's
-/// own MTU as it was read.
+/// Returns the lesser of the MTUs that the two ends of a wire can take, if both report one. Otherwise returns the
+/// port's own MTU as it was read.
 fn mtu_of(own: &[u8; 64], far: Option<PortInfo>) -> u8
     ensures value { result ≡ mtu_of own.now far }
     ensures fits { result < 16 }
@@ -109,8 +109,8 @@ fn mtu_of(own: &[u8; 64], far: Option<PortInfo>) -> u8
     }
 }
 
-/// Returns SwitchInfo as a Set carries it: `read`, with a default for a lifetime that no manager has set, and the bit
-/// that clears PortStateChange; zeros if nothing was kept.
+/// Returns SwitchInfo as a Set carries it: `read`, except for a default for a lifetime that no manager has set, and the
+/// bit that clears PortStateChange. Returns zeros if nothing was kept.
 pub(crate) fn carried_switch(read: Option<SwitchInfo>) -> SwitchInfo
     ensures { result ≡ carried_switch read }
 {

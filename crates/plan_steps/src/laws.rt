@@ -4,25 +4,25 @@ ghost use Rattle.plan_steps.specs.Lids.{OwnLidLaw};
 ghost use Rattle.plan_steps.specs.SetLaws.{LidAndStateAgree, SetsChangeNothingElse, SetsSayThePlan};
 ghost use Rattle.plan_steps.specs.States.{WiredPortsLaw};
 
-/// If there is room for the LIDs, the manager's LID is the LID of the first end port, by node GUID, with the manager's
+/// If there is room for the LIDs, the manager's LID is that of the first end port, by node GUID, with the manager's
 /// port GUID and port number, or 0 if there is no such port.
 #[tactic(auto, using(crate::proofs::OwnLid::own_lid_law))]
 pub fn own_lid_is_of_the_first()
     ensures { OwnLidLaw }
 {}
 
-/// The list of ports on wires has each of them once, by node GUID and port, and nothing else.
+/// The list of ports on wires has each such port once, by node GUID and port, and nothing else.
 pub fn wired_ports_are_listed_in_order()
     ensures { WiredPortsLaw }
 {}
 
-/// No phase of a plan has more steps than the bound that is known before there is a plan, if there is room for the
-/// LIDs.
+/// If there is room for the LIDs, no phase of a plan has more steps than the bound that is known before there is a
+/// plan.
 pub fn phases_are_bounded()
     ensures { PhaseBoundLaw }
 {}
 
-/// Whatever was read of a port or a switch, a Set says what the plan asks for: LID, LMC, the manager's LID and the
+/// Whatever was read of a port or a switch, a Set contains what the plan asks for: LID, LMC, the manager's LID and the
 /// state, or the greatest LID.
 pub fn sets_say_the_plan()
     ensures { SetsSayThePlan }
@@ -34,7 +34,7 @@ pub fn sets_change_nothing_else()
     ensures { SetsChangeNothingElse }
 {}
 
-/// The Set of a state at an end port says what the Set of its LID says, except for the state.
+/// The Set of a state at an end port contains what the Set of its LID contains, except for the state.
 pub fn lid_and_state_agree()
     ensures { LidAndStateAgree }
 {}

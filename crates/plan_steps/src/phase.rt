@@ -31,14 +31,14 @@ impl Model for Phase {
     ghost view = { λ a. record { counts = a.counts; steps = a.steps.items } };
 }
 
-/// Builds the phases in which a manager, at the port `port` with the GUID `port_guid`, writes a plan over the paths of
-/// its last sweep: LIDs, blocks, the greatest LID, and then the states of ports on wires, Armed and Active (subnet
-/// management, initialization). Leaves out agents that the sweep did not reach. Walks the cells once, and takes a few
-/// searches for each step and some twenty for each port on a wire.
+/// Builds the phases in which a manager writes a plan over the paths of its last sweep: LIDs, blocks, the greatest LID,
+/// and then the states of ports on wires, Armed and Active (subnet management, initialization). The manager is at the
+/// port `port` with the GUID `port_guid`. Leaves out agents that the sweep did not reach. Walks the cells once, and
+/// takes a few searches for each step and about twenty for each port on a wire.
 ///
 /// # Errors
 ///
-/// Returns an error only for lack of memory.
+/// Returns an error only if memory runs out.
 pub fn phases(
     alloc: Global,
     plan: &Plan,

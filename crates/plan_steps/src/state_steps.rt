@@ -17,7 +17,7 @@ use std::alloc::{AllocError, Global};
 use subnet_view::{EndPort, is_usable, wire};
 use sweep::Sweep;
 
-/// Returns the ports on wires, both ends of each, by node GUID and port. Walks the cells.
+/// Returns the ports on wires, including both ends of each wire, by node GUID and port. Walks the cells.
 pub(crate) fn wired_ports(alloc: Global, store: &Store) -> Result<Vec<(Guid, PortNum)>, AllocError>
     ensures { IfOk result (λ ports. ports.items ≡ wired_ports (cells_of store.now)) }
 {
@@ -30,7 +30,7 @@ pub(crate) fn wired_ports(alloc: Global, store: &Store) -> Result<Vec<(Guid, Por
     Ok(ports)
 }
 
-/// Returns the port of a cell, if the cell is its link and the port is on a wire.
+/// Returns the port of a cell, or `None` if the cell is not a port's link or the port is not on a wire.
 fn wired_port(store: &Store, sighting: &Sighting) -> Option<(Guid, PortNum)>
     ensures { result ≡ wired_port (cells_of store.now) sighting.now }
 {
@@ -46,8 +46,8 @@ fn wired_port(store: &Store, sighting: &Sighting) -> Option<(Guid, PortNum)>
     }
 }
 
-/// Builds the step that sets `state` for each of `ports`, in their order, that was reached and was seen in Initialize,
-/// or in Armed if `state` is Active. Takes some five searches for each port, and some fifteen if images are kept.
+/// Builds the step that sets `state` for each of `ports`, in their order, that was reached and was seen in Initialize
+/// or, if `state` is Active, in Armed. Takes about five searches for each port, and about fifteen if images are kept.
 #[tactic(auto, using(crate::proofs::Walked::walked_some, crate::proofs::Walked::walked_none))]
 pub(crate) fn state_steps(
     alloc: Global,
@@ -70,7 +70,8 @@ pub(crate) fn state_steps(
     Ok(steps)
 }
 
-/// Builds the step that sets `state` at a port on a wire, if the port is due.
+/// Builds the step that sets `state` at a port on a wire. Returns `None` if the port is not due to go to `state`, or
+/// was not reached.
 fn state_step(
     store: &Store,
     sweep: &Sweep,
@@ -118,7 +119,7 @@ fn is_due(state: PortState, seen: PortState) -> bool
     }
 }
 
-/// Returns the port number of the vertex of a port on a wire: 0 for a switch, or the adapter's port itself.
+/// Returns the port number of the vertex of a port on a wire: 0 if its node is a switch, and otherwise `port` itself.
 fn vertex_port(store: &Store, guid: Guid, port: PortNum) -> PortNum
     ensures { result ≡ vertex_port (cells_of store.now) (guid, port) }
 {
@@ -129,7 +130,7 @@ fn vertex_port(store: &Store, guid: Guid, port: PortNum) -> PortNum
     }
 }
 
-/// Returns the PortInfo that sets `state`, with an end port's LIDs; a switch's other ports have none.
+/// Returns the PortInfo that sets `state`. It has the LIDs of an end port. The other ports of a switch have none.
 fn state_data(
     read: Option<PortRead>,
     lids: &LidMap,

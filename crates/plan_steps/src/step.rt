@@ -11,14 +11,14 @@ pub struct Step {
     pub path: Path<63>,
     /// The number of the attribute.
     pub attribute: u16,
-    /// The port for PortInfo, the number of the block for a block, otherwise 0.
+    /// The port for PortInfo, the number of the block for a forwarding block, and 0 otherwise.
     pub modifier: u32,
     /// The 64 bytes of the attribute.
     pub payload: [u8; 64],
 }
 
 impl Step {
-    /// Returns the Set of the step.
+    /// Returns the Set of the step with this TransactionID.
     pub fn packet(&self, transaction: u64) -> Smp
         ensures { result ≡ set_packet transaction self.now }
     {

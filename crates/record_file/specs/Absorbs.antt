@@ -1,4 +1,4 @@
--- What absorbing a source does to it and to the store, and what it returns.
+-- What absorbing a source does to the source and to the store, and what it returns.
 use Rattle.std.specs.Prelude.{◌≡◌, ◌⊎◌, ℕ, true, nat_eq, ◌+◌, ◌<◌, ◌≤◌, ◌^◌, List, [], ◌∷◌, ◌++◌, Option, None, Result, Ok, Err, IfSome, length}
 use Rattle.std.specs.List.{concat, starts_with}
 use Rattle.std.specs.Io.KnownBytes.{Consumes, IsAtEnd}
@@ -11,14 +11,14 @@ use Rattle.record_file.specs.declared.format.Format.{Format}
 use Rattle.record_file.specs.Head.{IsFormat, floored_magic, format_in, head_bytes}
 use Rattle.record_file.specs.RecordFile.{AreGoodRecords, Judgement, facts_in, fault_in, outcome}
 
--- a good record is added to the store, or memory runs out and the store stays; for a bad record the result is its
--- fault, and the store stays
+-- a good record is added to the store, or memory runs out and the store stays; the result of a bad record is its fault,
+-- and the store stays
 abbrev pub AbsorbsJudged : {K : Type 0} → Judgement → ℕ → Result K FileFault → Facts → Facts → Type 0
 AbsorbsJudged (Ok sightings) index (Ok key) old new = new ≡ merge old (view sightings)
 AbsorbsJudged (Ok sightings) index (Err f) old new = (f ≡ Memory) × (new ≡ old)
 AbsorbsJudged (Err fault) index result old new = (result ≡ Err (fault index)) × (new ≡ old)
 
--- the bytes are a head and good records, at least one, with fewer than 4096 bytes behind them
+-- the bytes are a head and good records, at least one, followed by fewer than 4096 bytes
 pub record EndsBehindRecord (taken : List ℕ) : Type 0 where
   pub format : Format
   pub records : List (List ℕ)
@@ -29,14 +29,14 @@ pub record EndsBehindRecord (taken : List ℕ) : Type 0 where
   pub good : AreGoodRecords format None (records ++ last ∷ [])
   pub near : length behind < 4096
 
--- what the taken bytes say was merged into the store; if memory ran out, only what comes before the record that needed
+-- the facts in the taken bytes were merged into the store; if memory ran out, only those before the record that needed
 -- memory
 abbrev pub HoldsKept : Result (Unit {0}) FileFault → Facts → Facts → List ℕ → Type 0
 HoldsKept (Err Memory) old new taken =
     (wanted : EndsBehindRecord taken) × (new ≡ merge old (facts_in (head_bytes wanted.format ++ concat wanted.records)))
 HoldsKept _ old new taken = new ≡ merge old (facts_in taken)
 
--- the answer is the outcome of these bytes, unless a read or an allocation failed, or too many calls were interrupted
+-- the answer is the outcome of these bytes, unless a read failed, memory ran out, or too many calls were interrupted
 abbrev pub AnswersOutcome : Result (Unit {0}) FileFault → List ℕ → Type 0 → Type 0
 AnswersOutcome (Ok u) bytes interrupted = outcome bytes ≡ Ok u
 AnswersOutcome (Err Read) bytes interrupted = Unit {0}
@@ -44,16 +44,16 @@ AnswersOutcome (Err Memory) bytes interrupted = Unit {0}
 AnswersOutcome (Err TooLong) bytes interrupted = (outcome bytes ≡ Err TooLong) ⊎ interrupted
 AnswersOutcome (Err f) bytes interrupted = outcome bytes ≡ Err f
 
--- the magic is not whole yet, or the header behind it is not
+-- the magic or the header after it is not whole yet
 abbrev pub HasNoHeadYet : List ℕ → Type 0
 HasNoHeadYet taken = (length taken < 8) ⊎ ((starts_with nat_eq taken floored_magic ≡ true) × (length taken < 16))
 
--- the head is not whole yet, or it has only good records behind it so far
+-- the head is not whole yet, or only good records follow it so far
 abbrev pub HasNoFaultYet : List ℕ → Type 0
 HasNoFaultYet taken =
     HasNoHeadYet taken ⊎ ((format : Format) × (format_in taken ≡ Ok format) × (fault_in format taken ≡ None))
 
--- the bytes have no fault yet, or they end within a piece behind a good record, and all records before it are good
+-- the bytes have no fault yet, or they end within a piece after a good record, and all records before it are good
 abbrev pub HasNoFaultBefore : List ℕ → Type 0
 HasNoFaultBefore taken = HasNoFaultYet taken ⊎ EndsBehindRecord taken
 
@@ -67,19 +67,19 @@ IsDecided (Err Read) taken at_end = HasNoFaultYet taken
 IsDecided (Err TooLong) taken at_end = HasNoFaultYet taken
 IsDecided _ taken at_end = Unit {0}
 
--- the bytes taken and the calls interrupted meanwhile are at least 2^40 together
+-- the bytes taken and the calls interrupted meanwhile are together at least 2^40
 abbrev pub WasInterruptedTooOften : List ℕ → List ℕ → ℕ → ℕ → Type 0
 WasInterruptedTooOften bytes rest interruptions interruptions' =
     (2 ^ 40 + interruptions) + length rest ≤ length bytes + interruptions'
 
--- fewer than 2^40 bytes were taken, and fewer than 2^40 calls interrupted; at most 2^40 of each if the answer is
+-- fewer than 2^40 bytes were taken, and fewer than 2^40 calls were interrupted; at most 2^40 of each if the answer is
 -- TooLong
 abbrev pub IsBounded : Result (Unit {0}) FileFault → ℕ → ℕ → ℕ → Type 0
 IsBounded (Err TooLong) bytes interruptions interruptions' =
     (bytes ≤ 2 ^ 40) × (interruptions' ≤ 2 ^ 40 + interruptions)
 IsBounded _ bytes interruptions interruptions' = (bytes < 2 ^ 40) × (interruptions' < 2 ^ 40 + interruptions)
 
--- the bytes `taken` were taken, the store holds what they say, and the answer is the one for them
+-- the bytes `taken` were taken, the store holds the facts in them, and the answer is the one for them
 pub record AbsorbsFrom (left left' : Option (List ℕ)) (interruptions interruptions' : ℕ)
     (answer : Result (Unit {0}) FileFault) (old new : Facts) : Type 0 where
   pub taken : List ℕ
@@ -89,7 +89,7 @@ pub record AbsorbsFrom (left left' : Option (List ℕ)) (interruptions interrupt
   pub decided : IsDecided answer taken (IsAtEnd left')
   pub bounded : IsBounded answer (length taken) interruptions interruptions'
 
--- what absorbing a source does to it and to the store if it returns `answer`
+-- what absorbing a source does to the source and to the store if it returns `answer`
 abbrev pub Absorbs : {S : Type 0} → (S → SourceState) → Result (Unit {0}) FileFault → S → S → Facts → Facts
     → Type 0
 Absorbs state answer source source' old new =

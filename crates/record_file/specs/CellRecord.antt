@@ -18,6 +18,7 @@ abbrev pub flag_byte : Bool → ℕ
 flag_byte true = 1
 flag_byte false = 0
 
+-- the value bytes of a known value, without padding
 abbrev pub value_bytes : Value → List ℕ
 value_bytes (Kind kind ports) = number_of_type kind ∷ ports ∷ []
 value_bytes (Guid guid) = to_be_bytes w64 guid
@@ -26,6 +27,7 @@ value_bytes (Up up) = flag_byte up ∷ []
 value_bytes (Lid lid) = to_be_bytes w16 lid
 value_bytes (Count count) = to_be_bytes w16 count
 
+-- the value bytes of a cell, without padding; none if it is disputed
 abbrev pub cell_value_bytes : Cell Value → List ℕ
 cell_value_bytes (Known generation value) = value_bytes value
 cell_value_bytes (Disputed generation) = []
@@ -45,15 +47,15 @@ record_bytes e =
     key_kind e.0 ∷ state_byte e.1 ∷ key_port e.0 ∷ 0 ∷
     (to_be_bytes w32 (generation_of e.1) ++ to_be_bytes w64 (key_guid e.0) ++ filled_up 16 (cell_value_bytes e.1))
 
--- the keys with this GUID and port; a node and a table's room have no port
+-- the keys with this GUID and port, one of each kind; a node and a table's room have no port
 abbrev pub keys_of : ℕ → ℕ → List Key
 keys_of guid port = Node guid ∷ PortGuid guid port ∷ Link guid port ∷ Port guid port ∷ Claim guid port ∷ Cap guid ∷ []
 
--- the key with this kind byte, GUID and port
+-- the key with this kind byte, GUID and port; None if there is no such kind
 abbrev pub key_of : ℕ → ℕ → ℕ → Option Key
 key_of kind guid port = find (λ key. kind == key_kind key) (keys_of guid port)
 
--- the value of the key's kind in these bytes
+-- the value of the key's kind in these bytes; None if they have none
 abbrev pub value_of : Key → List ℕ → Option Value
 value_of (Node g) bytes = option_map (λ kind. Kind kind (slice_index bytes 1)) (type_of_number (slice_index bytes 0))
 value_of (PortGuid g p) bytes = Some (Guid (from_be_bytes w64 (take 8 bytes)))
@@ -62,21 +64,23 @@ value_of (Port g p) bytes = Some (Up (slice_index bytes 0 == 1))
 value_of (Claim g p) bytes = Some (Lid (from_be_bytes w16 (take 2 bytes)))
 value_of (Cap g) bytes = Some (Count (from_be_bytes w16 (take 2 bytes)))
 
--- a cell of this key: known with the value in these bytes, or disputed
+-- the cell of this key: known with the value in these bytes if the state is 1, and otherwise disputed
 abbrev pub state_of : Key → ℕ → ℕ → List ℕ → Option (Cell Value)
 state_of key state generation bytes =
     if state == 1 then option_map (Known generation) (value_of key bytes) else Some (Disputed generation)
 
--- the cell that these bytes spell, if they are a record
+-- the cell that these bytes spell, without a check of the bytes that have to be 0; None if they spell none
 abbrev pub candidate : List ℕ → Option (Key × Cell Value)
 candidate bytes =
     option_and_then (λ key. option_map (λ cell. (key, cell))
     (state_of key (slice_index bytes 1) (from_be_bytes w32 (take 4 (drop 4 bytes))) (drop 16 bytes)))
     (key_of (slice_index bytes 0) (from_be_bytes w64 (take 8 (drop 8 bytes))) (slice_index bytes 2))
 
+-- the sighting if it is in range, and otherwise None
 abbrev pub if_sighting : Key × Cell Value → Option (Key × Cell Value)
 if_sighting e = if is_sighting e then Some e else None
 
+-- the sighting if these bytes are its record, and otherwise None
 abbrev pub if_spelled : List ℕ → Key × Cell Value → Option (Key × Cell Value)
 if_spelled bytes e = if bytes_eq (record_bytes e) bytes then Some e else None
 

@@ -11,7 +11,7 @@ use Rattle.fact_store.specs.View.{Facts, cells_of}
 use Rattle.reply_facts.specs.declared.value.Value.{Value}
 use Rattle.reply_facts.specs.declared.value.Value.TheVariants.{Kind, Guid, Peer, Up, Lid, Count}
 
--- the node or the port that a fact is about
+-- the text of the node or the port that a fact is about
 abbrev pub subject_text : Key → List ℕ
 subject_text (Node guid) = guid_text guid
 subject_text (PortGuid guid port) = port_text guid port
@@ -20,11 +20,11 @@ subject_text (Port guid port) = port_text guid port
 subject_text (Claim guid port) = port_text guid port
 subject_text (Cap guid) = guid_text guid
 
--- what a fact is about
+-- the text of what a fact is about: the word of its kind, and the node or the port
 abbrev pub key_text : Key → List ℕ
 key_text key = kind_word key ++ codes " " ++ subject_text key
 
--- what a fact says
+-- the text of a value
 abbrev pub value_text : Value → List ℕ
 value_text (Kind kind ports) = type_word kind ++ codes " " ++ decimal ports
 value_text (Guid guid) = guid_text guid
@@ -33,12 +33,12 @@ value_text (Up up) = if up then codes "up" else codes "down"
 value_text (Lid lid) = decimal lid
 value_text (Count count) = decimal count
 
--- the value, or `disputed`, and the generation
+-- the text of a cell: its value or `disputed`, and its generation
 abbrev pub cell_text : Cell Value → List ℕ
 cell_text (Known generation value) = value_text value ++ codes " @" ++ decimal generation
 cell_text (Disputed generation) = codes "disputed @" ++ decimal generation
 
--- a key and its cell
+-- the text of a key and its cell
 abbrev pub fact_text : Key × Cell Value → List ℕ
 fact_text cell = key_text cell.0 ++ codes " " ++ cell_text cell.1
 
@@ -46,10 +46,10 @@ fact_text cell = key_text cell.0 ++ codes " " ++ cell_text cell.1
 abbrev pub line_text : Key × Cell Value → List ℕ
 line_text cell = fact_text cell ++ codes "\n"
 
--- the line of a floor; floor 1 has none
+-- the line of a floor; empty for floor 1
 abbrev pub floor_line : ℕ → List ℕ
 floor_line floor = if nat_le floor 1 then [] else codes "floor " ++ decimal floor ++ codes "\n"
 
--- a line for the floor, and one for each cell
+-- the line of the floor, and the line of each cell
 abbrev pub facts_text : Facts → List ℕ
 facts_text facts = floor_line facts.floor ++ flat_map line_text (cells_of facts)

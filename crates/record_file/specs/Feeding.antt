@@ -1,4 +1,4 @@
--- A file that comes in pieces: what an absorber waits for after the bytes that it was fed, and what a further piece
+-- A file that comes in pieces: what an absorber waits for after the bytes that it was fed, and what one more piece
 -- does.
 use Rattle.std.specs.Prelude.{◌≡◌, ◌⊎◌, ℕ, ◌+◌, ◌*◌, ◌<◌, ◌≤◌, ◌^◌, List, [], ◌∷◌, ◌++◌, Option, None, Some, Result, Ok, Err, IfOk, length, take}
 use Rattle.std.specs.Prelude.{nat_lt, ◌==◌, if◌then◌else◌}
@@ -18,7 +18,7 @@ use Rattle.record_file.specs.Absorbs.{AbsorbsJudged}
 use Rattle.record_file.specs.Head.{IsFormat, floor_told, floored_magic, format_in, head_bytes, head_size}
 use Rattle.record_file.specs.RecordFile.{AreGoodRecords, floor_in, judged, kept, key_in, last_key, outcome, record_size}
 
--- what an absorber waits for, or the fault that it stopped with; and the bytes of the awaited part that have come
+-- what an absorber waits for, or the fault with which it stopped; and the bytes of the awaited part that have come
 pub record Absorbing : Type 0 where
   pub awaited : Result Awaited FileFault
   pub part : List ℕ
@@ -71,30 +71,30 @@ pub record WasFed (a : Absorbing) (fed : List ℕ) : Type 0 where
 abbrev pub HasStopped : Absorbing → FileFault → Type 0
 HasStopped a fault = a.awaited ≡ Err fault
 
--- the fault in the outcome of n bytes, if it stays whatever follows them
+-- the fault in the outcome of n bytes if it stays whatever follows them, and otherwise None
 abbrev pub staying : ℕ → Result (Unit {0}) FileFault → Option FileFault
 staying n (Ok u) = None
 staying n (Err Magic) = if nat_lt n 8 then None else Some Magic
 staying n (Err (Truncated offset)) = None
 staying n (Err fault) = Some fault
 
--- the fault that these bytes have, whatever follows them
+-- the fault that these bytes have, whatever follows them; None if they have none
 abbrev pub fault_so_far : List ℕ → Option FileFault
 fault_so_far bytes = staying (length bytes) (outcome bytes)
 
--- the floor that a piece raises behind the bytes `fed`: the floor of all bytes together, or 1 if `fed` already has a
+-- the floor that a piece raises after the bytes `fed`: the floor of all bytes together, or 1 if `fed` already has a
 -- floor
 abbrev pub floor_behind : List ℕ → List ℕ → ℕ
 floor_behind fed piece = if floor_in fed == 1 then floor_in (fed ++ piece) else 1
 
--- what the head and the records completed by this piece say was merged into the store
+-- the facts in the head and in the records that this piece completes were merged into the store
 pub record AddsSightings (fed piece : List ℕ) (old new : Facts) : Type 0 where
   pub sightings : List (Key × Cell Value)
   pub more : kept (fed ++ piece) ≡ kept fed ++ sightings
   pub held : new ≡ merge old (view_at (floor_behind fed piece) sightings)
 
--- memory ran out for a good record that this piece completes; what the head and the records before it say was merged
--- into the store
+-- memory ran out for a good record that this piece completes; the facts in the head and in the records before it were
+-- merged into the store
 pub record WantsMemory (fed piece : List ℕ) (old new : Facts) : Type 0 where
   pub format : Format
   pub records : List (List ℕ)
@@ -109,13 +109,13 @@ pub record WantsMemory (fed piece : List ℕ) (old new : Facts) : Type 0 where
   pub more : kept (head_bytes format ++ concat records) ≡ kept fed ++ sightings
   pub held : new ≡ merge old (view_at (floor_behind fed piece) sightings)
 
--- memory ran out for a record of the piece, or the bytes have this fault; the store holds what came before
+-- memory ran out for a record of the piece, or the bytes have this fault; the store holds the facts before it
 abbrev pub StopsWith : FileFault → List ℕ → List ℕ → Facts → Facts → Type 0
 StopsWith fault fed piece old new =
     ((fault ≡ Memory) × WantsMemory fed piece old new)
     ⊎ ((fault_so_far (fed ++ piece) ≡ Some fault) × AddsSightings fed piece old new)
 
--- what feeding a piece behind the bytes `fed` returns and does
+-- what feeding a piece after the bytes `fed` returns and does
 abbrev pub FeedsBehind : List ℕ → List ℕ → Result (Unit {0}) FileFault → Absorbing → Facts → Facts → Type 0
 FeedsBehind fed piece (Ok u) a old new =
     WasFed a (fed ++ piece) × (fault_so_far (fed ++ piece) ≡ None) × AddsSightings fed piece old new
@@ -134,13 +134,13 @@ pub record Finishes (a : Absorbing) (answer : Result (Unit {0}) FileFault) : Typ
 
 -- the steps of a piece -----------------------------------------------------------------
 
--- what is awaited behind a file's first eight bytes: the first record, or the header if the magic has one behind it
+-- what is awaited after the first eight bytes of a file: the first record, or the header if the magic has one
 abbrev pub behind_magic : Result Format FileFault → Result Awaited FileFault
 behind_magic (Ok format) = Ok (awaited.Record format 0 None)
 behind_magic (Err (Truncated offset)) = Ok awaited.Header
 behind_magic (Err fault) = Err fault
 
--- what is awaited behind a header
+-- what is awaited after a header
 abbrev pub behind_header : Option ℕ → Result Awaited FileFault
 behind_header None = Err BadFloor
 behind_header (Some floor) = Ok (awaited.Record (Cells (Some floor)) 0 None)
@@ -157,7 +157,7 @@ ending_at awaited.Header n = Err (Truncated (offset_of awaited.Header))
 ending_at (awaited.Record format index last) n =
     if n == 0 then Ok tt else Err (Truncated (offset_of (awaited.Record format index last)))
 
--- what taking the whole awaited part returns, and does to the store
+-- what taking the whole awaited part returns and does to the store
 abbrev pub TakesAwaited : Awaited → List ℕ → Result Awaited FileFault → Facts → Facts → Type 0
 TakesAwaited awaited.Magic bytes answer old new = (answer ≡ behind_magic (format_in bytes)) × (new ≡ old)
 TakesAwaited awaited.Header bytes answer old new =
@@ -166,12 +166,12 @@ TakesAwaited (awaited.Record format index last) bytes answer old new =
     AbsorbsJudged (judged format last bytes) index answer old new
     × IfOk answer (λ next. next ≡ awaited.Record format (index + 1) (key_in format bytes))
 
--- where `piece` leads after `fed`: to an awaited part and its first bytes, or to a fault
+-- what `piece` leads to after `fed`: an awaited part and its first bytes, or a fault
 abbrev pub TakesTo : List ℕ → List ℕ → Result Awaited FileFault → List ℕ → Facts → Facts → Type 0
 TakesTo fed piece (Ok next) part old new = Awaits next part (fed ++ piece) × AddsSightings fed piece old new
 TakesTo fed piece (Err fault) part old new = StopsWith fault fed piece old new
 
--- `piece` leads there behind any bytes after which `part` of the awaited part has come
+-- `piece` leads to this after any bytes after which `part` of the awaited part has come
 abbrev pub TakesPiece : Awaited → List ℕ → List ℕ → Result Awaited FileFault → List ℕ → Facts → Facts → Type 0
 TakesPiece awaited part piece answer part' old new =
     (fed : List ℕ) → Awaits awaited part fed → TakesTo fed piece answer part' old new
@@ -185,6 +185,7 @@ pub record TakesSome (awaited : Awaited) (part bytes : List ℕ) (next : Awaited
   pub offset : offset_of next + length part' ≡ (offset_of awaited + length part) + n
   pub takes : TakesPiece awaited part (take n bytes) (Ok next) part' old new
 
+-- what taking the bytes of the awaited part returns and does
 abbrev pub TakesFront : Awaited → List ℕ → List ℕ → Result (Awaited × ℕ) FileFault → List ℕ → Facts → Facts → Type 0
 TakesFront awaited part bytes (Ok taken) part' old new = TakesSome awaited part bytes taken.0 taken.1 part' old new
 TakesFront awaited part bytes (Err fault) part' old new = TakesPiece awaited part bytes (Err fault) part' old new

@@ -1,4 +1,4 @@
--- The head of a file: its magic and, behind the magic of newer store files, a header with their floor.
+-- The head of a file: its magic and, after the magic of newer store files, a header with their floor.
 use Rattle.std.specs.Prelude.{ℕ, Bool, true, ◌&&◌, List, [], ◌∷◌, ◌++◌, Option, None, Some, Result, Ok, Err, IsTrue, length}
 use Rattle.std.specs.Prelude.{take, drop, codes, nat_eq, nat_lt, unwrap_or, if◌then◌else◌}
 use Rattle.std.specs.Int.{to_be_bytes, from_be_bytes, w32}
@@ -10,7 +10,7 @@ use Rattle.record_file.specs.declared.file_fault.FileFault.TheVariants.{Magic, T
 use Rattle.record_file.specs.declared.format.Format.{Format}
 use Rattle.record_file.specs.declared.format.Format.TheVariants.{Reports, Cells}
 
--- the magic with a header behind it
+-- the magic that a header follows
 abbrev pub floored_magic : List ℕ
 floored_magic = codes "IBSMSTO2"
 
@@ -24,6 +24,7 @@ head_bytes Reports = codes "IBSMREP1"
 head_bytes (Cells None) = codes "IBSMSTO1"
 head_bytes (Cells (Some floor)) = floored_magic ++ header floor
 
+-- the number of bytes before the records
 abbrev pub head_size : Format → ℕ
 head_size Reports = 8
 head_size (Cells None) = 8
@@ -35,6 +36,7 @@ is_format Reports = true
 is_format (Cells None) = true
 is_format (Cells (Some floor)) = is_generation floor
 
+-- the floor in the head, if there is one, is a generation
 abbrev pub IsFormat : Format → Type 0
 IsFormat format = IsTrue (is_format format)
 
@@ -43,24 +45,25 @@ abbrev pub floor_of : Format → ℕ
 floor_of Reports = 1
 floor_of (Cells head_floor) = unwrap_or head_floor 1
 
+-- the floor if the bytes are its header, and otherwise None
 abbrev pub if_header : List ℕ → ℕ → Option ℕ
 if_header bytes floor = if is_generation floor && bytes_eq (header floor) bytes then Some floor else None
 
--- the floor of a header; None if the bytes are no header
+-- the floor of a header; None if the bytes are not a header
 abbrev pub floor_told : List ℕ → Option ℕ
 floor_told bytes = if_header bytes (from_be_bytes w32 (take 4 bytes))
 
--- the format with the floor of the header
+-- the format of a store file with this floor; the fault of a bad header if there is none
 abbrev pub floored : Option ℕ → Result Format FileFault
 floored None = Err BadFloor
 floored (Some floor) = Ok (Cells (Some floor))
 
--- the format of bytes that begin with `floored_magic`, by the header behind it
+-- the format of bytes that begin with `floored_magic`, by the header after it
 abbrev pub behind_floored : List ℕ → Result Format FileFault
 behind_floored bytes =
     if nat_lt (length bytes) 16 then Err (Truncated 8) else floored (floor_told (take 8 (drop 8 bytes)))
 
--- the format of the head that the bytes begin with, or the fault of their head
+-- the format that the head of the bytes gives, or the fault of the head
 abbrev pub format_in : List ℕ → Result Format FileFault
 format_in bytes =
     if starts_with nat_eq bytes (head_bytes Reports) then Ok Reports

@@ -10,7 +10,7 @@ use Rattle.record_file.specs.Head.{IsFormat, format_in, head_bytes, head_size}
 use Rattle.record_file.specs.RecordFile.{AreGoodRecords, floor_in, judged, kept, last_key, outcome, record_size}
 use Rattle.record_file.specs.ReportRecord.{context_guid, report_bytes, report_judged, report_of}
 
--- the fault of a bad header or a bad record
+-- the fault is that of a bad header or a bad record
 abbrev pub IsBadPart : FileFault → Type 0
 IsBadPart BadFloor = Unit {0}
 IsBadPart (BadReport index f) = Unit {0}
@@ -24,6 +24,7 @@ pub record StaysBad (bytes rest : List ℕ) (f : FileFault) : Type 0 where
   pub kept_stays : kept (bytes ++ rest) ≡ kept bytes
   pub floor_stays : floor_in (bytes ++ rest) ≡ floor_in bytes
 
+-- the fault of a bad part stays, whatever follows it
 abbrev pub BadPartStays : Type 0
 BadPartStays = (bytes rest : List ℕ) (f : FileFault) → IsBadPart f → outcome bytes ≡ Err f → StaysBad bytes rest f
 
@@ -47,7 +48,7 @@ ReportsHaveOneSpelling =
     (bytes : List ℕ) (r : Report) → length bytes ≡ 272 → AreBytes bytes → IsWritable r → (report_of bytes ≡ Some r)
     ↔ (bytes ≡ report_bytes r)
 
--- a file of good records and a part of a further one is truncated at the offset of that record
+-- a file of good records and a part of one more is truncated at the offset of that record
 abbrev pub TruncationIsTold : Type 0
 TruncationIsTold =
     (format : Format) (rs : List (List ℕ)) (part : List ℕ) → IsFormat format → AreGoodRecords format None rs → 0
@@ -65,7 +66,7 @@ FirstBadRecordIsTold =
     → length (head_bytes format ++ (concat rs ++ r)) ≤ 2 ^ 40
     → outcome (head_bytes format ++ (concat rs ++ (r ++ rest))) ≡ Err (f (length rs))
 
--- the file with these records
+-- the file of these records
 abbrev pub report_file : List (List ℕ) → List ℕ
 report_file rs = head_bytes Reports ++ concat rs
 
@@ -80,7 +81,7 @@ abbrev pub ReportFilesAreAccepted : Type 0
 ReportFilesAreAccepted = (bytes : List ℕ) → ((format_in bytes ≡ Ok Reports) × (outcome bytes ≡ Ok tt))
     ↔ ((rs : List (List ℕ)) × IsReportFile bytes rs)
 
--- both parts are accepted, have the whole file's floor, and together keep what it keeps
+-- both parts are accepted, have the whole file's floor, and together keep what the whole file keeps
 pub record AreParts (whole front back : List ℕ) : Type 0 where
   pub front_accepted : outcome front ≡ Ok tt
   pub back_accepted : outcome back ≡ Ok tt

@@ -23,21 +23,21 @@ pub record ReadsPieces (pieces : List (List ℕ)) (answer : Result (Unit {0}) Fi
   pub feeds : FeedsEach pieces a a' old new
   pub finishes : Finishes a' answer
 
--- pieces give the outcome and the facts of all their bytes
+-- pieces give the outcome and the facts of all their bytes together
 abbrev pub PiecesAreRead : Type 0
 PiecesAreRead =
     (pieces : List (List ℕ)) (answer : Result (Unit {0}) FileFault) (old new : Facts)
     → ReadsPieces pieces answer old new
     → (answer ≡ outcome (concat pieces)) × (new ≡ merge old (facts_in (concat pieces)))
 
--- pieces give what all their bytes give as one piece
+-- pieces give the same as all their bytes in one piece
 abbrev pub CutsChangeNothing : Type 0
 CutsChangeNothing =
     (pieces : List (List ℕ)) (answer whole_answer : Result (Unit {0}) FileFault) (old new whole_new : Facts)
     → ReadsPieces pieces answer old new
     → ReadsPieces (concat pieces ∷ []) whole_answer old whole_new → (answer ≡ whole_answer) × (new ≡ whole_new)
 
--- a fault so far stays, whatever follows; nothing more is kept, and the floor stays
+-- a fault that the bytes have so far stays, whatever follows; nothing more is kept, and the floor stays
 abbrev pub FaultsStay : Type 0
 FaultsStay =
     (bytes rest : List ℕ) (fault : FileFault) → fault_so_far bytes ≡ Some fault

@@ -8,7 +8,7 @@ use Rattle.record_file.specs.declared.format.Format.TheVariants.{Cells}
 use Rattle.record_file.specs.CellRecord.{record_bytes}
 use Rattle.record_file.specs.Head.{head_bytes}
 
--- the store file of cells, with `head_floor` in its head if there is one
+-- the store file of cells, with `head_floor` in its head if it is given
 abbrev pub cells_file : Option ℕ → List (Key × Cell Value) → List ℕ
 cells_file head_floor cells = head_bytes (Cells head_floor) ++ flat_map record_bytes cells
 

@@ -19,7 +19,8 @@ abbrev pub RecordsAreSpellings : Type 0
 RecordsAreSpellings =
     (bytes : List ℕ) (e : Key × Cell Value) → (cell_of bytes ≡ Some e) ↔ (IsSighting e × (bytes ≡ record_bytes e))
 
--- the store file of facts in range, in fewer than 2^40 bytes; its head has their floor, or may have none if that is 1
+-- the bytes are the store file of facts in range, in fewer than 2^40 bytes; its head has their floor, or may have none
+-- if that is 1
 pub record IsStoreFile (head_floor : Option ℕ) (bytes : List ℕ) (facts : Facts) : Type 0 where
   pub whole : bytes ≡ cells_file head_floor (cells_of facts)
   pub sound : IsFormat (Cells head_floor)
@@ -33,7 +34,7 @@ StoreFilesAreAccepted =
     (head_floor : Option ℕ) (bytes : List ℕ) → ((format_in bytes ≡ Ok (Cells head_floor)) × (outcome bytes ≡ Ok tt))
     ↔ ((facts : Facts) × IsStoreFile head_floor bytes facts)
 
--- the file is accepted, keeps the cells of the facts, and says these facts
+-- the file is accepted, keeps the cells of the facts, and contains these facts
 pub record IsReadBack (bytes : List ℕ) (facts : Facts) : Type 0 where
   pub accepted : outcome bytes ≡ Ok tt
   pub cells : kept bytes ≡ cells_of facts
@@ -49,12 +50,12 @@ pub record IsFlooredFile (bytes : List ℕ) : Type 0 where
   pub accepted : outcome bytes ≡ Ok tt
   pub begins : starts_with nat_eq bytes floored_magic ≡ true
 
--- two accepted files with a floor in their heads are equal if they say equal facts
+-- if two accepted files with a floor in their heads contain equal facts, they are equal
 abbrev pub FactsHaveOneSpelling : Type 0
 FactsHaveOneSpelling = (bytes others : List ℕ) → IsFlooredFile bytes → IsFlooredFile others → facts_in bytes
     ≡ facts_in others → bytes ≡ others
 
--- a source that gives the whole store file of some facts leaves these facts in an empty store
+-- if a source gives the whole store file of some facts, an empty store that absorbs it holds these facts
 abbrev pub AbsorbingReadsBack : {S : Type 0} → (S → SourceState) → Type 0
 AbsorbingReadsBack {S} state =
     (source source' : S) (head_floor : Option ℕ) (bytes rest : List ℕ) (facts new : Facts)

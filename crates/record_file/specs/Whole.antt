@@ -12,12 +12,13 @@ pub record IsReadWhole {S : Type 0} (state : S → SourceState) (old new : S) (b
   pub works : (state new).has_failed ≡ false
   pub short : length bytes < 2 ^ 40
 
--- 2^40 bytes were taken, or 2^40 calls made that took bytes or were interrupted
+-- 2^40 bytes were taken, or 2^40 calls were made that took bytes or were interrupted
 abbrev pub IsTooLong : List ℕ → ℕ → ℕ → Type 0
 IsTooLong taken interruptions interruptions' =
     (2 ^ 40 ≤ length taken) ⊎ (2 ^ 40 + interruptions ≤ length taken + interruptions')
 
--- why a source is not read whole after the bytes `taken`: a call failed, it is too long, or memory ran out before that
+-- why a source is not read whole after the bytes `taken`: a call failed, the source is too long, or memory ran out
+-- before that
 abbrev pub IsReadFault : FileFault → List ℕ → Bool → ℕ → ℕ → Type 0
 IsReadFault Read taken has_failed interruptions interruptions' = IsTrue has_failed
 IsReadFault TooLong taken has_failed interruptions interruptions' =

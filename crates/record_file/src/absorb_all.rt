@@ -12,7 +12,8 @@ const READ_LEN: usize = 4096;
 
 /// Reads one file, of reports or of a store's cells, into the store, record by record, in constant memory of its own.
 /// The header of a store file raises the store's floor before the first record. After a fault, the store keeps the
-/// floor and the whole records before the fault. To add all or nothing, absorb into a new store and merge it.
+/// floor and the whole records before the fault. To add all or nothing, absorb the file into a new store and merge
+/// that.
 pub fn absorb<S: Source>(source: &mut S, store: &mut Store) -> Result<(), FileFault>
     ensures read { (result ≡ Err FileFault.Read) ↔ IsTrue (S.state source.new).has_failed }
     ensures absorbs { Absorbs S.state result

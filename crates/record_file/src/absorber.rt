@@ -14,8 +14,8 @@ use std::marker::Model;
 /// The bytes of the awaited part that came with earlier pieces. No part is longer than a record of a report.
 type Part = ArrayVec<u8, RECORD_LEN>;
 
-/// Reads a file piece by piece. Judges each record once its last byte is there: where it lies, or put together here if
-/// it was cut. Takes no memory of its own.
+/// Reads a file piece by piece. Judges each record once its last byte is there. Judges it in the piece if it is whole
+/// there, and otherwise puts it together first. Takes no memory of its own.
 #[derive(Drop)]
 pub struct Absorber {
     awaited: Result<Awaited, FileFault>,
@@ -41,14 +41,14 @@ impl Absorber {
         }
     }
 
-    /// Adds to the store what the header and the records completed by `piece` say.
+    /// Adds to the store what the header and the records that `piece` completes contain.
     ///
     /// # Errors
     ///
-    /// Returns `Magic` if the file's first 8 bytes are no magic, `BadFloor` for its header, `BadReport`, `BadCell`,
-    /// `CellOrder` or `Memory` for the first record with such a fault, and `TooLong` at the 2^40th byte if no fault
-    /// comes before. The store then holds the floor and the records before the fault. Every later call returns this
-    /// error and changes nothing.
+    /// Returns `Magic` if the first 8 bytes are not a magic, and `BadFloor` if the header is bad. Returns `BadReport`,
+    /// `BadCell` or `CellOrder` if a record has such a fault, and `Memory` if memory runs out at a record. Returns
+    /// `TooLong` at the 2^40th byte. The first fault counts. The store then holds the floor and the records before the
+    /// fault. Every later call returns this error and changes nothing.
     pub fn feed(&mut self, piece: &[u8], store: &mut Store) -> Result<(), FileFault>
         ensures feeds { FeedsPiece self.old piece.now result self.new store.old store.new }
     {
@@ -67,8 +67,8 @@ impl Absorber {
     ///
     /// # Errors
     ///
-    /// Returns the fault that `feed` returned, `Magic` for fewer than 8 bytes, and `Truncated` within a header or a
-    /// record.
+    /// Returns the fault that `feed` returned, if it did. Otherwise returns `Magic` if there were fewer than 8 bytes,
+    /// and `Truncated` if the file ends within a header or a record.
     pub fn finish(self) -> Result<(), FileFault>
         ensures finishes { Finishes self result }
     {
@@ -80,7 +80,7 @@ impl Absorber {
     }
 }
 
-/// Takes the bytes of a piece up to the file's 2^40th, and returns what is awaited behind them.
+/// Takes the bytes of a piece up to the file's 2^40th byte, and returns what is awaited after them.
 fn take_piece(
     awaited: Awaited,
     part: &mut Part,
@@ -107,7 +107,7 @@ fn take_piece(
     Ok(next)
 }
 
-/// Takes the bytes that belong to the awaited part. Returns what is awaited behind them, and their number.
+/// Takes the bytes that belong to the awaited part. Returns what is awaited after them, and their number.
 fn take_front(
     awaited: Awaited,
     part: &mut Part,

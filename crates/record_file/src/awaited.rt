@@ -1,4 +1,4 @@
-//! What an absorber waits for.
+//! The part of a file that an absorber waits for.
 ghost use Rattle.std.specs.Prelude.{◌≡◌, length, None};
 ghost use Rattle.record_file.specs.Feeding.{TakesAwaited, behind_magic as behind_magic_of};
 ghost use Rattle.record_file.specs.Head.{format_in};
@@ -13,7 +13,7 @@ use fact_store::{Key, Store};
 #[derive(Clone, Copy)]
 pub(crate) enum Awaited {
     Magic,
-    /// The header behind the magic of a store file that has a floor.
+    /// The header after the magic of a store file that has a floor.
     Header,
     /// The record at this index. `last` is the key of the cell before it.
     Record {
@@ -65,7 +65,7 @@ impl Awaited {
         }
     }
 
-    /// Judges the part, adds to the store what it says, and returns what is awaited behind it.
+    /// Judges the part, adds what it contains to the store, and returns what is awaited after it.
     pub(crate) fn absorb(self, bytes: &[u8], store: &mut Store) -> Result<Awaited, FileFault>
         requires whole { length bytes.now ≡ awaited_size self }
         requires in_reach { offset_of self < 2 ^ 40 }
@@ -91,7 +91,7 @@ impl Awaited {
     }
 }
 
-/// Returns what is awaited behind the magic `front`.
+/// Returns what is awaited after the magic `front`.
 fn behind_magic(front: &[u8]) -> Result<Awaited, FileFault>
     requires { length front.now ≡ 8 }
     ensures { result ≡ behind_magic_of (format_in front.now) }
@@ -107,7 +107,8 @@ fn behind_magic(front: &[u8]) -> Result<Awaited, FileFault>
     }
 }
 
-/// Raises the store's floor to the floor of a header, and returns what is awaited behind the header.
+/// Raises the store's floor to the floor of a header, and returns what is awaited after the header. Returns `BadFloor`
+/// if the bytes are not a header.
 fn absorb_header(bytes: &[u8], store: &mut Store) -> Result<Awaited, FileFault>
     requires { length bytes.now ≡ 8 }
     ensures takes { TakesAwaited Awaited.Header bytes.now result store.old store.new }

@@ -33,7 +33,7 @@ fn write_key<W: Sink>(sink: &mut W, key: &Key) -> Result<(), WriteFault>
     write_subject(sink, key)
 }
 
-/// Writes what a fact says.
+/// Writes the value of a fact.
 fn write_value<W: Sink>(sink: &mut W, value: &Value) -> Result<(), WriteFault>
     ensures writes { Writes W.written W.has_failed result sink.old sink.new (value_text value.now) }
 {
@@ -93,7 +93,7 @@ pub fn write_cell<W: Sink>(sink: &mut W, cell: &Sighting) -> Result<(), WriteFau
     }
 }
 
-/// Writes the line of a floor over 1: `floor`, and its generation. Writes nothing for floor 1.
+/// Writes the line of a floor over 1: `floor`, and its generation. Writes no bytes for floor 1.
 fn write_floor<W: Sink>(sink: &mut W, floor: Generation) -> Result<(), WriteFault>
     ensures writes { Writes W.written W.has_failed result sink.old sink.new (floor_line floor) }
 {
@@ -106,8 +106,8 @@ fn write_floor<W: Sink>(sink: &mut W, floor: Generation) -> Result<(), WriteFaul
     sink.write(b"\n")
 }
 
-/// Writes the line of the floor, if it is over 1, and the line of each cell, in the order of keys, and flushes. Takes
-/// no memory.
+/// Writes the line of the floor, if it is over 1, and the line of each cell in the order of keys, and flushes. Takes no
+/// memory.
 pub fn write_facts<W: Sink>(sink: &mut W, store: &Store) -> Result<(), WriteFault>
     ensures writes { Writes W.written W.has_failed result sink.old sink.new (facts_text store.now) }
     ensures flushed { OnOk result (IsTrue (W.is_flushed sink.new)) }

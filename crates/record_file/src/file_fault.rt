@@ -7,7 +7,7 @@ use thiserror::Error;
 /// Why a file was not read whole. Offsets count bytes, and indices count records, from 0.
 #[derive(Clone, Copy, Debug, PartialEq, Eq, Error)]
 pub enum FileFault {
-    /// There are fewer than 8 bytes, or the first 8 are no magic.
+    /// There are fewer than 8 bytes, or the first 8 bytes are not a magic.
     #[error("bad magic")]
     Magic,
     /// The input ends within the header or the record that begins at this offset.
@@ -24,10 +24,10 @@ pub enum FileFault {
     Read,
     #[error("out of memory")]
     Memory,
-    /// 2^40 bytes were read without an end, or 2^40 calls made that gave bytes or were interrupted.
+    /// 2^40 bytes were read without an end, or 2^40 calls were made that gave bytes or were interrupted.
     #[error("too long")]
     TooLong,
-    /// The header of a store file has floor 0, or a byte other than 0 behind its floor.
+    /// The header of a store file has floor 0, or a byte other than 0 after its floor.
     #[error("bad floor")]
     BadFloor,
 }
@@ -48,7 +48,7 @@ impl From<PieceFault> for FileFault {
 impl FileFault {
     ghost use Rattle.record_file.specs.FileFault.{fault_words, fault_number, fault_of_report, is_of_file};
 
-    /// Returns the fault's text up to its number, if it has one.
+    /// Returns the fault's text up to its number, or the whole text if it has none.
     pub fn words(&self) -> &'static str
         ensures { result.now ≡ fault_words self.now }
     {
@@ -65,7 +65,7 @@ impl FileFault {
         }
     }
 
-    /// Returns the offset, or the index of the record, if the fault has one.
+    /// Returns the offset or the index of the record, or `None` if the fault has neither.
     pub fn number(&self) -> Option<u64>
         ensures { result ≡ fault_number self.now }
     {
@@ -78,7 +78,7 @@ impl FileFault {
         }
     }
 
-    /// Returns the fault of the report, if the fault is `BadReport`.
+    /// Returns the fault of the report if the fault is `BadReport`, and `None` otherwise.
     pub fn report_fault(&self) -> Option<ReportFault>
         ensures { result ≡ fault_of_report self.now }
     {
@@ -88,7 +88,7 @@ impl FileFault {
         }
     }
 
-    /// Returns whether the fault lies with the file: `false` for `Memory` only.
+    /// Returns whether the fault lies with the file. This is `false` only for `Memory`.
     pub fn is_of_file(&self) -> bool
         ensures { result ≡ is_of_file self.now }
     {

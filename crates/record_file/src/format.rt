@@ -1,9 +1,9 @@
-//! The formats of files. The head of a file says which one it has.
+//! The formats of files. The head of a file gives its format.
 use crate::head::{HEADER_LEN, MAGIC_LEN};
 use crate::{report_record, store_file};
 use smp_bytes::Generation;
 
-/// The format of a file: what its records are.
+/// The format of a file, which determines its records.
 #[derive(Clone, Copy)]
 pub(crate) enum Format {
     /// Reports, in order of arrival.

@@ -1,4 +1,4 @@
-//! Laws of reading files. None of these functions is called: only their contracts count.
+//! Laws of reading files. None of these functions is called. Only their contracts count.
 
 ghost use Rattle.record_file.specs.StoreLaws.{AbsorbingReadsBack, FactsAreReadBack, FactsHaveOneSpelling};
 ghost use Rattle.record_file.specs.StoreLaws.{RecordsAreSpellings, StoreFilesAreAccepted};
@@ -19,22 +19,22 @@ pub fn truncation_is_told()
     ensures { TruncationIsTold }
 {}
 
-/// A file is rejected for its first bad record, with that record's index, if the record ends within 2^40 bytes.
+/// If the first bad record of a file ends within 2^40 bytes, the file is rejected for it, with its index.
 pub fn first_bad_record_is_told()
     ensures { FirstBadRecordIsTold }
 {}
 
-/// A record of a report file spells a report exactly if it is what is written for that report.
+/// A record of a report file spells a report exactly if its bytes are those that are written for that report.
 pub fn reports_have_one_spelling()
     ensures { ReportsHaveOneSpelling }
 {}
 
-/// A file of reports is accepted exactly if it is the magic with good reports behind it, in fewer than 2^40 bytes.
+/// A file of reports is accepted exactly if it is the magic followed by good reports, in fewer than 2^40 bytes.
 pub fn report_files_are_accepted()
     ensures { ReportFilesAreAccepted }
 {}
 
-/// A record of a store file spells a sighting exactly if it is what is written for that sighting.
+/// A record of a store file spells a sighting exactly if its bytes are those that are written for that sighting.
 pub fn records_are_spellings()
     ensures { RecordsAreSpellings }
 {}
@@ -45,12 +45,12 @@ pub fn store_files_are_accepted()
     ensures { StoreFilesAreAccepted }
 {}
 
-/// A store file of facts is read back as these facts, with their floor; if it has no floor, as facts at floor 1.
+/// A store file of facts is read back as these facts, at its floor or, if it has none, at floor 1.
 pub fn facts_are_read_back()
     ensures { FactsAreReadBack }
 {}
 
-/// Two store files are equal if they are accepted, have a floor in their heads, and say equal facts.
+/// If two store files are accepted, have a floor in their heads, and contain equal facts, they are equal.
 pub fn facts_have_one_spelling()
     ensures { FactsHaveOneSpelling }
 {}
@@ -60,12 +60,12 @@ pub fn absorbing_reads_back<S: Source>()
     ensures { AbsorbingReadsBack S.state }
 {}
 
-/// A file that comes in pieces is read as if it came whole, if no piece runs out of memory.
+/// If no piece runs out of memory, a file that comes in pieces is read as if it came whole.
 pub fn pieces_are_read()
     ensures { PiecesAreRead }
 {}
 
-/// It does not matter where a file is cut into pieces, if no piece runs out of memory.
+/// If no piece runs out of memory, it does not matter where a file is cut into pieces.
 pub fn cuts_change_nothing()
     ensures { CutsChangeNothing }
 {}

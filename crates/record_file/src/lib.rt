@@ -1,4 +1,4 @@
-//! Files of reports and of a store's cells: how they are read and written.
+//! Reading and writing of files of reports and of a store's cells.
 #![tactic(auto)]
 
 mod absorb_all;

@@ -12,8 +12,8 @@ use crate::store_file::cell_of;
 use fact_store::{Cell, IngestFault, Key, ReportFault, Store, Value};
 use smp_bytes::Generation;
 
-/// Adds to the store what a record says. Returns the key of its cell, or `None` for a report. `last` is the key of the
-/// cell before it.
+/// Adds what a record contains to the store. Returns the key of its cell, or `None` for a report. `last` is the key of
+/// the cell before it.
 pub(crate) fn absorb_record(
     format: Format,
     last: Option<Key>,
@@ -93,7 +93,7 @@ fn is_after(key: &Key, last: &Option<Key>) -> bool
     }
 }
 
-/// Returns whether a cell is at the floor of the header or above it; `true` if there is no header.
+/// Returns whether a cell is at `floor`, the floor of the header, or above it. Returns `true` if `floor` is `None`.
 fn is_at_told(floor: Option<Generation>, cell: &Cell<Value>) -> bool
     ensures { result ≡ is_at_floor_told floor cell.now }
 {

@@ -17,11 +17,11 @@ use smp_bytes::{Generation, Guid, Lid, PortNum};
 /// The number of bytes of a record: kind, state, port, a zero byte, generation, GUID and 16 value bytes.
 pub(crate) const RECORD_LEN: usize = 32;
 
-/// The number of value bytes of a record. They are 0 behind the value, and all 0 for a disputed cell.
+/// The number of value bytes of a record. The bytes after the value are 0. All are 0 for a disputed cell.
 const VALUE_LEN: usize = 16;
 
-/// Writes a store file of all that the store holds, its floor and then a record for each cell, in the order of keys,
-/// and flushes. Takes no memory of its own. If a write fails, how much was written is unspecified.
+/// Writes the store file of all that the store holds, which is its floor and a record for each cell in the order of
+/// keys, and flushes. Takes no memory of its own. If a write fails, how much was written is unspecified.
 pub fn write_store<W: Sink>(sink: &mut W, store: &Store) -> Result<(), WriteFault>
     ensures writes { Writes W.written W.has_failed result sink.old sink.new
         (store_bytes store.now.floor (cells_of store.now)) }
@@ -106,8 +106,8 @@ pub(crate) fn cell_of(bytes: &[u8]) -> Option<Sighting>
     }
 }
 
-/// Returns the cell that a record spells, if any. Does not check the bytes that have to be 0, and takes each state byte
-/// other than 1 as disputed.
+/// Returns the cell that a record spells, or `None` if it spells none. Does not check the bytes that have to be 0, and
+/// takes each state byte other than 1 as disputed.
 fn sighting_in(bytes: &[u8]) -> Option<Sighting>
     requires { length bytes.now ≡ 32 }
     ensures { result ≡ option_and_then if_sighting (candidate bytes.now) }
@@ -139,7 +139,7 @@ fn key_of(kind: u8, guid: u64, port: u8) -> Option<Key>
     }
 }
 
-/// Returns the value of the key's kind in these bytes, or `None` if they have a reserved node type.
+/// Returns the value of the kind of `key` in these bytes, or `None` if they have a reserved node type.
 fn value_of(key: &Key, bytes: &[u8]) -> Option<Value>
     requires { length bytes.now ≡ 16 }
     ensures { result ≡ value_in key.now bytes.now }

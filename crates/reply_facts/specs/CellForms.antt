@@ -73,11 +73,12 @@ disputed_form (Port guid port) = DisputedPort
 disputed_form (Claim guid port) = DisputedClaim
 disputed_form (Cap guid) = DisputedRoom
 
+-- the form of a cell with its key
 abbrev pub form_of : Key → Cell Value → CellForm
 form_of key (Known generation value) = known_form value
 form_of key (Disputed generation) = disputed_form key
 
--- the GUID of a value, or 0 if it has none
+-- the GUID of a value; 0 if it has none
 abbrev pub value_guid : Value → ℕ
 value_guid (Kind kind ports) = 0
 value_guid (Guid guid) = guid
@@ -86,7 +87,7 @@ value_guid (Up up) = 0
 value_guid (Lid lid) = 0
 value_guid (Count count) = 0
 
--- the number of a value besides a GUID, or 0 if it has none
+-- the number of a value besides a GUID; 0 if it has none
 abbrev pub value_number : Value → ℕ
 value_number (Kind kind ports) = ports
 value_number (Guid guid) = 0
@@ -95,15 +96,17 @@ value_number (Up up) = 0
 value_number (Lid lid) = lid
 value_number (Count count) = count
 
+-- the GUID of a cell's value; 0 if it has none
 abbrev pub other_of : Cell Value → ℕ
 other_of (Known generation value) = value_guid value
 other_of (Disputed generation) = 0
 
+-- the number of a cell's value; 0 if it has none
 abbrev pub number_of : Cell Value → ℕ
 number_of (Known generation value) = value_number value
 number_of (Disputed generation) = 0
 
--- parts that the cell and the key do not have are 0, so a cell is spelled in only one way
+-- the parts that the cell and the key do not have are 0, and thus a cell is spelled in only one way
 pub record IsSpelled (form : CellForm) (guid other generation number port : ℕ) : Type 0 where
   pub other_is : other_of (cell_in form generation other number) ≡ other
   pub number_is : number_of (cell_in form generation other number) ≡ number

@@ -1,4 +1,4 @@
--- What keys are made of, and their order: by kind, GUID and port.
+-- The parts of keys, and their order: by kind, GUID and port.
 use Rattle.std.specs.Prelude.{ℕ, Bool, true, List, [], ◌∷◌, Option, None, Some, codes}
 use Rattle.std.specs.declared.cmp.Ordering.{Ordering}
 use Rattle.std.specs.Ordering.{nat_cmp, is_lt}
@@ -24,6 +24,7 @@ kind_word (Port guid port) = codes "port"
 kind_word (Claim guid port) = codes "claim"
 kind_word (Cap guid) = codes "cap"
 
+-- the GUID of the key's node
 abbrev pub key_guid : Key → ℕ
 key_guid (Node guid) = guid
 key_guid (PortGuid guid port) = guid
@@ -32,7 +33,7 @@ key_guid (Port guid port) = guid
 key_guid (Claim guid port) = guid
 key_guid (Cap guid) = guid
 
--- the port, or 0 if the key has none
+-- the port of a key; 0 if it has none
 abbrev pub key_port : Key → ℕ
 key_port (Node guid) = 0
 key_port (PortGuid guid port) = port
@@ -41,6 +42,7 @@ key_port (Port guid port) = port
 key_port (Claim guid port) = port
 key_port (Cap guid) = 0
 
+-- the numbers by which keys are ordered: kind, GUID and port
 abbrev pub key_numbers : Key → List ℕ
 key_numbers key = key_kind key ∷ key_guid key ∷ key_port key ∷ []
 
@@ -48,12 +50,12 @@ key_numbers key = key_kind key ∷ key_guid key ∷ key_port key ∷ []
 abbrev pub key_cmp : Key → Key → Ordering
 key_cmp a b = slice_cmp nat_cmp (key_numbers a) (key_numbers b)
 
--- whether `key` comes after `low`, if that is given
+-- whether `key` comes after `low`; true if `low` is None
 abbrev pub is_above : Option Key → Key → Bool
 is_above None key = true
 is_above (Some low) key = is_lt (key_cmp low key)
 
--- whether `key` comes before `high`, if that is given
+-- whether `key` comes before `high`; true if `high` is None
 abbrev pub is_below : Option Key → Key → Bool
 is_below None key = true
 is_below (Some high) key = is_lt (key_cmp key high)

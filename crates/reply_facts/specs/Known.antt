@@ -1,4 +1,4 @@
--- What the cells of facts say of a node or a port, if they say one value.
+-- What the cells of facts contain about a node or a port, if they have one value.
 use Rattle.std.specs.Prelude.{ℕ, Bool, List, Option, None, Some}
 use Rattle.std.specs.FinMap.{find}
 use Rattle.smp_bytes.specs.declared.node_type.NodeType.{NodeType}
@@ -10,64 +10,70 @@ use Rattle.reply_facts.specs.declared.value.Value.{Value}
 use Rattle.reply_facts.specs.declared.value.Value.TheVariants.{Kind, Guid, Peer, Up, Lid, Count}
 use Rattle.reply_facts.specs.Key.{key_cmp}
 
--- the value of a cell, if there is a cell and it is known
+-- the value of a cell; None if there is no cell or it is disputed
 abbrev pub value_in : Option (Cell Value) → Option Value
 value_in None = None
 value_in (Some (Known generation value)) = Some value
 value_in (Some (Disputed generation)) = None
 
--- the known value of the key
+-- the known value of the key; None if there is none
 abbrev pub known_in : List (Key × Cell Value) → Key → Option Value
 known_in cells key = value_in (find key_cmp key cells)
 
 -- the parts of a value of each kind: -------------------------------------------------
 
+-- the type and the number of ports; None if the value is of another kind
 abbrev pub kind_in : Option Value → Option (NodeType × ℕ)
 kind_in (Some (Kind kind ports)) = Some (kind, ports)
 kind_in _ = None
 
+-- the GUID; None if the value is of another kind
 abbrev pub guid_in : Option Value → Option ℕ
 guid_in (Some (Guid guid)) = Some guid
 guid_in _ = None
 
+-- the node and the port; None if the value is of another kind
 abbrev pub peer_in : Option Value → Option (ℕ × ℕ)
 peer_in (Some (Peer guid port)) = Some (guid, port)
 peer_in _ = None
 
+-- whether the port is up; None if the value is of another kind
 abbrev pub up_in : Option Value → Option Bool
 up_in (Some (Up up)) = Some up
 up_in _ = None
 
+-- the LID; None if the value is of another kind
 abbrev pub lid_in : Option Value → Option ℕ
 lid_in (Some (Lid lid)) = Some lid
 lid_in _ = None
 
+-- the count; None if the value is of another kind
 abbrev pub count_in : Option Value → Option ℕ
 count_in (Some (Count count)) = Some count
 count_in _ = None
 
 -- what is known of a node or a port: --------------------------------------------------
 
--- the type of a node and the number of its ports
+-- the type of node g and the number of its ports; None if they are not known
 abbrev pub node_of : List (Key × Cell Value) → ℕ → Option (NodeType × ℕ)
 node_of cells g = kind_in (known_in cells (Node g))
 
--- the GUID of a port
+-- the GUID of port p of node g; None if it is not known
 abbrev pub port_guid_of : List (Key × Cell Value) → ℕ → ℕ → Option ℕ
 port_guid_of cells g p = guid_in (known_in cells (PortGuid g p))
 
--- the node and the port at the other end of a link
+-- the node and the port at the other end of a link; None if they are not known
 abbrev pub link_of : List (Key × Cell Value) → ℕ → ℕ → Option (ℕ × ℕ)
 link_of cells g p = peer_in (known_in cells (Link g p))
 
--- whether a port is up, if that is known
+-- whether a port is up; None if that is not known
 abbrev pub up_of : List (Key × Cell Value) → ℕ → ℕ → Option Bool
 up_of cells g p = up_in (known_in cells (Port g p))
 
--- the LID that a port claims
+-- the LID that a port claims; None if it is not known
 abbrev pub claim_of : List (Key × Cell Value) → ℕ → ℕ → Option ℕ
 claim_of cells g p = lid_in (known_in cells (Claim g p))
 
--- the room of a switch's linear forwarding table
+-- the room of a switch's linear forwarding table; None if it is not known
 abbrev pub cap_of : List (Key × Cell Value) → ℕ → Option ℕ
 cap_of cells g = count_in (known_in cells (Cap g))

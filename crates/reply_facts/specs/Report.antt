@@ -1,4 +1,4 @@
--- What a report says: its first fault, or the facts that it tells of the node that answered. InfiniBand Architecture
+-- The contents of a report: its first fault, or the facts about the node that answered. InfiniBand Architecture
 -- Specification, Volume 1: subnet management, NodeInfo, PortInfo and SwitchInfo; directed route SMPs.
 use Rattle.std.specs.Prelude.{ℕ, Bool, false, ◌&&◌, ◌||◌, not, List, [], ◌∷◌, nat_lt, nat_le, ◌==◌, if◌then◌else◌, Option, Some, None, is_some, option_map}
 use Rattle.smp_bytes.specs.declared.node_type.NodeType.{NodeType}
@@ -26,12 +26,12 @@ use Rattle.reply_facts.specs.declared.value.Value.TheVariants.{Kind, Guid, Peer,
 
 -- faults ------------------------------------------------------------------------------
 
--- the first of two faults
+-- the first of two faults; None if there is none
 abbrev pub or_else : Option ReportFault → Option ReportFault → Option ReportFault
 or_else None next = next
 or_else (Some first) next = Some first
 
--- the first reason why the packet is not a successful answer on a directed route
+-- the first reason why the packet is not a successful answer on a directed route; None if it is one
 abbrev pub answer_fault : List ℕ → Option ReportFault
 answer_fault packet =
     if not (is_directed packet) then Some fault.Class
@@ -40,59 +40,64 @@ answer_fault packet =
     else if not (status packet == done) then Some fault.Status
     else None
 
--- the context fits an answer of NodeInfo: `Start` for the sender's own node, over no hop, and `Via` for another node
+-- whether the context fits an answer of NodeInfo over `hops` hops: `Start` fits the sender's own node, over no hop, and
+-- `Via` another node
 abbrev pub fits_node_info : Context → ℕ → Bool
 fits_node_info Start hops = hops == 0
 fits_node_info (Via guid port) hops = nat_lt 0 hops
 fits_node_info (About guid) hops = false
 
--- only the manager's own node can be asked through port 0, and only if it is a switch
+-- whether a node of this type can be asked through this port; only the manager's own node can be asked through port 0,
+-- and only if it is a switch
 abbrev pub may_be_asked_by : Context → NodeType → ℕ → Bool
 may_be_asked_by Start kind port = is_switch kind || nat_lt 0 port
 may_be_asked_by (Via guid via) kind port = nat_lt 0 port && is_cabled_port via
 may_be_asked_by (About guid) kind port = nat_lt 0 port
 
+-- whether the ports in an answer of NodeInfo are in range
 abbrev pub are_ports_in_range : Context → NodeType → NodeInfo → Bool
 are_ports_in_range context kind info =
     is_cabled_port info.num_ports && nat_le info.local_port_num info.num_ports
     && may_be_asked_by context kind info.local_port_num
 
--- the fault of an answer of NodeInfo: a reserved type, or a port out of range
+-- the fault of an answer of NodeInfo: a reserved type, or a port out of range; None if it has none
 abbrev pub kind_fault : Context → NodeInfo → Option NodeType → Option ReportFault
 kind_fault context info None = Some fault.NodeType
 kind_fault context info (Some kind) = if are_ports_in_range context kind info then None else Some fault.Port
 
+-- the NodeInfo that a packet carries
 abbrev pub node_info_of : List ℕ → NodeInfo
 node_info_of packet = node_info_in (bytes_in attribute_data packet)
 
+-- the fault of an answer of NodeInfo; None if it has none
 abbrev pub node_info_fault : Context → List ℕ → Option ReportFault
 node_info_fault context packet =
     if not (fits_node_info context (number_in hop_count packet)) then Some fault.Context
     else kind_fault context (node_info_of packet) (type_of_number (node_info_of packet).node_type)
 
--- the node and the port that the request's path leads out of last
+-- the node and the port that the request's path leaves last; None if the context has none
 abbrev pub via_of : Context → Option (ℕ × ℕ)
 via_of Start = None
 via_of (Via guid port) = Some (guid, port)
 via_of (About guid) = None
 
--- the node that the reply is about
+-- the node that the reply is about; None if the context does not name it
 abbrev pub about_of : Context → Option ℕ
 about_of Start = None
 about_of (Via guid port) = None
 about_of (About guid) = Some guid
 
--- PortInfo and SwitchInfo are about a node that is known already
+-- the fault if the context does not name the node, as PortInfo and SwitchInfo need
 abbrev pub about_fault : Context → Option ReportFault
 about_fault context = if is_some (about_of context) then None else Some fault.Context
 
--- the fault of an answer of PortInfo, whose modifier is the port
+-- the fault of an answer of PortInfo, whose modifier is the port; None if it has none
 abbrev pub port_info_fault : Context → List ℕ → Option ReportFault
 port_info_fault context packet =
     or_else (about_fault context) (if nat_lt 254 (number_in attribute_modifier packet) then Some fault.Modifier else
     None)
 
--- the fault of an answer, by the attribute that it carries
+-- the fault of an answer, by the attribute that it carries; None if it has none
 abbrev pub attribute_fault : Context → List ℕ → Option ReportFault
 attribute_fault context packet =
     if number_in attribute_id packet == node_info then node_info_fault context packet
@@ -100,15 +105,15 @@ attribute_fault context packet =
     else if number_in attribute_id packet == switch_info then about_fault context
     else Some fault.Attribute
 
--- the first fault of the packet of an answer
+-- the first fault of the packet of an answer; None if it has none
 abbrev pub packet_fault : List ℕ → Option ReportFault
 packet_fault packet = or_else (option_map fault.Smp (fault_of packet)) (answer_fault packet)
 
--- the first fault of a packet that came as a reply
+-- the first fault of a packet that came as a reply; None if it has none
 abbrev pub reply_fault : Context → List ℕ → Option ReportFault
 reply_fault context packet = or_else (answer_fault packet) (attribute_fault context packet)
 
--- the first fault of a report
+-- the first fault of a report; None if it has none
 abbrev pub report_fault : Report → Option ReportFault
 report_fault report =
     if report.generation == 0 then Some fault.Generation
@@ -119,11 +124,11 @@ report_fault report =
 abbrev pub Sightings : Type 0
 Sightings = List (Key × Cell Value)
 
--- the port whose GUID is in NodeInfo: port 0 of a switch, otherwise the port that was asked
+-- the port whose GUID is in NodeInfo: port 0 of a switch, and otherwise the port that was asked
 abbrev pub guid_port : NodeType → ℕ → ℕ
 guid_port kind local_port = if is_switch kind then 0 else local_port
 
--- the link between the port that was asked and the port before it on the path, from both ends
+-- the link between the port that was asked and the port before it on the path, in both directions
 abbrev pub sightings_of_link : ℕ → Context → NodeInfo → Sightings
 sightings_of_link generation (Via peer port) info =
     (Link info.node_guid info.local_port_num, Known generation (Peer peer port)) ∷
@@ -131,6 +136,7 @@ sightings_of_link generation (Via peer port) info =
 sightings_of_link generation Start info = []
 sightings_of_link generation (About guid) info = []
 
+-- the facts of NodeInfo about a node of this type; none if its type is reserved
 abbrev pub sightings_of_kind : ℕ → Context → NodeInfo → Option NodeType → Sightings
 sightings_of_kind generation context info None = []
 sightings_of_kind generation context info (Some kind) =
@@ -138,12 +144,12 @@ sightings_of_kind generation context info (Some kind) =
     ∷ (PortGuid info.node_guid (guid_port kind info.local_port_num), Known generation (Guid info.port_guid))
     ∷ sightings_of_link generation context info
 
--- a node's type and port count, a port's GUID, and the link over which the request came
+-- the facts of NodeInfo: a node's type and port count, a port's GUID, and the link over which the request came
 abbrev pub sightings_by_node_info : ℕ → Context → List ℕ → Sightings
 sightings_by_node_info generation context packet =
     sightings_of_kind generation context (node_info_of packet) (type_of_number (node_info_of packet).node_type)
 
--- Initialize, Armed and Active are up; Down, NoChange and reserved numbers are not
+-- whether a state is up; Initialize, Armed and Active are, and Down, NoChange and reserved numbers are not
 abbrev pub is_up_state : ℕ → Bool
 is_up_state state = nat_le 2 state && nat_le state 4
 
@@ -151,7 +157,7 @@ is_up_state state = nat_le 2 state && nat_le state 4
 abbrev pub payload_of : List ℕ → List ℕ
 payload_of packet = bytes_in attribute_data packet
 
--- whether a port of the node is up, and the LID that it claims
+-- the facts of PortInfo: whether a port of the node is up, and the LID that it claims
 abbrev pub sightings_by_port_info : ℕ → Context → List ℕ → Sightings
 sightings_by_port_info generation (About node) packet = (
   Port node (number_in attribute_modifier packet),
@@ -166,13 +172,14 @@ sightings_by_port_info generation (About node) packet = (
 sightings_by_port_info generation Start packet = []
 sightings_by_port_info generation (Via guid port) packet = []
 
--- how many LIDs the switch's forwarding table has room for
+-- the fact of SwitchInfo: how many LIDs the switch's forwarding table has room for
 abbrev pub sightings_by_switch_info : ℕ → Context → List ℕ → Sightings
 sightings_by_switch_info generation (About node) packet =
     (Cap node, Known generation (Count (number_in linear_fdb_cap (payload_of packet)))) ∷ []
 sightings_by_switch_info generation Start packet = []
 sightings_by_switch_info generation (Via guid port) packet = []
 
+-- the facts of an answer, by the attribute that it carries
 abbrev pub sightings_by_packet : ℕ → Context → List ℕ → Sightings
 sightings_by_packet generation context packet =
     if number_in attribute_id packet == node_info then sightings_by_node_info generation context packet

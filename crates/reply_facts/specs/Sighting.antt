@@ -1,4 +1,4 @@
--- What a sighting may contain: a key with its parts in range, and a value of the key's kind with its parts in range.
+-- The range of a sighting: a key with its parts in range, and a value of the key's kind with its parts in range.
 use Rattle.std.specs.Prelude.{ℕ, ◌^◌, Bool, true, false, ◌&&◌, nat_le, nat_lt, IsTrue}
 use Rattle.fact_join.specs.declared.cell.Cell.{Cell}
 use Rattle.fact_join.specs.declared.cell.Cell.TheVariants.{Known, Disputed}
@@ -8,19 +8,20 @@ use Rattle.reply_facts.specs.declared.key.Key.TheVariants.{Node, PortGuid, Link,
 use Rattle.reply_facts.specs.declared.value.Value.{Value}
 use Rattle.reply_facts.specs.declared.value.Value.TheVariants.{Kind, Guid, Peer, Up, Lid, Count}
 
--- a port that can have a cable, or a number of ports
+-- whether the number is that of a port that can have a cable, or a possible number of ports
 abbrev pub is_cabled_port : ℕ → Bool
 is_cabled_port port = nat_le 1 port && nat_le port 254
 
--- a port that can have a cable, or a switch's management port
+-- whether the number is that of a port that can have a cable, or of a switch's management port
 abbrev pub is_any_port : ℕ → Bool
 is_any_port port = nat_le port 254
 
--- a GUID has 64 bits
+-- whether the number has at most 64 bits, as a GUID does
 abbrev pub is_guid : ℕ → Bool
 is_guid guid = nat_lt guid (2 ^ 64)
 
--- a key in range: its GUID has 64 bits, and its port is from 1 to 254 for a link, from 0 to 254 for other keys
+-- whether the key is in range: its GUID has 64 bits, and its port is from 1 to 254 for a link, and from 0 to 254 for
+-- other keys
 abbrev pub is_key : Key → Bool
 is_key (Node g) = is_guid g
 is_key (PortGuid g p) = is_guid g && is_any_port p
@@ -29,7 +30,7 @@ is_key (Port g p) = is_guid g && is_any_port p
 is_key (Claim g p) = is_guid g && is_any_port p
 is_key (Cap g) = is_guid g
 
--- the value is of the key's kind, and its parts are in range; a LID and a table's room have 16 bits
+-- whether the value is of the key's kind, with its parts in range; a LID and a table's room have 16 bits
 abbrev pub is_value_of : Key → Value → Bool
 is_value_of (Node g) (Kind kind ports) = is_cabled_port ports
 is_value_of (PortGuid g p) (Guid guid) = is_guid guid
@@ -39,18 +40,19 @@ is_value_of (Claim g p) (Lid lid) = nat_lt lid (2 ^ 16)
 is_value_of (Cap g) (Count count) = nat_lt count (2 ^ 16)
 is_value_of _ _ = false
 
--- the cell fits the key: its value is of the key's kind, or it is disputed
+-- whether the cell fits the key: its value is of the key's kind, or it is disputed
 abbrev pub is_cell_of : Key → Cell Value → Bool
 is_cell_of key (Known generation value) = is_value_of key value
 is_cell_of key (Disputed generation) = true
 
--- a generation is above 0 and has 32 bits
+-- whether the number is a generation: it is above 0 and has 32 bits
 abbrev pub is_generation : ℕ → Bool
 is_generation generation = nat_le 1 generation && nat_lt generation (2 ^ 32)
 
--- the key and the generation are in range, and the cell fits the key
+-- whether the key and the generation are in range, and the cell fits the key
 abbrev pub is_sighting : Key × Cell Value → Bool
 is_sighting s = is_key s.0 && is_generation (generation_of s.1) && is_cell_of s.0 s.1
 
+-- the key and the cell are a sighting, as a statement
 abbrev pub IsSighting : Key × Cell Value → Type 0
 IsSighting s = IsTrue (is_sighting s)

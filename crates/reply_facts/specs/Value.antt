@@ -7,19 +7,19 @@ use Rattle.fact_join.specs.declared.cell.Cell.TheVariants.{Known, Disputed}
 use Rattle.reply_facts.specs.declared.value.Value.{Value}
 use Rattle.reply_facts.specs.declared.value.Value.TheVariants.{Kind, Guid, Peer, Up, Lid, Count}
 
--- an adapter, a switch and a router are three types
+-- whether two node types are equal
 abbrev pub is_same_type : NodeType → NodeType → Bool
 is_same_type ChannelAdapter ChannelAdapter = true
 is_same_type Switch Switch = true
 is_same_type Router Router = true
 is_same_type _ _ = false
 
--- two flags that are both set or both clear
+-- whether two flags are both set or both clear
 abbrev pub is_same_flag : Bool → Bool → Bool
 is_same_flag true b = b
 is_same_flag false b = not b
 
--- values of one kind with equal parts
+-- whether two values are of one kind and have equal parts
 abbrev pub is_same_value : Value → Value → Bool
 is_same_value (Kind a m) (Kind b n) = is_same_type a b && m == n
 is_same_value (Guid a) (Guid b) = a == b
@@ -29,7 +29,7 @@ is_same_value (Lid a) (Lid b) = a == b
 is_same_value (Count a) (Count b) = a == b
 is_same_value _ _ = false
 
--- known at one generation with equal values, or disputed at one generation
+-- whether two cells are equal: known at one generation with equal values, or disputed at one generation
 abbrev pub is_same_cell : Cell Value → Cell Value → Bool
 is_same_cell (Known g a) (Known h b) = g == h && is_same_value a b
 is_same_cell (Known g a) (Disputed h) = false

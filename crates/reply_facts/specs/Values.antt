@@ -10,20 +10,20 @@ use Rattle.reply_facts.specs.declared.value.Value.{Value}
 use Rattle.reply_facts.specs.declared.value.Value.TheVariants.{Kind, Guid, Peer, Up, Lid, Count}
 use Rattle.reply_facts.specs.Value.{is_same_type, is_same_flag, is_same_value, is_same_cell}
 
--- types that the test calls equal are equal
+-- if the test calls two types equal, they are equal
 same_type_exact : (a b : NodeType) → is_same_type a b ≡ true → a ≡ b
 same_type_exact ChannelAdapter ChannelAdapter e = refl
 same_type_exact Switch Switch e = refl
 same_type_exact Router Router e = refl
 same_type_exact _ _ e = absurd (cc)
 
--- flags that the test calls equal are equal
+-- if the test calls two flags equal, they are equal
 same_flag_exact : (a b : Bool) → is_same_flag a b ≡ true → a ≡ b
 same_flag_exact true true e = refl
 same_flag_exact false false e = refl
 same_flag_exact _ _ e = absurd (cc)
 
--- values that the test calls equal are equal
+-- if the test calls two values equal, they are equal
 pub same_value_exact : (a b : Value) → is_same_value a b ≡ true → a ≡ b
 same_value_exact (Kind a m) (Kind b n) e = let p =
     and_parts (is_same_type a b) (m == n) e in cc (same_type_exact a b p.0, eqb-true m n p.1)
@@ -71,7 +71,7 @@ exact_equiv same exact itself =
 pub same_value_equiv : IsEquivalence is_same_value
 same_value_equiv = exact_equiv is_same_value same_value_exact same_value_itself
 
--- cells that the test calls equal are equal
+-- if the test calls two cells equal, they are equal
 pub same_cell_exact : (a b : Cell Value) → is_same_cell a b ≡ true → a ≡ b
 same_cell_exact (Known g x) (Known h y) e = let p =
     and_parts (g == h) (is_same_value x y) e in cc (eqb-true g h p.0, same_value_exact x y p.1)

@@ -3,14 +3,14 @@ ghost use Rattle.std.specs.Prelude.{◌≡◌};
 use smp_bytes::{Guid, PortNum};
 use std::cmp::Ordering;
 
-/// What a fact is about. Keys are ordered by kind, in the order of this list, then by GUID and by port.
+/// The subject of a fact. Keys are ordered by kind, in the order of this list, then by GUID and by port.
 #[derive(Clone, Copy, Debug)]
 pub enum Key {
     /// A node, by its GUID.
     Node(Guid),
     /// The GUID of a port of a node.
     PortGuid(Guid, PortNum),
-    /// What a port of a node is cabled to.
+    /// The other end of the cable of a port of a node.
     Link(Guid, PortNum),
     /// Whether a port of a node is up.
     Port(Guid, PortNum),
@@ -23,7 +23,7 @@ pub enum Key {
 impl Key {
     ghost use Rattle.reply_facts.specs.Key.{key_guid, key_kind, key_numbers, key_port, kind_word};
 
-    /// Returns the number of the key's kind, the GUID and the port.
+    /// Returns the number of the key's kind, the GUID and the port. Keys are ordered by these.
     pub(crate) fn sort_key(&self) -> [u64; 3]
         ensures { result ≡ key_numbers self.now }
     {

@@ -1,4 +1,4 @@
-//! Facts of a subnet, each with its key, and the facts that a reply tells.
+//! Facts of a subnet, each with its key, and the facts that a reply contains.
 #![tactic(auto)]
 
 mod cell_form;

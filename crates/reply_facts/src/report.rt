@@ -3,8 +3,8 @@ ghost use Rattle.reply_facts.specs.Sighting.{is_guid};
 
 use smp_bytes::{Guid, PortNum};
 
-/// What a manager knows of the node that a reply came from: that it is the manager's own node, the node and port that
-/// the request's path leads out of last, or the GUID of the node.
+/// What a manager knows about the node that a reply came from. It is the manager's own node, or the node and port that
+/// the request's path leaves last are known, or the GUID of the node is known.
 #[derive(Clone, Copy, Debug, PartialEq, Eq)]
 pub enum Context {
     Start,
@@ -15,19 +15,19 @@ pub enum Context {
 impl Context {
     ghost use Rattle.reply_facts.specs.Report.{about_of, via_of};
 
-    /// Returns the node and the port that the request's path leads out of last, if the context tells them.
+    /// Returns the node and the port that the request's path leaves last, or `None` if the context has none.
     pub(crate) fn via(&self) -> Option<(Guid, PortNum)>
         ensures parts { result ≡ via_of self.now }
         ensures in_range { IfSome result (λ via. IsTrue (is_guid via.0)) }
     {
         match self {
-            // Built from its number, which shows that it has 64 bits.
+            // The GUID is built again from its number, which shows that it has 64 bits.
             Context::Via(node, port) => Some((Guid::new(node.number()), *port)),
             Context::Start | Context::About(_) => None,
         }
     }
 
-    /// Returns the node that the reply is about, if the context names it.
+    /// Returns the node that the reply is about, or `None` if the context does not name it.
     pub(crate) fn about(&self) -> Option<Guid>
         ensures node { result ≡ about_of self.now }
         ensures in_range { IfSome result (λ node. IsTrue (is_guid node)) }

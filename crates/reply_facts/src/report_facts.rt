@@ -1,4 +1,4 @@
-//! What a report tells: its first fault, or the facts of the node that answered.
+//! The contents of a report: its first fault, or the facts of the node that answered.
 ghost use Rattle.std.specs.Prelude.{◌≡◌, true, Some, IfOk, IsTrue};
 ghost use Rattle.smp_bytes.specs.Judges.{Judges};
 ghost use Rattle.smp_bytes.specs.Field.{bits_in};
@@ -20,7 +20,7 @@ use arrayvec::ArrayVec;
 use attr_codec::{Attribute, NodeInfo, PortInfo, PortState, SwitchInfo};
 use smp_bytes::{AttributeId, Generation, Method, NodeType, PortNum, Smp, SmpClass, Status};
 
-/// Returns the facts that a report tells.
+/// Returns the facts that a report contains.
 ///
 /// # Errors
 ///
@@ -38,7 +38,7 @@ pub fn sightings(report: &Report) -> Result<ArrayVec<Sighting, 4>, ReportFault>
     }
 }
 
-/// Returns the facts that the packet of a reply tells.
+/// Returns the facts that the packet of a reply contains.
 ///
 /// # Errors
 ///
@@ -119,8 +119,8 @@ fn sightings_by_node_info(
     }
 }
 
-/// Returns the facts that a node of type `kind` tells: its type and number of ports, a port GUID, and the link over
-/// which the request came, if the context tells its other end.
+/// Returns the facts that an answer of NodeInfo contains about a node of type `kind`: its type and number of ports, a
+/// port GUID, and, if the context has its other end, the link over which the request came.
 fn sightings_of_kind(
     generation: Generation,
     context: &Context,
@@ -174,7 +174,8 @@ fn are_ports_in_range(context: &Context, kind: NodeType, info: &NodeInfo) -> boo
     is_cabled_port(info.num_ports) && asked_by <= info.num_ports && may_be_asked
 }
 
-/// Returns the facts of an answer of PortInfo, or its fault: whether the port is up, and the LID that it claims.
+/// Returns the facts of an answer of PortInfo, which are whether the port is up, and the LID that it claims. Returns
+/// the fault if it has one.
 fn sightings_by_port_info(
     generation: Generation,
     context: &Context,
@@ -202,7 +203,7 @@ fn sightings_by_port_info(
     Ok(sightings)
 }
 
-/// Returns whether the port is up: in Initialize, Armed or Active.
+/// Returns whether the port is up, which it is in Initialize, Armed and Active.
 pub fn is_up(info: &PortInfo) -> bool
     ensures { result ≡ is_up_state (bits_in port_state info.now) }
 {
@@ -212,8 +213,8 @@ pub fn is_up(info: &PortInfo) -> bool
     }
 }
 
-/// Returns the fact of an answer of SwitchInfo, or its fault: how many LIDs the switch's linear forwarding table has
-/// room for.
+/// Returns the fact of an answer of SwitchInfo, which is how many LIDs the switch's linear forwarding table has room
+/// for. Returns the fault if it has one.
 fn sightings_by_switch_info(
     generation: Generation,
     context: &Context,

@@ -44,7 +44,7 @@ pub enum ReportFault {
 impl ReportFault {
     ghost use Rattle.reply_facts.specs.ReportFault.{report_fault_name};
 
-    /// Returns the name that `{}` writes; for `Smp` the name of the packet's fault.
+    /// Returns the name that `{}` writes. For `Smp`, this is the name of the packet's fault.
     pub fn name(self) -> &'static str
         ensures { result.now ≡ report_fault_name self }
     {

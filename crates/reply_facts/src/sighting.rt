@@ -12,7 +12,7 @@ use smp_bytes::{Generation, Guid, Lid, NodeType, PortNum};
 use std::cmp::Ordering;
 use std::marker::Model;
 
-/// A fact as it was told once, or as disputed. Takes 24 bytes, since long lists hold and move sightings.
+/// A fact as it was once reported, or as disputed. Takes 24 bytes, since long lists hold and move sightings.
 #[derive(Clone, Copy, Debug)]
 pub struct Sighting {
     /// The GUID of the key.
@@ -79,7 +79,7 @@ impl Sighting {
         }
     }
 
-    /// Creates a sighting of a value that was told at `generation`.
+    /// Creates a sighting of a value that was reported at `generation`.
     pub(crate) fn known(generation: Generation, key: Key, value: Value) -> Self
         requires { IsSighting (key, Known generation value) }
         ensures { result ≡ (key, Known generation value) }
@@ -102,7 +102,7 @@ impl Sighting {
         }
     }
 
-    /// Returns what the fact is about.
+    /// Returns the key: the subject of the fact.
     pub fn key(&self) -> Key
         ensures value { result ≡ self.now.0 }
         ensures in_range { IsSighting self.now }
@@ -134,7 +134,7 @@ impl Sighting {
         sort_key.cmp(&other.sort_key())
     }
 
-    /// Returns the cell: what was told, and at which generation.
+    /// Returns the cell: the value that was reported or that it is disputed, and the generation.
     pub fn cell(&self) -> Cell<Value>
         ensures value { result ≡ self.now.1 }
         ensures in_range { IsSighting self.now }
@@ -145,7 +145,7 @@ impl Sighting {
         }
     }
 
-    /// Returns the value that was told, or `None` if it is disputed.
+    /// Returns the value that was reported, or `None` if it is disputed.
     pub fn value(&self) -> Option<Value>
         ensures { result ≡ value_in (Some self.now.1) }
     {

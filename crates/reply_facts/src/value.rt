@@ -1,7 +1,7 @@
 use fact_join::Exact;
 use smp_bytes::{Guid, Lid, NodeType, PortNum};
 
-/// What a fact says about its key.
+/// The value of a fact, whose key is its subject.
 #[derive(Clone, Copy, Debug)]
 pub enum Value {
     /// For a node: its type and its number of ports.
@@ -14,7 +14,7 @@ pub enum Value {
     Up(bool),
     /// For a port: the LID that it claims.
     Lid(Lid),
-    /// For a switch: how many LIDs its linear forwarding table has room for.
+    /// For a switch: the number of LIDs that its linear forwarding table has room for.
     Count(u16),
 }
 

@@ -1,5 +1,5 @@
--- What the managers of a world take in while a schedule runs: what each is told, and what those took in whose facts it
--- merges.
+-- What the managers of a world take in while a schedule runs: what each learns, and what the managers took in whose
+-- facts it merges.
 use Rattle.std.specs.Prelude.{◌≡◌, ℕ, zero, suc, max, List, [], ◌∷◌, ◌++◌, slice_get, ◌==◌, if◌then◌else◌, Some, Result, Ok, Err}
 use Rattle.std.specs.Option.{option_map_or}
 use Rattle.fabric_model.specs.declared.cable.NodePort.{NodePort}
@@ -36,17 +36,18 @@ Accounts = ℕ → Account
 abbrev pub opened : Accounts
 opened seat = record { told = []; floor = 1 }
 
--- what was told before and then `more`, at the greater floor
+-- the account `before` and then `more`, at the greater floor
 abbrev pub joined : Account → Account → Account
 joined before more = record { told = before.told ++ more.told; floor = max before.floor more.floor }
 
--- the manager in `seat` takes in more
+-- the accounts once the manager in `seat` has taken in `more`
 abbrev pub with_more : Accounts → ℕ → Account → Accounts
 with_more accounts seat more other = if other == seat then joined (accounts other) more else accounts other
 
 -- packets ----------------------------------------------------------------------------------------
 
--- what a packet tells the manager in `seat`: the sightings of a report that it accepts, and nothing else
+-- the accounts once the manager in `seat` has taken in a packet: the sightings of a report that it accepts, and nothing
+-- else
 abbrev pub told_by_packet : WorldValue → Accounts → Packet → ℕ → Accounts
 told_by_packet w accounts packet seat =
     option_map_or (λ s. with_more accounts seat (record {
@@ -56,10 +57,11 @@ told_by_packet w accounts packet seat =
     }))
     (slice_get w.managers seat) accounts
 
--- a packet that gets to a port is taken in by the manager there
+-- the accounts once a packet has reached a port, where the manager takes it in; unchanged if none sits there
 abbrev pub told_at : WorldValue → Accounts → NodePort → Packet → Accounts
 told_at w accounts p packet = option_map_or (told_by_packet w accounts packet) (seat_at w p) accounts
 
+-- the accounts once a delivery has handed a packet up; unchanged if it has not
 abbrev pub told_by_delivery : WorldValue → Accounts → Result Delivered FabricFault → Accounts
 told_by_delivery w accounts (Ok (delivered_is.ToManager p packet)) = told_at w accounts p packet
 told_by_delivery w accounts (Ok (delivered_is.Moved serial)) = accounts
@@ -67,16 +69,16 @@ told_by_delivery w accounts (Ok (delivered_is.Answered serial)) = accounts
 told_by_delivery w accounts (Ok (delivered_is.Discarded reason)) = accounts
 told_by_delivery w accounts (Err fault) = accounts
 
--- the packet with this serial number takes one step
+-- the accounts once the packet with this serial number has taken one step
 abbrev pub told_by_step : WorldValue → Accounts → ℕ → Accounts
 told_by_step w accounts serial = let called =
     after_deliver w.fabric serial in told_by_delivery (after_fabric_call w called).now accounts called.result
 
--- the packet that is meant takes one step
+-- the accounts once the packet that `which` names has taken one step
 abbrev pub told_by_deliver : WorldValue → Accounts → Which → Accounts
 told_by_deliver w accounts which = option_map_or (told_by_step w accounts) (serial_of w.fabric.flights which) accounts
 
--- the packet with the least serial number takes one step, at most `most` times
+-- the accounts once the packet with the least serial number has taken one step, at most `most` times
 abbrev pub told_by_drain : WorldValue → Accounts → ℕ → Accounts
 told_by_drain w accounts zero = accounts
 told_by_drain w accounts (suc most) =
@@ -85,14 +87,14 @@ told_by_drain w accounts (suc most) =
 
 -- managers ---------------------------------------------------------------------------------------
 
--- the manager in `seat` takes in all that the one in `other` took in
+-- the accounts once the manager in `seat` has taken in all that the manager in `other` took in
 abbrev pub told_by_merge : WorldValue → Accounts → ℕ → ℕ → Accounts
 told_by_merge w accounts seat other =
     option_map_or (λ o. with_more accounts seat (accounts other)) (slice_get w.managers other) accounts
 
 -- lines -------------------------------------------------------------------------------------------
 
--- what the managers took in by a line
+-- the accounts after a line
 abbrev pub told_by_command : WorldValue → Accounts → SeatCommand → Accounts
 told_by_command w accounts (command.Merge seat other) = told_by_merge w accounts seat other
 told_by_command w accounts (command.Floor seat floor) = with_more accounts seat (record { told = []; floor = floor })
@@ -100,7 +102,7 @@ told_by_command w accounts (command.Packet which fate.Deliver) = told_by_deliver
 told_by_command w accounts (command.Drain most) = told_by_drain w accounts most
 told_by_command w accounts command = accounts
 
--- what the managers took in by one line after the other
+-- the accounts after these lines, in turn
 abbrev pub told_by_commands : List Node → WorldValue → Accounts → List SeatCommand → Accounts
 told_by_commands nodes w accounts [] = accounts
 told_by_commands nodes w accounts (command ∷ later) =

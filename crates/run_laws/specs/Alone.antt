@@ -1,4 +1,4 @@
--- A run with one manager: it sweeps, and then writes its plan; and what pings print after it.
+-- A run with one manager, which sweeps and then writes its plan, and what pings print after it.
 use Rattle.std.specs.Prelude.{◌≡◌, ◌<◌, ℕ, zero, suc, true, List, [], ◌∷◌, slice_get, Option, Some, None}
 use Rattle.std.specs.Option.{option_map_or}
 use Rattle.topo_file.specs.declared.node.Node.{Node}
@@ -26,8 +26,8 @@ use Rattle.schedule_world.specs.Flights.{serial_of}
 use Rattle.schedule_world.specs.World.{SeatedValue, WorldValue}
 use Rattle.run_laws.specs.Reached.{EachPingSaysReached}
 
--- lines by which no sweep or writing begins, no cable moves, no trap is sent, no manager comes to sit, and none is
--- given facts or a floor
+-- lines that begin no sweep and no writing, move no cable, send no trap, seat no manager, and give none facts or a
+-- floor
 abbrev pub IsLine : SeatCommand → Type 0
 IsLine (command.Manager seat) = ⊥
 IsLine (command.Ask seat ask.Sweep) = ⊥
@@ -40,16 +40,18 @@ IsLine command.Traps = ⊥
 IsLine command.Resend = ⊥
 IsLine command = Unit {0}
 
+-- each line satisfies `IsLine`
 abbrev pub AreLines : List SeatCommand → Type 0
 AreLines [] = Unit {0}
 AreLines (command ∷ later) = IsLine command × AreLines later
 
 -- what agents take -------------------------------------------------------------------------------------
 
--- the packet with the least serial number, and the world after it took its step
+-- the serial number of the first packet in flight; None if none is in flight
 abbrev pub first_serial : WorldValue → Option ℕ
 first_serial w = option_map_or (λ flight. Some flight.serial) (slice_get w.fabric.flights 0) None
 
+-- the world once the packet with the least serial number has taken one step; unchanged if none is in flight
 abbrev pub after_first : WorldValue → WorldValue
 after_first w = option_map_or (λ flight. (after_step w flight.serial).now) (slice_get w.fabric.flights 0) w
 
@@ -59,15 +61,19 @@ module _ (plan : PlanValue) (own : OwnSets) where
   KeepsStep fabric None = Unit {0}
   KeepsStep fabric (Some serial) = KeepsPlan plan own fabric (around.Deliver serial)
 
+  -- each Set that an agent takes in the next `most` steps of a drain is one of the writing's own or carries the plan's
+  -- values
   abbrev pub KeepsSteps : WorldValue → ℕ → Type 0
   KeepsSteps w zero = Unit {0}
   KeepsSteps w (suc most) = KeepsStep w.fabric (first_serial w) × KeepsSteps (after_first w) most
 
+  -- each Set that an agent takes by the line is one of the writing's own or carries the plan's values
   abbrev pub KeepsLine : WorldValue → SeatCommand → Type 0
   KeepsLine w (command.Packet which fate.Deliver) = KeepsStep w.fabric (serial_of w.fabric.flights which)
   KeepsLine w (command.Drain most) = KeepsSteps w most
   KeepsLine w command = Unit {0}
 
+  -- each Set that an agent takes by these lines is one of the writing's own or carries the plan's values
   abbrev pub KeepsLines : List Node → WorldValue → List SeatCommand → Type 0
   KeepsLines nodes w [] = Unit {0}
   KeepsLines nodes w (command ∷ later) =
@@ -75,21 +81,23 @@ module _ (plan : PlanValue) (own : OwnSets) where
 
 -- runs -------------------------------------------------------------------------------------------------
 
--- the world after a sweep began and these lines, then after a writing began, and then after more lines
+-- the world after a sweep began and these lines
 abbrev pub at_writing : List Node → WorldValue → List SeatCommand → WorldValue
 at_writing nodes w between = (after_commands nodes (after_command nodes w (command.Ask 0 ask.Sweep)).now between).now
 
+-- the world once a writing has begun
 abbrev pub at_first_steps : List Node → WorldValue → List SeatCommand → WorldValue
 at_first_steps nodes w between = (after_command nodes (at_writing nodes w between) (command.Ask 0 ask.Write)).now
 
+-- the world after more lines
 abbrev pub at_end : List Node → WorldValue → List SeatCommand → List SeatCommand → WorldValue
 at_end nodes w between after = (after_commands nodes (at_first_steps nodes w between) after).now
 
--- the only manager is this one, in its seat
+-- the only manager of the world is this one, in its seat
 abbrev pub IsOnly : WorldValue → SeatedValue → Manager → Type 0
 IsOnly w s manager = w.managers ≡ record s { manager = manager } ∷ []
 
--- One new manager sits on a fabric where nothing is on its way. It is told to sweep, and some time later to write.
+-- One new manager sits on a fabric where no packet is on its way. It is told to sweep, and later to write.
 pub record BringsUpAlone (nodes : List Node) (w : WorldValue) (s : SeatedValue) (between after : List SeatCommand) :
     Type 0 where
   pub port_guid : ℕ
@@ -105,23 +113,23 @@ pub record BringsUpAlone (nodes : List Node) (w : WorldValue) (s : SeatedValue) 
   pub seat : is_seat_at w.fabric s.at ≡ true
   pub between_lines : AreLines between
   pub after_lines : AreLines after
-  -- the sweep has every answer when the writing begins, which is not refused
+  -- the sweep has every answer when the writing begins, and the writing is not refused
   pub swept : Manager
   pub only_then : IsOnly (at_writing nodes w between) s swept
   pub sweep : Sweep
   pub is_last : swept.sweep ≡ Some sweep
   pub whole : IsWhole sweep
   pub begins : writing_fault swept ≡ None
-  -- each Set that an agent takes from then on, unless it is one of the writing's own, carries the plan's values
+  -- each Set that an agent takes from then on is one of the writing's own or carries the plan's values
   pub keeps : KeepsLines (plan_of swept.planning.rule swept.planning.lmc (cells_of swept.store))
       (IsOwnSet (fabric_of w.fabric) s.at (phases_by swept swept.sweep)) nodes
       (at_first_steps nodes w between) after
-  -- the line `written` says in the end that the plan is written
+  -- the line `written` prints in the end that the plan is written
   pub writer : Manager
   pub only_at_end : IsOnly (at_end nodes w between after) s writer
   pub written : shown_of (at_end nodes w between after) 0 Written ≡ written_line (Some s.name) true
 
--- each `ping` from an end port of what the manager's port is joined to, for each LID of the plan, then says that it
+-- each `ping` from an end port that the manager's port is joined to, for each LID of the plan, then prints that it
 -- reached the owner
 abbrev pub RunsOfOneAreReached : Type 0
 RunsOfOneAreReached = (nodes : List Node) (w : WorldValue) (s : SeatedValue) (between after : List SeatCommand)
@@ -129,7 +137,7 @@ RunsOfOneAreReached = (nodes : List Node) (w : WorldValue) (s : SeatedValue) (be
     → EachPingSaysReached (plan_of b.swept.planning.rule b.swept.planning.lmc (cells_of b.swept.store))
     (at_end nodes w between after) s.at
 
--- a run that brings a subnet up: a fabric, a manager on it, and lines
+-- a run that brings a subnet up, with its fabric, its manager and its lines
 pub record SomeRunOfOne : Type 0 where
   pub nodes : List Node
   pub world : WorldValue

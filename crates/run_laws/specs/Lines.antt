@@ -1,4 +1,4 @@
--- What managers print that took in the same.
+-- What managers print that took in the same sightings.
 use Rattle.lft_blocks.specs.Planning.{Planning}
 use Rattle.std.specs.Prelude.{◌≡◌, ◌↔◌, ◌<◌, ◌^◌, ℕ, true, List, [], ◌∷◌, ◌++◌, length, slice_get, Some}
 use Rattle.topo_file.specs.Topology.{Layout}
@@ -19,7 +19,7 @@ use Rattle.run_laws.specs.Accounts.{account_after, world_after}
 abbrev pub and_lines : Script → List SeatCommand → Script
 and_lines script lines = record script { commands = script.commands ++ lines }
 
--- lines after a schedule change nothing of what it prints, and print what they print in the world then
+-- lines after a schedule do not change what it prints, and print what they print in the world that it leaves
 abbrev pub LaterLinesComeBehind : Type 0
 LaterLinesComeBehind =
     (planning : Planning) (topology : Layout) (script : Script) (lines : List SeatCommand)
@@ -27,13 +27,13 @@ LaterLinesComeBehind =
     ≡ script_text planning topology script
     ++ (after_commands topology.nodes (world_after planning topology script) lines).text
 
--- two managers, of one world each, print the same facts and the same plan
+-- two managers, each in a world, print the same facts and the same plan
 pub record TellTheSame (one other : WorldValue) (seat seat' : ℕ) : Type 0 where
   pub facts : shown_of one seat Facts ≡ shown_of other seat' Facts
   pub plan : shown_of one seat Plan ≡ shown_of other seat' Plan
 
--- two managers, of one run or of two under the same LMC, that took in the same, in whatever order and however often,
--- and have the same greatest floor, print the same
+-- two managers, of one run or of two under the same LMC, print the same if they took in the same, in whatever order and
+-- however often, and have the same greatest floor
 abbrev pub SameTakenInSameLines : Type 0
 SameTakenInSameLines =
     (planning : Planning) (topology topology' : Layout) (script script' : Script) (seat seat' : ℕ) → seat
@@ -43,7 +43,7 @@ SameTakenInSameLines =
     → (account_after planning topology script seat).floor ≡ (account_after planning topology' script' seat').floor
     → TellTheSame (world_after planning topology script) (world_after planning topology' script') seat seat'
 
--- after a schedule the plans of two managers are printed alike
+-- the plans of two managers are printed alike after a schedule
 pub record PrintsPlansAlike (planning : Planning) (topology : Layout) (script : Script) (seat other : ℕ) : Type 0 where
   pub plan : List ℕ
   pub twice :
@@ -67,20 +67,20 @@ MergedManagersPlanAlike =
     < length script.seats
     → PrintsPlansAlike planning topology (and_lines script (Merge seat other ∷ Merge other seat ∷ [])) seat other
 
--- `written` prints `yes` exactly if the manager's plan is written then
+-- `written` prints `yes` exactly if the manager's plan is written at that moment
 abbrev pub WrittenLinesTell : Type 0
 WrittenLinesTell =
     (w : WorldValue) (seat : ℕ) (s : SeatedValue) → slice_get w.managers seat ≡ Some s
     → (shown_of w seat Written ≡ written_line (Some s.name) true) ↔ (is_written s.manager ≡ true)
 
--- `progress` and `silent` print a sweep that is done, with this number of requests without an answer, all to managers,
--- and no port that leads too far
+-- `progress` and `silent` print a sweep that is done, with this number of requests without an answer, all of them to
+-- managers, and no port that leads too far
 pub record SayAllAnswered (w : WorldValue) (seat : ℕ) (name : List ℕ) (unanswered : ℕ) : Type 0 where
   pub few : unanswered < 2 ^ 64
   pub progress : shown_of w seat Progress ≡ progress_line (Some name) (Done unanswered 0)
   pub silent : shown_of w seat Silent ≡ silent_line (Some name) (Some unanswered)
 
--- the lines print that exactly if the manager's last sweep has every answer then
+-- the lines print this exactly if the manager's last sweep has every answer at that moment
 abbrev pub SweepLinesTell : Type 0
 SweepLinesTell =
     (w : WorldValue) (seat : ℕ) (s : SeatedValue) (sweep : Sweep) → slice_get w.managers seat ≡ Some s

@@ -20,7 +20,7 @@ use Rattle.schedule_world.specs.Commands.{ping_shown}
 use Rattle.schedule_lines.specs.Lines.{ping_line}
 use Rattle.schedule_world.specs.World.{WorldValue}
 
--- the line says that the packet reaches the port of the owner, over some number of wires
+-- the line prints that the packet reaches the port of the owner, over some number of wires
 pub record SaysReached (nodes : List Node) (w : WorldValue) (source : NodePort) (lid : ℕ) (owner : EndPort) : Type 0
   where
     pub target : NodePort
@@ -28,14 +28,15 @@ pub record SaysReached (nodes : List Node) (w : WorldValue) (source : NodePort) 
     pub hops : ℕ
     pub line : ping_shown nodes w source lid ≡ ping_line nodes source lid (Reached target hops)
 
--- each `ping` from an end port of what `origin` is joined to, for each LID of the plan, says that it reaches the LID's
+-- each `ping` from an end port that `origin` is joined to, for each LID of the plan, prints that it reaches the LID's
 -- owner
 abbrev pub EachPingSaysReached : PlanValue → WorldValue → NodePort → Type 0
 EachPingSaysReached plan w origin = (nodes : List Node) (source : NodePort) → IsEndPort (fabric_of w.fabric) source
     → IsJoinedTo (fabric_of w.fabric) origin source
     → (lid : ℕ) (owner : EndPort) → owner_of plan.given lid ≡ Some owner → SaysReached nodes w source lid owner
 
--- pings say so if facts describe exactly what an end port of a world's fabric is joined to, and that holds their plan
+-- if facts describe exactly the part that an end port of a world's fabric is joined to, and it holds their plan, pings
+-- print that they reach their owners
 abbrev pub HeldPlansAreReached : Type 0
 HeldPlansAreReached = (rule : RuleValue) (lmc : ℕ) (facts : Facts) (w : WorldValue) (origin : NodePort)
     → ¬ (IsNoRoom lmc (cells_of facts)) → IsSimulation w.fabric
@@ -44,8 +45,8 @@ HeldPlansAreReached = (rule : RuleValue) (lmc : ℕ) (facts : Facts) (w : WorldV
     → HoldsPlan (IsJoinedTo (fabric_of w.fabric) origin) (plan_of rule lmc (cells_of facts)) (fabric_of w.fabric)
     → EachPingSaysReached (plan_of rule lmc (cells_of facts)) w origin
 
--- pings say so if the fabric is as it is once a manager has brought its subnet up: after a sweep with every answer, a
--- finished writing, and no other Sets with other values
+-- if a manager has brought its subnet up, with a sweep that has every answer, a finished writing, and no other Sets
+-- with other values, pings in a world with that fabric print that they reach their owners
 abbrev pub WrittenPlansAreReached : Type 0
 WrittenPlansAreReached = (m : Managing) (before between after : List ManagerEvent) → BringsUp m before between after
     → (w : WorldValue) → w.fabric ≡ (at_end m before between after).scene.fabric

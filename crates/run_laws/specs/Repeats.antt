@@ -1,4 +1,4 @@
--- What a run writes is a function of its two texts, the LMC and the rule.
+-- The output of a run is a function of its two texts, the LMC and the rule.
 use Rattle.std.specs.Prelude.{◌≡◌, ℕ, List, Option, Some}
 use Rattle.std.specs.Io.KnownBytes.{Appends}
 use Rattle.byte_io.specs.Source.{SourceState}
@@ -6,8 +6,8 @@ use Rattle.sm_cli.specs.declared.asked.RuleAsked.{RuleAsked}
 use Rattle.schedule_world.specs.Commands.{run_text}
 use Rattle.schedule_run.specs.Run.{HasRun, schedule_source, topology_source}
 
--- if a run has ended well, exactly `run_text` was written of the texts that its sources of topology and schedule held
--- when it began
+-- if a run ends well, exactly `run_text` was written of the texts that its sources of topology and schedule held when
+-- it began
 abbrev pub TextsDecideOutput : {S W : Type 0} → (S → SourceState) → (W → Option (List ℕ)) → Type 0
 TextsDecideOutput {S} {W} state written =
     (lmc : ℕ) (asked : RuleAsked) (olds news : List S) (sink sink' : W) (topology schedule : List ℕ)

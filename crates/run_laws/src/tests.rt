@@ -1,4 +1,4 @@
-//! What a manager does about another one, by the table of states.
+//! Tests of what a manager does about another manager, by the table of states.
 use attr_codec::{Attribute, Lmc, Priority, SmInfo};
 use lft_blocks::{Planning, Rule};
 use sm_manager::Manager;
@@ -24,7 +24,7 @@ fn manager(alloc: Global) -> Manager {
     manager_by(alloc, Conduct::Plain)
 }
 
-/// Returns such a manager of any conduct.
+/// Returns a manager of priority 3 at port 1 of an adapter, with the port GUID 0x101 and any conduct.
 fn manager_by(alloc: Global, conduct: Conduct) -> Manager {
     let planning = Planning::new(Lmc::ZERO, Rule::UpDown);
     let info = info_in(SmState::Discovering);
@@ -32,7 +32,7 @@ fn manager_by(alloc: Global, conduct: Conduct) -> Manager {
     Manager::new(alloc, info.guid, port, info.priority, conduct, planning)
 }
 
-/// Returns what the manager says of itself in `state`, once it has begun a sweep.
+/// Returns the SMInfo of the manager in `state`, once it has begun a sweep.
 fn info_in(state: SmState) -> SmInfo {
     SmInfo {
         guid: Guid::new(0x101),
@@ -48,7 +48,7 @@ fn sender() -> Lid {
     Lid::new(9)
 }
 
-/// Returns whether the manager takes a packet from the other one.
+/// Returns whether the manager accepts a packet from the other manager.
 fn takes(manager: &mut Manager, packet: &Smp) -> bool {
     manager.on_packet(packet.bytes(), Some(sender())).is_ok()
 }

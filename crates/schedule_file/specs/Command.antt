@@ -23,16 +23,16 @@ use Rattle.schedule_file.specs.declared.named.PortName.{PortName}
 use Rattle.schedule_file.specs.ManagerName.{manager_name_in}
 use Rattle.schedule_file.specs.ManagerWords.{asked_by, generation_of, lid_of, number_up_to, shown_by}
 
--- a command as in its line: managers and nodes by their names
+-- a command as its line gives it: managers and nodes by their names
 abbrev pub NamedCommand : Type 0
 NamedCommand = Command (List ℕ) PortName
 
--- the two words of a list of two
+-- the two words of a list of two; None for any other list
 abbrev pub pair : List (List ℕ) → Option (List ℕ × List ℕ)
 pair (one ∷ other ∷ []) = Some (one, other)
 pair _ = None
 
--- a packet in flight: the last, or the one with a serial number
+-- a packet in flight: the packet sent last, or the packet with a serial number
 abbrev pub which_of : List ℕ → Option Which
 which_of word = if bytes_eq word (codes "last") then Some Last else option_map Serial (number_up_to (2 ^ 64 - 1) word)
 
@@ -64,6 +64,7 @@ new_manager _ = None
 
 -- commands of one word -----------------------------------------------------------------------
 
+-- the command of one word
 abbrev pub bare_of : List ℕ → Option NamedCommand
 bare_of word =
     if bytes_eq word (codes "tables") then Some command.Tables
@@ -78,6 +79,7 @@ bare_of word =
 abbrev pub ask : Ask → List ℕ → Option NamedCommand
 ask what name = option_map (λ manager. command.Ask manager what) (manager_name_in name)
 
+-- the command that shows something of the manager `name`
 abbrev pub show : Shown → List ℕ → Option NamedCommand
 show what name = option_map (λ manager. command.Show manager what) (manager_name_in name)
 
@@ -88,7 +90,7 @@ to_manager word name =
     (if bytes_eq word (codes "timeout") then option_map command.Timeout (manager_name_in name)
     else option_and_then (λ what. show what name) (shown_by word))
 
--- the command that decides the fate of a packet in flight
+-- the command that delivers, loses or repeats a packet in flight
 abbrev pub packet : Fate → List ℕ → Option NamedCommand
 packet fate which = option_map (λ w. command.Packet w fate) (which_of which)
 
@@ -121,6 +123,7 @@ plug one other = option_and_then (λ p. option_map (command.Plug p) (port_name o
 abbrev pub ping : List ℕ → List ℕ → Option NamedCommand
 ping port lid = option_and_then (λ p. option_map (command.Ping p) (lid_of lid)) (port_name port)
 
+-- any command of three words
 abbrev pub of_two : List ℕ → List ℕ → List ℕ → Option NamedCommand
 of_two word one other =
     if bytes_eq word (codes "merge") then merge one other

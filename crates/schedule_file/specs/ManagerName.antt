@@ -7,6 +7,6 @@ use Rattle.std.specs.List.{list_all}
 abbrev pub is_manager_name : List ℕ → Bool
 is_manager_name name = nat_le 1 (length name) && nat_le (length name) 16 && list_all is_ascii_alphanumeric name
 
--- the bytes, if they are a name
+-- the bytes if they are a name, otherwise None
 abbrev pub manager_name_in : List ℕ → Option (List ℕ)
 manager_name_in bytes = if is_manager_name bytes then Some bytes else None

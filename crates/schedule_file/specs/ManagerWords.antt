@@ -7,7 +7,7 @@ use Rattle.schedule_file.specs.declared.command.Ask.TheVariants.{Sweep, Write, H
 use Rattle.schedule_file.specs.declared.command.Shown.{Shown}
 use Rattle.schedule_file.specs.declared.command.Shown.TheVariants.{Facts, Plan, Progress, Silent, State, Written}
 
--- the request that `word` alone makes to a manager
+-- the request that `word` alone makes to a manager; None if it makes none
 abbrev pub asked_by : List ℕ → Option Ask
 asked_by word =
     if bytes_eq word (codes "sweep") then Some Sweep
@@ -16,7 +16,7 @@ asked_by word =
     else if bytes_eq word (codes "poll") then Some (Poll None)
     else None
 
--- what `word` shows of a manager
+-- what `word` shows of a manager; None if it shows nothing
 abbrev pub shown_by : List ℕ → Option Shown
 shown_by word =
     if bytes_eq word (codes "facts") then Some Facts

@@ -15,9 +15,11 @@ use Rattle.schedule_file.specs.Schedule.{Script, SeatCommand, schedule_of}
 abbrev pub manager_at : List Seat → ℕ → List ℕ
 manager_at seats seat = option_map_or (λ s. s.name) (slice_get seats seat) []
 
+-- a port with the name of its node
 abbrev pub port_at : List Node → NodePort → PortName
 port_at nodes p = record { node = name_at nodes p.node; port = p.port }
 
+-- the words of a new manager's line
 abbrev pub seat_words : List Node → Seat → List (List ℕ)
 seat_words nodes s = codes "manager" ∷ s.name ∷ port_word (port_at nodes s.at) ∷ decimal s.priority ∷ sm_key_words s.sm_key
 

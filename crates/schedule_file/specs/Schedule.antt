@@ -37,7 +37,7 @@ abbrev pub ◌>>=◌ : {A B : Type 0} → Result A ScheduleFault → (A → Resu
 (Ok value) >>= next = next value
 (Err fault) >>= next = Err fault
 
--- the index of the manager with this name
+-- the index of the manager with this name; None if there is none
 abbrev pub seat_of : List Seat → List ℕ → Option ℕ
 seat_of seats name = position (λ seat. bytes_eq seat.name name) seats
 
@@ -45,7 +45,7 @@ seat_of seats name = position (λ seat. bytes_eq seat.name name) seats
 abbrev pub is_taken : List Seat → NodePort → Bool
 is_taken seats p = list_any (λ seat. is_same_port seat.at p) seats
 
--- a manager may sit at the port: the node has it, and is not a switch
+-- a manager may sit at this port of the node: the node has the port, and is not a switch
 abbrev pub may_seat : Node → ℕ → Bool
 may_seat node port = not (is_switch node.kind) && is_within port node.ports
 
@@ -57,11 +57,11 @@ is_seat nodes p = option_map_or (λ node. may_seat node p.port) (slice_get nodes
 abbrev pub is_free : List Node → List Seat → NodePort → Bool
 is_free nodes seats p = is_seat nodes p && not (is_taken seats p)
 
--- the port with this name
+-- the port with this name; None if no node has its node's name
 abbrev pub port_of : List Node → PortName → Option NodePort
 port_of nodes name = option_map (λ id. record { node = id; port = name.port }) (id_of nodes name.node)
 
--- the command with its names resolved, None if one is unknown
+-- the command with its names resolved; None if a name is unknown
 abbrev pub command_of : List Node → List Seat → NamedCommand → Option SeatCommand
 command_of nodes seats (command.Manager name) = option_map command.Manager (seat_of seats name)
 command_of nodes seats (command.Ask name what) = option_map (λ seat. command.Ask seat what) (seat_of seats name)
@@ -121,7 +121,7 @@ with_line nodes number before (Some (line.Manager new)) =
 with_line nodes number before (Some (line.Command named)) =
     where_known number (command_of nodes before.seats named) >>= λ command. Ok (with_command before command)
 
--- the schedule before, with what the lines add, or the first fault; the lines count from `number`
+-- the schedule before, with what the lines add, or the first fault; the first line has the number `number`
 abbrev pub with_lines : List Node → ℕ → Script → List (List ℕ) → Result Script ScheduleFault
 with_lines nodes number before [] = Ok before
 with_lines nodes number before (line ∷ later) =

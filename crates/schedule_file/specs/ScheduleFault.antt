@@ -3,7 +3,7 @@ use Rattle.std.specs.Prelude.{◌≡◌, ℕ, List, Option, None, Some, Result, 
 use Rattle.schedule_file.specs.declared.fault.ScheduleFault.{ScheduleFault}
 use Rattle.schedule_file.specs.declared.fault.ScheduleFault.TheVariants.{Syntax, Name, Seat, Memory}
 
--- the fault is what the text says, or lack of memory
+-- the fault is the fault in `told`, or lack of memory
 abbrev pub IsRefused : {T : Type 0} → ScheduleFault → Result T ScheduleFault → Type 0
 IsRefused Memory told = Unit {0}
 IsRefused fault told = told ≡ Err fault
@@ -27,10 +27,11 @@ fault_line (Name line) = Some line
 fault_line (Seat line) = Some line
 fault_line Memory = None
 
--- what `{}` writes of a fault: its line, if there is one, and the word
+-- what `{}` writes for a fault: its line, if there is one, and the word
 abbrev pub said_at : Option ℕ → List ℕ → List ℕ
 said_at None word = word
 said_at (Some line) word = codes "line " ++ decimal line ++ codes ": " ++ word
 
+-- what `{}` writes for the fault
 abbrev pub fault_text : ScheduleFault → List ℕ
 fault_text fault = said_at (fault_line fault) (fault_word fault)

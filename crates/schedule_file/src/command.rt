@@ -1,7 +1,7 @@
 //! The commands of a schedule.
 use smp_bytes::{Generation, Lid};
 
-/// A command over managers `M` and ports `P`. In a line, `M` and `P` are names; in a command as it is run, `M` is the
+/// A command over managers `M` and ports `P`. In a line, `M` and `P` are names. In a command as it is run, `M` is the
 /// index of a manager's seat, from 0, and `P` has the index of a port's node.
 #[derive(Clone, Copy, PartialEq, Eq, Drop)]
 pub enum Command<M, P> {
@@ -17,7 +17,7 @@ pub enum Command<M, P> {
     Merge(M, M),
     /// Shows something of a manager.
     Show(M, Shown),
-    /// Decides the fate of a packet in flight.
+    /// Delivers, loses or duplicates a packet in flight.
     Packet(Which, Fate),
     /// Delivers at most this many packets, up to 1,000,000.
     Drain(u32),
@@ -25,7 +25,7 @@ pub enum Command<M, P> {
     Cut(P),
     /// Joins two ports by a cable.
     Plug(P, P),
-    /// Makes the agents of switches send traps from here on.
+    /// Makes the agents of switches send traps from now on.
     Traps,
     /// Sends the waiting traps again.
     Resend,
@@ -42,11 +42,11 @@ pub enum Command<M, P> {
 pub enum Ask {
     /// A sweep of the fabric.
     Sweep,
-    /// A writing of the plan that follows from what it knows.
+    /// A write of the plan that follows from what it knows.
     Write,
     /// A handover to the greatest manager that wins over it.
     Handover,
-    /// A poll of the manager at the LID or, without a LID, of one that its last sweep saw.
+    /// A poll of the manager at the LID or, without a LID, of a manager that its last sweep saw.
     Poll(Option<Lid>),
 }
 
@@ -67,14 +67,14 @@ pub enum Shown {
     State,
 }
 
-/// The fate of a packet in flight.
+/// What happens to a packet in flight.
 #[derive(Clone, Copy, PartialEq, Eq)]
 pub enum Fate {
-    /// It arrives.
+    /// It takes one step: it moves over a wire, is answered, is handed to a manager, or is discarded.
     Deliver,
     /// It is lost.
     Lose,
-    /// It is duplicated, and will arrive once more.
+    /// It is duplicated: a copy of it is in flight as well.
     Repeat,
 }
 

@@ -20,7 +20,7 @@ pub enum ScheduleFault {
 impl ScheduleFault {
     ghost use Rattle.schedule_file.specs.ScheduleFault.{fault_word, fault_line};
 
-    /// Returns what `{}` writes of the fault, without the line.
+    /// Returns the word that `{}` writes for the fault, without the line.
     pub fn word(self) -> &'static str
         ensures { result.now ≡ fault_word self }
     {
@@ -32,7 +32,7 @@ impl ScheduleFault {
         }
     }
 
-    /// Returns the number of the faulty line, from 1; `None` for lack of memory.
+    /// Returns the number of the faulty line, from 1, or `None` for lack of memory.
     pub fn line(self) -> Option<usize>
         ensures { result ≡ fault_line self }
     {

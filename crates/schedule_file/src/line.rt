@@ -17,13 +17,13 @@ pub(crate) enum ScheduleLine {
     Command(NamedCommand),
 }
 
-/// A new manager as in its line.
+/// A new manager as its line gives it.
 #[derive(Drop)]
 pub(crate) struct NewManager {
     pub(crate) name: ManagerName,
     pub(crate) at: PortName,
     pub(crate) priority: Priority,
-    /// The SM_Key of a manager by the live conduct.
+    /// The SM_Key of a manager by the live conduct; `None` for a plain manager.
     pub(crate) sm_key: Option<u64>,
 }
 

@@ -44,7 +44,7 @@ impl ManagerName {
         self.text.as_str()
     }
 
-    /// Returns whether the names are the same.
+    /// Returns whether the two names are equal.
     pub(crate) fn is(&self, other: &ManagerName) -> bool
         ensures { result ≡ bytes_eq self.now other.now }
     {
@@ -59,7 +59,7 @@ impl Default for ManagerName {
     }
 }
 
-/// Returns whether the bytes are a name.
+/// Returns whether the bytes are a name: 1 to 16 ASCII letters and digits.
 fn is_manager_name(name: &[u8]) -> bool
     ensures { result ≡ is_manager_name name.now }
 {

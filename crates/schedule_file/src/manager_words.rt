@@ -7,7 +7,7 @@ use crate::numbers::number_up_to;
 use smp_bytes::{Generation, Lid};
 use text_words::is_word;
 
-/// Returns the request that `word` alone makes to a manager.
+/// Returns the request that `word` alone makes to a manager, or `None` if it makes none.
 pub fn asked_by(word: &[u8]) -> Option<Ask>
     ensures { result ≡ asked_by word.now }
 {
@@ -24,7 +24,7 @@ pub fn asked_by(word: &[u8]) -> Option<Ask>
     }
 }
 
-/// Returns what `word` shows of a manager.
+/// Returns what `word` shows of a manager, or `None` if it shows nothing.
 pub fn shown_by(word: &[u8]) -> Option<Shown>
     ensures { result ≡ shown_by word.now }
 {

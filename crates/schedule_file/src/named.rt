@@ -1,4 +1,4 @@
-//! Commands with names, as in their lines. There is a function for each number of words after the command's own.
+//! Commands with names, as in their lines. There is a function for each number of words after the first one.
 ghost use Rattle.std.specs.Prelude.{◌≡◌, option_map};
 ghost use Rattle.text_words.specs.Text.{words};
 ghost use Rattle.schedule_file.specs.Command.{ask, bare_of, bracketed_number, command_in, floor};
@@ -12,14 +12,14 @@ use crate::numbers::{number_up_to, serial};
 use smp_bytes::PortNum;
 use text_words::{NodeName, enclosed, is_word, split_word};
 
-/// A port as in a line.
+/// A port as a line gives it.
 #[derive(Drop)]
 pub(crate) struct PortName {
     pub(crate) node: NodeName,
     pub(crate) port: PortNum,
 }
 
-/// A command as in its line. A `manager` line says more, and becomes a command when its seat is found.
+/// A command as its line gives it. A `manager` line says more, and becomes a command when its seat is found.
 pub(crate) type NamedCommand = Command<ManagerName, PortName>;
 
 /// Parses a command from its word and the rest of its line.
@@ -159,7 +159,7 @@ fn ping(port: &[u8], lid: &[u8]) -> Option<NamedCommand>
     Some(Command::Ping(port, lid_of(lid)?))
 }
 
-/// Parses a packet in flight.
+/// Parses which packet in flight is meant: `last`, or a serial number.
 fn which(word: &[u8]) -> Option<Which>
     ensures { result ≡ which_of word.now }
 {

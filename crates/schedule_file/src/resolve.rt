@@ -63,14 +63,14 @@ fn command_of(topology: &Topology, seats: &[Seat], command: NamedCommand) -> Opt
     })
 }
 
-/// Returns the index of the manager with this name. Takes a walk over the seats.
+/// Returns the index of the manager with this name, or `None` if there is none. Walks the seats.
 pub(crate) fn seat(seats: &[Seat], name: &ManagerName) -> Option<usize>
     ensures { result ≡ seat_of seats.now name.now }
 {
     seats.iter().position(|seat| seat.name.is(name))
 }
 
-/// Returns the port with this name. Takes a search.
+/// Returns the port with this name, or `None` if no node has its node's name. Takes a search.
 pub(crate) fn port(topology: &Topology, name: &PortName) -> Option<NodePort>
     ensures { result ≡ port_of topology.now.nodes name.now }
 {
@@ -80,14 +80,14 @@ pub(crate) fn port(topology: &Topology, name: &PortName) -> Option<NodePort>
     })
 }
 
-/// Returns whether a manager may sit at the port, and none does. Takes a walk over the seats.
+/// Returns whether a manager may sit at the port, and none does. Walks the seats.
 pub(crate) fn is_free(topology: &Topology, seats: &[Seat], port: &NodePort) -> bool
     ensures { result ≡ is_free topology.now.nodes seats.now port.now }
 {
     is_seat(topology, port) && !is_taken(seats, port)
 }
 
-/// Returns whether a manager sits at the port. Takes a walk over the seats.
+/// Returns whether a manager sits at the port. Walks the seats.
 fn is_taken(seats: &[Seat], port: &NodePort) -> bool
     ensures { result ≡ is_taken seats.now port.now }
 {

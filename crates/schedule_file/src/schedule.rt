@@ -23,7 +23,7 @@ use topo_file::Topology;
 #[derive(Drop)]
 pub struct Seat {
     pub name: ManagerName,
-    /// The port that it sits at.
+    /// The port at which it sits.
     pub at: NodePort,
     pub priority: Priority,
     /// The SM_Key of a manager by the live conduct; `None` for a plain manager.
@@ -75,7 +75,7 @@ impl Schedule {
         &self.commands
     }
 
-    /// Creates a schedule of no lines.
+    /// Creates an empty schedule.
     fn new(alloc: Global) -> Self
         ensures { result ≡ record { seats = []; commands = [] } }
     {
@@ -180,8 +180,8 @@ pub(crate) fn new_seat(
 ///
 /// # Errors
 ///
-/// Returns the first fault, or `Memory` if memory runs out and no line has a fault, or more than 64 managers stand
-/// above it: the lines are then checked again without memory, and only 64 managers can be stored.
+/// Returns the first fault. Returns `Memory` if memory runs out and no line has a fault, or if more than 64 managers
+/// come before the first fault: the lines are then checked again without memory, and only 64 managers can be stored.
 #[tactic(auto, using(crate::proofs::Scripts::told_is_script), unfolding(crate::specs::Schedule::schedule_of))]
 pub fn parse(alloc: Global, text: &str, topology: &Topology) -> Result<Schedule, ScheduleFault>
     ensures reads { Reads result (schedule_of topology.now.nodes text.now) }

@@ -1,4 +1,4 @@
--- Requests to a manager, and what is shown of it.
+-- Requests to a manager, and what is shown about it.
 use Rattle.std.specs.Prelude.{ℕ, List, [], Option, None, Some}
 use Rattle.fact_store.specs.View.{cells_of}
 use Rattle.lft_blocks.specs.Plan.{plan_of}
@@ -19,7 +19,7 @@ use Rattle.sm_manager.specs.declared.fault.ManagerFault.{ManagerFault}
 use Rattle.schedule_lines.specs.Lines.{progress_line, silent_line, state_line, written_line}
 use Rattle.schedule_lines.specs.Refusals.{refusal_line}
 
--- why a manager refuses a request, made by `sweep`, `write`, `handover` or `poll`
+-- why a manager refuses the request `sweep`, `write`, `handover` or `poll`; None if it does not
 abbrev pub asked_fault : Ask → Manager → Option ManagerFault
 asked_fault Sweep m = begin_fault m
 asked_fault Write m = writing_fault m
@@ -33,7 +33,7 @@ after_asked Write m = after_write_steps m
 after_asked Handover m = after_handover m
 after_asked (Poll lid) m = after_poll m lid
 
--- the manager with nothing left to be sent
+-- the manager with no packets queued
 abbrev pub emptied : Manager → Manager
 emptied m = record m { outgoing = [] }
 
@@ -41,12 +41,12 @@ emptied m = record m { outgoing = [] }
 abbrev pub manager_line : ManagerFault → List ℕ
 manager_line fault = refusal_line (manager_fault_name fault)
 
--- the plan, or why there is none
+-- the text of the plan, or the line of the fault if there is none
 abbrev pub plan_or_refusal : Planning → Cells → Option ManagerFault → List ℕ
 plan_or_refusal planning cells None = plan_text (plan_of planning.rule planning.lmc cells)
 plan_or_refusal planning cells (Some fault) = manager_line fault
 
--- what `facts`, `plan`, `progress`, `silent`, `written` or `state` show of a manager, with its name if there is one
+-- what `facts`, `plan`, `progress`, `silent`, `written` or `state` shows about a manager, with its name if there is one
 abbrev pub text_of : Shown → Option (List ℕ) → Manager → List ℕ
 text_of Facts name m = facts_text m.store
 text_of Plan name m =

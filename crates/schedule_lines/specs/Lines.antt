@@ -13,24 +13,25 @@ use Rattle.sm_manager.specs.declared.progress.Progress.{Progress}
 use Rattle.sm_manager.specs.declared.progress.Progress.TheVariants.{Never, Running, Done}
 use Rattle.sm_manager.specs.declared.traps.Trap.{Trap}
 
--- words, and a number
+-- the words, and then the number
 abbrev pub count_text : List ℕ → ℕ → List ℕ
 count_text words count = words ++ decimal count
 
--- how many requests were not answered, and how many ports lead too far
+-- how many requests were not answered, and how many ports lead to a node that is too far away
 unfoldable pub counts_text : ℕ → ℕ → List ℕ
 counts_text unanswered too_far = count_text (codes " unanswered ") unanswered ++ count_text (codes " toofar ") too_far
 
+-- how far a sweep is
 abbrev pub stage_text : Progress → List ℕ
 stage_text Never = codes " never"
 stage_text (Running unanswered too_far) = codes " running" ++ counts_text unanswered too_far
 stage_text (Done unanswered too_far) = codes " done" ++ counts_text unanswered too_far
 
--- the name of a manager, if there is one
+-- the name of a manager; None if there is none
 abbrev pub name_of : Option (Bor (List ℕ)) → Option (List ℕ)
 name_of name = option_map (λ n. n.now) name
 
--- a word, and then a manager's name, if there is one
+-- a word, and then a manager's name if there is one
 abbrev pub head_text : List ℕ → Option (List ℕ) → List ℕ
 head_text word None = word
 head_text word (Some manager) = word ++ codes " " ++ manager
@@ -39,16 +40,16 @@ head_text word (Some manager) = word ++ codes " " ++ manager
 abbrev pub end_word : List ℕ → List ℕ
 end_word word = codes " " ++ word ++ codes "\n"
 
--- the progress of a manager's sweep
+-- the line of the progress of a manager's sweep
 abbrev pub progress_line : Option (List ℕ) → Progress → List ℕ
 progress_line manager progress = head_text (codes "progress") manager ++ stage_text progress ++ codes "\n"
 
--- how many managers did not answer a sweep
+-- how many managers did not answer a sweep, or that there was no sweep
 abbrev pub silent_text : Option ℕ → List ℕ
 silent_text None = codes " never"
 silent_text (Some silent) = count_text (codes " ") silent
 
--- how many managers did not answer the last sweep of a manager
+-- the line of how many managers did not answer the last sweep of a manager
 abbrev pub silent_line : Option (List ℕ) → Option ℕ → List ℕ
 silent_line manager silent = head_text (codes "silent") manager ++ silent_text silent ++ codes "\n"
 
@@ -56,19 +57,19 @@ abbrev pub answer_word : Bool → List ℕ
 answer_word true = codes "yes"
 answer_word false = codes "no"
 
--- whether the plan of a manager is written
+-- the line of whether the plan of a manager is written
 abbrev pub written_line : Option (List ℕ) → Bool → List ℕ
 written_line manager written = head_text (codes "written") manager ++ end_word (answer_word written)
 
--- the state of a manager
+-- the line of a manager's state
 abbrev pub state_line : Option (List ℕ) → SmState → List ℕ
 state_line manager state = head_text (codes "state") manager ++ end_word (state_word state)
 
--- a manager repressed a trap that a port with this LID issued
+-- the line of a manager that repressed a trap that a port with this LID issued
 abbrev pub trap_line : Option (List ℕ) → ℕ → List ℕ
 trap_line manager issuer = head_text (codes "trap") manager ++ count_text (codes " ") issuer ++ codes "\n"
 
--- the line of the trap that was repressed; empty if no trap was
+-- the line of the trap that was repressed; empty if none was
 abbrev pub trap_text : Option (List ℕ) → Option Trap → List ℕ
 trap_text manager None = []
 trap_text manager (Some trap) = trap_line manager trap.issuer
@@ -81,16 +82,16 @@ port_text nodes p = quoted_text (name_at nodes p.node) ++ bracketed_text p.port
 unfoldable pub start_text : List Node → NodePort → ℕ → List ℕ
 start_text nodes source lid = codes "ping " ++ port_text nodes source ++ codes " " ++ decimal lid
 
--- where a packet ends
+-- the port where a packet ends, or the node where it is lost
 unfoldable pub end_text : List Node → Ping → List ℕ
 end_text nodes (Reached p hops) = codes " reached " ++ port_text nodes p ++ codes " hops " ++ decimal hops
 end_text nodes (Lost number) = codes " lost " ++ quoted_text (name_at nodes number)
 
--- the port that a packet is sent from, its LID, and where it ends
+-- the line of a packet: the port that it is sent from, its LID, and where it ends
 abbrev pub ping_line : List Node → NodePort → ℕ → Ping → List ℕ
 ping_line nodes source lid ping = start_text nodes source lid ++ end_text nodes ping ++ codes "\n"
 
--- a packet in flight: its serial number, and the node where it waits
+-- the line of a packet in flight: its serial number, and the node where it waits
 abbrev pub flight_line : List Node → ℕ → ℕ → List ℕ
 flight_line nodes serial number =
     codes "packet " ++ decimal serial ++ codes " " ++ quoted_text (name_at nodes number) ++ codes "\n"

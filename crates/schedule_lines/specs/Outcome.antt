@@ -1,17 +1,19 @@
--- What commands leave, and the lines that they print, one command after the other.
+-- What commands leave, and the lines that they print.
 use Rattle.std.specs.Prelude.{ℕ, List, [], ◌++◌}
 
--- what is left of a fabric or of a world, and the lines that were printed
+-- the fabric or the world that is left, and the lines that were printed
 pub record Outcome (S : Type 0) : Type 0 where
   pub now : S
   pub text : List ℕ
 
+-- an outcome that prints nothing
 abbrev pub quiet : {S : Type 0} → S → Outcome S
 quiet s = record { now = s; text = [] }
 
+-- an outcome that only prints the text
 abbrev pub shows : {S : Type 0} → List ℕ → S → Outcome S
 shows text s = record { now = s; text = text }
 
--- the outcome, followed by what `next` does
+-- the outcome, and then what `next` does and prints
 abbrev pub and_then : {S : Type 0} → Outcome S → (S → Outcome S) → Outcome S
 and_then outcome next = record { now = (next outcome.now).now; text = outcome.text ++ (next outcome.now).text }

@@ -1,16 +1,16 @@
--- What a run prints, and how much of it if it ends before its schedule does.
+-- What a run prints, and how much of it if the run ends before its schedule.
 use Rattle.std.specs.Prelude.{◌≡◌, ℕ, Bool, false, List, ◌++◌, Option, Result, Ok, Err, IsTrue}
 use Rattle.std.specs.Io.KnownBytes.{Appends}
 use Rattle.schedule_lines.specs.declared.run_fault.RunFault.{RunFault}
 use Rattle.schedule_lines.specs.declared.run_fault.RunFault.TheVariants.{Write, Memory}
 
--- `text` was appended to what was written, and the output has not failed meanwhile
+-- `text` was appended to what was written, and the output did not fail meanwhile
 pub record Prints {W : Type 0} (written : W → Option (List ℕ)) (has_failed : W
     → Bool) (old new : W) (text : List ℕ) : Type 0 where
   pub grown : Appends (written old) (written new) text
   pub works : has_failed old ≡ false → has_failed new ≡ false
 
--- a beginning of `text` was appended to what was written, and the output has not failed meanwhile
+-- a beginning of `text` was appended to what was written, and the output did not fail meanwhile
 pub record PrintsSome {W : Type 0} (written : W → Option (List ℕ)) (has_failed : W
     → Bool) (old new : W) (text : List ℕ) : Type 0 where
   pub front : List ℕ
@@ -18,7 +18,8 @@ pub record PrintsSome {W : Type 0} (written : W → Option (List ℕ)) (has_fail
   pub parts : front ++ rest ≡ text
   pub prints : Prints written has_failed old new front
 
--- a call prints the text; or it ends for lack of memory, and prints a beginning of it; or the output has failed
+-- a call prints the text; if it ends for lack of memory, it prints a beginning of the text; otherwise the output has
+-- failed
 abbrev pub PrintsUnless : {W T : Type 0} → (W → Option (List ℕ)) → (W → Bool) → Result T RunFault → W → W → List ℕ
     → Type 0
 PrintsUnless written has_failed (Ok value) old new text = Prints written has_failed old new text

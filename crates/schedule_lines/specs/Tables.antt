@@ -1,4 +1,4 @@
--- What the agents of a fabric hold, printed in the form of a plan.
+-- The LIDs and tables that the agents of a fabric hold, printed in the form of a plan.
 use Rattle.std.specs.Prelude.{ℕ, ◌+◌, ◌*◌, ◌/◌, Bool, not, List, [], ◌∷◌, ◌++◌, filter, map, ◌==◌, if◌then◌else◌}
 use Rattle.std.specs.List.{flat_map, range_with_len}
 use Rattle.std.specs.Ordering.{is_lt, nat_cmp, ordering_then}
@@ -9,7 +9,7 @@ use Rattle.fabric_sim.specs.Simulation.{Simulation}
 
 -- an order ---------------------------------------------------------------------------------------------
 
--- `x` inserted in front of the first item that does not come before it
+-- the list with `x` inserted before the first item that does not come before it
 abbrev pub put_in_order : {X : Type 0} → (X → X → Bool) → X → List X → List X
 put_in_order before x [] = x ∷ []
 put_in_order before x (y ∷ ys) = if before y x then y ∷ put_in_order before x ys else x ∷ y ∷ ys
@@ -34,10 +34,11 @@ held_by a = filter (λ x. not (x.0 == 0))
 abbrev pub key_cmp : ℕ × ℕ × ℕ → ℕ × ℕ × ℕ → Ordering
 key_cmp x y = ordering_then (ordering_then (nat_cmp x.0 y.0) (nat_cmp x.1 y.1)) (nat_cmp x.2 y.2)
 
+-- the order of LIDs with the ports that hold them, by LID, GUID and port
 abbrev pub held_cmp : Held → Held → Ordering
 held_cmp x y = key_cmp (x.0, x.1, x.2) (y.0, y.1, y.2)
 
--- the LIDs that the ports of all nodes hold, by LID, GUID and port, and for a tie by node number
+-- the LIDs that the ports of all nodes hold, sorted by LID, GUID and port, and for ties by node number
 abbrev pub all_held : List Agent → List Held
 all_held agents = in_order (λ x y. is_lt (held_cmp x y)) (flat_map held_by agents)
 
@@ -55,14 +56,15 @@ block_at a b = map (λ i. entry_at a (64 * b + i)) (range_with_len 0 64)
 abbrev pub block_shown : Agent → ℕ → List ℕ
 block_shown a b = block_line (b, block_at a b)
 
--- the numbers of the blocks up to that of the top
+-- the numbers of the blocks up to the block of the top
 abbrev pub blocks_to : ℕ → List ℕ
 blocks_to top = range_with_len 0 (top / 64 + 1)
 
+-- the lines of a switch's blocks up to the block of its top
 abbrev pub blocks_text : Agent → List ℕ
 blocks_text a = flat_map (block_shown a) (blocks_to a.top)
 
--- the table of a switch: its top, and its blocks
+-- the lines of a switch: its top, and its blocks
 unfoldable pub table_text : Agent → List ℕ
 table_text a = switch_line a.top a.node.guid ++ blocks_text a
 
@@ -70,6 +72,6 @@ table_text a = switch_line a.top a.node.guid ++ blocks_text a
 abbrev pub switches : List Agent → List Agent
 switches agents = in_order (λ a b. is_lt (nat_cmp a.node.guid b.node.guid)) (filter is_switch agents)
 
--- the LIDs, and then the tables of the switches
+-- the lines of the LIDs, and then the tables of the switches
 unfoldable pub tables_text : Simulation → List ℕ
 tables_text fabric = flat_map held_line (all_held fabric.agents) ++ flat_map table_text (switches fabric.agents)

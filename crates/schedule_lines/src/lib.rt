@@ -1,4 +1,4 @@
-//! Requests to managers, the lines that commands print, and the fault of a run that ends before its commands do.
+//! Requests to managers, the lines that commands print, and the fault of a run that ends before its commands.
 #![tactic(auto)]
 
 mod asked;

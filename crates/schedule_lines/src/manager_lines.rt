@@ -1,4 +1,4 @@
-//! The lines that are printed of one manager.
+//! The lines about one manager.
 ghost use Rattle.std.specs.Prelude.{◌≡◌};
 ghost use Rattle.byte_io.specs.Writes.{Writes};
 ghost use Rattle.schedule_lines.specs.Lines.{counts_text, progress_line, stage_text, state_line, answer_word, end_word};
@@ -10,7 +10,7 @@ use sm_manager::Progress;
 use sm_state::SmState;
 use smp_bytes::Lid;
 
-/// Prints the progress of a manager's sweep, with the manager's name if there is one.
+/// Prints the progress of a manager's last sweep, with the manager's name if there is one.
 pub fn write_progress<W: Sink>(
     sink: &mut W,
     manager: Option<&str>,
@@ -57,7 +57,7 @@ fn write_stage<W: Sink>(sink: &mut W, progress: Progress) -> Result<(), WriteFau
     }
 }
 
-/// Prints how many managers did not answer a manager's last sweep.
+/// Prints how many managers did not answer a manager's last sweep, with the manager's name if there is one.
 pub fn write_silent<W: Sink>(
     sink: &mut W,
     manager: Option<&str>,
@@ -80,7 +80,7 @@ fn write_how_many<W: Sink>(sink: &mut W, silent: Option<u64>) -> Result<(), Writ
     }
 }
 
-/// Prints whether a manager's plan is written.
+/// Prints whether a manager's plan is written, with the manager's name if there is one.
 pub fn write_written<W: Sink>(
     sink: &mut W,
     manager: Option<&str>,
@@ -93,7 +93,7 @@ pub fn write_written<W: Sink>(
     write_end_word(sink, answer_word(written))
 }
 
-/// Prints a blank, `word` and a line feed.
+/// Prints a space, `word` and a line feed.
 fn write_end_word<W: Sink>(sink: &mut W, word: &str) -> Result<(), WriteFault>
     ensures writes { Writes W.written W.has_failed result sink.old sink.new (end_word word.now) }
 {
@@ -106,7 +106,7 @@ fn answer_word(answer: bool) -> &'static str
     if answer { "yes" } else { "no" }
 }
 
-/// Prints a manager's state.
+/// Prints a manager's state, with the manager's name if there is one.
 pub fn write_state<W: Sink>(
     sink: &mut W,
     manager: Option<&str>,
@@ -119,7 +119,8 @@ pub fn write_state<W: Sink>(
     write_end_word(sink, state.word())
 }
 
-/// Prints that a manager repressed a trap that a port with the LID `issuer` issued.
+/// Prints that a manager repressed a trap, with the manager's name if there is one. A port with the LID `issuer` issued
+/// the trap.
 pub(crate) fn write_trap<W: Sink>(
     sink: &mut W,
     manager: Option<&str>,
@@ -133,7 +134,7 @@ pub(crate) fn write_trap<W: Sink>(
     sink.write(b"\n")
 }
 
-/// Prints how many requests were not answered, and how many ports lead too far.
+/// Prints how many requests were not answered, and how many ports lead to a node that is too far away.
 #[tactic(auto, unfolding(crate::specs::Lines::counts_text))]
 fn write_counts<W: Sink>(sink: &mut W, unanswered: u64, too_far: u64) -> Result<(), WriteFault>
     ensures writes { Writes W.written W.has_failed result sink.old sink.new

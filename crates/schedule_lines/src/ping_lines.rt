@@ -12,7 +12,7 @@ use fabric_sim::Ping;
 use smp_bytes::Lid;
 use topo_file::Topology;
 
-/// Returns the name of a node, empty if there is no such node.
+/// Returns the name of `node`, or an empty name if there is no such node.
 fn name_at(topology: &Topology, node: NodeId) -> &str
     ensures { result.now ≡ name_at topology.now.nodes node }
 {
@@ -22,7 +22,7 @@ fn name_at(topology: &Topology, node: NodeId) -> &str
     }
 }
 
-/// Prints where a packet ends that is sent from the port `from` to `lid`.
+/// Prints the line of a packet from the port `from` to `lid`, with the port or node where it ends.
 pub fn write_ping<W: Sink>(
     sink: &mut W,
     topology: &Topology,
@@ -38,7 +38,7 @@ pub fn write_ping<W: Sink>(
     sink.write(b"\n")
 }
 
-/// Prints the port that the packet is sent from, and its LID.
+/// Prints `from`, the port that the packet is sent from, and its LID.
 fn write_start<W: Sink>(
     sink: &mut W,
     topology: &Topology,
@@ -53,7 +53,7 @@ fn write_start<W: Sink>(
     write_count(sink, b" ", u64::from(lid.number()))
 }
 
-/// Prints where the packet ends.
+/// Prints the port where a packet ends, or the node where it is lost.
 fn write_end<W: Sink>(sink: &mut W, topology: &Topology, ping: &Ping) -> Result<(), WriteFault>
     ensures writes { Writes W.written W.has_failed result sink.old sink.new
         (end_text topology.now.nodes ping.now) }
@@ -88,7 +88,7 @@ fn write_name<W: Sink>(sink: &mut W, name: &str) -> Result<(), WriteFault>
     write_between(sink, b"\"", name.as_bytes(), b"\"")
 }
 
-/// Prints a packet in flight: its serial number, and the node where it waits.
+/// Prints the line of a packet in flight: its serial number, and the node where it waits.
 pub fn write_flight<W: Sink>(
     sink: &mut W,
     topology: &Topology,

@@ -1,4 +1,4 @@
-//! Lines of refused calls: each has the name of the innermost fault.
+//! Lines of refused calls. Each has the name of the innermost fault.
 ghost use Rattle.std.specs.Prelude.{◌≡◌, ◌↔◌, Err};
 ghost use Rattle.byte_io.specs.Writes.{Writes};
 ghost use Rattle.fabric_sim.specs.FabricFault.{fabric_fault_name};
@@ -12,7 +12,7 @@ use byte_io::{Sink, WriteFault};
 use fabric_sim::FabricFault;
 use sm_manager::ManagerFault;
 
-/// Prints that the fabric refuses a call. Lack of memory is not printed but returned as an error, which ends the run.
+/// Prints that the fabric refused a call. Lack of memory is not printed but returned as an error, which ends the run.
 pub fn refuse_fabric<W: Sink>(sink: &mut W, fault: FabricFault) -> Result<(), RunFault>
     ensures prints { PrintsUnless W.written W.has_failed result sink.old sink.new
         (refusal_line (fabric_fault_name fault)) }
@@ -26,7 +26,7 @@ pub fn refuse_fabric<W: Sink>(sink: &mut W, fault: FabricFault) -> Result<(), Ru
     Ok(())
 }
 
-/// Prints that a manager refuses a call. Lack of memory is not printed but returned as an error, which ends the run.
+/// Prints that a manager refused a call. Lack of memory is not printed but returned as an error, which ends the run.
 pub fn refuse_manager<W: Sink>(sink: &mut W, fault: ManagerFault) -> Result<(), RunFault>
     ensures prints { PrintsUnless W.written W.has_failed result sink.old sink.new
         (refusal_line (manager_fault_name fault)) }
@@ -40,7 +40,7 @@ pub fn refuse_manager<W: Sink>(sink: &mut W, fault: ManagerFault) -> Result<(), 
     Ok(())
 }
 
-/// Prints `refused` and the name of a fault.
+/// Prints `refused` and `name`, the name of a fault.
 fn write_refusal<W: Sink>(sink: &mut W, name: &str) -> Result<(), WriteFault>
     ensures writes { Writes W.written W.has_failed result sink.old sink.new
         (refusal_line name.now) }

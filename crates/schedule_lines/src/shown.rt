@@ -1,4 +1,4 @@
-//! What is shown of managers.
+//! What is shown about managers.
 ghost use Rattle.fact_store.specs.View.{cells_of};
 ghost use Rattle.schedule_lines.specs.Asked.{plan_or_refusal, text_of};
 ghost use Rattle.schedule_lines.specs.Lines.{name_of, trap_text};
@@ -14,7 +14,7 @@ use record_file::write_facts;
 use schedule_file::Shown;
 use sm_manager::{Manager, Trap};
 
-/// Prints what `what` names of a manager, with the manager's name if there is one.
+/// Prints what `what` asks about a manager, with the manager's name if there is one.
 #[tactic(auto, using(crate::proofs::Printing::wrote))]
 pub fn show_manager<W: Sink>(
     sink: &mut W,
@@ -36,7 +36,8 @@ pub fn show_manager<W: Sink>(
     Ok(())
 }
 
-/// Prints the trap that a manager repressed, if it did, with the manager's name if there is one.
+/// Prints the trap that a manager repressed, with the manager's name if there is one. Prints nothing if there is no
+/// trap.
 #[tactic(auto, using(crate::proofs::Printing::wrote))]
 pub fn show_trap<W: Sink>(
     sink: &mut W,
@@ -52,7 +53,7 @@ pub fn show_trap<W: Sink>(
     Ok(())
 }
 
-/// Prints a manager's plan, or why there is none.
+/// Prints a manager's plan, or the fault if there is none.
 #[tactic(auto, using(crate::proofs::Printing::wrote))]
 fn show_plan<W: Sink>(sink: &mut W, manager: &Manager) -> Result<(), RunFault>
     ensures prints { PrintsUnless W.written W.has_failed result sink.old sink.new

@@ -1,4 +1,4 @@
-//! What the agents of a fabric hold, printed in the form of a plan.
+//! The LIDs and tables that the agents of a fabric hold, printed in the form of a plan.
 ghost use Rattle.std.specs.Prelude.{◌≡◌, ◌++◌, ◌<◌, map, IfOk, OnOk};
 ghost use Rattle.schedule_lines.specs.Prints.{PrintsUnless};
 ghost use Rattle.std.specs.List.{flat_map};
@@ -30,7 +30,7 @@ pub fn show_tables<W: Sink>(alloc: Global, fabric: &Fabric, sink: &mut W) -> Res
 /// A LID, with the GUID of the node and the number of the port that hold it, and its LMC.
 type AgentLid = (Lid, Guid, PortNum, Lmc);
 
-/// Prints LIDs, with the GUIDs of the nodes and the numbers of the ports that hold them.
+/// Prints the lines of LIDs, with the node and port that hold each.
 fn write_held<W: Sink>(sink: &mut W, lids: &[AgentLid]) -> Result<(), RunFault>
     ensures prints { PrintsUnless W.written W.has_failed result sink.old sink.new
         (flat_map held_line lids.now) }
@@ -45,7 +45,7 @@ fn write_held<W: Sink>(sink: &mut W, lids: &[AgentLid]) -> Result<(), RunFault>
     Ok(())
 }
 
-/// Returns the LIDs that ports hold, sorted by LID, by the GUID of the node and by port.
+/// Returns the LIDs that ports hold, sorted by LID, by the GUID of the node and by port, and for ties by node number.
 fn held_lids(alloc: Global, fabric: &Fabric) -> Result<Vec<AgentLid>, AllocError>
     ensures { IfOk result (λ held. held.items ≡ all_held fabric.now.agents) }
 {
@@ -57,7 +57,7 @@ fn held_lids(alloc: Global, fabric: &Fabric) -> Result<Vec<AgentLid>, AllocError
     Ok(held)
 }
 
-/// Appends the LIDs of a node's ports.
+/// Appends the LIDs that the ports of a node hold.
 fn hold_lids(held: &mut Vec<AgentLid>, agent: &Agent) -> Result<(), AllocError>
     ensures { OnOk result (held.new.items ≡ held.old.items ++ held_by agent.now) }
 {
@@ -87,7 +87,7 @@ fn switches<'f>(alloc: Global, fabric: &'f Fabric) -> Result<Vec<&'f Agent>, All
     Ok(switches)
 }
 
-/// Prints the tables of switches.
+/// Prints the tables of `switches`, in their order.
 fn write_tables<W: Sink>(sink: &mut W, switches: &[&Agent]) -> Result<(), RunFault>
     ensures prints { PrintsUnless W.written W.has_failed result sink.old sink.new
         (flat_map (λ agent. table_text agent.now) switches.now) }
@@ -98,7 +98,7 @@ fn write_tables<W: Sink>(sink: &mut W, switches: &[&Agent]) -> Result<(), RunFau
     Ok(())
 }
 
-/// Prints a switch's GUID, the top of its table, and the blocks up to that of the top.
+/// Prints a switch's GUID, the top of its table, and its blocks up to the block of the top.
 fn write_table<W: Sink>(sink: &mut W, agent: &Agent) -> Result<(), RunFault>
     ensures prints { PrintsUnless W.written W.has_failed result sink.old sink.new
         (table_text agent.now) }
@@ -107,7 +107,7 @@ fn write_table<W: Sink>(sink: &mut W, agent: &Agent) -> Result<(), RunFault>
     write_blocks(sink, agent)
 }
 
-/// Prints the blocks of a switch, up to that of its top.
+/// Prints the blocks of a switch, up to the block of its top.
 fn write_blocks<W: Sink>(sink: &mut W, agent: &Agent) -> Result<(), RunFault>
     ensures prints { PrintsUnless W.written W.has_failed result sink.old sink.new
         (blocks_text agent.now) }
@@ -118,7 +118,7 @@ fn write_blocks<W: Sink>(sink: &mut W, agent: &Agent) -> Result<(), RunFault>
     Ok(())
 }
 
-/// Returns block `b` of a switch.
+/// Returns block `b` of the table of a switch.
 fn block(agent: &Agent, b: usize) -> [u8; 64]
     requires { b < 1024 }
     ensures { result ≡ block_at agent.now b }

@@ -1,5 +1,5 @@
--- A run of a schedule: its inputs are read in order, the text that the rule takes, the topology and the schedule, and
--- then judged.
+-- A run of a schedule: its inputs are the text that the rule takes, the topology and the schedule. They are read in
+-- this order and then judged.
 use Rattle.std.specs.Prelude.{◌≡◌, ◌⊎◌, ◌+◌, ℕ, Bool, true, List, [], ◌∷◌, Option, Some, None, Result, Ok, Err, IsTrue, if◌then◌else◌}
 use Rattle.std.specs.Str.{is_utf8}
 use Rattle.byte_io.specs.Source.{SourceState}
@@ -30,56 +30,56 @@ use Rattle.schedule_lines.specs.declared.run_fault.RunFault.TheVariants as runs
 
 -- judging ---------------------------------------------------------------------------------------
 
--- what is wrong with the schedule at `input`, by what its text says
+-- the fault of the schedule at `input`, given the result of parsing it; None if it has none
 abbrev pub fault_of_script : ℕ → Result Script ScheduleFault → Option Fault
 fault_of_script input (Ok script) = None
 fault_of_script input (Err fault) = Some (Text input (Schedule fault))
 
--- what is wrong with the text of the schedule at `input`, for a fabric with `nodes`
+-- the fault of the text of the schedule at `input`, for a fabric with `nodes`; None if it has none
 abbrev pub schedule_fault : ℕ → List Node → List ℕ → Option Fault
 schedule_fault input nodes text =
     if is_utf8 text then fault_of_script input (schedule_of nodes text) else Some (Text input NotUtf8)
 
--- what is wrong with the topology at `input` or, if it is sound, with the text of the schedule after it
+-- the fault of the topology at `input` or, if it is sound, of the text of the schedule after it
 abbrev pub fault_behind : ℕ → Result Layout TopoFault → List ℕ → Option Fault
 fault_behind input (Ok layout) schedule = schedule_fault (input + 1) layout.nodes schedule
 fault_behind input (Err fault) schedule = Some (Text input (Topology fault))
 
--- the first fault, if any, of the texts of a topology, at `input`, and of a schedule, at the next input
+-- the first fault of the texts of a topology at `input` and of a schedule at the next input; None if there is none
 abbrev pub input_fault : ℕ → List ℕ → List ℕ → Option Fault
 input_fault input topology schedule =
     if is_utf8 topology then fault_behind input (topology_of topology) schedule else Some (Text input NotUtf8)
 
--- the bytes are UTF-8 and say the topology `layout`
+-- the bytes are UTF-8 and describe the topology `layout`
 pub record TellsTopology (text : List ℕ) (layout : Layout) : Type 0 where
   pub utf8 : is_utf8 text ≡ true
   pub told : topology_of text ≡ Ok layout
 
--- the fault is at one of the two texts, inputs `first` and `first` + 1; unless it is lack of memory, it is the one
--- found
+-- the fault is that of one of the two texts, inputs `first` and `first` + 1; unless it is lack of memory, it is the
+-- fault `found`
 abbrev pub IsRefused : ℕ → Option Fault → Fault → Type 0
 IsRefused first found (Text input fault) =
     ((input ≡ first) ⊎ (input ≡ first + 1)) × (is_of_text fault ≡ true → found ≡ Some (Text input fault))
 IsRefused first found fault = ⊥
 
--- lack of memory for a topology hides no fault of a line, except faults of a link's peer and ports
+-- if memory ran out for a topology, no line has a fault, except for faults of a link's peer and ports
 abbrev pub HidesLinksAlone : List ℕ → Fault → Type 0
 HidesLinksAlone topology (Text input (Topology topologies.Memory)) = first_line_fault topology ≡ None
 HidesLinksAlone topology _ = Unit {0}
 
--- lack of memory for a schedule hides no fault, except faults of lines below more than 64 managers
+-- if memory ran out for a schedule, no line has a fault, except for lines below more than 64 managers
 abbrev pub HidesBelowManagers : List Node → List ℕ → Fault → Type 0
 HidesBelowManagers nodes schedule (Text input (Schedule schedules.Memory)) = IsSoundOrCrowded nodes (lines schedule)
 HidesBelowManagers nodes schedule _ = Unit {0}
 
--- the text of a schedule, after the topology at `first`, is refused for its first fault, or memory was refused as it
--- was judged
+-- the text of a schedule, after the topology at `first`, is refused for its first fault, or memory ran out as it was
+-- judged
 pub record RefusesScript (first : ℕ) (nodes : List Node) (text : List ℕ) (fault : Fault) : Type 0 where
   pub refused : IsRefused first (schedule_fault (first + 1) nodes text) fault
   pub hides : HidesBelowManagers nodes text fault
   pub no_topology : (topology : List ℕ) → HidesLinksAlone topology fault
 
--- the texts are refused for their first fault, or memory was refused as they were judged
+-- the texts are refused for their first fault, or memory ran out as they were judged
 pub record RefusesTexts (first : ℕ) (topology schedule : List ℕ) (fault : Fault) : Type 0 where
   pub refused : IsRefused first (input_fault first topology schedule) fault
   pub hides : HidesLinksAlone topology fault
@@ -88,7 +88,7 @@ pub record RefusesTexts (first : ℕ) (topology schedule : List ℕ) (fault : Fa
 
 -- reading ---------------------------------------------------------------------------------------
 
--- there are two sources: a topology's and a schedule's
+-- there are two sources: that of a topology and that of a schedule
 pub record AreTexts {S : Type 0} (sources : List S) : Type 0 where
   pub topology : S
   pub schedule : S
@@ -100,14 +100,14 @@ pub record AreRead {S : Type 0} (state : S → SourceState) (old new : S) (old' 
   pub topology_read : IsReadWhole state old new topology
   pub schedule_read : IsReadWhole state old' new' schedule
 
--- the topology can't be read whole, and the schedule was not touched
+-- the topology cannot be read whole, and the schedule was not touched
 pub record FailsAtTopology {S : Type 0} (state : S → SourceState) (first : ℕ) (old new old' new' : S)
     (input : ℕ) (fault : FileFault) : Type 0 where
   pub is_first : input ≡ first
   pub fails : FailsToRead state old new fault
   pub untouched : new' ≡ old'
 
--- the topology was read, and the schedule can't be read whole
+-- the topology was read, and the schedule cannot be read whole
 pub record FailsAtSchedule {S : Type 0} (state : S → SourceState) (first : ℕ) (old new old' new' : S)
     (input : ℕ) (fault : FileFault) : Type 0 where
   pub is_second : input ≡ first + 1
@@ -115,7 +115,8 @@ pub record FailsAtSchedule {S : Type 0} (state : S → SourceState) (first : ℕ
   pub read : IsReadWhole state old new topology
   pub fails : FailsToRead state old' new' fault
 
--- the fault is that of the source that can't be read whole; the topology's comes first, and is at input `first`
+-- the fault is that of the source that cannot be read whole; the topology is at input `first`, and its fault comes
+-- first
 abbrev pub FailsToReadThem : {S : Type 0} → (S → SourceState) → ℕ → S → S → S → S → Fault
     → Type 0
 FailsToReadThem state first old new old' new' (File input fault) =
@@ -123,12 +124,12 @@ FailsToReadThem state first old new old' new' (File input fault) =
     ⊎ FailsAtSchedule state first old new old' new' input fault
 FailsToReadThem state first old new old' new' fault = ⊥
 
--- the texts say this topology and, for it, this schedule
+-- the texts describe this topology and this schedule for it
 pub record Tells (topology schedule : List ℕ) (layout : Layout) (script : Script) : Type 0 where
   pub topology_told : TellsTopology topology layout
   pub schedule_told : schedule_of layout.nodes schedule ≡ Ok script
 
--- both sources were read to their ends, and `setting` is what they say
+-- both sources were read to their ends, and `setting` is what they describe
 pub record AreTold {S : Type 0} (state : S → SourceState) (olds news : List S) (setting : Setting) : Type 0 where
   pub were : AreTexts olds
   pub are : AreTexts news
@@ -138,7 +139,7 @@ pub record AreTold {S : Type 0} (state : S → SourceState) (olds news : List S)
   pub tells : Tells topology schedule setting.topology setting.schedule
   pub is_script : IsScript setting.topology.nodes setting.schedule
 
--- both sources were read to their ends, and what they say is refused with `fault`
+-- both sources were read to their ends, and their texts are refused with `fault`
 pub record AreRefused {S : Type 0} (state : S → SourceState) (first : ℕ) (old new old' new' : S)
     (fault : Fault) : Type 0 where
   pub topology : List ℕ
@@ -146,7 +147,7 @@ pub record AreRefused {S : Type 0} (state : S → SourceState) (first : ℕ) (ol
   pub read : AreRead state old new old' new' topology schedule
   pub refuses : RefusesTexts first topology schedule fault
 
--- a source can't be read whole, or what both say is refused
+-- a source cannot be read whole, or the texts are refused
 abbrev pub IsTextsFault : {S : Type 0} → (S → SourceState) → ℕ → S → S → S → S → Fault
     → Type 0
 IsTextsFault state first old new old' new' fault =
@@ -170,7 +171,7 @@ texts_reader state = record {
   has_switch = λ setting. has_switch setting.topology.nodes;
 }
 
--- The inputs were read: the text that the rule takes, and then topology and schedule. `prints` holds of what their run
+-- The inputs were read: the text that the rule takes, the topology and the schedule. `prints` holds of what their run
 -- prints, with managers that plan under `lmc` and by the rule
 pub record HasRun {S : Type 0} (state : S → SourceState) (lmc : ℕ) (asked : RuleAsked) (olds news : List S)
     (prints : List ℕ → Type 0) : Type 0 where
@@ -180,7 +181,7 @@ pub record HasRun {S : Type 0} (state : S → SourceState) (lmc : ℕ) (asked : 
   pub printed : prints (run_text (record { lmc = lmc; rule = rule }) inputs.read.others_read.topology
       inputs.read.others_read.schedule)
 
--- the source of the topology as the run began
+-- the source of the topology when the run began
 abbrev pub topology_source : {S : Type 0} {state : S → SourceState} {lmc : ℕ} {asked : RuleAsked} {olds news : List S}
     {prints : List ℕ → Type 0} → HasRun state lmc asked olds news prints → S
 topology_source run = run.inputs.read.others_read.were.topology
@@ -191,12 +192,12 @@ schedule_source run = run.inputs.read.others_read.were.schedule
 
 -- faults ----------------------------------------------------------------------------------------
 
--- the fault of a run as one of the program
+-- the fault of a run as a fault of the program
 abbrev pub fault_of_run : RunFault → Fault
 fault_of_run runs.Write = Write
 fault_of_run runs.Memory = Memory
 
--- the run failed; if memory was refused as it went on, `prints` holds of what it would have printed
+-- why a run ends early: a write failed, or memory ran out, and then `prints` holds of what it would have printed
 abbrev pub StopsEarly : {S : Type 0} → (S → SourceState) → ℕ → RuleAsked → List S → List S
     → (List ℕ → Type 0) → Bool → Fault → Type 0
 StopsEarly state lmc asked olds news prints sink_failed Write =

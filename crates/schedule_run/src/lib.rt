@@ -1,4 +1,4 @@
-//! The run of a schedule in the fabric of a topology: both texts are read and judged, and then its commands are run.
+//! The run of a schedule in the fabric of a topology: both texts are read and judged, and then the commands are run.
 #![tactic(auto)]
 
 mod run;

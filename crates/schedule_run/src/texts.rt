@@ -21,7 +21,7 @@ struct Texts {
     schedule: Vec<u8>,
 }
 
-/// What the topology and the schedule say.
+/// The topology and the schedule that the texts describe.
 #[derive(Drop)]
 pub(crate) struct Setting {
     pub(crate) topology: Topology,
@@ -51,11 +51,11 @@ impl<S: Source> InputReader<S> for TopologyAndSchedule {
     }
 }
 
-/// Reads both texts to their ends, the topology first, and returns what they say. `before` inputs precede them.
+/// Reads both texts to their ends, the topology first, and returns what they describe. `before` inputs precede them.
 ///
 /// # Errors
 ///
-/// Returns the first fault. A fault of reading comes before one of what a text says.
+/// Returns the first fault. A fault of reading comes before a fault of a text.
 fn read_setting<S: Source>(alloc: Global, before: usize, texts: &mut [S]) -> Result<Setting, Fault>
     requires two { length texts.old ≡ 2 }
     requires counted { before + length texts.old ≤ usize.MAX }

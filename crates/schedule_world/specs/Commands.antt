@@ -44,65 +44,68 @@ use Rattle.schedule_world.specs.World.{SeatedValue, WorldValue, after_ask, at_se
 
 -- managers -----------------------------------------------------------------------------------------
 
--- `manager M "n"[p] P`: the manager is seated at its port
+-- `manager M "n"[p] P`: the manager takes the seat at its port
 unfoldable pub after_manager_line : WorldValue → ℕ → Outcome WorldValue
 after_manager_line w seat = at_seat w seat (λ s. after_fabric_call w (after_seat w.fabric s.at))
 
--- `sweep`, `write`, `handover` or `poll`: the manager of a seat does it, and then sends what it has queued
+-- `sweep`, `write`, `handover` or `poll`: the request to the manager of a seat is made, and then the packets that it
+-- has queued are sent
 unfoldable pub after_ask_line : WorldValue → ℕ → Ask → Outcome WorldValue
 after_ask_line w seat what = after_ask (λ now. after_send now seat) w seat (asked_fault what) (after_asked what)
 
--- `merge M N`: the first manager takes in all that the second knows
+-- `merge M N`: the first manager takes in all that the second manager knows
 unfoldable pub after_merge_line : WorldValue → ℕ → ℕ → Outcome WorldValue
 after_merge_line w seat other =
     at_seat w seat (λ s. at_seat w other (λ o. quiet (with_manager w seat s (after_merge s.manager o.manager.store))))
 
--- `floor M G`: the manager forgets what is older than G
+-- `floor M G`: the manager forgets facts that are older than G
 unfoldable pub after_floor_line : WorldValue → ℕ → ℕ → Outcome WorldValue
 after_floor_line w seat floor = at_seat w seat (λ s. quiet (with_manager w seat s (after_raise_floor s.manager floor)))
 
--- the manager gives up a request
+-- the manager of a seat gives up the request with this TransactionID
 unfoldable pub after_give_up : WorldValue → ℕ → ℕ → Outcome WorldValue
 after_give_up w seat transaction =
     after_ask quiet w seat (λ m. (manager.after_timeout m transaction).fault)
     (λ m. (manager.after_timeout m transaction).manager)
 
--- the manager gives up requests, one after the other
+-- the manager of a seat gives up requests, one after the other
 abbrev pub after_giving_up : WorldValue → ℕ → List ℕ → Outcome WorldValue
 after_giving_up w seat [] = quiet w
 after_giving_up w seat (transaction ∷ later) =
     and_then (after_give_up w seat transaction) (λ now. after_giving_up now seat later)
 
--- `timeout M`: the manager gives up all requests that wait as the line begins, and then sends what it has queued
+-- `timeout M`: the manager gives up all requests that wait when the line begins, and then sends the packets that it has
+-- queued
 unfoldable pub after_timeout_line : WorldValue → ℕ → Outcome WorldValue
 after_timeout_line w seat =
     at_seat w seat (λ s. and_then (after_giving_up w seat (outstanding s.manager)) (λ now. after_send now seat))
 
 -- packets ------------------------------------------------------------------------------------------
 
--- the line of the trap that the manager of a seat represses, if the packet is one
+-- the line of the trap that the manager of a seat represses; empty if the packet is not such a trap
 abbrev pub heard_text : WorldValue → ℕ → Packet → List ℕ
 heard_text w seat packet =
     option_map_or (λ s. trap_text (Some s.name) (manager.trap_told s.manager packet.bytes)) (slice_get w.managers seat) []
 
--- the manager of a seat takes in a packet, and prints the trap that it represses; or it refuses the packet
+-- the manager of a seat takes in a packet, and a trap that it represses is printed; or it refuses the packet
 abbrev pub after_take : WorldValue → ℕ → Packet → Outcome WorldValue
 after_take w seat packet =
     after_ask (shows (heard_text w seat packet)) w seat (λ m. (manager.after_packet m packet.bytes (Some packet.slid)).fault)
     (λ m. (manager.after_packet m packet.bytes (Some packet.slid)).manager)
 
--- the manager of a seat takes in a packet, or refuses it, and then sends what it has queued
+-- the manager of a seat takes in a packet, or refuses it, and then sends the packets that it has queued
 unfoldable pub after_take_and_send : WorldValue → ℕ → Packet → Outcome WorldValue
 after_take_and_send w seat packet = and_then (after_take w seat packet) (λ now. after_send now seat)
 
--- the seat at a port, if a manager sits there already
+-- the index of the manager that sits at a port; None if none does
 abbrev pub seat_at : WorldValue → NodePort → Option ℕ
 seat_at w p = if is_seat_at w.fabric p then position (λ s. is_same_port s.at p) w.managers else None
 
--- a packet that comes to a port goes to the manager there; if none sits there it is dropped
+-- a packet that reaches a port goes to the manager there; if none sits there, it is dropped
 unfoldable pub after_hand_up : WorldValue → NodePort → Packet → Outcome WorldValue
 after_hand_up w p packet = option_map_or (λ seat. after_take_and_send w seat packet) (seat_at w p) (quiet w)
 
+-- the outcome of a delivery: a packet that is handed up goes to the manager at the port
 abbrev pub after_arrival : WorldValue → Result Delivered FabricFault → Outcome WorldValue
 after_arrival w (Ok (delivered_is.ToManager p packet)) = after_hand_up w p packet
 after_arrival w (Ok (delivered_is.Moved serial)) = quiet w
@@ -121,8 +124,8 @@ after_fate w Deliver serial = after_step w serial
 after_fate w Lose serial = after_fabric_call w (after_lose w.fabric serial)
 after_fate w Repeat serial = after_fabric_call w (after_repeat w.fabric serial)
 
--- `deliver`, `lose` or `repeat`: the packet that is meant meets its fate; refused if the last one is meant and none is
--- in flight
+-- `deliver`, `lose` or `repeat`: the packet that `which` names takes one step, is lost or is repeated; refused if the
+-- last packet is named and none is in flight
 unfoldable pub after_packet_line : WorldValue → Which → Fate → Outcome WorldValue
 after_packet_line w which fate =
     option_map_or (after_fate w fate) (serial_of w.fabric.flights which)
@@ -135,48 +138,48 @@ after_drain_line w (suc most) =
     option_map_or (λ flight. and_then (after_step w flight.serial) (λ now. after_drain_line now most))
     (slice_get w.fabric.flights 0) (quiet w)
 
--- a packet in flight, and where it waits
+-- the line of a packet in flight, with the node where it waits
 abbrev pub flight_shown : List Node → Flight → List ℕ
 flight_shown nodes flight = flight_line nodes flight.serial (port_of flight.whereabouts).node
 
--- `flight`: all packets in flight
+-- `flight`: the lines of all packets in flight
 abbrev pub flights_text : List Node → List Flight → List ℕ
 flights_text nodes flights = flat_map (flight_shown nodes) flights
 
 -- cables and ports -----------------------------------------------------------------------------------
 
--- the state of a port of a node has changed, and its agent is told
+-- the state of a port of a node has changed, and the node's agent is informed
 abbrev pub after_tell : WorldValue → ℕ → Outcome WorldValue
 after_tell w id = after_fabric_call w (after_port_change w.fabric id)
 
--- the agents at both ends of a cable are told, the one of the first end first; a node at both ends is told once
+-- the agents at both ends of a cable are informed, that of the first end first; a node at both ends is informed once
 unfoldable pub after_tell_ends : WorldValue → NodePort → NodePort → Outcome WorldValue
 after_tell_ends w p q =
     and_then (after_tell w p.node) (λ now. if q.node == p.node then quiet now else after_tell now q.node)
 
--- the agents are told if the cable was plugged in or cut
+-- if the cable was plugged in, the agents at both ends are informed
 abbrev pub after_change : WorldValue → NodePort → NodePort → Result (Unit {0}) FabricFault → Outcome WorldValue
 after_change w p q (Ok done) = after_tell_ends w p q
 after_change w p q (Err fault) = quiet w
 
--- the agents at `p` and at the cable's other end are told if the cable was cut
+-- if the cable was cut, the agents at `p` and at the cable's other end are informed
 abbrev pub after_parting : WorldValue → NodePort → Option NodePort → Result (Unit {0}) FabricFault → Outcome WorldValue
 after_parting w p other (Ok done) = option_map_or (after_tell_ends w p) other (quiet w)
 after_parting w p other (Err fault) = quiet w
 
--- `cut "n"[p]`: the cable is cut, and the agents at both ends are told
+-- `cut "n"[p]`: the cable is cut, and the agents at both ends are informed
 unfoldable pub after_cut_line : WorldValue → NodePort → Outcome WorldValue
 after_cut_line w p = let called = after_cut w.fabric p in
     and_then (after_fabric_call w called) (λ now. after_parting now p (across w.fabric.peers p) called.result)
 
--- `plug "n"[p] "m"[q]`: the cable is plugged in, and the agents at both ends are told
+-- `plug "n"[p] "m"[q]`: the cable is plugged in, and the agents at both ends are informed
 unfoldable pub after_plug_line : WorldValue → NodePort → NodePort → Outcome WorldValue
 after_plug_line w p q = let called =
     after_plug w.fabric p q in and_then (after_fabric_call w called) (λ now. after_change now p q called.result)
 
 -- traps ----------------------------------------------------------------------------------------------
 
--- `traps`: switches send traps from here on
+-- `traps`: switches send traps from now on
 unfoldable pub after_traps_line : WorldValue → Outcome WorldValue
 after_traps_line w = after_fabric_call w (after_begin_traps w.fabric)
 
@@ -193,21 +196,22 @@ after_resends w id (suc left) = and_then (after_resend w id) (λ now. after_rese
 abbrev pub after_resend_line : WorldValue → Outcome WorldValue
 after_resend_line w = after_resends w 0 (length w.fabric.agents)
 
--- `ping "n"[p] L`: where the packet ends, or why it cannot be sent
+-- `ping "n"[p] L`: the line of where the packet ends, or of why it cannot be sent
 abbrev pub ping_text : List Node → Simulation → NodePort → ℕ → Option FabricFault → List ℕ
 ping_text nodes fabric source lid None = ping_line nodes source lid (ping (fabric_of fabric) lid source)
 ping_text nodes fabric source lid (Some fault) = refusal_line (fabric_fault_name fault)
 
+-- what `ping "n"[p] L` prints
 unfoldable pub ping_shown : List Node → WorldValue → NodePort → ℕ → List ℕ
 ping_shown nodes w source lid = ping_text nodes w.fabric source lid (ping_fault w.fabric source)
 
 -- what managers know -----------------------------------------------------------------------------------
 
--- what `facts`, `plan`, `progress`, `silent`, `written` or `state` show of a manager
+-- what `facts`, `plan`, `progress`, `silent`, `written` or `state` shows about a manager
 abbrev pub shown_at : Shown → SeatedValue → List ℕ
 shown_at what s = text_of what (Some s.name) s.manager
 
--- what is shown of the manager of a seat
+-- what is shown about the manager of a seat; empty if there is none
 unfoldable pub shown_of : WorldValue → ℕ → Shown → List ℕ
 shown_of w seat what = option_map_or (shown_at what) (slice_get w.managers seat) []
 
@@ -231,7 +235,7 @@ after_command nodes w command.Resend = after_resend_line w
 after_command nodes w command.Tables = shows (tables_text w.fabric) w
 after_command nodes w command.Flight = shows (flights_text nodes w.fabric.flights) w
 
--- what lines do and print, one after the other
+-- what the lines do and print, one after the other
 abbrev pub after_commands : List Node → WorldValue → List SeatCommand → Outcome WorldValue
 after_commands nodes w [] = quiet w
 after_commands nodes w (command ∷ later) =
@@ -259,10 +263,12 @@ unfoldable pub script_text : Planning → Layout → Script → List ℕ
 script_text planning topology script =
     (after_commands topology.nodes (world_of planning topology script.seats) script.commands).text
 
+-- what the run of a schedule prints; nothing if the schedule is refused
 abbrev pub schedule_text : Planning → Layout → Result Script ScheduleFault → List ℕ
 schedule_text planning topology (Ok script) = script_text planning topology script
 schedule_text planning topology (Err fault) = []
 
+-- what the run of a schedule prints in the fabric of a topology; nothing if one of them is refused
 abbrev pub topology_text : Planning → Result Layout TopoFault → List ℕ → List ℕ
 topology_text planning (Ok topology) schedule = schedule_text planning topology (schedule_of topology.nodes schedule)
 topology_text planning (Err fault) schedule = []

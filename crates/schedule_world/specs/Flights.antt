@@ -1,4 +1,4 @@
--- The packets in flight that commands are about.
+-- The packets in flight that commands name.
 use Rattle.std.specs.Prelude.{ℕ, ◌-◌, List, Option, None, Some, length, option_map, slice_get}
 use Rattle.std.specs.Option.{option_map_or}
 use Rattle.fabric_sim.specs.Changes.{after_lose}
@@ -9,17 +9,17 @@ use Rattle.fabric_sim.specs.declared.flight.Flight.{Flight}
 use Rattle.schedule_file.specs.declared.command.Which.{Which}
 use Rattle.schedule_file.specs.declared.command.Which.TheVariants.{Last, Serial}
 
--- the serial number of the last packet in flight, or the one that is given
+-- the serial number of the packet that is named; None if the last packet is named and none is in flight
 abbrev pub serial_of : List Flight → Which → Option ℕ
 serial_of flights Last = option_map (λ flight. flight.serial) (slice_get flights (length flights - 1))
 serial_of flights (Serial serial) = Some serial
 
--- the packet that goes out: to a LID, or on a directed route, with the permissive LID at both ends
+-- the packet that is sent: to a LID, or on a directed route with the permissive LID at both ends
 abbrev pub packet_out : Outgoing → Packet
 packet_out outgoing =
     record { bytes = outgoing.packet; slid = 0xFFFF; dlid = option_map_or (λ lid. lid) outgoing.to 0xFFFF }
 
--- the fabric with the packet with this serial number lost, if there is one
+-- the fabric without the packet with this serial number, if one is given
 abbrev pub without : Simulation → Option ℕ → Simulation
 without fabric None = fabric
 without fabric (Some serial) = (after_lose fabric serial).fabric

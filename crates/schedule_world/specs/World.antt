@@ -1,4 +1,5 @@
--- A world: a simulated fabric and the managers that sit in it; what calls on them leave, and which lines they print.
+-- A world: a simulated fabric and the managers that sit in it, what calls on them leave, and the lines that the calls
+-- print.
 use Rattle.std.specs.Prelude.{◌≡◌, ℕ, Bool, List, [], ◌∷◌, length, map, slice_get, slice_set, Option, None, Some}
 use Rattle.std.specs.Prelude.{Result, Ok, Err, OnOk}
 use Rattle.std.specs.Option.{option_map_or}
@@ -26,20 +27,22 @@ pub record SeatedValue : Type 0 where
   pub at : NodePort
   pub manager : Manager
 
--- the fabric, and the managers in the order of their lines
+-- the fabric, and the managers in the order of their seats
 pub record WorldValue : Type 0 where
   pub fabric : Simulation
   pub managers : List SeatedValue
 
+-- the value of a manager with its seat
 abbrev pub seated_value : Seated → SeatedValue
 seated_value s = record { name = s.seat.now.name; at = s.seat.now.at; manager = s.manager }
 
+-- the value of a world of the code
 abbrev pub value_of : World → WorldValue
 value_of w = record { fabric = w.fabric; managers = map seated_value w.managers.items }
 
 -- the fabric ---------------------------------------------------------------------------------------
 
--- the line of a refusal by the fabric, empty if there is none
+-- the line of a refusal by the fabric; empty if it does not refuse
 abbrev pub fabric_line : {R : Type 0} → Result R FabricFault → List ℕ
 fabric_line (Ok value) = []
 fabric_line (Err fault) = refusal_line (fabric_fault_name fault)
@@ -52,10 +55,11 @@ after_fabric called = record { now = called.fabric; text = fabric_line called.re
 abbrev pub in_fabric : WorldValue → Outcome Simulation → Outcome WorldValue
 in_fabric w outcome = record { now = record w { fabric = outcome.now }; text = outcome.text }
 
+-- what a call of the fabric leaves and prints in a world
 abbrev pub after_fabric_call : {R : Type 0} → WorldValue → Called R → Outcome WorldValue
 after_fabric_call w called = in_fabric w (after_fabric called)
 
--- packets go out from a port, in their order
+-- the packets are sent from a port, in their order
 abbrev pub after_inject_all : Simulation → NodePort → List Outgoing → Outcome Simulation
 after_inject_all fabric at [] = quiet fabric
 after_inject_all fabric at (out ∷ later) =
@@ -63,7 +67,7 @@ after_inject_all fabric at (out ∷ later) =
 
 -- the managers -------------------------------------------------------------------------------------
 
--- `run` is done with the manager of a seat; nothing if there is none
+-- what `run` does with the manager of a seat; nothing if there is none
 abbrev pub at_seat : WorldValue → ℕ → (SeatedValue → Outcome WorldValue) → Outcome WorldValue
 at_seat w seat run = option_map_or run (slice_get w.managers seat) (quiet w)
 
@@ -71,31 +75,34 @@ at_seat w seat run = option_map_or run (slice_get w.managers seat) (quiet w)
 abbrev pub with_manager : WorldValue → ℕ → SeatedValue → Manager → WorldValue
 with_manager w seat s manager = record w { managers = slice_set w.managers seat (record s { manager = manager }) }
 
--- what a call of a manager leaves and prints: it is refused, or leaves `manager`, and then `next` follows
+-- what a call of a manager leaves and prints: if it is refused, a line; otherwise it leaves `manager`, and `next`
+-- follows
 abbrev pub after_manager_call : (WorldValue → Outcome WorldValue) → WorldValue → ℕ → SeatedValue → Option ManagerFault
     → Manager → Outcome WorldValue
 after_manager_call next w seat s None manager = next (with_manager w seat s manager)
 after_manager_call next w seat s (Some fault) manager = shows (manager_line fault) w
 
--- the manager of a seat is called: the call is refused for the fault that `fault` gives, or leaves what `after` gives
+-- the manager of a seat is called: if `fault` gives a fault, the call is refused; otherwise it leaves what `after`
+-- gives, and `next` follows
 abbrev pub after_ask : (WorldValue → Outcome WorldValue) → WorldValue → ℕ → (Manager → Option ManagerFault)
     → (Manager → Manager) → Outcome WorldValue
 after_ask next w seat fault after =
     at_seat w seat (λ s. after_manager_call next w seat s (fault s.manager) (after s.manager))
 
--- all that the manager of a seat has queued goes out
+-- the world once all packets that the manager of a seat has queued are sent
 abbrev pub after_send_by : WorldValue → ℕ → SeatedValue → Outcome WorldValue
 after_send_by w seat s =
     in_fabric (with_manager w seat s (emptied s.manager)) (after_inject_all w.fabric s.at s.manager.outgoing)
 
+-- the world once all packets that the manager of a seat has queued are sent; unchanged if there is no such manager
 unfoldable pub after_send : WorldValue → ℕ → Outcome WorldValue
 after_send w seat = at_seat w seat (after_send_by w seat)
 
 -- calls --------------------------------------------------------------------------------------------
 
 -- A call on a world does what `outcome` says: it leaves the outcome's world with as many managers as before, and prints
--- the outcome's text. If it fails, the world may be anything else, and a beginning of the text was printed, or the
--- output has failed
+-- the outcome's text. If it fails, the world may be any world with as many managers, and either a beginning of the text
+-- was printed or the output has failed
 pub record Does {W : Type 0} (written : W → Option (List ℕ)) (has_failed : W → Bool) (old new : World)
     (result : Result (Unit {0}) RunFault) (sink sink' : W) (outcome : Outcome WorldValue) : Type 0 where
   pub managers : length new.managers.items ≡ length old.managers.items

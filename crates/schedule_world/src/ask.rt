@@ -24,7 +24,8 @@ impl World<'_> {
         }
     }
 
-    /// Asks a manager for `what`, and sends the packets that it then has queued.
+    /// Makes the request `what` to the manager at index `seat`, and sends the packets that it then has queued. If the
+    /// manager refuses it, prints the refusal.
     pub(crate) fn ask<W: Sink>(
         &mut self,
         seat: usize,
@@ -41,7 +42,7 @@ impl World<'_> {
         self.send(seat, sink)
     }
 
-    /// Makes a manager forget facts that are older than `floor`.
+    /// Makes the manager at index `seat` forget facts that are older than `floor`.
     pub(crate) fn raise_floor(&mut self, seat: usize, floor: Generation)
         requires { seat < length self.old.managers.items }
         ensures managers { length self.new.managers.items ≡ length self.old.managers.items }
@@ -50,8 +51,8 @@ impl World<'_> {
         self.managers[seat].manager.raise_floor(floor);
     }
 
-    /// Times out all answers that a manager waits for when the call begins, and sends the packets that it then has
-    /// queued.
+    /// Times out all requests that the manager at index `seat` waits for when the call begins, and then sends the
+    /// packets that it has queued. Prints what the manager refuses.
     pub(crate) fn time_out<W: Sink>(
         &mut self,
         alloc: Global,
@@ -69,7 +70,7 @@ impl World<'_> {
         self.send(seat, sink)
     }
 
-    /// Times out one answer that a manager waits for.
+    /// Times out one request of the manager at index `seat`. If the manager refuses it, prints the refusal.
     fn give_up<W: Sink>(
         &mut self,
         seat: usize,

@@ -1,4 +1,4 @@
-//! The commands about cables, and about traps that report changes of cables.
+//! The commands about cables, and about traps that report their changes.
 ghost use Rattle.std.specs.Prelude.{◌≡◌};
 ghost use Rattle.schedule_world.specs.Commands.{after_cut_line, after_plug_line, after_resend, after_resend_line};
 ghost use Rattle.schedule_world.specs.Commands.{after_tell, after_tell_ends, after_traps_line};
@@ -11,7 +11,7 @@ use schedule_lines::{RunFault, refuse_fabric};
 use std::alloc::Global;
 
 impl World<'_> {
-    /// Cuts the cable in a port, and tells the agents at both ends.
+    /// Cuts the cable in `port`, and informs the agents at both ends. If the fabric refuses it, prints the refusal.
     #[tactic(auto, unfolding(crate::specs::Commands::after_cut_line))]
     pub(crate) fn cut<W: Sink>(&mut self, port: NodePort, sink: &mut W) -> Result<(), RunFault>
         ensures does { Does W.written W.has_failed self.old self.new result sink.old sink.new
@@ -27,7 +27,8 @@ impl World<'_> {
         }
     }
 
-    /// Plugs a cable into two ports, and tells the agents at both ends.
+    /// Plugs a cable into the ports `one` and `other`, and informs the agents at both ends. If the fabric refuses it,
+    /// prints the refusal.
     #[tactic(auto, unfolding(crate::specs::Commands::after_plug_line))]
     pub(crate) fn plug<W: Sink>(
         &mut self,
@@ -44,7 +45,8 @@ impl World<'_> {
         }
     }
 
-    /// Tells the agents at both ends of a cable that the state of a port has changed. A node at both ends is told once.
+    /// Informs the agents at both ends of a cable that the state of a port has changed. A node at both ends is informed
+    /// once.
     #[tactic(auto, unfolding(crate::specs::Commands::after_tell_ends))]
     fn tell_ends<W: Sink>(
         &mut self,
@@ -62,7 +64,7 @@ impl World<'_> {
         self.tell(other.node, sink)
     }
 
-    /// Tells the agent of a node that the state of a port has changed.
+    /// Informs the agent of `node` that the state of a port has changed.
     fn tell<W: Sink>(&mut self, node: NodeId, sink: &mut W) -> Result<(), RunFault>
         ensures does { Does W.written W.has_failed self.old self.new result sink.old sink.new
             (after_tell (value_of self.old) node) }
@@ -73,7 +75,7 @@ impl World<'_> {
         }
     }
 
-    /// Lets the agents of switches send traps from now on.
+    /// Makes the agents of switches send traps from now on.
     #[tactic(auto, unfolding(crate::specs::Commands::after_traps_line))]
     pub(crate) fn begin_traps<W: Sink>(
         &mut self,
@@ -101,7 +103,7 @@ impl World<'_> {
         Ok(())
     }
 
-    /// Resends the trap that waits at a node.
+    /// Resends the trap that waits at `node`, if there is one.
     fn resend_one<W: Sink>(&mut self, node: NodeId, sink: &mut W) -> Result<(), RunFault>
         ensures does { Does W.written W.has_failed self.old self.new result sink.old sink.new
             (after_resend (value_of self.old) node) }

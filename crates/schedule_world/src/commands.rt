@@ -1,4 +1,4 @@
-//! The commands of a schedule, one after the other.
+//! The commands of a schedule, which are run in turn.
 ghost use Rattle.std.specs.Prelude.{◌≡◌, false, length, OnOk, IsTrue};
 ghost use Rattle.schedule_file.specs.Schedule.{IsScript, NamesManagers};
 ghost use Rattle.schedule_world.specs.Commands.{after_command, script_text};
@@ -19,7 +19,7 @@ use topo_file::Topology;
 ///
 /// # Errors
 ///
-/// Returns `Memory` if memory ran out; a beginning of the text was printed. Returns `Write` if the output failed.
+/// Returns `Memory` if memory runs out after a beginning of the text was printed. Returns `Write` if the output failed.
 pub fn run_commands<W: Sink>(
     alloc: Global,
     topology: &Topology,
@@ -42,7 +42,7 @@ pub fn run_commands<W: Sink>(
 }
 
 impl World<'_> {
-    /// Performs a command.
+    /// Runs one command.
     fn execute<W: Sink>(
         &mut self,
         alloc: Global,

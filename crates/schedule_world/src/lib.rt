@@ -1,4 +1,4 @@
-//! A simulated fabric and the managers that sit in it: what each command of a schedule does there, and what it prints.
+//! A simulated fabric and the managers that sit in it: what each command of a schedule does and prints.
 #![tactic(auto)]
 
 mod ask;

@@ -1,4 +1,4 @@
-//! The command by which a manager takes in what another one knows.
+//! The command that makes a manager take in what another manager knows.
 ghost use Rattle.std.specs.Prelude.{◌≡◌, ◌≢◌, ◌<◌, Err, Some, length, slice_get, slice_set, OnErr, OnOk};
 ghost use Rattle.sm_manager.specs.Manager.{after_merge};
 ghost use Rattle.schedule_world.specs.Commands.{after_merge_line};
@@ -10,7 +10,8 @@ use schedule_lines::{RunFault, refuse_manager};
 use sm_manager::ManagerFault;
 
 impl World<'_> {
-    /// Merges all that the manager `other` knows into the manager `seat`. Does nothing if they are the same.
+    /// Merges all that the manager at index `other` knows into the manager at index `seat`. Does nothing if they are
+    /// the same manager.
     #[tactic(auto, unfolding(crate::specs::Commands::after_merge_line))]
     pub(crate) fn merge<W: Sink>(
         &mut self,
@@ -33,7 +34,8 @@ impl World<'_> {
     }
 }
 
-/// Merges all that the manager `other` knows into the manager `seat`, which is taken out of the list meanwhile.
+/// Merges all that the manager at index `other` knows into the manager at index `seat`, which is taken out of the list
+/// meanwhile.
 fn merge_at(managers: &mut Vec<Seated>, seat: usize, other: usize) -> Result<(), ManagerFault>
     requires seat { seat < length managers.old.items }
     requires other { other < length managers.old.items }

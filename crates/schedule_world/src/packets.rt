@@ -13,7 +13,8 @@ use schedule_file::{Fate, Which};
 use schedule_lines::{RunFault, refuse_fabric, refuse_manager, show_trap};
 
 impl World<'_> {
-    /// Lets a packet in flight meet its fate.
+    /// Delivers the packet in flight that `which` names by one step, loses it or repeats it, by `fate`. If there is no
+    /// such packet, prints a refusal.
     #[tactic(auto, unfolding(crate::specs::Commands::after_packet_line))]
     pub(crate) fn handle_packet<W: Sink>(
         &mut self,
@@ -34,7 +35,7 @@ impl World<'_> {
         }
     }
 
-    /// Loses a packet in flight.
+    /// Loses the packet in flight with this serial number.
     fn lose<W: Sink>(&mut self, serial: u64, sink: &mut W) -> Result<(), RunFault>
         ensures does { Does W.written W.has_failed self.old self.new result sink.old sink.new
             (after_fate (value_of self.old) Fate.Lose serial) }
@@ -45,7 +46,7 @@ impl World<'_> {
         }
     }
 
-    /// Copies a packet in flight.
+    /// Copies the packet in flight with this serial number.
     fn repeat<W: Sink>(&mut self, serial: u64, sink: &mut W) -> Result<(), RunFault>
         ensures does { Does W.written W.has_failed self.old self.new result sink.old sink.new
             (after_fate (value_of self.old) Fate.Repeat serial) }
@@ -56,7 +57,7 @@ impl World<'_> {
         }
     }
 
-    /// Performs a step of the packet with the least serial number, at most `most` times.
+    /// Moves the packet with the least serial number by one step, at most `most` times. Stops if none is in flight.
     pub(crate) fn drain<W: Sink>(&mut self, most: u32, sink: &mut W) -> Result<(), RunFault>
         ensures does { Does W.written W.has_failed self.old self.new result sink.old sink.new
             (after_drain_line (value_of self.old) most) }
@@ -71,8 +72,8 @@ impl World<'_> {
         Ok(())
     }
 
-    /// Performs one step of the packet with this serial number. If it comes to a manager, the manager takes it in, and
-    /// what it then has queued is sent.
+    /// Moves the packet with this serial number by one step. If it reaches a manager, the manager takes it in, and the
+    /// packets that the manager then has queued are sent.
     #[tactic(auto, using(schedule_lines::proofs::Printing::prints_then), unfolding(crate::specs::Commands::after_step))]
     fn deliver<W: Sink>(&mut self, serial: u64, sink: &mut W) -> Result<(), RunFault>
         ensures does { Does W.written W.has_failed self.old self.new result sink.old sink.new
@@ -85,8 +86,8 @@ impl World<'_> {
         }
     }
 
-    /// Hands a packet to the manager at `port`, and sends what the manager then has queued. Drops the packet if no
-    /// manager sits there.
+    /// Hands a packet to the manager at `port`, and sends the packets that the manager then has queued. Drops the
+    /// packet if no manager sits there.
     #[tactic(auto, unfolding(crate::specs::Commands::after_hand_up))]
     fn hand_up<W: Sink>(
         &mut self,
@@ -104,7 +105,7 @@ impl World<'_> {
         self.send(seat, sink)
     }
 
-    /// Hands a packet to a manager, and prints the trap that the manager represses, if the packet is one.
+    /// Hands a packet to the manager at index `seat`. If the packet is a trap that the manager represses, prints it.
     fn take_in<W: Sink>(
         &mut self,
         seat: usize,
@@ -123,8 +124,8 @@ impl World<'_> {
     }
 }
 
-/// Returns the serial number of the packet that a command is about. Returns `None` if the command is about the last
-/// packet and none is in flight.
+/// Returns the serial number of the packet that `which` names, or `None` if it names the last packet and none is in
+/// flight.
 fn serial(fabric: &Fabric, which: Which) -> Option<u64>
     ensures { result ≡ serial_of fabric.now.flights which }
 {

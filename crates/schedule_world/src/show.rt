@@ -12,7 +12,7 @@ use smp_bytes::Lid;
 use topo_file::Topology;
 
 impl World<'_> {
-    /// Prints what `what` names of a manager.
+    /// Prints what `what` asks about the manager at index `seat`.
     pub(crate) fn show<W: Sink>(
         &self,
         seat: usize,
@@ -27,7 +27,7 @@ impl World<'_> {
         show_manager(sink, Some(seated.seat.name.as_str()), &seated.manager, what)
     }
 
-    /// Prints where a packet ends that is sent from the port `from` to `lid`.
+    /// Prints where a packet from the port `from` to `lid` ends. If it cannot be sent, prints the refusal.
     #[tactic(auto, using(schedule_lines::proofs::Printing::wrote), unfolding(crate::specs::Commands::ping_shown))]
     pub(crate) fn show_ping<W: Sink>(
         &self,

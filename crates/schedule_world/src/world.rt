@@ -24,7 +24,7 @@ use topo_file::Topology;
 /// The serial number of the first packet that is sent.
 const FIRST_SERIAL: u64 = 1;
 
-/// A manager, and its seat.
+/// A manager with its seat.
 #[derive(Drop)]
 pub(crate) struct Seated<'s> {
     pub(crate) seat: &'s Seat,
@@ -35,7 +35,7 @@ pub(crate) struct Seated<'s> {
 #[derive(Drop)]
 pub(crate) struct World<'s> {
     pub(crate) fabric: Fabric,
-    /// The managers, in the order of their seats. Until its line is run, a manager does nothing, and its port is not a
+    /// The managers, in the order of their seats. Before its line is run, a manager does nothing, and its port is not a
     /// seat of the fabric.
     pub(crate) managers: Vec<Seated<'s>>,
 }
@@ -63,7 +63,7 @@ impl<'s> World<'s> {
         Ok(World { fabric, managers })
     }
 
-    /// Sends all that a manager has queued.
+    /// Sends all packets that the manager at index `seat` has queued.
     #[tactic(auto, using(crate::proofs::Seats::sits), unfolding(crate::specs::World::after_send))]
     pub(crate) fn send<W: Sink>(&mut self, seat: usize, sink: &mut W) -> Result<(), RunFault>
         requires { seat < length self.old.managers.items }
@@ -74,7 +74,7 @@ impl<'s> World<'s> {
         send_outgoing(&mut self.fabric, &seat.at, manager, sink)
     }
 
-    /// Returns the manager that sits at a port.
+    /// Returns the index of the manager that sits at `port`, or `None` if none does.
     pub(crate) fn manager_at(&self, port: &NodePort) -> Option<usize>
         ensures seat { result ≡ seat_at (value_of self.now) port.now }
         ensures within { IfSome result (λ seat. seat < length self.now.managers.items) }
@@ -91,7 +91,7 @@ impl<'s> World<'s> {
     }
 }
 
-/// Sends all that a manager at the port `from` has queued, in order.
+/// Sends all packets that `manager` has queued from the port `from`, in their order.
 fn send_outgoing<W: Sink>(
     fabric: &mut Fabric,
     from: &NodePort,
@@ -109,7 +109,7 @@ fn send_outgoing<W: Sink>(
     Ok(())
 }
 
-/// Sends a packet from a port.
+/// Sends a packet from the port `from`. If the fabric refuses it, prints the refusal.
 fn send_one<W: Sink>(
     fabric: &mut Fabric,
     from: &NodePort,
@@ -127,7 +127,7 @@ fn send_one<W: Sink>(
     }
 }
 
-/// Returns the packet that a manager sends.
+/// Returns the packet as a manager sends it: to its LID or, for a directed route, with the permissive LID.
 fn packet(outgoing: &Outgoing) -> Packet
     ensures { result ≡ packet_out outgoing.now }
 {
@@ -139,7 +139,7 @@ fn packet(outgoing: &Outgoing) -> Packet
     }
 }
 
-/// Returns the GUID of an adapter's port.
+/// Returns the GUID of `port`, a port of an adapter.
 #[tactic(auto, using(crate::proofs::Ports::guid_fits))]
 fn port_guid(topology: &Topology, port: &NodePort) -> Guid
     requires { is_seat topology.now.nodes port.now ≡ true }

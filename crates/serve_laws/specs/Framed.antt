@@ -4,12 +4,12 @@ use Rattle.sm_manager.specs.Manager.{Manager}
 use Rattle.serve_lines.specs.declared.line.ServeLine.{ServeLine}
 use Rattle.serve_run.specs.Served.{end_line, served}
 
--- some line of the text begins with a dot; `start` is whether a line begins at its start
+-- whether some line of the text begins with a dot; `start` says whether a line begins at the start of the text
 abbrev pub has_dot : Bool → List ℕ → Bool
 has_dot start [] = false
 has_dot start (b ∷ text) = (start && b == 46) || has_dot (b == 10) text
 
--- a line begins after the text
+-- whether a line begins after the text; `start` says whether a line begins at its start
 abbrev pub is_line_end : Bool → List ℕ → Bool
 is_line_end start [] = start
 is_line_end start (b ∷ text) = is_line_end (b == 10) text
@@ -21,6 +21,6 @@ pub record EndsOnce (text : List ℕ) : Type 0 where
   pub no_dot : has_dot true said ≡ false
   pub whole : is_line_end true said ≡ true
 
--- a reader that reads up to the first line with a dot has read one answer, and no more
+-- each answer ends at its first line with a dot, so that a reader that reads up to it has read one answer and no more
 abbrev pub AnswersEndOnce : Type 0
 AnswersEndOnce = (m : Manager) (line : ServeLine) → EndsOnce (served m line).text

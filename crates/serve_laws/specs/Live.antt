@@ -1,4 +1,4 @@
--- A process that is told by lines, at its seat on a fabric where other managers work too.
+-- A process that is controlled by lines, at its seat on a fabric where other managers work too.
 use Rattle.std.specs.Prelude.{◌≡◌, ℕ, List, [], ◌∷◌, ◌++◌, All, map, slice_get, if◌then◌else◌, Option, Some, None, IsTrue}
 use Rattle.fabric_model.specs.declared.cable.NodePort.{NodePort}
 use Rattle.fabric_model.specs.Cables.{is_same_port}
@@ -15,8 +15,8 @@ use Rattle.serve_lines.specs.declared.line.ServeLine.TheVariants.{Ask, Floor, Pa
 use Rattle.serve_run.specs.Served.{served, served_all}
 use Rattle.serve_laws.specs.Told.{given_by}
 
--- Something happens on the fabric; the process is told a line that is no packet; a packet that was handed up at its
--- seat is told to it, and may be told again; a packet that it printed is sent from its seat, and may be sent again.
+-- Something happens on the fabric; the process is given a line that is not a packet; a packet that was handed up at its
+-- seat is given to it, and may be given again; a packet that it printed is sent from its seat, and may be sent again.
 pub data LiveEvent : Type 0 where
   Around : (event : Event) → LiveEvent
   Tell : (line : ServeLine) → LiveEvent
@@ -25,12 +25,13 @@ pub data LiveEvent : Type 0 where
 
 -- which events there are -----------------------------------------------------------------------------
 
--- a line that is told is no packet, since packets are heard, and a floor is a generation
+-- the line may be given: it is not a packet, since packets are heard, and a floor is a generation
 abbrev pub IsOrder : ServeLine → Type 0
 IsOrder (Packet bytes from) = ⊥
 IsOrder (Floor floor) = IsTrue (is_generation floor)
 IsOrder line = Unit {0}
 
+-- the event can be: what happens around must be able to happen, and a line that is given must be an order
 abbrev pub CanLive : NodePort → LiveEvent → Type 0
 CanLive seat (Around event) = CanHappen event × IsElsewhere seat event
 CanLive seat (Tell line) = IsOrder line
@@ -38,11 +39,13 @@ CanLive seat event = Unit {0}
 
 -- the lines --------------------------------------------------------------------------------------
 
--- a packet that was handed up at the seat, with the LID that it came from
+-- the line of a packet that was handed up at the seat, with the LID that it came from; none if it was handed up
+-- elsewhere
 abbrev pub lines_heard : Managing → Option Handed → List ServeLine
 lines_heard w None = []
 lines_heard w (Some h) = if is_same_port h.at w.seat then Packet h.packet.bytes h.packet.slid ∷ [] else []
 
+-- the lines that an event gives to the process
 abbrev pub lines_by : Managing → LiveEvent → List ServeLine
 lines_by w (Around event) = []
 lines_by w (Tell line) = line ∷ []
@@ -51,12 +54,14 @@ lines_by w (Send which) = []
 
 -- what events do -------------------------------------------------------------------------------------
 
+-- the event of the manager for a request
 abbrev pub event_asked : Asking → ManagerEvent
 event_asked ask.Sweep = managing.Begin
 event_asked ask.Write = managing.Write
 event_asked ask.Handover = managing.HandOver
 event_asked (ask.Poll lid) = managing.Poll lid
 
+-- the events of the manager for what a line asks
 abbrev pub events_told : Manager → ServeLine → List ManagerEvent
 events_told m (Ask what) = event_asked what ∷ []
 events_told m (Floor floor) = managing.Raise floor ∷ []
@@ -64,16 +69,18 @@ events_told m (Timeout transaction) = managing.TimeOut transaction ∷ []
 events_told m GiveUp = map managing.TimeOut (outstanding m)
 events_told m line = []
 
--- a call that takes the packet, for each packet that is printed
+-- the calls that take the printed packets, one for each
 abbrev pub takes_of : List Outgoing → List ManagerEvent
 takes_of [] = []
 takes_of (out ∷ later) = managing.Take ∷ takes_of later
 
+-- the packets that are printed for a packet that was handed up
 abbrev pub given_heard : Managing → Option Handed → List Outgoing
 given_heard w None = []
 given_heard w (Some h) =
     if is_same_port h.at w.seat then given_by w.manager (Packet h.packet.bytes h.packet.slid) else []
 
+-- the events of the manager for an event of the process
 abbrev pub events_by : Managing → LiveEvent → List ManagerEvent
 events_by w (Around event) = managing.Around event ∷ []
 events_by w (Tell line) = events_told w.manager line ++ takes_of (given_by w.manager line)
@@ -82,13 +89,16 @@ events_by w (Send which) = managing.Send which ∷ []
 
 -- all events -----------------------------------------------------------------------------------------
 
+-- the managing after an event of the process
 abbrev pub after_live : Managing → LiveEvent → Managing
 after_live w event = after_manager_events (events_by w event) w
 
+-- the events of the manager for these events of the process, in turn
 abbrev pub events_of : List LiveEvent → Managing → List ManagerEvent
 events_of [] w = []
 events_of (event ∷ events) w = events_by w event ++ events_of events (after_live w event)
 
+-- the lines that these events give to the process, in turn
 abbrev pub lines_of : List LiveEvent → Managing → List ServeLine
 lines_of [] w = []
 lines_of (event ∷ events) w = lines_by w event ++ lines_of events (after_live w event)
@@ -98,14 +108,15 @@ abbrev pub given_all : List ServeLine → Manager → List Outgoing
 given_all [] m = []
 given_all (line ∷ later) m = given_by m line ++ given_all later (served m line).now
 
--- the manager of the process is the one at the seat, and the packets that the process printed are those that the
+-- the manager of the process is the manager at the seat, and the packets that the process printed are those that the
 -- manager gave out
 pub record IsServed (w : Managing) (events : List LiveEvent) : Type 0 where
   pub manager :
       (after_manager_events (events_of events w) w).manager ≡ (served_all w.manager (lines_of events w)).now
   pub out : (after_manager_events (events_of events w) w).out ≡ w.out ++ given_all (lines_of events w) w.manager
-  -- the events are ones that can be
+  -- the events are events that can be
   pub can_be : All (CanBe w.seat) (events_of events w)
 
+-- whatever live events happen, the manager of the process is the manager at the seat
 abbrev pub ServedIsManaging : Type 0
 ServedIsManaging = (w : Managing) (events : List LiveEvent) → All (CanLive w.seat) events → IsServed w events

@@ -1,4 +1,4 @@
--- Once a process says that its plan is written, pings arrive.
+-- Once a process prints that its plan is written, pings arrive.
 use Rattle.std.specs.Prelude.{◌≡◌, true, List, [], ◌∷◌, All, Some, None}
 use Rattle.fact_store.specs.View.{cells_of}
 use Rattle.sweep.specs.Sweep.{Sweep}
@@ -17,33 +17,37 @@ use Rattle.serve_lines.specs.declared.line.ServeLine.TheVariants.{Ask, Floor}
 use Rattle.serve_laws.specs.Told.{Who, new_by}
 use Rattle.serve_laws.specs.Live.{CanLive, LiveEvent, Around, Tell, after_live, events_of}
 
--- the lines `sweep` and `write`
+-- the events that give the lines `sweep` and `write`
 abbrev pub sweep_line : LiveEvent
 sweep_line = Tell (Ask ask.Sweep)
 
 abbrev pub write_line : LiveEvent
 write_line = Tell (Ask ask.Write)
 
--- no `sweep` and no `floor` is told
+-- the line is neither `sweep` nor `floor`
 abbrev pub IsNoSweepLine : ServeLine → Type 0
 IsNoSweepLine (Ask ask.Sweep) = ⊥
 IsNoSweepLine (Floor floor) = ⊥
 IsNoSweepLine line = Unit {0}
 
+-- the event gives neither `sweep` nor `floor`
 abbrev pub TellsNoSweep : LiveEvent → Type 0
 TellsNoSweep (Tell line) = IsNoSweepLine line
 TellsNoSweep event = Unit {0}
 
--- no `write` is told, and each Set that an agent takes is one of the writing's own or carries the plan's values
+-- `write` is not given, and each Set that an agent takes is one of the writing's own or carries the plan's values
 abbrev pub IsNoWriteLine : ServeLine → Type 0
 IsNoWriteLine (Ask ask.Write) = ⊥
 IsNoWriteLine line = Unit {0}
 
+-- the event keeps the plan: it does not give `write`, and each Set that an agent takes is one of the writing's own or
+-- carries the plan's values
 abbrev pub KeepsLive : PlanValue → OwnSets → Managing → LiveEvent → Type 0
 KeepsLive plan own w (Around event) = KeepsPlan plan own w.scene.fabric event
 KeepsLive plan own w (Tell line) = IsNoWriteLine line
 KeepsLive plan own w event = Unit {0}
 
+-- each of these events satisfies `KeepsLive` when it happens
 abbrev pub AllKeepLive : PlanValue → OwnSets → List LiveEvent → Managing → Type 0
 AllKeepLive plan own [] w = Unit {0}
 AllKeepLive plan own (event ∷ events) w =
@@ -53,44 +57,46 @@ AllKeepLive plan own (event ∷ events) w =
 abbrev pub all_live : List LiveEvent → Managing → Managing
 all_live events w = after_manager_events (events_of events w) w
 
--- the manager when `write` is told: after `sweep` was told, and more events
+-- the managing when `write` is given: after `sweep` was given, and more events
 abbrev pub live_at_writing : Managing → List LiveEvent → List LiveEvent → Managing
 live_at_writing w before between = all_live between (after_live (all_live before w) sweep_line)
 
--- the manager after `write` was told, and after more events
+-- the managing after `write` was given
 abbrev pub live_after_write : Managing → List LiveEvent → List LiveEvent → Managing
 live_after_write w before between = after_live (live_at_writing w before between) write_line
 
+-- the managing at the end of the run
 abbrev pub live_at_end : Managing → List LiveEvent → List LiveEvent → List LiveEvent → Managing
 live_at_end w before between after = all_live after (live_after_write w before between)
 
--- A new process that holds no facts is told to sweep, and some time later to write. (By `served_is_managing` the
--- managers here are the process's.)
+-- A new process that holds no facts is told to sweep, and later to write. (By `served_is_managing` the managers here
+-- are those of the process.)
 pub record BringsUpLive (who : Who) (w : Managing) (before between after : List LiveEvent) : Type 0 where
   pub new : w.manager ≡ new_by who
   pub starts : Starts w
   pub before_can : All (CanLive w.seat) before
   pub between_can : All (CanLive w.seat) between
   pub after_can : All (CanLive w.seat) after
-  -- the process holds no facts when `sweep` is told, which is not refused
+  -- the process holds no facts when `sweep` is given, and `sweep` is not refused
   pub knew_nothing : cells_of (all_live before w).manager.store ≡ []
   pub sweep_begins : begin_fault (all_live before w).manager ≡ None
-  -- no other `sweep` and no `floor` is told before `write`
+  -- neither `sweep` nor `floor` is given between `sweep` and `write`
   pub alone : All TellsNoSweep between
   -- the sweep has every answer at `write`, and nothing was out of its reach
   pub sweep : Sweep
   pub is_last : (live_at_writing w before between).manager.sweep ≡ Some sweep
   pub whole : IsWhole sweep
-  -- `write` is not refused, and no other `write` is told
+  -- `write` is not refused
   pub writing_begins : writing_fault (live_at_writing w before between).manager ≡ None
-  -- each Set that an agent takes from then on, unless it is one of the writing's own, carries the plan's values
+  -- from then on no other `write` is given, and each Set that an agent takes is one of the writing's own or carries the
+  -- plan's values
   pub keep : AllKeepLive (plan_at (live_at_writing w before between)) (own_sets w (live_at_writing w before between)) after
       (live_after_write w before between)
   -- the plan is written in the end
   pub written : is_written (live_at_end w before between after).manager ≡ true
 
--- each ping from an end port of what the seat is joined to, for each LID of the plan, reaches its owner, if a process
--- brings the subnet up
+-- if a process brings the subnet up, each ping from an end port that the seat is joined to, for each LID of the plan,
+-- reaches its owner
 abbrev pub LivePingsArrive : Type 0
 LivePingsArrive =
     (who : Who) (w : Managing) (before between after : List LiveEvent) → BringsUpLive who w before between after
@@ -98,7 +104,7 @@ LivePingsArrive =
     (cells_of (live_at_writing w before between).manager.store) (plan_at (live_at_writing w before between))
     (live_at_end w before between after).scene.fabric w.seat
 
--- a process that brings a subnet up, and what happens at its seat
+-- a process that brings a subnet up, with what happens at its seat
 pub record SomeProcessServes : Type 0 where
   pub who : Who
   pub managing : Managing

@@ -1,4 +1,4 @@
--- The parts of an answer, and what `written` says.
+-- The parts of an answer, and what `written` prints.
 use Rattle.std.specs.Prelude.{None, ◌≡◌, ◌↔◌, true, ◌++◌, codes}
 use Rattle.std.specs.List.{flat_map}
 use Rattle.sm_manager.specs.Manager.{Manager}
@@ -9,12 +9,12 @@ use Rattle.schedule_lines.specs.Asked.{text_of}
 use Rattle.serve_run.specs.Served.{after_line, end_line, send_line, served}
 use Rattle.serve_laws.specs.Told.{given_by}
 
--- an answer has what the line does, then each packet that it gives out, in order, and then the end
+-- an answer has the text of what the line does, then each packet that the line sends, in order, and then the end
 abbrev pub PacketsArePrinted : Type 0
 PacketsArePrinted =
     (m : Manager) (line : ServeLine) → (served m line).text
     ≡ (after_line m line).text ++ flat_map send_line (given_by m line) ++ end_line
 
--- `written` says yes exactly if the plan is written
+-- `written` prints yes exactly if the plan is written
 abbrev pub WrittenSaysYes : Type 0
 WrittenSaysYes = (m : Manager) → (text_of Written None m ≡ codes "written yes\n") ↔ (is_written m ≡ true)

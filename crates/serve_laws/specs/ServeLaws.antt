@@ -1,4 +1,4 @@
--- The laws of a manager that is told by lines.
+-- The laws of a manager that is controlled by lines.
 use Rattle.std.specs.Prelude.{◌≡◌, ℕ, List, [], ◌++◌}
 use Rattle.fact_store.specs.Seen.{HaveSameMembers}
 use Rattle.fact_store.specs.View.{view_at}
@@ -12,12 +12,12 @@ use Rattle.serve_run.specs.Served.{served, served_all, served_by}
 use Rattle.serve_laws.specs.Told.{Who, new_by}
 use Rattle.serve_laws.specs.Told.{calls_of, floor_by, told_by}
 
--- the manager after it was told these bytes
+-- the manager after it was given these bytes
 abbrev pub manager_after : Manager → List ℕ → Manager
 manager_after m bytes = (served_all m (lines_told [] bytes)).now
 
--- bytes that are read later change nothing of what was printed: they only print more, by the manager as it is then and
--- the line that was begun
+-- bytes that are read later do not change what was printed; they only print more, by the manager at that moment and the
+-- line that has begun
 abbrev pub EarlierAnswersStay : Type 0
 EarlierAnswersStay =
     (m : Manager) (before later : List ℕ) → served_by m (before ++ later)
@@ -27,19 +27,19 @@ EarlierAnswersStay =
 abbrev pub ServedLives : Type 0
 ServedLives = (m : Manager) (lines : List ServeLine) → (served_all m lines).now ≡ after_calls (calls_of lines m) m
 
--- a process knows the view of what it was told, at the greatest floor that it was given
+-- a process knows the view of the sightings that it took in, at the greatest floor that it was given
 abbrev pub KnowsWhatItWasTold : Type 0
 KnowsWhatItWasTold =
     (who : Who) (lines : List ServeLine) → (served_all (new_by who) lines).now.store
     ≡ view_at (floor_by who lines) (told_by who lines)
 
--- two processes answer `facts` and `plan` alike, and know the same
+-- two managers answer `facts` and `plan` with the same text, and know the same
 pub record TellTheSame (one other : Manager) : Type 0 where
   pub facts : (served one (Show Facts)).text ≡ (served other (Show Facts)).text
   pub plan : (served one (Show Plan)).text ≡ (served other (Show Plan)).text
   pub know : KnowTheSame one other
 
--- two processes tell the same if they plan alike, took in the same, in whatever order and however often, and have the
+-- two processes answer the same if they plan alike, took in the same, in whatever order and however often, and have the
 -- same greatest floor
 abbrev pub SameToldSameTexts : Type 0
 SameToldSameTexts =

@@ -1,4 +1,4 @@
-//! The laws of a manager that is told by lines, and of what it prints.
+//! The laws of a manager that is controlled by lines, and of what it prints.
 ghost use Rattle.serve_laws.specs.ServeLaws.{EarlierAnswersStay, ServedLives};
 ghost use Rattle.serve_laws.specs.ServeLaws.{KnowsWhatItWasTold, SameToldSameTexts};
 ghost use Rattle.serve_laws.specs.Says.{PacketsArePrinted, WrittenSaysYes};
@@ -6,8 +6,8 @@ ghost use Rattle.serve_laws.specs.Framed.{AnswersEndOnce};
 ghost use Rattle.serve_laws.specs.Live.{ServedIsManaging};
 ghost use Rattle.serve_laws.specs.LivePings.{LivePingsArrive, SomeProcessServes};
 
-/// What is printed for bytes is what is printed for any beginning of them, followed by what the manager as it is then
-/// prints for the rest, with the line that was begun in front of it.
+/// What is printed for bytes is what is printed for any beginning of them, followed by what the manager at that moment
+/// prints for the rest, preceded by the line that has begun.
 #[tactic(auto, using(crate::proofs::Behind::earlier_answers_stay))]
 pub fn earlier_answers_stay()
     ensures { EarlierAnswersStay }
@@ -30,35 +30,35 @@ pub fn knows_what_it_was_told()
     ensures { KnowsWhatItWasTold }
 {}
 
-/// Two processes that plan alike, took in the same and have the same greatest floor answer `facts` and `plan` with the
-/// same bytes, whatever else they were told.
+/// If two processes plan alike, took in the same and have the same greatest floor, they answer `facts` and `plan` with
+/// the same bytes, whatever else they were given.
 pub fn same_told_same_texts()
     ensures { SameToldSameTexts }
 {}
 
 /// A process at its seat on a fabric, behind a faithful shell, is a manager there: any live events are events of
-/// `Managing` that can be, by which the manager at the seat is the one that the lines of the process leave, and has
+/// `Managing` that can be, the manager at the seat is then the one that the lines of the process leave, and it has
 /// given out, in order, the packets that the process prints.
 pub fn served_is_managing()
     ensures { ServedIsManaging }
 {}
 
-/// Each ping from an end port of what the seat of a new process is joined to, for each LID of the plan, reaches the end
-/// port that owns the LID, once the process was told `sweep` while it held no facts, and later `write`, and the plan is
-/// written in the end, if no `sweep` and no `floor` is told between them and no `write` after, the sweep has every
-/// answer at `write` and nothing was out of its reach, the shell is faithful, no cable moves, and each Set that an
-/// agent takes after `write` is one of the writing's own or carries the plan's values.
+/// If a new process was given `sweep` while it held no facts, and later `write`, and the plan is written in the end,
+/// each ping from an end port that its seat is joined to, for each LID of the plan, reaches the end port that owns the
+/// LID, as long as no `sweep` and no `floor` is given between them and no `write` after them, the sweep has every
+/// answer at `write` and nothing is out of its reach, the shell is faithful, no cable moves, and each Set that an agent
+/// takes after `write` is one of the writing's own or carries the plan's values.
 pub fn live_pings_arrive()
     ensures { LivePingsArrive }
 {}
 
-/// Some process serves: a new one, on an adapter wired to a switch, as is another adapter, where another manager sits
-/// and answers it.
+/// Some process serves: a new one on an adapter that is wired to a switch. Another adapter is wired to the switch, and
+/// another manager sits there and answers it.
 pub fn some_process_serves()
     ensures { SomeProcessServes }
 {}
 
-/// An answer tells what the line does, then each packet that goes out by it, and then the end.
+/// An answer has the text of what the line does, then each packet that is sent by it, and then the end.
 #[tactic(auto, using(crate::proofs::Said::packets_are_printed))]
 pub fn packets_are_printed()
     ensures { PacketsArePrinted }

@@ -1,4 +1,4 @@
-//! Laws of a manager that is told and asked by lines, and of what it prints.
+//! Laws of a manager that is controlled by lines, and of what it prints.
 #![tactic(auto)]
 
 pub mod laws;

@@ -1,4 +1,4 @@
--- What a line says to a manager.
+-- The meaning of a line to a manager.
 use Rattle.std.specs.Prelude.{ℕ, List, [], ◌∷◌, ◌++◌, length, Option, None, Some, codes, nat_lt, ◌==◌, ◌&&◌, map, if◌then◌else◌}
 use Rattle.std.specs.Prelude.{option_map, option_and_then}
 use Rattle.std.specs.Option.{option_map_or}
@@ -14,23 +14,23 @@ use Rattle.serve_lines.specs.declared.line.ServeLine.TheVariants.{Ask, Floor, Pa
 
 -- words ------------------------------------------------------------------------------------------
 
--- 256 bytes, written by two hex digits each
+-- the 256 bytes that two hex digits each write; None if the word does not write them
 abbrev pub packet_of : List ℕ → Option (List ℕ)
 packet_of word = result_ok (decode_sized word 256)
 
--- a number, written by 1 to 16 hex digits
+-- the number that 1 to 16 hex digits write; None if the word does not write one
 abbrev pub hex_number : List ℕ → Option ℕ
 hex_number word = if nat_lt 16 (length word) then None else number_of 16 word
 
--- a TransactionID, written by 16 hex digits
+-- the TransactionID that 16 hex digits write; None if the word does not write one
 abbrev pub transaction_of : List ℕ → Option ℕ
 transaction_of word = if length word == 16 then hex_number word else None
 
--- a line that shows something of the manager
+-- the line that shows what the word names; None if it names nothing
 abbrev pub show_of : List ℕ → Option ServeLine
 show_of word = option_map Show (shown_by word)
 
--- a line of one word
+-- the meaning of a line of one word; None if the grammar has no such line
 abbrev pub bare_of : List ℕ → Option ServeLine
 bare_of word =
     option_map_or (λ what. Some (Ask what)) (asked_by word)
@@ -38,7 +38,7 @@ bare_of word =
     else if bytes_eq word (codes "managers") then Some Managers
     else show_of word)
 
--- a line of two words
+-- the meaning of a line of two words; None if the grammar has no such line
 abbrev pub of_one : List ℕ → List ℕ → Option ServeLine
 of_one word arg =
     if bytes_eq word (codes "poll") then option_map (λ lid. Ask (Poll (Some lid))) (lid_of arg)
@@ -46,7 +46,7 @@ of_one word arg =
     else if bytes_eq word (codes "timeout") then option_map Timeout (transaction_of arg)
     else None
 
--- a line of four words: a packet, and the LID that it came from
+-- the meaning of a line of four words, a packet and the LID that it came from; None if the grammar has no such line
 abbrev pub packet_in : List ℕ → List ℕ → List ℕ → List ℕ → Option ServeLine
 packet_in word hex between lid =
     if bytes_eq word (codes "packet") && bytes_eq between (codes "from")
@@ -55,6 +55,7 @@ packet_in word hex between lid =
 
 -- lines ------------------------------------------------------------------------------------------
 
+-- the meaning of the words of a line; None if the grammar has no such line
 abbrev pub line_in : List (List ℕ) → Option ServeLine
 line_in [] = Some Empty
 line_in (word ∷ []) = bare_of word
@@ -63,28 +64,28 @@ line_in (word ∷ hex ∷ between ∷ []) = None
 line_in (word ∷ hex ∷ between ∷ lid ∷ []) = packet_in word hex between lid
 line_in (word ∷ hex ∷ between ∷ lid ∷ more ∷ rest) = None
 
--- the most bytes of a line, without its line feed
+-- the greatest number of bytes of a line, without its line feed
 abbrev pub most_bytes : ℕ
 most_bytes = 600
 
--- what a line says; a line of more than `most_bytes` is wrong
+-- the meaning of a line; a line of more than `most_bytes` is wrong
 unfoldable pub line_of : List ℕ → ServeLine
 line_of line =
     if nat_lt most_bytes (length line) then Wrong else option_map_or (λ said. said) (line_in (words line)) Wrong
 
 -- lines as they come -----------------------------------------------------------------------------
 
--- the lines that end in some bytes, the first behind what had `begun`; each line ends with a line feed, and bytes
--- behind the last line feed are not a line yet
+-- the lines that end in these bytes; each ends with a line feed, the first begins with the bytes `begun`, and bytes
+-- after the last line feed are not a line yet
 abbrev pub lines_ended : List ℕ → List ℕ → List (List ℕ)
 lines_ended begun [] = []
 lines_ended begun (b ∷ bytes) = if b == 10 then begun ∷ lines_ended [] bytes else lines_ended (begun ++ b ∷ []) bytes
 
--- the bytes behind the last line feed; if there is none, all bytes, behind what had `begun`
+-- the bytes after the last line feed; if there is none, `begun` and then all bytes
 abbrev pub begun_by : List ℕ → List ℕ → List ℕ
 begun_by begun [] = begun
 begun_by begun (b ∷ bytes) = if b == 10 then begun_by [] bytes else begun_by (begun ++ b ∷ []) bytes
 
--- what the bytes say, line by line
+-- the meanings of the lines that end in these bytes, of which the first begins with the bytes `begun`
 abbrev pub lines_told : List ℕ → List ℕ → List ServeLine
 lines_told begun bytes = map line_of (lines_ended begun bytes)

@@ -1,4 +1,4 @@
-//! What is so of every line that is read.
+//! The law of the lines that are read.
 ghost use Rattle.serve_lines.specs.Read.{ReadLinesAreInRange};
 
 /// Whatever bytes are read, a floor is a generation, and a packet has 256 bytes.

@@ -1,4 +1,4 @@
-//! The lines by which a manager is controlled, and what each says.
+//! The lines that control a manager, and the meaning of each.
 #![tactic(auto)]
 
 pub mod laws;

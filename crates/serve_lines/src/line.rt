@@ -1,25 +1,25 @@
 use schedule_file::{Ask, Shown};
 use smp_bytes::{Generation, Lid};
 
-/// What a line says to a manager.
+/// The meaning of a line to a manager.
 #[derive(Clone, Copy)]
 pub enum ServeLine {
-    /// A request to the manager, which it may refuse.
+    /// A request is made to the manager, which may refuse it.
     Ask(Ask),
-    /// The manager forgets what is older than the generation.
+    /// The manager forgets facts that are older than the generation.
     Floor(Generation),
-    /// A packet came to the manager's port from the LID.
+    /// A packet from this LID came to the manager's port.
     Packet([u8; 256], Lid),
-    /// The manager stops waiting for the answer to this TransactionID.
+    /// The manager stops waiting for the answer with this TransactionID.
     Timeout(u64),
     /// The manager stops waiting for all answers.
     GiveUp,
-    /// Something of the manager is shown.
+    /// What is named is shown of the manager.
     Show(Shown),
     /// The managers that the last sweep saw are shown.
     Managers,
     /// The line has no word.
     Empty,
-    /// The line is none of the grammar's.
+    /// The grammar has no such line.
     Wrong,
 }

@@ -8,10 +8,11 @@ use crate::line::ServeLine;
 use schedule_file::{Ask, asked_by, generation_of, lid_of, shown_by};
 use text_words::{is_word, number, split_word};
 
-/// The most bytes that a line has without its line feed.
+/// The greatest number of bytes of a line, without its line feed.
 pub const MOST_BYTES: usize = 600;
 
-/// Parses `line`, which is without its line feed. A line of more than `MOST_BYTES` is `Wrong`.
+/// Parses `line`, which has no line feed. A line of more than `MOST_BYTES` bytes, or one that the grammar lacks, is
+/// `Wrong`.
 #[tactic(auto, unfolding(crate::specs::ServeLine::line_of))]
 pub fn read_line(line: &[u8]) -> ServeLine
     ensures { result ≡ line_of line.now }
@@ -41,7 +42,7 @@ fn said_by(line: &[u8]) -> Option<ServeLine>
     behind_three(word, one, other, rest)
 }
 
-/// Parses a line of three words and those of `rest`.
+/// Parses a line of three words and the words of `rest`. Returns `None` if the grammar has no such line.
 fn behind_three(word: &[u8], one: &[u8], other: &[u8], rest: &[u8]) -> Option<ServeLine>
     ensures { result ≡ line_in (word.now ∷ one.now ∷ other.now ∷ words rest.now) }
 {
@@ -52,7 +53,7 @@ fn behind_three(word: &[u8], one: &[u8], other: &[u8], rest: &[u8]) -> Option<Se
     packet_in(word, one, other, last)
 }
 
-/// Parses a line of one word.
+/// Parses a line of one word. Returns `None` if the grammar has no such line.
 fn bare(word: &[u8]) -> Option<ServeLine>
     ensures { result ≡ bare_of word.now }
 {
@@ -67,7 +68,7 @@ fn bare(word: &[u8]) -> Option<ServeLine>
     }
 }
 
-/// Parses a line of two words.
+/// Parses a line of two words. Returns `None` if the grammar has no such line.
 fn of_one(word: &[u8], arg: &[u8]) -> Option<ServeLine>
     ensures { result ≡ of_one word.now arg.now }
 {
@@ -82,7 +83,8 @@ fn of_one(word: &[u8], arg: &[u8]) -> Option<ServeLine>
     }
 }
 
-/// Parses a line of four words: a packet, and the LID that it came from.
+/// Parses a line of four words: a packet, and the LID that it came from. Returns `None` if the grammar has no such
+/// line.
 fn packet_in(word: &[u8], hex: &[u8], between: &[u8], lid: &[u8]) -> Option<ServeLine>
     ensures { result ≡ packet_in word.now hex.now between.now lid.now }
 {
@@ -93,7 +95,8 @@ fn packet_in(word: &[u8], hex: &[u8], between: &[u8], lid: &[u8]) -> Option<Serv
     Some(ServeLine::Packet(bytes, lid_of(lid)?))
 }
 
-/// Parses the 256 bytes of a packet, each written by two hex digits of either case.
+/// Parses the 256 bytes of a packet, each written as two hex digits of either case. Returns `None` if `word` is not
+/// such bytes.
 fn packet_of(word: &[u8]) -> Option<[u8; 256]>
     ensures { result ≡ packet_of word.now }
 {
@@ -104,7 +107,7 @@ fn packet_of(word: &[u8]) -> Option<[u8; 256]>
     }
 }
 
-/// Parses a TransactionID, written by 16 hex digits of either case.
+/// Parses a TransactionID, written as 16 hex digits of either case. Returns `None` if `word` is not one.
 fn transaction_of(word: &[u8]) -> Option<u64>
     ensures { result ≡ transaction_of word.now }
 {
@@ -114,7 +117,7 @@ fn transaction_of(word: &[u8]) -> Option<u64>
     hex_number(word)
 }
 
-/// Parses a number, written by 1 to 16 hex digits of either case.
+/// Parses a number, written as 1 to 16 hex digits of either case. Returns `None` if `word` is not one.
 pub fn hex_number(word: &[u8]) -> Option<u64>
     ensures { result ≡ hex_number word.now }
 {

@@ -1,11 +1,11 @@
--- What is kept of the line that has begun, and what each byte does.
+-- The bytes that are kept of the line that has begun, and the effect of each byte.
 use Rattle.std.specs.Prelude.{ℕ, List, [], ◌∷◌, ◌++◌, length, nat_le, ◌==◌, if◌then◌else◌}
 use Rattle.schedule_lines.specs.Outcome.{Outcome, and_then, quiet}
 use Rattle.serve_lines.specs.ServeLine.{line_of, most_bytes}
 use Rattle.sm_manager.specs.Manager.{Manager}
 use Rattle.serve_run.specs.Served.{served}
 
--- a manager, and what is kept of the line that has begun
+-- a manager, and the bytes that are kept of the line that has begun
 pub record ServerValue : Type 0 where
   pub manager : Manager
   pub begun : List ℕ
@@ -14,16 +14,17 @@ pub record ServerValue : Type 0 where
 abbrev pub kept_with : List ℕ → ℕ → List ℕ
 kept_with begun b = if nat_le (length begun) most_bytes then begun ++ b ∷ [] else begun
 
--- the line was handled, and none has begun
+-- the outcome once a line was handled, with no line begun
 abbrev pub after_kept : Outcome Manager → Outcome ServerValue
 after_kept o = record { now = record { manager = o.now; begun = [] }; text = o.text }
 
--- the byte `b` ends the line that has begun, or continues it
+-- the outcome of the byte `b`, which ends the line that has begun or continues it
 abbrev pub after_byte : ServerValue → ℕ → Outcome ServerValue
 after_byte s b =
     if b == 10 then after_kept (served s.manager (line_of s.begun))
     else quiet (record s { begun = kept_with s.begun b })
 
+-- the outcome of the bytes, in turn
 abbrev pub after_bytes : ServerValue → List ℕ → Outcome ServerValue
 after_bytes s [] = quiet s
 after_bytes s (b ∷ bytes) = and_then (after_byte s b) (λ now. after_bytes now bytes)

@@ -22,12 +22,12 @@ use Rattle.sm_manager.specs.declared.traps.Trap.{Trap}
 
 -- texts ------------------------------------------------------------------------------------------
 
--- the LID that a packet goes to; empty if it goes by the path that it carries
+-- the LID that a packet is sent to; empty if it goes by the path that it carries
 abbrev pub to_text : Option ℕ → List ℕ
 to_text None = []
 to_text (Some lid) = codes " to " ++ decimal lid
 
--- the line of a packet that goes out
+-- the line of a packet that is sent
 unfoldable pub send_line : Outgoing → List ℕ
 send_line out = codes "send " ++ encode_lower out.packet ++ to_text out.to ++ codes "\n"
 
@@ -35,7 +35,7 @@ send_line out = codes "send " ++ encode_lower out.packet ++ to_text out.to ++ co
 abbrev pub end_line : List ℕ
 end_line = codes ".\n"
 
--- the state that a manager reported
+-- the word of the state that a manager reported; the number itself if it is not that of a state
 abbrev pub told_state : ℕ → List ℕ
 told_state number = option_map_or state_word (state_of_number number) (decimal number)
 
@@ -53,40 +53,41 @@ told_text info =
 unfoldable pub seen_line : SeenManager → List ℕ
 seen_line s = where_text s ++ told_text s.info
 
--- the line of a refusal, or else of the trap that was repressed; empty if there is neither
+-- the line of a refusal, or of the trap that was repressed; empty if there is neither
 abbrev pub heard_text : Option Trap → Option ManagerFault → List ℕ
 heard_text trap None = trap_text None trap
 heard_text trap (Some fault) = manager_line fault
 
--- the line of a refusal, empty if there is none
+-- the line of a refusal; empty if there is none
 abbrev pub fault_text : Option ManagerFault → List ℕ
 fault_text fault = heard_text None fault
 
 -- lines ------------------------------------------------------------------------------------------
 
--- what a call leaves and prints: the manager then, and the line of its refusal
+-- the manager that a call leaves, and the line of its refusal
 abbrev pub after_called : Called → Outcome Manager
 after_called c = record { now = c.manager; text = fault_text c.fault }
 
--- what a packet leaves and prints: the manager then, and the line of its refusal, or of the trap that was repressed
+-- the manager that a packet leaves, and the line of its refusal or of the trap that was repressed
 abbrev pub after_heard : Called → Option Trap → Outcome Manager
 after_heard c trap = record { now = c.manager; text = heard_text trap c.fault }
 
--- a manager is asked, and refuses with the fault, if any
+-- the outcome of a request to a manager: a refusal if there is a fault, and otherwise the manager `after`
 abbrev pub asked_with : Manager → Option ManagerFault → Manager → Called
 asked_with m None after = done after
 asked_with m (Some fault) after = refused m fault
 
+-- the outcome of a request to a manager
 abbrev pub asked : Manager → Asking → Called
 asked m what = asked_with m (asked_fault what m) (after_asked what m)
 
--- each request of a list is given up in turn
+-- the outcome of giving up each request of the list in turn
 abbrev pub after_giving_up : Manager → List ℕ → Outcome Manager
 after_giving_up m [] = quiet m
 after_giving_up m (transaction ∷ later) =
     and_then (after_called (after_timeout m transaction)) (λ now. after_giving_up now later)
 
--- what a line does, before any packet goes out
+-- the outcome of a line, before any packet is sent
 abbrev pub after_line : Manager → ServeLine → Outcome Manager
 after_line m (Ask what) = after_called (asked m what)
 after_line m (Floor floor) = quiet (after_raise_floor m floor)
@@ -98,15 +99,15 @@ after_line m Managers = shows (flat_map seen_line m.seen) m
 after_line m Empty = quiet m
 after_line m Wrong = shows (codes "syntax\n") m
 
--- what was printed, and then all that is queued goes out
+-- the outcome once the lines of all queued packets are printed after it
 abbrev pub given_out : Outcome Manager → Outcome Manager
 given_out o = record { now = emptied o.now; text = o.text ++ flat_map send_line o.now.outgoing }
 
--- the line is answered, all that is queued goes out, and the answer ends
+-- the whole outcome of a line: what it does, the lines of all queued packets, and the line that ends the answer
 unfoldable pub served : Manager → ServeLine → Outcome Manager
 served m line = and_then (given_out (after_line m line)) (shows end_line)
 
--- each line is served in turn
+-- the outcome of serving each line in turn
 abbrev pub served_all : Manager → List ServeLine → Outcome Manager
 served_all m [] = quiet m
 served_all m (line ∷ later) = and_then (served m line) (λ now. served_all now later)

@@ -1,4 +1,4 @@
--- How serving a manager ends, by what is read.
+-- How serving a manager ends, depending on what is read.
 use Rattle.std.specs.Prelude.{◌≡◌, ◌⊎◌, ◌≤◌, ◌+◌, ◌^◌, ◌-◌, ℕ, Bool, true, false, List, [], length, Option, Result, Ok, Err, IsTrue}
 use Rattle.std.specs.Io.KnownBytes.{Consumes, IsAtEnd}
 use Rattle.byte_io.specs.Source.{SourceState}
@@ -12,10 +12,11 @@ use Rattle.serve_run.specs.declared.serve_fault.ServeFault.TheVariants.{Read, Wr
 use Rattle.serve_run.specs.Kept.{ServerValue, after_bytes}
 use Rattle.serve_run.specs.Served.{served_by}
 
+-- the value of a server of the code
 abbrev pub value_of : Server → ServerValue
 value_of s = record { manager = s.manager; begun = s.begun.items }
 
--- the fault of handling a line, as a fault of serving
+-- the fault of handling a line as a fault of serving
 abbrev pub fault_of_run : RunFault → ServeFault
 fault_of_run runs.Write = Write
 fault_of_run runs.Memory = Memory
@@ -25,7 +26,7 @@ pub record IsReadToEnd {S : Type 0} (state : S → SourceState) (old new : S) (b
   pub read : Consumes (state old).left (state new).left bytes
   pub at_end : IsAtEnd (state new).left
 
--- all was read, and `prints` holds of what the manager prints for it
+-- all bytes of the source were read, and `prints` holds of what the manager prints for them
 pub record HasServed {S : Type 0} (state : S → SourceState) (old new : S) (m : Manager)
     (prints : List ℕ → Type 0) : Type 0 where
   pub bytes : List ℕ
@@ -39,32 +40,32 @@ pub record HasServedSome {S : Type 0} (state : S → SourceState) (old new : S) 
   pub read : Consumes (state old).left (state new).left bytes
   pub printed : prints (served_by m bytes)
 
--- the source has failed, or 2^64 - 1 calls were made, each of which gave a byte or was interrupted; no more can be
--- counted
+-- the source has failed, or no more calls can be counted: 2^64 - 1 were made, each of which gave a byte or was
+-- interrupted
 abbrev pub CannotBeRead : SourceState → SourceState → ℕ → Type 0
 CannotBeRead old new count =
     IsTrue new.has_failed ⊎ (2 ^ 64 - 1 + old.interruptions ≤ count + new.interruptions)
 
--- what was read was answered, and then no more could be read
+-- what was read was answered, and no more could be read
 pub record FailsToRead {S : Type 0} (state : S → SourceState) (old new : S) (m : Manager)
     (prints : List ℕ → Type 0) : Type 0 where
   pub served : HasServedSome state old new m prints
   pub why : CannotBeRead (state old) (state new) (length served.bytes)
 
--- why serving stops: `some` holds of what is printed if memory is refused, `whole` if no more can be read
+-- why serving stops: if memory is refused, `some` holds of what is printed; if no more can be read, `whole` does
 abbrev pub StopsServing : {S : Type 0} → (S → SourceState) → S → S → Manager → (List ℕ → Type 0) → (List ℕ → Type 0)
     → Bool → ServeFault → Type 0
 StopsServing state old new m some whole sink_failed Read = FailsToRead state old new m whole
 StopsServing state old new m some whole sink_failed Memory = HasServedSome state old new m some
 StopsServing state old new m some whole sink_failed Write = IsTrue sink_failed
 
--- a run that stopped
+-- the result of a run that stopped
 abbrev pub stopped : RunFault → Result (Unit {0}) RunFault
 stopped fault = Err fault
 
 -- pieces -----------------------------------------------------------------------------------------
 
--- how one read ends: with bytes, perhaps none; at the end; or with a fault
+-- one read gives bytes, perhaps none, and the lines that end in them are handled
 pub record GoesOn {S W : Type 0} (state : S → SourceState) (written : W → Option (List ℕ)) (has_failed : W → Bool)
     (old new : S) (server server' : ServerValue) (sink sink' : W) : Type 0 where
   pub bytes : List ℕ
@@ -73,6 +74,7 @@ pub record GoesOn {S W : Type 0} (state : S → SourceState) (written : W → Op
   pub leaves : server' ≡ (after_bytes server bytes).now
   pub prints : Prints written has_failed sink sink' (after_bytes server bytes).text
 
+-- one read finds the source at its end, and nothing else changes
 pub record IsOver {S W : Type 0} (state : S → SourceState) (old new : S) (server server' : ServerValue)
     (sink sink' : W) : Type 0 where
   pub read : Consumes (state old).left (state new).left []
@@ -80,17 +82,20 @@ pub record IsOver {S W : Type 0} (state : S → SourceState) (old new : S) (serv
   pub same_server : server' ≡ server
   pub same_sink : sink' ≡ sink
 
+-- one read fails, and nothing else changes
 pub record Unread {S W : Type 0} (state : S → SourceState) (old new : S) (sink sink' : W) : Type 0 where
   pub read : Consumes (state old).left (state new).left []
   pub failed : IsTrue (state new).has_failed
   pub same_sink : sink' ≡ sink
 
+-- one read gives bytes, and handling the lines that end in them stops with the fault
 pub record StopsWithin {S W : Type 0} (state : S → SourceState) (written : W → Option (List ℕ)) (has_failed : W → Bool)
     (old new : S) (server : ServerValue) (sink sink' : W) (fault : RunFault) : Type 0 where
   pub bytes : List ℕ
   pub read : Consumes (state old).left (state new).left bytes
   pub prints : PrintsUnless written has_failed (stopped fault) sink sink' (after_bytes server bytes).text
 
+-- what serving the next piece does, by its result
 abbrev pub ServesPiece : {S W : Type 0} → (S → SourceState) → (W → Option (List ℕ)) → (W → Bool) → S → S → ServerValue
     → ServerValue → W → W → Result Bool ServeFault → Type 0
 ServesPiece state written has_failed old new server server' sink sink' (Ok true) =

@@ -1,4 +1,4 @@
-//! A manager that is controlled by lines: what each line does, and what is printed.
+//! A manager that is controlled by lines: what each line does and prints.
 #![tactic(auto)]
 
 mod managers;

@@ -1,4 +1,4 @@
-//! The managers that a sweep saw, as lines.
+//! The lines of the managers that a sweep saw.
 ghost use Rattle.std.specs.List.{flat_map};
 ghost use Rattle.byte_io.specs.Writes.{Writes};
 ghost use Rattle.schedule_lines.specs.Prints.{PrintsUnless};
@@ -29,7 +29,7 @@ fn write_seen<W: Sink>(sink: &mut W, seen: &SeenManager) -> Result<(), WriteFaul
     write_told(sink, &seen.info)
 }
 
-/// Writes the port at which the manager was seen, and the port GUID that it reported.
+/// Writes the port at which the manager `seen` was seen, and the port GUID that it reported.
 fn write_where<W: Sink>(sink: &mut W, seen: &SeenManager) -> Result<(), WriteFault>
     ensures writes { Writes W.written W.has_failed result sink.old sink.new (where_text seen.now) }
 {
@@ -39,7 +39,7 @@ fn write_where<W: Sink>(sink: &mut W, seen: &SeenManager) -> Result<(), WriteFau
     write_guid(sink, seen.info.guid)
 }
 
-/// Writes the priority, the SM_Key and the state that the manager reported, and ends the line.
+/// Writes the priority, the SM_Key and the state that a manager reported, and ends the line.
 fn write_told<W: Sink>(sink: &mut W, info: &SmInfo) -> Result<(), WriteFault>
     ensures writes { Writes W.written W.has_failed result sink.old sink.new (told_text info.now) }
 {
@@ -52,7 +52,7 @@ fn write_told<W: Sink>(sink: &mut W, info: &SmInfo) -> Result<(), WriteFault>
     sink.write(b"\n")
 }
 
-/// Writes the word of a state, or `number` itself if it is not that of a state.
+/// Writes the word of the state with this number, or `number` itself if no state has it.
 fn write_told_state<W: Sink>(sink: &mut W, number: SmStateNumber) -> Result<(), WriteFault>
     ensures writes { Writes W.written W.has_failed result sink.old sink.new (told_state number) }
 {

@@ -1,4 +1,4 @@
-//! The packets that go out, as lines.
+//! The lines of the packets that are sent.
 ghost use Rattle.std.specs.Prelude.{◌≡◌, OnOk};
 ghost use Rattle.std.specs.List.{flat_map};
 ghost use Rattle.byte_io.specs.Writes.{Writes};
@@ -24,7 +24,7 @@ pub(crate) fn send_all<W: Sink>(manager: &mut Manager, sink: &mut W) -> Result<(
     Ok(())
 }
 
-/// Writes the line of a packet that goes out.
+/// Writes the line of a packet that is sent.
 #[tactic(auto, unfolding(crate::specs::Served::send_line))]
 fn write_outgoing<W: Sink>(sink: &mut W, outgoing: &Outgoing) -> Result<(), WriteFault>
     ensures writes { Writes W.written W.has_failed result sink.old sink.new (send_line outgoing.now) }
@@ -35,7 +35,7 @@ fn write_outgoing<W: Sink>(sink: &mut W, outgoing: &Outgoing) -> Result<(), Writ
     sink.write(b"\n")
 }
 
-/// Writes the bytes of `packet`, two hex digits each.
+/// Writes the bytes of `packet` as two hex digits each.
 fn write_hex<W: Sink>(sink: &mut W, packet: &[u8; 256]) -> Result<(), WriteFault>
     ensures writes { Writes W.written W.has_failed result sink.old sink.new (encode_lower packet.now) }
 {
@@ -44,7 +44,7 @@ fn write_hex<W: Sink>(sink: &mut W, packet: &[u8; 256]) -> Result<(), WriteFault
     sink.write(&digits)
 }
 
-/// Writes the LID that a packet goes to; writes nothing if the packet goes by the path that it carries.
+/// Writes the LID that a packet is sent to. Writes nothing if the packet goes by the path that it carries.
 fn write_to<W: Sink>(sink: &mut W, to: Option<Lid>) -> Result<(), WriteFault>
     ensures writes { Writes W.written W.has_failed result sink.old sink.new (to_text to) }
 {

@@ -1,4 +1,4 @@
-//! Handling one line: it is answered, what is queued goes out, and the answer ends.
+//! Handling of one line: it is answered, the queued packets are written, and the answer ends.
 ghost use Rattle.std.specs.Prelude.{◌≡◌, OnOk, IsTrue, Some};
 ghost use Rattle.sm_manager.specs.Packets.{after_packet, after_timeout, trap_told};
 ghost use Rattle.sm_manager.specs.Manager.{outstanding};
@@ -17,7 +17,7 @@ use sm_manager::Manager;
 use smp_bytes::Lid;
 use std::alloc::Global;
 
-/// Handles a line: answers it, writes all that is queued, ends the answer, and flushes.
+/// Handles `line`: answers it, writes all queued packets, ends the answer, and flushes.
 pub(crate) fn serve_line<W: Sink>(
     alloc: Global,
     manager: &mut Manager,
@@ -53,7 +53,7 @@ fn print<W: Sink>(sink: &mut W, text: &[u8]) -> Result<(), RunFault>
     Ok(())
 }
 
-/// Does what `line` says, and prints the result. Packets that are then queued stay queued.
+/// Does what `line` asks for, and prints the result. Leaves the packets that are then queued.
 fn do_line<W: Sink>(
     alloc: Global,
     manager: &mut Manager,
@@ -79,7 +79,7 @@ fn do_line<W: Sink>(
     }
 }
 
-/// Asks `manager` for `what`; prints why if it refuses.
+/// Makes the request `what` to `manager`. If it refuses, prints the refusal.
 fn ask<W: Sink>(manager: &mut Manager, what: Ask, sink: &mut W) -> Result<(), RunFault>
     ensures does { Lives W.written W.has_failed manager.new result sink.old sink.new
         (after_called (asked manager.old what)) }
@@ -90,8 +90,8 @@ fn ask<W: Sink>(manager: &mut Manager, what: Ask, sink: &mut W) -> Result<(), Ru
     }
 }
 
-/// Passes `manager` a packet that came to its port from the LID `from`; prints why if it is refused, or the trap that
-/// was repressed.
+/// Hands `manager` a packet that came to its port from the LID `from`. Prints the refusal if it refuses the packet, or
+/// the trap that it repressed.
 fn take_in<W: Sink>(
     manager: &mut Manager,
     bytes: &[u8; 256],
@@ -107,7 +107,8 @@ fn take_in<W: Sink>(
     }
 }
 
-/// Tells `manager` that the answer to `transaction` timed out; prints why if that is refused.
+/// Informs `manager` that the request with the TransactionID `transaction` timed out. If it refuses, prints the
+/// refusal.
 fn time_out<W: Sink>(manager: &mut Manager, transaction: u64, sink: &mut W) -> Result<(), RunFault>
     ensures does { Lives W.written W.has_failed manager.new result sink.old sink.new
         (after_called (after_timeout manager.old transaction)) }
@@ -118,7 +119,7 @@ fn time_out<W: Sink>(manager: &mut Manager, transaction: u64, sink: &mut W) -> R
     }
 }
 
-/// Times out all answers that `manager` waits for when the call begins, by rising TransactionID.
+/// Times out all requests that `manager` waits for when the call begins, by rising TransactionID.
 fn give_up<W: Sink>(alloc: Global, manager: &mut Manager, sink: &mut W) -> Result<(), RunFault>
     ensures does { Lives W.written W.has_failed manager.new result sink.old sink.new
         (after_giving_up manager.old (outstanding manager.old)) }

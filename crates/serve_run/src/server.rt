@@ -1,4 +1,4 @@
-//! Serving a manager: lines are read, and each is handled before the next one is read.
+//! Serving a manager: lines are read, and each line is handled before the next one is read.
 ghost use Rattle.std.specs.Prelude.{◌≡◌, ◌<◌, IfErr, OnOk, IsTrue, false, length};
 ghost use Rattle.std.specs.Io.KnownBytes.{Appends};
 ghost use Rattle.schedule_lines.specs.Prints.{PrintsSome};
@@ -14,10 +14,10 @@ use serve_lines::{MOST_BYTES, read_line};
 use sm_manager::Manager;
 use std::alloc::{AllocError, Global};
 
-/// The most bytes that one read asks for.
+/// The greatest number of bytes that are read at a time.
 const PIECE: usize = 4096;
 
-/// A manager, and the line that has begun: its first bytes, up to one more than a line may have.
+/// A manager, and the line that has begun. Of the line, the first bytes are kept, up to one more than a line may have.
 #[derive(Drop)]
 pub(crate) struct Server {
     manager: Manager,
@@ -26,14 +26,14 @@ pub(crate) struct Server {
 
 /// Serves a manager by lines until they end. Answers each line, and flushes the answer, before it reads more.
 ///
-/// Writes `served_by` of all that was read; bytes after the last line feed are not a line. Takes the memory of the
-/// manager, and 601 bytes for the line that has begun.
+/// Writes `served_by` of all bytes that were read. Bytes after the last line feed are not a line. Takes the memory of
+/// the manager, and 601 bytes for the line that has begun.
 ///
 /// # Errors
 ///
-/// Returns `Read` if no more lines can be read; all lines that were read have been answered. Returns `Memory` if memory
-/// ran out; a beginning of the answers was written. Returns `Write` if a write failed; how much was written is
-/// unspecified.
+/// Returns `Read` if no more lines can be read after all earlier lines have been answered. Returns `Memory` if memory
+/// runs out after a beginning of the answers was written. Returns `Write` if a write fails; how much was written is
+/// then unspecified.
 pub fn serve<S: Source, W: Sink>(
     alloc: Global,
     manager: Manager,
@@ -62,8 +62,8 @@ pub fn serve<S: Source, W: Sink>(
 }
 
 impl Server {
-    /// Reads some bytes, and handles the lines that end in them. Holds back no output while it reads. Returns whether
-    /// more may come.
+    /// Reads some bytes, and handles the lines that end in them. No output is held back while it reads. Returns whether
+    /// more bytes may come.
     fn serve_piece<S: Source, W: Sink>(
         &mut self,
         alloc: Global,
@@ -105,7 +105,7 @@ impl Server {
         Ok(())
     }
 
-    /// Handles the line that has begun if `byte` ends it; otherwise adds `byte` to the line.
+    /// Handles the line that has begun if `byte` ends it, and otherwise adds `byte` to the line.
     fn serve_byte<W: Sink>(&mut self, alloc: Global, byte: u8, sink: &mut W) -> Result<(), RunFault>
         requires { IsTrue (W.is_flushed sink.old) }
         ensures serves { Lives W.written W.has_failed (value_of self.new) result sink.old sink.new
@@ -122,7 +122,7 @@ impl Server {
     }
 }
 
-/// Appends `byte` to the bytes of a line, unless the line is already too long.
+/// Appends `byte` to the bytes of a line. Does nothing if the line is already too long.
 fn keep(begun: &mut Vec<u8>, byte: u8) -> Result<(), AllocError>
     ensures { OnOk result (begun.new.items ≡ kept_with begun.old.items byte) }
 {

@@ -1,4 +1,4 @@
--- Serving the manager that is asked for by lines: the text that its rule takes is read, and then the lines.
+-- Serving a manager by lines: the text that its rule takes is read first, and then the lines.
 use Rattle.std.specs.Prelude.{◌≡◌, ◌⊎◌, ℕ, Bool, true, List, [], ◌∷◌, ◌++◌}
 use Rattle.byte_io.specs.Source.{SourceState}
 use Rattle.record_file.specs.declared.file_fault.FileFault.TheVariants as files
@@ -14,7 +14,7 @@ use Rattle.serve_run.specs.declared.serve_fault.ServeFault.{ServeFault}
 use Rattle.serve_run.specs.declared.serve_fault.ServeFault.TheVariants as stop
 use Rattle.serve_task.specs.declared.serving.Serving.{Serving}
 
--- a reader of no files; any GUID may be that of a switch
+-- a reader of no files, for which any GUID may be that of a switch
 abbrev pub no_files : {S : Type 0} → Reader S (Unit {0})
 no_files = record { reads = λ olds news told. news ≡ olds; refuses = λ before olds news fault. ⊥; has_switch = λ told guid. true }
 
@@ -24,12 +24,13 @@ pub record Inputs {S : Type 0} (inputs : List S) : Type 0 where
   pub lines : S
   pub are : inputs ≡ texts ++ lines ∷ []
 
--- the manager that is asked for, as it begins; it is live
+-- the manager that is asked for, as it begins, by the live conduct
 abbrev pub manager_asked : Serving → RuleValue → Manager
 manager_asked asked rule =
     new_manager asked.guid asked.port asked.priority (Live asked.sm_key) (record { lmc = asked.lmc; rule = rule })
 
--- the text that the rule takes was read, and `holds` holds of the lines and of the manager that is asked for
+-- the text that the rule takes was read, and `holds` holds of the lines, before and after, and of the manager that is
+-- asked for
 pub record WithManager {S : Type 0} (state : S → SourceState) (asked : Serving) (olds news : List S)
     (holds : S → S → Manager → Type 0) : Type 0 where
   pub were : Inputs olds
@@ -38,7 +39,7 @@ pub record WithManager {S : Type 0} (state : S → SourceState) (asked : Serving
   pub read : AreInputs state no_files asked.rule were.texts are.texts rule tt
   pub so : holds were.lines are.lines (manager_asked asked rule)
 
--- the text was read, and the manager was served to the end of the lines; `prints` holds of what that prints
+-- the text was read, and the manager was served to the end of the lines; `prints` holds of what it prints
 abbrev pub HasServedLines : {S : Type 0} → (S → SourceState) → Serving → List S → List S → (List ℕ → Type 0) → Type 0
 HasServedLines state asked olds news prints =
     WithManager state asked olds news (λ old new m. HasServed state old new m prints)
@@ -51,13 +52,13 @@ pub record RefusesTexts {S : Type 0} (state : S → SourceState) (asked : Servin
   pub why : IsInputFault state no_files asked.rule were.texts are.texts fault
   pub untouched : are.lines ≡ were.lines
 
--- the fault of serving as one of the program; `lines` is the input that the lines come from
+-- the fault of serving as a fault of the program; `lines` is the input that the lines come from
 abbrev pub fault_of_serving : ℕ → ServeFault → Fault
 fault_of_serving lines stop.Read = File lines files.Read
 fault_of_serving lines stop.Write = Write
 fault_of_serving lines stop.Memory = Memory
 
--- serving stopped; `some` or `whole` holds of what was printed
+-- serving stopped with the fault; `some` or `whole` holds of what was printed
 pub record StopsEarly {S : Type 0} (state : S → SourceState) (lines : ℕ) (old new : S) (m : Manager)
     (some whole : List ℕ → Type 0) (sink_failed : Bool) (fault : Fault) : Type 0 where
   pub stopped : ServeFault

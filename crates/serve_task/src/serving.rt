@@ -1,4 +1,4 @@
-//! A manager that is served by lines.
+//! Serving a manager by lines.
 ghost use Rattle.std.specs.Prelude.{◌≡◌, ◌⊎◌, ◌+◌, Err, false, length, IfErr, OnErr, OnOk, IsTrue};
 ghost use Rattle.std.specs.Io.KnownBytes.{Appends};
 ghost use Rattle.record_file.specs.declared.file_fault.FileFault.TheVariants.{Read};
@@ -18,26 +18,26 @@ use sm_state::Conduct;
 use smp_bytes::{Guid, PortNum};
 use std::alloc::Global;
 
-/// Which manager is served, and how it plans.
+/// The manager that is to be served, and how it plans.
 #[derive(Clone, Copy, Debug, PartialEq, Eq)]
 pub struct Serving {
-    /// The GUID of the port that it sits at.
+    /// The GUID of the port at which the manager sits.
     pub guid: Guid,
-    /// The number of the port that it sits at.
+    /// The number of the port at which the manager sits.
     pub port: PortNum,
     pub priority: Priority,
-    /// Its SM_Key.
+    /// The SM_Key of the manager.
     pub sm_key: u64,
-    /// The LMC of its plans: 2^LMC LIDs for each adapter port.
+    /// The LMC of the manager's plans. They have 2^LMC LIDs for each adapter port.
     pub lmc: Lmc,
     pub rule: RuleAsked,
 }
 
 /// Serves a manager by lines, as `serve` does. The manager begins without facts. The inputs are the text that its rule
-/// takes, if any, which is read first, and the lines.
+/// takes, if it takes one, and the lines. The text is read first.
 ///
-/// Writes `served_by` of that manager and the lines; writes nothing if the rule's text is refused. Roots may be any
-/// GUIDs, since no switch is known yet.
+/// Writes `served_by` of that manager and the lines. Writes nothing if the text is refused. Roots may be any GUIDs,
+/// since no switch is known yet.
 pub fn run_serve<S: Source, W: Sink>(
     alloc: Global,
     inputs: &mut [S],
@@ -77,7 +77,7 @@ pub fn run_serve<S: Source, W: Sink>(
     }
 }
 
-/// Returns the fault of serving as one of the program; `lines` is the input that the lines come from.
+/// Returns the fault of serving as a fault of the program. `lines` is the input that the lines come from.
 fn fault_of_serving(lines: usize, fault: ServeFault) -> Fault
     ensures { result ≡ fault_of_serving lines fault }
 {

@@ -5,7 +5,7 @@ use Rattle.sm_cli.specs.declared.asked.RuleAsked.TheVariants.{UpDown, Spread, Sp
 use Rattle.sm_cli.specs.declared.asked.Output.{Output}
 use Rattle.sm_cli.specs.declared.asked.Output.TheVariants.{Facts, Join, Plan, Order}
 
--- the number of texts that a rule takes: 1 if a text names its roots or its order
+-- the number of texts that a rule takes: 1 if a text names its roots or its order, otherwise 0
 abbrev pub texts_for : RuleAsked → ℕ
 texts_for UpDown = 0
 texts_for Spread = 0

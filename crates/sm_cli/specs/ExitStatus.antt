@@ -8,7 +8,7 @@ use Rattle.sm_cli.specs.TextFault.{is_of_text}
 use Rattle.sm_cli.specs.declared.exit_status.ExitStatus.{ExitStatus}
 use Rattle.sm_cli.specs.declared.exit_status.ExitStatus.TheVariants.{Done, Failed, Usage, Refused, InputOutput, Memory}
 
--- the number that the program ends with
+-- the exit status as a number
 abbrev pub code_of : ExitStatus → ℕ
 code_of Done = 0
 code_of Failed = 1

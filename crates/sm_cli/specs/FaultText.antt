@@ -18,12 +18,12 @@ name_text name = name ++ codes ": "
 abbrev pub named_text : List ℕ → List ℕ → List ℕ
 named_text name words = name_text name ++ words
 
--- the number that the words end with, if there is one
+-- the number with which the words end; empty if there is none
 abbrev pub number_text : Option ℕ → List ℕ
 number_text None = []
 number_text (Some number) = decimal number
 
--- the name of the report's fault, if there is one
+-- the name of the report's fault; empty if there is none
 abbrev pub cause_text : Option ReportFault → List ℕ
 cause_text None = []
 cause_text (Some fault) = codes ": " ++ report_fault_name fault

@@ -56,7 +56,7 @@ pub record HasRead {S : Type 0} (state : S → SourceState) (floor : ℕ) (olds 
   pub told : facts ≡ facts_of floor files
 
 -- reading the source ended with `fault`: it is the fault of the bytes taken, or a read or an allocation failed before
--- any
+-- any fault
 pub record Refuses {S : Type 0} (state : S → SourceState) (old new : S) (fault : FileFault) : Type 0 where
   pub taken : List ℕ
   pub consumed : Consumes (state old).left (state new).left taken
@@ -87,6 +87,7 @@ pub record IsRefusedAt {S : Type 0} (state : S → SourceState) (before : ℕ) (
   pub is : input ≡ before + index
   pub refuses : RefusesFile state olds news index fault
 
+-- why a file is refused, as a fault of a run
 abbrev pub IsRefusedFile : {S : Type 0} → (S → SourceState) → ℕ → List S → List S → Fault
     → Type 0
 IsRefusedFile state before olds news (File input fault) =

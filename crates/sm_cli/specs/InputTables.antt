@@ -25,7 +25,7 @@ pub record IsTables {S : Type 0} (state : S → SourceState) (old new : S) (held
 abbrev pub AreTables : {S : Type 0} → (S → SourceState) → List S → List S → HeldPlan → Type 0
 AreTables state olds news held = IsOneRead olds news (λ old new. IsTables state old new held)
 
--- the fault is the text's first one, or the text has none and memory ran out
+-- the fault is the first one of the text, or the text has none and memory ran out
 abbrev pub IsFaultOfText : List ℕ → TablesFault → Type 0
 IsFaultOfText text (wrong.Line fault) = first_fault text ≡ Some fault
 IsFaultOfText text wrong.Memory = first_fault text ≡ None
@@ -36,6 +36,7 @@ pub record RefusesTables {S : Type 0} (state : S → SourceState) (old new : S) 
   pub read : IsReadWhole state old new text
   pub refused : IsFaultOfText text fault
 
+-- why the text of tables is refused, as a fault of a text
 abbrev pub IsTextRefused : {S : Type 0} → (S → SourceState) → S → S → TextFault → Type 0
 IsTextRefused state old new (texts.Tables fault) = RefusesTables state old new fault
 IsTextRefused state old new fault = ⊥

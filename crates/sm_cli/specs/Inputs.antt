@@ -19,7 +19,7 @@ use Rattle.sm_cli.specs.declared.text_fault.TextFault.TheVariants as texts
 
 -- checking --------------------------------------------------------------------------------------
 
--- the first root that is not a usable switch; `usable` says which GUIDs are
+-- the first root that is not a usable switch, by `usable`; None if all are usable switches
 abbrev pub first_unusable : (ℕ → Bool) → List ℕ → Option ℕ
 first_unusable usable roots = find (λ root. not (usable root)) roots
 
@@ -59,7 +59,7 @@ pub record IsRoots {S : Type 0} (state : S → SourceState) (old new : S) (roots
   pub read : IsReadWhole state old new text
   pub told : roots_of text ≡ Ok roots
 
--- the fault is the text's first one, or the text has none and memory ran out
+-- the fault is the first one of the text, or the text has none and memory ran out
 abbrev pub IsFaultOfText : List ℕ → RootsFault → Type 0
 IsFaultOfText text (wrong.Line fault) = roots_of text ≡ Err fault
 IsFaultOfText text wrong.Memory = (roots : List ℕ) × (roots_of text ≡ Ok roots)
@@ -70,6 +70,7 @@ pub record RefusesRootsText {S : Type 0} (state : S → SourceState) (old new : 
   pub read : IsReadWhole state old new text
   pub refused : IsFaultOfText text fault
 
+-- why the text of roots or of an order is refused, as a fault of a text
 abbrev pub IsTextRefused : {S : Type 0} → (S → SourceState) → S → S → TextFault → Type 0
 IsTextRefused state old new (texts.Roots fault) = RefusesRootsText state old new fault
 IsTextRefused state old new fault = ⊥
@@ -115,7 +116,7 @@ IsRuleFault state BalanceInOrder olds news fault =
 -- inputs ----------------------------------------------------------------------------------------
 
 -- A reader of the inputs after the text that a rule takes. `reads` relates them, before and after, to what they say,
--- and `refuses n` to a fault if n inputs precede them. `has_switch` tells from what they say which GUIDs are usable
+-- and `refuses n` to a fault if n inputs precede them. `has_switch` says, by what they say, which GUIDs are usable
 -- switches.
 pub record Reader (S T : Type 0) : Type 1 where
   pub reads : List S → List S → T → Type 0

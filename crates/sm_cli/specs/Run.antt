@@ -63,7 +63,7 @@ IsOrderFault sink_failed Write = IsTrue sink_failed
 IsOrderFault sink_failed Memory = ⊤
 IsOrderFault sink_failed fault = ⊥
 
--- why the facts are not answered
+-- why the output is not made from the facts
 abbrev pub IsAnswerFault : Output → Facts → Bool → Fault → Type 0
 IsAnswerFault what facts sink_failed (NoRoom why) = IsPlanned what facts (Some why)
 IsAnswerFault what facts sink_failed Write = IsTrue sink_failed
@@ -77,13 +77,13 @@ pub record IsAnswer (output : Output) (rule : RuleValue) (facts : Facts) (prints
 
 -- runs ------------------------------------------------------------------------------------------
 
--- the inputs were read, and what the files say was answered
+-- the inputs were read, and the output was made from what the files say
 abbrev pub HasAnswered : {S : Type 0} → (S → SourceState) → Invocation → List S → List S → (List ℕ → Type 0) → Type 0
 HasAnswered state request olds news prints =
     WithInputs state (files_reader state request.floor) (rule_for request.output) olds news
     (λ rule facts. IsAnswer request.output rule facts prints)
 
--- why a run over open inputs fails: they are not read, or what they say is not answered
+-- why a run over open inputs fails: the inputs are not read, or the output is not made
 abbrev pub IsFaultOf : {S : Type 0} → (S → SourceState) → Invocation → List S → List S → Bool
     → Fault → Type 0
 IsFaultOf state request olds news sink_failed fault =

@@ -43,8 +43,8 @@ FilesDecideAnswer = (request : Invocation) (rule : RuleValue) (files others : Li
     → answer_to request.output rule (facts_of request.floor files)
     ≡ answer_to request.output rule (facts_of request.floor others)
 
--- a store file that files were joined into at a floor is accepted, and stands for them at that floor, alone or among
--- others
+-- a store file into which files were joined at a floor is accepted, and stands for them at that floor, alone or among
+-- other files
 abbrev pub JoinedFileStands : Type 0
 JoinedFileStands =
     (request : Invocation) (rule : RuleValue) (floor : ℕ) (told : Option ℕ) (files others : List (List ℕ))
@@ -52,7 +52,7 @@ JoinedFileStands =
     × (answer_to request.output rule (facts_of request.floor (joined ∷ others))
     ≡ answer_to request.output rule (facts_of (max request.floor floor) (files ++ others)))
 
--- the files `front` and `back` are accepted, and stand for `whole`, alone or among others
+-- the files `front` and `back` are accepted, and stand for `whole`, alone or among other files
 pub record StandFor (request : Invocation) (rule : RuleValue) (whole front back : List ℕ) (others : List (List ℕ)) :
     Type 0 where
   pub front_accepted : outcome front ≡ Ok tt

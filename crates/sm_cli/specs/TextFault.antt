@@ -32,17 +32,17 @@ text_fault_word NoRoot = codes "no root"
 text_fault_word (NoSwitch guid) = codes "no usable switch"
 text_fault_word (Moves lid) = codes "moves"
 
--- the GUID that the fault concerns
+-- the GUID that the fault concerns; None if it concerns none
 abbrev pub text_fault_guid : TextFault → Option ℕ
 text_fault_guid (NoSwitch guid) = Some guid
 text_fault_guid _ = None
 
--- the LID that the fault concerns
+-- the LID that the fault concerns; None if it concerns none
 abbrev pub text_fault_lid : TextFault → Option ℕ
 text_fault_lid (Moves lid) = Some lid
 text_fault_lid _ = None
 
--- a fault is the text's, unless it is lack of memory
+-- the text has the fault; lack of memory is no fault of the text
 abbrev pub is_of_text : TextFault → Bool
 is_of_text (Topology topology.Memory) = false
 is_of_text (Schedule schedule.Memory) = false
@@ -50,21 +50,22 @@ is_of_text (Tables line.Memory) = false
 is_of_text (Roots line.Memory) = false
 is_of_text _ = true
 
--- the number of the line, before what is written about it
+-- the number of the faulty line, written before the fault; empty if there is none
 abbrev pub line_text : Option ℕ → List ℕ
 line_text None = []
 line_text (Some line) = codes "line " ++ decimal line ++ codes ": "
 
--- the LID, before what is written about it
+-- the LID that a fault concerns, written before its word; empty if there is none
 abbrev pub lid_before : Option ℕ → List ℕ
 lid_before None = []
 lid_before (Some lid) = codes "lid " ++ decimal lid ++ codes " "
 
--- the GUID, after what is written about it
+-- the GUID that a fault concerns, written after its word; empty if there is none
 abbrev pub guid_behind : Option ℕ → List ℕ
 guid_behind None = []
 guid_behind (Some guid) = codes " " ++ guid_text guid
 
+-- what is written about a text, without its name
 abbrev pub said_of_text : TextFault → List ℕ
 said_of_text fault =
     line_text (text_fault_line fault) ++ lid_before (text_fault_lid fault) ++ text_fault_word fault

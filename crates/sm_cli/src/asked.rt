@@ -38,7 +38,7 @@ impl RuleAsked {
 /// What a run over files writes.
 #[derive(Clone, Copy, Debug, PartialEq, Eq)]
 pub enum Output {
-    /// What the files say together, as text, one line a fact.
+    /// What the files say together, as text, with a line for each fact.
     Facts,
     /// What the files say together, as a store file.
     Join,
@@ -52,7 +52,8 @@ pub enum Output {
 impl Output {
     ghost use Rattle.sm_cli.specs.Asked.{rule_for};
 
-    /// Returns the rule of routing that the output is made by; `UpDown`, which takes no text, if none is needed.
+    /// Returns the rule of routing by which the output is made, or `UpDown`, which takes no text, if the output needs
+    /// none.
     pub fn rule(self) -> RuleAsked
         ensures { result ≡ rule_for self }
     {

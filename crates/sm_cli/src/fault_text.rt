@@ -39,7 +39,7 @@ fn write_fault_text<W: Sink>(sink: &mut W, fault: &Fault, name: &[u8]) -> Result
     }
 }
 
-/// Writes the number of end ports, and the room for their LIDs.
+/// Writes that there is no room, with the number of end ports and the room for their LIDs.
 fn write_no_room<W: Sink>(sink: &mut W, why: NoRoom) -> Result<(), WriteFault>
     ensures writes { Writes W.written W.has_failed result sink.old sink.new (no_room_text why) }
 {

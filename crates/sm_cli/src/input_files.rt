@@ -65,7 +65,7 @@ pub(crate) fn read_files<S: Source>(
     Ok(all)
 }
 
-/// Reads one file into a store of its own, and merges that into `all`.
+/// Reads one file into a new store, and merges this store into `all`.
 fn read_into<S: Source>(all: &mut Store, alloc: Global, source: &mut S) -> Result<(), FileFault>
     ensures read { OnOk result (ReadsInto S.state
         source.old source.new all.old all.new) }

@@ -29,7 +29,7 @@ pub trait InputReader<S: Source> {
     // Which numbers of inputs can be read.
     ghost takes: { Self → ℕ → Type 0 };
 
-    /// Reads `inputs`. `before` others precede them.
+    /// Reads `inputs`. `before` other inputs precede them.
     fn read(&self, alloc: Global, before: usize, inputs: &mut [S]) -> Result<Self::Told, Fault>
         requires enough { takes self.now (length inputs.old) }
         requires counted { before + length inputs.old ≤ usize.MAX }
@@ -181,7 +181,7 @@ fn fault_of_first(roots: &[Guid], unusable: Option<Guid>) -> Option<TextFault>
     }
 }
 
-/// Returns the first of `roots` that is not a usable switch.
+/// Returns the first of `roots` that is not a usable switch, or `None` if all are.
 fn first_unusable<S: Source, R: InputReader<S>>(
     roots: &[Guid],
     reader: &R,

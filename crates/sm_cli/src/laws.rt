@@ -14,7 +14,7 @@ pub fn files_decide_answer()
     ensures { FilesDecideAnswer }
 {}
 
-/// A store file that files were joined into is accepted and stands for them at its floor, alone or among other files.
+/// A store file into which files were joined is accepted and stands for them at its floor, alone or among other files.
 pub fn joined_file_stands()
     ensures { JoinedFileStands }
 {}
@@ -32,7 +32,7 @@ pub fn split_store_stands()
 {}
 
 /// A printed order, given back as the order of a plan, is printed as the same text again and gives the same plan, byte
-/// for byte, if no switch has the GUID 0.
+/// for byte, if the facts are in range and no switch has the GUID 0.
 pub fn printed_orders_stand()
     ensures { PrintedOrdersStand }
 {}

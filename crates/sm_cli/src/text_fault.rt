@@ -38,7 +38,7 @@ impl TextFault {
     ghost use Rattle.sm_cli.specs.TextFault.{text_fault_guid, text_fault_lid, text_fault_line, text_fault_word};
     ghost use Rattle.sm_cli.specs.TextFault.{is_of_text};
 
-    /// Returns the number of the faulty line, from 1, if a line has the fault.
+    /// Returns the number of the faulty line, from 1, or `None` if the fault is in no line.
     pub fn line(&self) -> Option<usize>
         ensures { result ≡ text_fault_line self.now }
     {
@@ -52,7 +52,7 @@ impl TextFault {
         }
     }
 
-    /// Returns what the message says about the line, or about the text if no line has the fault.
+    /// Returns what the message says about the line, or about the text if the fault is in no line.
     pub fn word(&self) -> &'static str
         ensures { result.now ≡ text_fault_word self.now }
     {
@@ -68,7 +68,7 @@ impl TextFault {
         }
     }
 
-    /// Returns the GUID that the fault concerns, if any.
+    /// Returns the GUID that the fault concerns, or `None` if it concerns none.
     pub fn guid(&self) -> Option<Guid>
         ensures { result ≡ text_fault_guid self.now }
     {
@@ -78,7 +78,7 @@ impl TextFault {
         }
     }
 
-    /// Returns the LID that the fault concerns, if any.
+    /// Returns the LID that the fault concerns, or `None` if it concerns none.
     pub fn lid(&self) -> Option<Lid>
         ensures { result ≡ text_fault_lid self.now }
     {
@@ -88,7 +88,7 @@ impl TextFault {
         }
     }
 
-    /// Returns whether the text has the fault; lack of memory is not the text's.
+    /// Returns whether the text has the fault. Lack of memory is no fault of the text.
     pub fn is_of_text(&self) -> bool
         ensures { result ≡ is_of_text self.now }
     {

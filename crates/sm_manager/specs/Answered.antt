@@ -15,12 +15,13 @@ use Rattle.sm_manager.specs.ManagerRequests.{counts}
 use Rattle.sm_manager.specs.Traps.{represses}
 use Rattle.sm_manager.specs.Writing.{is_written, phases_by, after_write_steps}
 
--- the request that the packet answers is a step that counts, the answer's status is 0, and the answer is taken
+-- the request that the packet answers is a step that counts, the status of the answer is 0, and the manager accepts it
 abbrev pub does_request : Manager → List ℕ → Option Pending → Bool
 does_request m packet None = false
 does_request m packet (Some p) =
     counts p && (status packet == done && is_none (request_answered m packet (Some p)).fault)
 
+-- whether a step that counts was answered as done by this packet; bytes that are not a packet answer none
 abbrev pub does_by_packet : Manager → List ℕ → Option SmpFault → Bool
 does_by_packet m packet (Some why) = false
 does_by_packet m packet None =
@@ -29,7 +30,7 @@ does_by_packet m packet None =
     else if is_for_sweep packet then false
     else does_request m packet (pending_for m packet)
 
--- by the call a step that counts was answered as done
+-- whether a step that counts was answered as done by this call
 abbrev pub does_step : Manager → Call → Bool
 does_step m BeginSweep = false
 does_step m WriteSteps = false
@@ -50,6 +51,7 @@ abbrev pub steps_done : List Call → Manager → ℕ
 steps_done [] m = 0
 steps_done (call ∷ calls) m = one_if (does_step m call) + steps_done calls (after_call m call)
 
+-- the call begins no writing
 abbrev pub BeginsNone : Manager → Call → Type 0
 BeginsNone m WriteSteps = writing_fault m ≢ None
 BeginsNone m call = Unit {0}
@@ -59,13 +61,13 @@ abbrev pub BeginNone : List Call → Manager → Type 0
 BeginNone [] m = Unit {0}
 BeginNone (call ∷ calls) m = BeginsNone m call × BeginNone calls (after_call m call)
 
--- the number of steps of phases that count: LIDs, blocks and tops
+-- the number of steps in the phases that count: LIDs, blocks and tops
 abbrev pub counting_in : List Phase → ℕ
 counting_in [] = 0
 counting_in (p ∷ phases) = (if p.counts then length p.steps else 0) + counting_in phases
 
--- if a writing begins after any calls and no other one follows, the plan is written exactly if each of its steps that
--- count was answered as done
+-- if a writing begins after any calls and no other writing follows, the plan is written exactly if each of its steps
+-- that count was answered as done
 abbrev pub WrittenIsEachStepDone : Type 0
 WrittenIsEachStepDone =
     (port_guid port priority : ℕ) (conduct : Conduct) (planning : Planning) (before after : List Call)

@@ -1,4 +1,4 @@
--- A manager's life: a list of calls.
+-- The life of a manager: a list of calls.
 use Rattle.std.specs.Prelude.{◌≡◌, ℕ, List, [], ◌∷◌, ◌++◌, Option, Some, None, Result, Ok, Err, if◌then◌else◌, is_none, max}
 use Rattle.reply_facts.specs.Report.{Sightings}
 use Rattle.fact_store.specs.Seen.{HaveSameMembers}
@@ -34,8 +34,8 @@ pub data Call : Type 0 where
   Poll : (lid : Option ℕ) → Call
   Handover : Call
 
--- a refused call leaves the manager as it is. So does a call that is refused memory: to the manager it is as if the
--- call had not been made
+-- the manager after a call; a refused call leaves it as it is, and so does a call that is refused memory, which counts
+-- as not made
 abbrev pub after_call : Manager → Call → Manager
 after_call m BeginSweep = if is_none (begin_fault m) then after_begin_sweep m else m
 after_call m WriteSteps = if is_none (writing_fault m) then after_write_steps m else m
@@ -47,20 +47,24 @@ after_call m (Merge floor sightings) = after_merge m (view_at floor sightings)
 after_call m (Poll lid) = if is_none (poll_fault m lid) then after_poll m lid else m
 after_call m Handover = if is_none (handover_fault m) then after_handover m else m
 
+-- the manager after these calls, in turn
 abbrev pub after_calls : List Call → Manager → Manager
 after_calls [] m = m
 after_calls (call ∷ calls) m = after_calls calls (after_call m call)
 
 -- what a call takes in --------------------------------------------------------------------------
 
+-- the sightings of the answer; none if there is none
 abbrev pub sightings_if : Result Answer SweepFault → Sightings
 sightings_if (Ok answer) = sightings_by answer
 sightings_if (Err why) = []
 
+-- the sightings of a reply to a sweep
 abbrev pub sightings_of_reply : List ℕ → Option Sweep → Sightings
 sightings_of_reply bytes None = []
 sightings_of_reply bytes (Some s) = sightings_if (judged s bytes)
 
+-- the sightings that a packet brings in: those of a reply to the sweep
 abbrev pub sightings_of_packet : Manager → List ℕ → Option SmpFault → Sightings
 sightings_of_packet m bytes (Some why) = []
 sightings_of_packet m bytes None =
@@ -81,12 +85,12 @@ sightings_of_call m (Merge floor sightings) = sightings
 sightings_of_call m (Poll lid) = []
 sightings_of_call m Handover = []
 
--- all sightings that the calls took in
+-- all sightings that a manager took in by these calls
 abbrev pub taken_in : List Call → Manager → Sightings
 taken_in [] m = []
 taken_in (call ∷ calls) m = sightings_of_call m call ++ taken_in calls (after_call m call)
 
--- the floor that a call raises or merges, or 1
+-- the floor that a call raises or merges; 1 for other calls
 abbrev pub floor_in : Call → ℕ
 floor_in BeginSweep = 1
 floor_in WriteSteps = 1
@@ -98,20 +102,21 @@ floor_in (Merge floor sightings) = floor
 floor_in (Poll lid) = 1
 floor_in Handover = 1
 
--- the greatest floor of the calls
+-- the greatest floor of the calls; 1 if there is none
 abbrev pub greatest_floor : List Call → ℕ
 greatest_floor [] = 1
 greatest_floor (call ∷ calls) = max (floor_in call) (greatest_floor calls)
 
--- a manager's facts are the view of all that it took in, at the greatest floor, whatever else was asked of it
+-- the facts of a manager are the view of all sightings that it took in, at the greatest floor, whatever else was asked
+-- of it
 abbrev pub KnowsWhatItTookIn : Type 0
 KnowsWhatItTookIn = (port_guid port priority : ℕ) (conduct : Conduct) (planning : Planning) (calls : List Call) →
     (after_calls calls (new_manager port_guid port priority conduct planning)).store
     ≡ view_at (greatest_floor calls) (taken_in calls (new_manager port_guid port priority conduct planning))
 
 -- Two managers have equal facts and equal plans if they took in the same sightings, in any order and each any number of
--- times, and have one greatest floor, one LMC and one rule of routing. If the plan has room and is in force in what an
--- end port is joined to, each packet from an end port there for a LID of the plan arrives
+-- times, and have the same greatest floor, LMC and rule of routing. If the plan has room and is in force in the part
+-- that an end port is joined to, each packet from an end port of the part for a LID of the plan arrives
 pub record KnowTheSame (one other : Manager) : Type 0 where
   pub facts : one.store ≡ other.store
   pub plan : plan_of one.planning.rule one.planning.lmc (cells_of one.store)
@@ -120,6 +125,7 @@ pub record KnowTheSame (one other : Manager) : Type 0 where
       → EveryPacketArrives one.planning.rule (cells_of one.store)
       (plan_of one.planning.rule one.planning.lmc (cells_of one.store))
 
+-- managers that took in the same sightings, at the same greatest floor, and plan alike know the same
 abbrev pub SameTakenInSamePlan : Type 0
 SameTakenInSamePlan =
     (guid port priority guid' port' priority' : ℕ) (conduct conduct' : Conduct) (planning : Planning)

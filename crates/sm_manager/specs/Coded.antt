@@ -1,4 +1,4 @@
--- The coding of a manager as numbers, by which it can be a struct's value.
+-- The coding of a manager as numbers, which lets it be the value of a struct.
 use Rattle.std.specs.Prelude.{ℕ, Bool, List, Option, refl}
 use Rattle.std.specs.Coded.{Coded, code_by, coded×, coded_ℕ, coded_bool, coded_list, coded_option}
 use Rattle.fact_store.specs.View.{Facts}
@@ -27,6 +27,7 @@ writing_code =
     (λ p. record { later = p.0; has_failed = p.1 })
     (λ _. refl)
 
+-- the code of a manager, made of the codes of its parts
 abbrev pub manager_code : Coded Manager
 manager_code =
     code_by ((Standing × ((ℕ × Planning) × Facts))

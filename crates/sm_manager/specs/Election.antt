@@ -38,7 +38,7 @@ abbrev pub info_pending : ℕ → Purpose → ℕ → Pending
 info_pending number purpose modifier =
     record { number = number; purpose = purpose; attribute = sm_info; modifier = modifier; path = None }
 
--- a poll that waits for its answer: over a path, or by LIDs if there is none
+-- a poll that waits for its answer: over a path or, if there is none, by LIDs
 abbrev pub poll_pending : ℕ → Option (List ℕ) → Pending
 poll_pending number path = record (info_pending number purpose.Poll 0) { path = path }
 
@@ -47,11 +47,11 @@ abbrev pub poll_packet : ℕ → Option (List ℕ) → List ℕ
 poll_packet number None = lid_routed get sm_info 0 number (replicate 64 0)
 poll_packet number (Some path) = directed get sm_info 0 number path (replicate 64 0)
 
--- a poll goes to the LID, or over the path
+-- the packet of a poll to the LID, or over the path
 abbrev pub poll_out : ℕ → Option ℕ → Option (List ℕ) → Outgoing
 poll_out number lid path = record { packet = poll_packet number path; to = lid }
 
--- a control: a Set with the SMInfo that its sender sends with it
+-- a control: a Set that carries the sender's SMInfo
 abbrev pub control_out : Standing → ℕ → ℕ → Control → Outgoing
 control_out s number lid control =
     record {
@@ -60,36 +60,37 @@ control_out s number lid control =
           Some lid;
     }
 
--- a request goes out under the next number, and waits for its answer
+-- the manager once a request is sent under the next number and waits for its answer
 abbrev pub asked : Manager → Pending → Outgoing → Manager
 asked m waits out =
     record m { counter = m.counter + 1; pending = m.pending ++ waits ∷ []; outgoing = m.outgoing ++ out ∷ [] }
 
+-- the manager once a control is sent
 abbrev pub control_sent : Manager → ℕ → Control → Manager
 control_sent m lid control =
     asked m (info_pending m.counter purpose.Control (modifier_of_control control))
     (control_out m.standing m.counter lid control)
 
--- the number of requests for a message: 1, or 0 if there is no message, or nobody to send it to
+-- the number of requests for a message: 0 if there is no message or no LID to send it to, and otherwise 1
 abbrev pub message_count : Option ℕ → Option Message → ℕ
 message_count None message = 0
 message_count (Some lid) None = 0
 message_count (Some lid) (Some message) = 1
 
--- the request of a message, which waits for its answer
+-- the request of a message, which waits for its answer; empty if there is no message or no LID
 abbrev pub message_pending : ℕ → Option ℕ → Option Message → List Pending
 message_pending counter None message = []
 message_pending counter (Some lid) None = []
 message_pending counter (Some lid) (Some message) =
     info_pending counter purpose.Control (modifier_of_control (control_of_message message)) ∷ []
 
--- the packet of a message
+-- the packet of a message; empty if there is no message or no LID
 abbrev pub message_out : Standing → ℕ → Option ℕ → Option Message → List Outgoing
 message_out s counter None message = []
 message_out s counter (Some lid) None = []
 message_out s counter (Some lid) (Some message) = control_out s counter lid (control_of_message message) ∷ []
 
--- a message goes out as a control
+-- the manager once a message is sent as a control, if there are a message and a LID
 abbrev pub after_message : Manager → Option ℕ → Option Message → Manager
 after_message m None message = m
 after_message m (Some lid) None = m
@@ -97,16 +98,17 @@ after_message m (Some lid) (Some message) = control_sent m lid (control_of_messa
 
 -- polls -----------------------------------------------------------------------------------------
 
--- the path leaves by `port` and has at most 63 hops, as does each path of a manager's sweeps
+-- the path leaves by `port` and has at most 63 hops, as every path of a manager's sweeps does
 abbrev pub is_way_out : ℕ → List ℕ → Bool
 is_way_out port [] = false
 is_way_out port (first ∷ path) = first == port && nat_lt (length path) max_hops
 
+-- the path if it is a way out, and otherwise None
 abbrev pub if_way_out : ℕ → Option (List ℕ) → Option (List ℕ)
 if_way_out port None = None
 if_way_out port (Some path) = if is_way_out port path then Some path else None
 
--- the path by which the last sweep first reached the port where a manager was seen, and asked that for SMInfo
+-- the path by which the last sweep first reached the port where a manager was seen, over which it asked for SMInfo
 abbrev pub path_seen : Option Sweep → SeenManager → Option (List ℕ)
 path_seen None s = None
 path_seen (Some sweep) s = path_to sweep s.guid s.port
@@ -115,53 +117,56 @@ path_seen (Some sweep) s = path_to sweep s.guid s.port
 abbrev pub polled : Manager → Option SeenManager
 polled m = polled_of (info_of m.standing) m.seen
 
+-- the path of a poll without a LID; None if there is none
 abbrev pub polled_path : Manager → Option (List ℕ)
 polled_path m = if_way_out m.port (option_and_then (path_seen m.sweep) (polled m))
 
--- the path of a poll; one to a LID has none
+-- the path of a poll; None if it goes to a LID
 abbrev pub poll_path : Manager → Option ℕ → Option (List ℕ)
 poll_path m (Some lid) = None
 poll_path m None = polled_path m
 
--- a fault if there is neither a LID nor a path
+-- `Nobody` if there is neither a LID nor a path
 abbrev pub unless_way : Option ℕ → Option (List ℕ) → Option ManagerFault
 unless_way (Some lid) path = None
 unless_way None (Some path) = None
 unless_way None None = Some fault.Nobody
 
--- why no poll is sent, except for lack of memory. A poll goes to the LID or, without one, over the path to a manager
+-- why no poll is sent, except for lack of memory; a poll goes to the LID or, without one, over the path to a manager
 -- that the last sweep saw
 abbrev pub poll_fault : Manager → Option ℕ → Option ManagerFault
 poll_fault m lid =
     if is_in Standby m.standing then or_else (unless_way lid (polled_path m)) (number_fault (m.counter + 1))
     else Some fault.NotStandby
 
+-- the manager once a poll is sent
 abbrev pub after_poll : Manager → Option ℕ → Manager
 after_poll m lid =
     asked m (poll_pending m.counter (poll_path m lid)) (poll_out m.counter lid (poll_path m lid))
 
 -- handing over ----------------------------------------------------------------------------------
 
--- the move of the table of states if another manager is to be master
+-- the move of the table of states when another manager is to be master
 abbrev pub handover_move : Manager → Transition
 handover_move m = stepped m.standing.conduct m.standing.state HandoverWanted
 
--- the manager seen by the last sweep that is to take over
+-- the manager, among those that the last sweep saw, that is to take over
 abbrev pub successor : Manager → Option SeenManager
 successor m = successor_of (info_of m.standing) m.seen
 
--- the port where a manager was seen, if it is known to be an end port
+-- the port where a manager was seen; None if it is not known to be an end port
 abbrev pub port_seen : Cells → SeenManager → Option EndPort
 port_seen cells s = if is_end_port cells s.guid s.port then Some (record { node = s.guid; port = s.port }) else None
 
+-- the port where the successor was seen; None if there is no successor or the port is not known to be an end port
 abbrev pub successor_port : Manager → Option EndPort
 successor_port m = option_and_then (port_seen (cells_of m.store)) (successor m)
 
--- the LID that the plan gives to the successor's port
+-- the LID that the plan gives to the successor's port; None if there is none
 abbrev pub successor_lid : Manager → Option ℕ
 successor_lid m = option_and_then (lid_of (lids m.planning.lmc (cells_of m.store))) (successor_port m)
 
--- a fault if there is no LID to send to
+-- `Nobody` if there is no LID to send to
 abbrev pub unless_lid : Option ℕ → Option ManagerFault
 unless_lid None = Some fault.Nobody
 unless_lid (Some lid) = None
@@ -174,14 +179,16 @@ successor_fault m =
     else or_else (plan_fault m.planning.lmc (cells_of m.store))
     (or_else (unless_lid (successor_lid m)) (number_fault (m.counter + 1)))
 
--- why a manager does not hand over: it is not master if the table of states has no message for a successor
+-- why a manager does not hand over: it is not master if the table of states has no message for a successor, and
+-- otherwise there is a fault with the successor
 abbrev pub handover_fault : Manager → Option ManagerFault
 handover_fault m = if is_none (handover_move m).message then Some fault.NotMaster else successor_fault m
 
--- the state moves, and the successor is told to take over; the state moves again once the successor has acknowledged
+-- the manager once it has told the successor to take over; its state moves again when the successor acknowledges
 abbrev pub handed_to : Manager → Option ℕ → Manager
 handed_to m lid =
     after_message (record m { standing = moved_to (handover_move m).state m.standing }) lid (handover_move m).message
 
+-- the manager once it has told its successor to take over
 abbrev pub after_handover : Manager → Manager
 after_handover m = handed_to m (successor_lid m)

@@ -6,7 +6,7 @@ use Rattle.sweep.specs.Fault.{sweep_fault_name}
 use Rattle.sm_manager.specs.declared.fault.ManagerFault.{ManagerFault}
 use Rattle.sm_manager.specs.declared.fault.ManagerFault.TheVariants as manager
 
--- the name of a fault; for a fault of the sweep, the sweep's name of it
+-- the name of a fault; a fault of the sweep has the sweep's name
 abbrev pub manager_fault_name : ManagerFault → List ℕ
 manager_fault_name manager.GenerationsSpent = codes "GenerationsSpent"
 manager_fault_name manager.SweepRunning = codes "SweepRunning"
@@ -20,11 +20,12 @@ manager_fault_name (manager.Sweep fault) = sweep_fault_name fault
 manager_fault_name manager.Unasked = codes "Unasked"
 manager_fault_name manager.Memory = codes "Memory"
 
+-- whether the fault is lack of memory
 abbrev pub is_memory : ManagerFault → Bool
 is_memory manager.Memory = true
 is_memory _ = false
 
--- the refusal of a sweep as the manager's own
+-- the manager's fault for a refusal by the sweep
 abbrev pub refusal_of : SweepFault → ManagerFault
 refusal_of sweep.Memory = manager.Memory
 refusal_of given = manager.Sweep given

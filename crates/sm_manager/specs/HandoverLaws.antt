@@ -8,7 +8,7 @@ use Rattle.sm_state.specs.Steps.{status_of, stepped}
 use Rattle.sm_manager.specs.declared.pending.Pending.{Pending}
 use Rattle.sm_manager.specs.Packets.{after_control_end, is_handover, is_relieved}
 
--- what the manager `other` does about the control
+-- the move of a manager with the standing `other` on the control
 abbrev pub move_of : Standing → Pending → Transition
 move_of other control = stepped other.conduct other.state (event.Control control.modifier)
 

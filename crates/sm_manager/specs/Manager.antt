@@ -1,5 +1,5 @@
--- A subnet manager: what it knows, its last sweep, what it is about to send, and what it can be asked for.
--- InfiniBand Architecture Specification, Volume 1: subnet management, subnet manager; topology discovery.
+-- A subnet manager: what it knows, its last sweep, the packets that it has queued, and the calls on it. InfiniBand
+-- Architecture Specification, Volume 1: subnet management, subnet manager; topology discovery.
 use Rattle.std.specs.Prelude.{◌≡◌, ℕ, ◌+◌, ◌-◌, ◌^◌, max, Bool, false, not, List, [], ◌∷◌, ◌++◌, map, ◌==◌, if◌then◌else◌, Option, Some, None}
 use Rattle.fact_store.specs.Seen.{newest_of}
 use Rattle.fact_store.specs.View.{Facts, cells_of, no_facts, raised}
@@ -28,9 +28,9 @@ pub record Writing : Type 0 where
   pub has_failed : Bool
 
 -- A manager: its standing among the managers of its subnet, the number of its port, how it plans, and all facts that it
--- took in; the last sweep that it began, and the managers that this sweep saw, in the order in which it saw them; the
--- last writing that it began; the number of its next request outside sweeps, and the requests outside sweeps that wait
--- for their answers, by rising numbers; and the packets that it is about to send, first in, first out.
+-- took in; its last sweep, and the managers that this sweep saw, in the order in which it saw them; its last writing;
+-- the number of its next request outside sweeps, and the requests outside sweeps that wait for their answers, by rising
+-- numbers; and the packets that it has queued, first in, first out.
 pub record Manager : Type 0 where
   pub standing : Standing
   pub port : ℕ
@@ -43,7 +43,7 @@ pub record Manager : Type 0 where
   pub pending : List Pending
   pub outgoing : List Outgoing
 
--- a manager that knows nothing and has done nothing
+-- a manager without facts, sweeps, requests and packets
 abbrev pub new_manager : ℕ → ℕ → ℕ → Conduct → Planning → Manager
 new_manager port_guid port priority conduct planning =
     record {
@@ -61,15 +61,15 @@ new_manager port_guid port priority conduct planning =
 
 -- what a sweep asks for goes out --------------------------------------------------------------
 
--- requests go out by their paths
+-- the packets of requests, which go by their paths
 abbrev pub requests_out : ℕ → List Request → List Outgoing
 requests_out generation requests = map (λ r. record { packet = packet_of generation r; to = None }) requests
 
--- all requests that are queued go out, and wait for their replies
+-- the sweep once all its queued requests are sent and wait for their replies
 abbrev pub with_all_sent : Sweep → Sweep
 with_all_sent s = record s { queued = []; outstanding = s.outstanding ++ s.queued }
 
--- all requests that the sweep has queued go out at once
+-- the manager with this sweep, whose queued requests are all sent
 abbrev pub with_sweep : Manager → Sweep → Manager
 with_sweep m s =
     record m {
@@ -77,7 +77,7 @@ with_sweep m s =
       outgoing = m.outgoing ++ requests_out s.generation s.queued;
     }
 
--- a sweep has nothing queued between the manager's calls
+-- the sweep, if there is one, has nothing queued
 abbrev pub IsSentWhole : Option Sweep → Type 0
 IsSentWhole None = Unit {0}
 IsSentWhole (Some s) = s.queued ≡ []
@@ -94,30 +94,30 @@ abbrev pub is_over : Option Sweep → Bool
 is_over None = false
 is_over (Some s) = is_done s
 
--- the state after a sweep that saw the managers `seen`
+-- the standing after a sweep that saw the managers `seen`
 abbrev pub after_verdict : List SeenManager → Standing → Standing
 after_verdict seen s = moved_by (sweep_verdict (info_of s) seen) s
 
--- the manager once the sweep has changed: if the sweep is done, it ended by this change, since replies and timeouts
--- come only while it runs
+-- the manager once the sweep has changed; if the sweep is done, this change ended it, since replies and timeouts come
+-- only while it runs
 abbrev pub after_sweep : Manager → Manager
 after_sweep m = record m { standing = if is_over m.sweep then after_verdict m.seen m.standing else m.standing }
 
--- the greatest generation of a fact, 0 if there is none
+-- the greatest generation of a fact; 0 if there is none
 abbrev pub newest_held : Facts → ℕ
 newest_held facts = newest_of (map (λ e. e.1) (cells_of facts))
 
--- the generation of the next sweep: greater than all that the facts have, and not below the floor
+-- the generation of the next sweep: greater than all generations of the facts, and at least the floor
 abbrev pub next_generation : Facts → ℕ
 next_generation facts = max (newest_held facts + 1) facts.floor
 
--- why no sweep begins: one runs, or the newest generation is the greatest that there is
+-- why no sweep begins: a sweep runs, or the newest generation is the greatest possible one
 abbrev pub begin_fault : Manager → Option ManagerFault
 begin_fault m = if is_running m.sweep then Some SweepRunning else
     (if newest_held m.store == 2 ^ 32 - 1 then Some GenerationsSpent else None)
 
--- a sweep begins at the manager's own port, in the next generation; it has seen no manager yet, and keeps what it reads
--- if the manager is live
+-- the manager once a sweep has begun at its own port, in the next generation; the sweep has seen no manager yet, and
+-- keeps what it reads if the manager is live
 abbrev pub after_begin_sweep : Manager → Manager
 after_begin_sweep m =
     with_sweep (record m {
@@ -128,36 +128,39 @@ after_begin_sweep m =
 
 -- other calls ------------------------------------------------------------------------------------
 
--- the facts of another store are merged with the manager's own
+-- the manager once the facts of another store are merged with its own
 abbrev pub after_merge : Manager → Facts → Manager
 after_merge m facts = record m { store = merge m.store facts }
 
--- the manager forgets what is below `floor`
+-- the manager once it has forgotten what is below `floor`
 abbrev pub after_raise_floor : Manager → ℕ → Manager
 after_raise_floor m floor = record m { store = raised m.store floor }
 
--- the manager after its first packet was taken to be sent, and that packet
+-- a manager whose first queued packet was removed, and that packet; None if none was queued
 pub record Taken : Type 0 where
   pub manager : Manager
   pub packet : Option Outgoing
 
+-- a manager without the first of these packets, and that packet; None if there is none
 abbrev pub taken_of : Manager → List Outgoing → Taken
 taken_of m [] = record { manager = m; packet = None }
 taken_of m (packet ∷ later) = record { manager = record m { outgoing = later }; packet = Some packet }
 
+-- the manager once its first queued packet was removed, and that packet
 abbrev pub after_take_outgoing : Manager → Taken
 after_take_outgoing m = taken_of m m.outgoing
 
--- the TransactionIDs that a sweep waits for, rising
+-- the TransactionIDs that a sweep waits for, in rising order
 abbrev pub transactions_of : Option Sweep → List ℕ
 transactions_of None = []
 transactions_of (Some s) = map (λ r. transaction_of s.generation r.number) s.outstanding
 
--- the TransactionIDs that a manager waits for, rising: those of a sweep have the generation in the high half, others 0
+-- the TransactionIDs that a manager waits for, in rising order: those of a sweep have the generation in the high half,
+-- and the others 0
 abbrev pub outstanding : Manager → List ℕ
 outstanding m = map (λ p. p.number) m.pending ++ transactions_of m.sweep
 
--- the number of a sweep's unanswered requests that were for SMInfo
+-- the number of a sweep's requests for SMInfo that were not answered; None if no sweep was begun
 abbrev pub silent_in : Option Sweep → Option ℕ
 silent_in None = None
 silent_in (Some s) = Some s.silent_managers

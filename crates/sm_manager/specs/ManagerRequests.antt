@@ -5,41 +5,44 @@ use Rattle.sm_manager.specs.declared.pending.Pending.{Pending}
 use Rattle.sm_manager.specs.declared.pending.Purpose.{Purpose}
 use Rattle.sm_manager.specs.declared.pending.Purpose.TheVariants as purpose
 
--- the number of the next request, those that wait for their answers, and for how many more there is memory
+-- the number of the next request, the requests that wait for their answers, and the number of further requests that
+-- there is memory for
 pub record ManagerRequests : Type 0 where
   pub counter : ℕ
   pub pending : List Pending
   pub room : ℕ
 
--- each number fits 32 bits, and they rise
+-- the numbers fit 32 bits, rise, and are below `counter`
 abbrev pub AreNumbered : ℕ → List Pending → Type 0
 AreNumbered counter pending = numbers.AreNumbered (λ (p : Pending). p.number) pending counter
 
--- the request with the number `number`
+-- the request with the number `number`; None if there is none
 abbrev pub with_number : ℕ → List Pending → Option Pending
 with_number number pending = numbers.with_number (λ (p : Pending). p.number) number pending
 
--- the requests without the one with the number `number`
+-- the requests except the one with the number `number`
 abbrev pub without_number : ℕ → List Pending → List Pending
 without_number number pending = numbers.without_number (λ (p : Pending). p.number) number pending
 
 -- what requests are for --------------------------------------------------------------------------
 
+-- whether the purpose is a step of a writing
 abbrev pub is_for_step : Purpose → Bool
 is_for_step purpose.Poll = false
 is_for_step purpose.Control = false
 is_for_step (purpose.Step counts) = true
 
--- a step of the last writing
+-- whether the request is a step of the last writing
 abbrev pub is_step : Pending → Bool
 is_step p = is_for_step p.purpose
 
+-- whether the purpose is a step that has to be done for the plan to be written
 abbrev pub counts_as : Purpose → Bool
 counts_as purpose.Poll = false
 counts_as purpose.Control = false
 counts_as (purpose.Step counts) = counts
 
--- a step that has to be done for the plan to be written
+-- whether the request is a step that has to be done for the plan to be written
 abbrev pub counts : Pending → Bool
 counts p = counts_as p.purpose
 
@@ -47,11 +50,11 @@ counts p = counts_as p.purpose
 abbrev pub how_many : (Pending → Bool) → List Pending → ℕ
 how_many test pending = length (filter test pending)
 
--- no step of the last writing waits
+-- whether no step of the last writing waits
 abbrev pub no_step_waits : List Pending → Bool
 no_step_waits pending = how_many is_step pending == 0
 
--- no step waits that has to be done for the plan to be written
+-- whether no step waits that has to be done for the plan to be written
 abbrev pub none_counts : List Pending → Bool
 none_counts pending = how_many counts pending == 0
 

@@ -1,5 +1,5 @@
--- What a manager does with a packet that comes to its port, and with a timeout.
--- InfiniBand Architecture Specification, Volume 1: subnet management methods; directed route SMPs.
+-- What a manager does with a packet that reaches its port, and with a timeout. InfiniBand Architecture Specification,
+-- Volume 1: subnet management methods; directed route SMPs.
 use Rattle.std.specs.Prelude.{◌≡◌, ℕ, ◌^◌, Bool, true, false, ◌&&◌, not, List, find, nat_le, ◌==◌, if◌then◌else◌, Option, Some, None, is_some, IsSome, option_map, Result, Ok, Err}
 use Rattle.smp_bytes.specs.Answers as smp
 use Rattle.smp_bytes.specs.Header.{get_resp, sm_info}
@@ -34,21 +34,23 @@ use Rattle.sm_state.specs.Controls.{modifier_of_control}
 use Rattle.sm_state.specs.Standing.{moved_by, poll_answered, poll_lost}
 use Rattle.sm_manager.specs.Writing.{is_done_by, is_spent, after_step, without}
 
--- a call's outcome: the manager afterwards, and why the call was refused, if it was
+-- the outcome of a call: the manager afterwards, and why the call was refused; None if it was not
 pub record Called : Type 0 where
   pub manager : Manager
   pub fault : Option ManagerFault
 
--- a refusal leaves everything as it is
+-- a call that is refused and changes nothing
 abbrev pub refused : Manager → ManagerFault → Called
 refused m why = record { manager = m; fault = Some why }
 
+-- a call that is not refused, and leaves this manager
 abbrev pub done : Manager → Called
 done m = record { manager = m; fault = None }
 
 -- packets -------------------------------------------------------------------------------------
 
--- the facts of an answer are merged, a manager that it shows is noted, and the requests that it brings up go out
+-- the manager once the facts of an answer are merged, a manager that it shows is noted, and the requests that it causes
+-- are sent
 abbrev pub with_answer : Manager → Sweep → List ℕ → Answer → Manager
 with_answer m s packet answer =
     after_sweep (with_sweep (record m {
@@ -57,77 +59,80 @@ with_answer m s packet answer =
           with_seen answer m.seen;
     }) (after_reply s packet))
 
+-- the outcome of a reply to a sweep, given the sweep's verdict on it
 abbrev pub answered_by : Manager → Sweep → List ℕ → Result Answer SweepFault → Called
 answered_by m s packet (Ok answer) = done (with_answer m s packet answer)
 answered_by m s packet (Err why) = refused m (fault.Sweep why)
 
--- a reply to a sweep; if no sweep was ever begun, it is refused as not asked for
+-- the outcome of a reply to a sweep; if no sweep was begun, it is refused as not asked for
 abbrev pub sweep_answered : Manager → List ℕ → Option Sweep → Called
 sweep_answered m packet None = refused m fault.Unasked
 sweep_answered m packet (Some s) = answered_by m s packet (judged s packet)
 
--- an answer over a directed route whose TransactionID has a generation in its high half
+-- whether the packet is an answer over a directed route with a generation in the high half of its TransactionID
 abbrev pub is_for_sweep : List ℕ → Bool
 is_for_sweep packet =
     number_in method packet == get_resp && (is_directed packet && nat_le (2 ^ 32) (number_in transaction_id packet))
 
--- the packet is an answer to the request `p`
+-- whether the packet is an answer to the request `p`
 abbrev pub answers : List ℕ → Pending → Bool
 answers packet p = number_in method packet == get_resp && smp.answers packet p.number p.attribute p.modifier p.path
 
--- the request that waits for the answer `packet`
+-- the request that waits for the answer `packet`; None if there is none
 abbrev pub pending_for : Manager → List ℕ → Option Pending
 pending_for m packet = find (answers packet) m.pending
 
--- what a call sends goes out, if there are numbers for it
+-- the outcome `after`, or a refusal if it has used more numbers than there are
 abbrev pub unless_spent : Manager → Manager → Called
 unless_spent m after = if is_spent after then refused m fault.SequenceSpent else done after
 
--- a poll was answered, or was not
+-- the standing once a poll was answered or lost
 abbrev pub after_poll_end : Bool → Standing → Standing
 after_poll_end true s = poll_answered s
 after_poll_end false s = poll_lost s
 
--- the request is a handover
+-- whether the request is a handover
 abbrev pub is_handover : Pending → Bool
 is_handover p = p.modifier == modifier_of_control control.Handover
 
--- the answer says that the other manager took over, which is enough by the live conduct
+-- whether the answer relieves the manager: by the live conduct, if it says that the other manager took over
 abbrev pub is_relieved : Standing → Pending → Option ℕ → Bool
 is_relieved s p answer = is_live s.conduct && (is_handover p && is_done_by answer)
 
--- a control has ended; a manager that is relieved moves as by an acknowledgement
+-- the standing once a control has ended; a manager that is relieved moves as by an acknowledgement
 abbrev pub after_control_end : Bool → Standing → Standing
 after_control_end is_relieved s =
     if is_relieved then moved_by (event.Control (modifier_of_control control.Acknowledge)) s else s
 
--- the number of a status
+-- the number of a status; None if there is no status
 abbrev pub status_number : Option Status → Option ℕ
 status_number status = option_map (λ s. s.0) status
 
--- a request no longer waits: `answer` is the status of its answer, or None if it timed out; if it was a step, the next
--- phase may go out
+-- the outcome of the end of a request; `answer` is the status of its answer, or None if it timed out; if the request
+-- was a step, the next phase may be sent
 abbrev pub after_request : Manager → Pending → Option ℕ → Purpose → Called
 after_request m p answer Poll = done (record (without m p) { standing = after_poll_end (is_some answer) m.standing })
 after_request m p answer Control =
     done (record (without m p) { standing = after_control_end (is_relieved m.standing p answer) m.standing })
 after_request m p answer (Step counts) = unless_spent m (after_step m p (is_done_by answer))
 
+-- the outcome of an answer to a request outside sweeps; if there is no request, it is refused as not asked for
 abbrev pub request_answered : Manager → List ℕ → Option Pending → Called
 request_answered m packet None = refused m fault.Unasked
 request_answered m packet (Some p) = after_request m p (Some (status packet)) p.purpose
 
 -- requests of other managers --------------------------------------------------------------------
 
--- the sender's LID is known for a packet that came by LIDs
+-- if the packet came by LIDs, the sender's LID is known
 abbrev pub HasSender : List ℕ → Option ℕ → Type 0
 HasSender packet from = fault_of packet ≡ None → is_lid_routed packet ≡ true → IsSome from
 
--- a request for SMInfo
+-- whether the packet is a request for SMInfo
 abbrev pub is_info_request : List ℕ → Bool
 is_info_request packet = not (is_response packet) && number_in attribute_id packet == sm_info
 
--- bytes that are not a packet are refused with their fault, and a packet that answers nothing as not asked for
+-- the outcome of a packet; bytes that are not a packet are refused with their fault, and a packet that answers nothing
+-- as not asked for
 abbrev pub packet_taken : Manager → List ℕ → Option ℕ → Option SmpFault → Called
 packet_taken m packet from (Some why) = refused m (fault.Sweep (Bad (Smp why)))
 packet_taken m packet from None =
@@ -136,37 +141,41 @@ packet_taken m packet from None =
     else if is_for_sweep packet then sweep_answered m packet m.sweep
     else request_answered m packet (pending_for m packet)
 
--- a packet comes to the manager's port, from the LID `from`
+-- the outcome of a packet that reaches the manager's port, from the LID `from`
 abbrev pub after_packet : Manager → List ℕ → Option ℕ → Called
 after_packet m packet from = packet_taken m packet from (fault_of packet)
 
--- the trap that the manager represses, if the packet is one
+-- the content of the trap that the manager represses; None if the packet is not such a trap
 abbrev pub trap_told : Manager → List ℕ → Option Trap
 trap_told m packet = if not (is_info_request packet) && represses m packet then Some (trap_in packet) else None
 
 -- timeouts --------------------------------------------------------------------------------------
 
+-- the outcome of the timeout of a sweep's request; if it does not wait, it is refused as not asked for
 abbrev pub sweep_timed_out : Manager → Sweep → ℕ → Option SweepFault → Called
 sweep_timed_out m s transaction (Some why) = refused m fault.Unasked
 sweep_timed_out m s transaction None =
     done (after_sweep (record m { sweep = Some (sweep_after_timeout s transaction) }))
 
+-- the outcome of the timeout of a request of the last sweep; if no sweep was begun, it is refused as not asked for
 abbrev pub sweep_gave_up : Manager → ℕ → Option Sweep → Called
 sweep_gave_up m transaction None = refused m fault.Unasked
 sweep_gave_up m transaction (Some s) = sweep_timed_out m s transaction (timeout_fault s transaction)
 
+-- the outcome of the timeout of a request outside sweeps; if there is none, it is refused as not asked for
 abbrev pub request_gave_up : Manager → Option Pending → Called
 request_gave_up m None = refused m fault.Unasked
 request_gave_up m (Some p) = after_request m p None p.purpose
 
--- a request timed out: one of the sweep, whose TransactionID has its generation in the high half, or another
+-- the outcome of a request's timeout: a request of the sweep has its generation in the high half of the TransactionID,
+-- another request has 0 there
 abbrev pub after_timeout : Manager → ℕ → Called
 after_timeout m transaction =
     if nat_le (2 ^ 32) transaction then sweep_gave_up m transaction m.sweep
     else request_gave_up m (with_number transaction m.pending)
 
--- if there is no memory for what a reply may bring up, the fault is the sweep's refusal, or lack of memory if it has
--- none
+-- the fault if there is no memory for what a reply may cause: the sweep's refusal, or lack of memory if the sweep
+-- accepts the reply
 abbrev pub IsFaultWithoutRoom : Result Answer SweepFault → ManagerFault → Type 0
 IsFaultWithoutRoom (Ok answer) given = given ≡ fault.Memory
 IsFaultWithoutRoom (Err why) given = given ≡ fault.Sweep why

@@ -1,5 +1,5 @@
--- What a manager answers if another one asks for its SMInfo or wants to control it.
--- InfiniBand Architecture Specification, Volume 1: subnet management, SMInfo; management methods and status.
+-- What a manager answers if another manager asks for its SMInfo or wants to control it. InfiniBand Architecture
+-- Specification, Volume 1: subnet management, SMInfo; management methods and status.
 use Rattle.std.specs.Prelude.{ℕ, Bool, ◌&&◌, ◌||◌, not, List, [], ◌∷◌, ◌++◌, ◌==◌, if◌then◌else◌, Option, None}
 use Rattle.smp_bytes.specs.Field.{bytes_in, number_in}
 use Rattle.smp_bytes.specs.Header.{get, set, done, invalid_field, method_not_supported}
@@ -18,11 +18,11 @@ use Rattle.sm_state.specs.Standing.{after_request_heard, info_of, moved_to}
 
 -- answers ---------------------------------------------------------------------------------------
 
--- the data of an answer: the manager's SMInfo, and in a refusal the data of the request
+-- the data of an answer: the manager's SMInfo if the status is done, and otherwise the data of the request
 abbrev pub answer_data : Standing → List ℕ → ℕ → List ℕ
 answer_data s packet status = if status == done then sm_info_bytes (info_of s) else bytes_in attribute_data packet
 
--- a directed request is answered by its path, another one by the LID of its sender
+-- the packet of an answer: by the request's path if it is directed, and otherwise to the LID of its sender
 abbrev pub answer_out : Standing → List ℕ → Option ℕ → ℕ → Outgoing
 answer_out s packet from status =
     record {
@@ -31,30 +31,31 @@ answer_out s packet from status =
           if is_directed packet then None else from;
     }
 
+-- the manager once the answer to a request is sent
 abbrev pub answering : Manager → List ℕ → Option ℕ → ℕ → Manager
 answering m packet from status = record m { outgoing = m.outgoing ++ answer_out m.standing packet from status ∷ [] }
 
--- the request is counted before it is answered
+-- the manager once a request is counted, before it is answered
 abbrev pub request_counted : Manager → Manager
 request_counted m = record m { standing = after_request_heard m.standing }
 
 -- controls ----------------------------------------------------------------------------------------
 
--- a Set by LIDs may be obeyed, and by the live conduct also one over a directed route
+-- whether the packet may be a control that is obeyed: a Set by LIDs or, by the live conduct, any Set
 abbrev pub is_control : Standing → List ℕ → Bool
 is_control s packet = number_in method packet == set && (is_live s.conduct || not (is_directed packet))
 
--- the LID to which a control is acknowledged: the sender's, or None if it came over a directed route
+-- the LID to which a control is acknowledged: the sender's; None if it came over a directed route
 abbrev pub acknowledged_at : List ℕ → Option ℕ → Option ℕ
 acknowledged_at packet from = if is_directed packet then None else from
 
--- the state moves, the answer goes out, and then the message to the sender, if any
+-- the manager once its state has moved, and the answer and then the message to the sender, if there is one, are sent
 abbrev pub moved_on : Manager → List ℕ → Option ℕ → Transition → Manager
 moved_on m packet from move =
     after_message (answering (record m { standing = moved_to move.state m.standing }) packet from (status_of move))
     (acknowledged_at packet from) move.message
 
--- the state moves by the table of states
+-- the manager once its state has moved by the table of states, and the control is answered
 abbrev pub controlled : Manager → List ℕ → Option ℕ → Manager
 controlled m packet from =
     moved_on (request_counted m) packet from
@@ -62,16 +63,18 @@ controlled m packet from =
 
 -- any request for SMInfo --------------------------------------------------------------------------
 
--- the status of the answer to a request that is not a control: a Get is answered
+-- the status of the answer to a request that is not a control: done for a Get, and otherwise a refusal
 abbrev pub status_for : List ℕ → ℕ
 status_for packet =
     if number_in method packet == get then done
     else if number_in method packet == set then invalid_field
     else method_not_supported
 
+-- the manager once a request that is not a control is answered
 abbrev pub replying : Manager → List ℕ → Option ℕ → Manager
 replying m packet from = answering (request_counted m) packet from (status_for packet)
 
+-- the manager once a request for SMInfo is answered or, if it is a control, obeyed or refused
 abbrev pub served : Manager → List ℕ → Option ℕ → Manager
 served m packet from =
     if is_control m.standing packet then controlled m packet from else replying m packet from

@@ -1,4 +1,4 @@
--- Traps: how a manager by the live conduct answers them, so that the agent does not send them again.
+-- Traps, and how a manager by the live conduct answers them. After its answer the agent does not repeat the trap.
 -- InfiniBand Architecture Specification, Volume 1: subnet management, traps; management methods (TrapRepress).
 use Rattle.std.specs.Prelude.{ℕ, Bool, ◌&&◌, not, List, [], ◌∷◌, ◌++◌, ◌==◌, Option}
 use Rattle.smp_bytes.specs.Field.{Field, bytes_in, number_in}
@@ -15,11 +15,11 @@ trap = 0x05
 abbrev pub trap_repress : ℕ
 trap_repress = 0x07
 
--- by the live conduct a trap that came by LIDs is repressed
+-- whether the manager represses the packet: by the live conduct, if it is a trap that came by LIDs
 abbrev pub represses : Manager → List ℕ → Bool
 represses m packet = is_live m.standing.conduct && (number_in method packet == trap && not (is_directed packet))
 
--- the attribute, its modifier, the TransactionID and the data of the trap go back to its sender
+-- the answer to a trap, with its attribute, modifier, TransactionID and data, to the LID of its sender
 abbrev pub repress_out : List ℕ → Option ℕ → Outgoing
 repress_out packet from =
     record {
@@ -28,7 +28,7 @@ repress_out packet from =
       to = from;
     }
 
--- the LID of the port that issued the notice of a trap
+-- where a packet with a trap has the LID of the port that issued the notice
 abbrev pub issuer_lid : Field
 issuer_lid = record { at = 70; len = 2 }
 
@@ -36,5 +36,6 @@ issuer_lid = record { at = 70; len = 2 }
 abbrev pub trap_in : List ℕ → Trap
 trap_in packet = record { issuer = number_in issuer_lid packet }
 
+-- the manager once the answer to a trap is sent
 abbrev pub repressing : Manager → List ℕ → Option ℕ → Manager
 repressing m packet from = record m { outgoing = m.outgoing ++ repress_out packet from ∷ [] }

@@ -1,5 +1,5 @@
--- Writing a plan: its steps go out phase by phase, each phase once no step of the one before waits.
--- InfiniBand Architecture Specification, Volume 1: subnet initialization; linear forwarding tables; port states.
+-- Writing a plan: its steps are sent phase by phase, each phase once no step of the phase before waits. InfiniBand
+-- Architecture Specification, Volume 1: subnet initialization; linear forwarding tables; port states.
 use Rattle.std.specs.Prelude.{ℕ, suc, ◌+◌, ◌^◌, Bool, false, ◌&&◌, ◌||◌, not, List, [], ◌∷◌, ◌++◌, length, drop, nat_lt, ◌==◌, if◌then◌else◌, Option, Some, None}
 use Rattle.std.specs.List.{list_any}
 use Rattle.fact_store.specs.View.{cells_of}
@@ -38,17 +38,17 @@ abbrev pub numbered : Bool → ℕ → List Step → List Pending
 numbered counts number [] = []
 numbered counts number (s ∷ steps) = pending_step number counts s ∷ numbered counts (suc number) steps
 
--- steps go out by their paths
+-- the packets of steps, which go by their paths
 abbrev pub steps_out : ℕ → List Step → List Outgoing
 steps_out number [] = []
 steps_out number (s ∷ steps) = record { packet = set_packet number s; to = None } ∷ steps_out (suc number) steps
 
--- the phases without those in front that have no steps
+-- the phases without the leading phases that have no steps
 abbrev pub without_empty_phases : List Phase → List Phase
 without_empty_phases [] = []
 without_empty_phases (p ∷ phases) = if length p.steps == 0 then without_empty_phases phases else p ∷ phases
 
--- the first phase, or a phase without steps if none is left
+-- the first phase; a phase without steps if none is left
 abbrev pub next_phase : List Phase → Phase
 next_phase [] = record { counts = false; steps = [] }
 next_phase (p ∷ phases) = p
@@ -57,7 +57,7 @@ next_phase (p ∷ phases) = p
 abbrev pub next_pending : ℕ → List Phase → List Pending
 next_pending number phases = numbered (next_phase phases).counts number (next_phase phases).steps
 
--- the next phase goes out as a whole
+-- the manager once the next phase is sent as a whole
 abbrev pub phase_sent : Manager → Writing → Manager
 phase_sent m w =
     record m {
@@ -67,20 +67,22 @@ phase_sent m w =
       outgoing = m.outgoing ++ steps_out m.counter (next_phase w.later).steps;
     }
 
--- the next phase goes out if no step of the one before waits
+-- the manager once the next phase is sent, if no step of the phase before waits
 abbrev pub went_on_with : Manager → Option Writing → Manager
 went_on_with m None = m
 went_on_with m (Some w) = if no_step_waits m.pending then phase_sent m w else m
 
+-- the manager once the next phase of its writing is sent, if no step of the phase before waits
 abbrev pub went_on : Manager → Manager
 went_on m = went_on_with m m.writing
 
--- a number was needed that does not fit 32 bits
+-- whether a number is used that does not fit 32 bits
 abbrev pub is_spent : Manager → Bool
 is_spent m = nat_lt (2 ^ 32) m.counter
 
 -- beginning a writing -----------------------------------------------------------------------------
 
+-- why a manager with this last sweep does not write; None if it may
 abbrev pub write_fault_with : Manager → Option Sweep → Option ManagerFault
 write_fault_with m None = Some NotMaster
 write_fault_with m (Some s) =
@@ -89,20 +91,21 @@ write_fault_with m (Some s) =
     else if not (no_step_waits m.pending) then Some WritingRunning
     else None
 
--- why a manager does not write: it is not master, or a sweep or a writing of it runs; without a sweep it is not master
+-- why a manager does not write: it is not master, or its sweep or a writing runs; without a sweep it is not master
 abbrev pub write_fault : Manager → Option ManagerFault
 write_fault m = write_fault_with m m.sweep
 
--- the phases of the plan of what the manager knows, over the paths of its last sweep
+-- the phases of the plan of what the manager knows, over the paths of its last sweep; none without a sweep
 abbrev pub phases_by : Manager → Option Sweep → List Phase
 phases_by m None = []
 phases_by m (Some s) =
     phases_of (plan_of m.planning.rule m.planning.lmc (cells_of m.store)) (cells_of m.store) s m.standing.guid m.port
 
--- the first of the phases goes out
+-- the manager once the first of the phases is sent
 abbrev pub begun_with : Manager → List Phase → Manager
 begun_with m phases = phase_sent m (record { later = without_empty_phases phases; has_failed = false })
 
+-- the manager once a writing of its plan has begun
 abbrev pub after_write_steps : Manager → Manager
 after_write_steps m = begun_with m (phases_by m m.sweep)
 
@@ -113,35 +116,36 @@ is_written_by pending None = false
 is_written_by pending (Some w) =
     not w.has_failed && (not (list_any (λ p. p.counts) w.later) && none_counts pending)
 
--- a writing was begun, and each of its steps that counts was done
+-- whether a writing was begun, and each of its steps that count was done
 abbrev pub is_written : Manager → Bool
 is_written m = is_written_by m.pending m.writing
 
 -- a step is over --------------------------------------------------------------------------------------
 
--- whether a step was done is noted
+-- the writing once it is noted whether a step was done
 abbrev pub noted : Bool → Bool → Option Writing → Option Writing
 noted counts was_done None = None
 noted counts was_done (Some w) = Some (record w { has_failed = w.has_failed || (counts && not was_done) })
 
--- a request no longer waits
+-- the manager once a request no longer waits
 abbrev pub without : Manager → Pending → Manager
 without m p = record m { pending = without_number p.number m.pending }
 
--- a step was done if its answer says so
+-- whether the status of an answer says that a step was done; None stands for a timeout
 abbrev pub is_done_by : Option ℕ → Bool
 is_done_by None = false
 is_done_by (Some status) = status == done
 
--- a step no longer waits, and the next phase goes out if it was the last one
+-- the manager once a step no longer waits; if it was the last of its phase, the next phase is sent
 abbrev pub after_step : Manager → Pending → Bool → Manager
 after_step m p was_done =
     went_on (record m { pending = without_number p.number m.pending; writing = noted (counts p) was_done m.writing })
 
--- the number of steps that go out if a waiting step ends: those of the next phase, if it is the last of its own
+-- the number of steps that are sent if a waiting step ends: those of the next phase, if no other step waits
 abbrev pub count_with : List Pending → Option Writing → ℕ
 count_with pending None = 0
 count_with pending (Some w) = if nat_lt 1 (how_many is_step pending) then 0 else length (next_phase w.later).steps
 
+-- the number of steps that are sent if a waiting step of the manager ends
 abbrev pub count_after : Manager → ℕ
 count_after m = count_with m.pending m.writing

@@ -1,4 +1,4 @@
-//! Dealings with other managers: the state after a sweep, polls, and handovers.
+//! How a manager deals with other managers: its state after a sweep, its polls, and its handovers.
 ghost use Rattle.std.specs.Prelude.{◌≡◌, ◌<◌, ◌+◌, ◌≤◌, ◌^◌, ◌∷◌, ◌++◌, [], None, Some, true, IfOk, OnOk, OnErr};
 ghost use Rattle.std.specs.Prelude.{option_copied};
 ghost use Rattle.std.specs.VecDeque.{deque_capacity, deque_len};
@@ -33,7 +33,7 @@ use smp_bytes::{Lid, Method, Path, PortNum};
 use std::collections::VecDeque;
 use subnet_view::{EndPort, is_end_port};
 
-/// Ends a sweep that saw the managers `seen`.
+/// Moves the state by the verdict of a sweep that saw the managers `seen`.
 pub(crate) fn end_sweep(standing: &mut Standing, seen: &[SeenManager])
     ensures { standing.new ≡ after_verdict seen.now standing.old }
 {
@@ -42,10 +42,10 @@ pub(crate) fn end_sweep(standing: &mut Standing, seen: &[SeenManager])
 }
 
 impl Manager {
-    /// Sends a poll to the manager at `lid`. If `lid` is `None`, polls a manager that the last sweep saw: the first
-    /// master that this one hears or, if there is none, the greatest manager that outranks it, the first of equals.
-    /// That poll goes over the path by which the sweep asked the manager for SMInfo. The answer or its timeout is
-    /// counted when it comes. Walks the managers that the sweep saw.
+    /// Sends a poll to the manager at `lid`. If `lid` is `None`, polls a manager that the last sweep saw. That is the
+    /// first master that this manager hears. If there is none, it is the greatest manager that outranks this one, and
+    /// of equals the first. That poll goes over the path by which the sweep asked the manager for SMInfo. The answer or
+    /// its timeout is counted when it comes. Walks the managers that the sweep saw.
     ///
     /// # Errors
     ///
@@ -65,7 +65,8 @@ impl Manager {
         Ok(())
     }
 
-    /// Returns the path of a poll, or `None` if it goes to `lid`.
+    /// Returns the path of a poll, or `None` if it goes to `lid`. Returns `Nobody` if there is neither a LID nor a
+    /// manager to poll.
     fn poll_path(&self, lid: &Option<Lid>) -> Result<Option<Path<63>>, ManagerFault>
         ensures judged { Judges result (unless_way lid.now (polled_path self.now)) }
         ensures path { IfOk result (λ path. path ≡ poll_path self.now lid.now) }
@@ -79,7 +80,7 @@ impl Manager {
         }
     }
 
-    /// Returns the path to the manager that a poll without a LID goes to.
+    /// Returns the path to the manager that a poll without a LID goes to, or `None` if there is none.
     fn polled_path(&self) -> Option<&Path<63>>
         ensures { option_copied result ≡ polled_path self.now }
     {
@@ -92,7 +93,8 @@ impl Manager {
         }
     }
 
-    /// Returns the path by which the last sweep first reached a port where it saw a manager.
+    /// Returns the path by which the last sweep first reached the port where it saw the manager `seen`, or `None` if
+    /// there is none.
     fn path_seen(&self, seen: &SeenManager) -> Option<&Path<63>>
         ensures { option_copied result ≡ path_seen self.now.sweep seen.now }
     {
@@ -102,16 +104,15 @@ impl Manager {
         }
     }
 
-    /// Tells the successor to take over: the greatest manager that the last sweep saw in Standby or Master and that
-    /// wins over this one, the first of equals. Sends a HANDOVER to the LID that the plan gives to the port where the
-    /// successor was seen. The manager stays Master until the successor acknowledges or, by the live conduct, answers
-    /// that it took over. Plans LIDs, and walks the managers that the sweep saw.
+    /// Tells the successor to take over. The successor is the greatest manager that the last sweep saw in Standby or
+    /// Master and that wins over this one, and of equals the first. Sends a HANDOVER to the LID that the plan gives to
+    /// the port where the successor was seen. This manager stays Master until the successor acknowledges or, by the
+    /// live conduct, answers that it took over. Plans LIDs, and walks the managers that the sweep saw.
     ///
     /// # Errors
     ///
     /// Returns the first of these that applies: `NotMaster`; `Nobody` if there is no successor; `NoRoom`; `Nobody` if
-    /// the successor's port is not known to be an end port, so that the plan gives it no LID; `SequenceSpent`;
-    /// `Memory`.
+    /// the successor's port is not known to be an end port and thus has no LID in the plan; `SequenceSpent`; `Memory`.
     pub fn handover(&mut self) -> Result<(), ManagerFault>
         ensures judged { JudgesButFor is_memory result (handover_fault self.old) }
         ensures ok { OnOk result (self.new ≡ after_handover self.old) }
@@ -138,7 +139,8 @@ impl Manager {
         Ok(())
     }
 
-    /// Returns the LID of the successor, if a number is left for the request.
+    /// Returns the LID that the plan gives to the successor's port. Returns `SequenceSpent` if no number is left for
+    /// the request.
     fn successor_lid(&self) -> Result<Lid, ManagerFault>
         ensures judged { JudgesButFor is_memory result (successor_fault self.now) }
         ensures lid { IfOk result (λ lid. successor_lid self.now ≡ Some lid) }
@@ -153,8 +155,8 @@ impl Manager {
         where_numbered(self.planned_lid(port), self.requests.has_numbers(1))
     }
 
-    /// Returns why nothing can be sent to a port that is not a known end port: the plan has no room, or it has no LID
-    /// for the port. Takes no memory.
+    /// Returns why nothing can be sent to a port that is not a known end port: `NoRoom` if there is no plan, and
+    /// otherwise `Nobody`. Takes no memory.
     fn lidless_fault(&self) -> ManagerFault
         ensures { Some result
             ≡ or_else (plan_fault self.now.planning.lmc (cells_of self.now.store)) (Some ManagerFault.Nobody) }
@@ -189,7 +191,7 @@ impl Manager {
     }
 }
 
-/// Returns the port where the manager was seen, or `None` if it is not a known end port.
+/// Returns the port where the manager `seen` was seen, or `None` if it is not a known end port.
 fn port_seen(store: &Store, seen: &SeenManager) -> Option<EndPort>
     ensures { result ≡ port_seen (cells_of store.now) seen.now }
 {
@@ -202,7 +204,7 @@ fn port_seen(store: &Store, seen: &SeenManager) -> Option<EndPort>
     })
 }
 
-/// Returns whether a path leaves by `port` and has at most 63 hops.
+/// Returns whether `path` leaves by `port` and has at most 63 hops.
 fn is_way_out(port: PortNum, path: &Path<63>) -> bool
     ensures { result ≡ is_way_out port path.now }
 {
@@ -212,7 +214,7 @@ fn is_way_out(port: PortNum, path: &Path<63>) -> bool
     }
 }
 
-/// Queues a poll to `lid`, or over the path. Takes no memory.
+/// Queues a poll over `path` or, if there is none, to `lid`. Takes no memory.
 fn send_poll(
     lid: Option<Lid>,
     path: Option<Path<63>>,
@@ -232,7 +234,7 @@ fn send_poll(
     outgoing.push_back_reserved(Outgoing { packet, to: lid });
 }
 
-/// Queues `message` as a control to the LID `to`, if both are given. Takes no memory.
+/// Queues `message` as a control to the LID `to`. Does nothing if either is `None`. Takes no memory.
 pub(crate) fn send_message(
     to: &Option<Lid>,
     message: &Option<Message>,
@@ -258,7 +260,7 @@ pub(crate) fn send_message(
     }
 }
 
-/// Queues a control to the LID `to`. Takes no memory.
+/// Queues `control` to the LID `to`. Takes no memory.
 fn send_control(
     to: Lid,
     control: Control,

@@ -15,7 +15,7 @@ use sm_state::{Control, Event, Standing};
 use smp_bytes::{Smp, Status};
 
 impl Manager {
-    /// Takes an answer to a request outside sweeps.
+    /// Takes an answer to a request outside sweeps, and ends the request. Returns `Unasked` if the packet answers none.
     pub(crate) fn take_answer(&mut self, smp: &Smp) -> Result<(), ManagerFault>
         ensures judged { JudgesButFor is_memory result
             (request_answered self.old smp.now (pending_for self.old smp.now)).fault }
@@ -61,7 +61,7 @@ impl Manager {
     }
 }
 
-/// Returns whether the answer says that a step was done.
+/// Returns whether `answer` says that a step was done. `None` stands for a timeout.
 fn is_done_by(answer: Option<Status>) -> bool
     ensures { result ≡ is_done_by (status_number answer) }
 {
@@ -82,22 +82,22 @@ fn end_poll(standing: &mut Standing, was_answered: bool)
     }
 }
 
-/// Returns whether the ended control relieves the manager: by the live conduct, a handover that was answered with
-/// status 0.
+/// Returns whether the end of the request `ended` relieves the manager: by the live conduct, if it was a handover that
+/// was answered with status 0.
 fn is_relieved(standing: &Standing, ended: &Pending, answer: Option<Status>) -> bool
     ensures { result ≡ is_relieved standing.now ended.now (status_number answer) }
 {
     standing.conduct.is_live() && is_handover(ended) && is_done_by(answer)
 }
 
-/// Returns whether a request is a handover.
+/// Returns whether the request `ended` is a handover.
 fn is_handover(ended: &Pending) -> bool
     ensures { result ≡ is_handover ended.now }
 {
     ended.modifier == Control::Handover.modifier()
 }
 
-/// Ends a control. If `is_relieved`, the manager moves as if it got an ACKNOWLEDGE.
+/// Ends a control. If `is_relieved`, the manager moves as if it had received an ACKNOWLEDGE.
 fn end_control(standing: &mut Standing, is_relieved: bool)
     ensures { standing.new ≡ after_control_end is_relieved standing.old }
 {

@@ -47,7 +47,7 @@ pub enum ManagerFault {
 impl ManagerFault {
     ghost use Rattle.sm_manager.specs.Fault.{manager_fault_name};
 
-    /// Returns the name that `{}` writes; for a fault of the sweep, the sweep's name of it.
+    /// Returns the name that `{}` writes. For a fault of the sweep, this is the sweep's name of it.
     pub fn name(self) -> &'static str
         ensures { result.now ≡ manager_fault_name self }
     {

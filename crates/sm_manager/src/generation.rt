@@ -5,7 +5,7 @@ use crate::manager::Manager;
 use smp_bytes::Generation;
 
 impl Manager {
-    /// Returns the newest generation of a fact in the store, 0 if there is no fact.
+    /// Returns the newest generation of a fact in the store, or 0 if there is no fact.
     fn newest_held(&self) -> u32
         ensures { result ≡ newest_held self.now.store }
     {

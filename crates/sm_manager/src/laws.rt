@@ -5,38 +5,38 @@ ghost use Rattle.sm_manager.specs.Calls.{KnowsWhatItTookIn, SameTakenInSamePlan}
 ghost use Rattle.sm_manager.specs.PollLaws.{AnswersReachPolls};
 
 /// After any calls in any order, a manager's facts are the view of all sightings that it took in, at the greatest
-/// floor. These are the sightings of the reports that it accepted and of the stores that it merged. Floors are those
-/// that were raised and those of the merged stores.
+/// floor. The sightings are those of the reports that it accepted and of the stores that it merged. The floors are
+/// those that were raised and those of the merged stores.
 #[tactic(auto, using(crate::proofs::Lives::knows_what_it_took_in))]
 pub fn knows_what_it_took_in()
     ensures { KnowsWhatItTookIn }
 {}
 
-/// Two managers that took in the same sightings, have the same greatest floor, and plan by the same rule and LMC hold
-/// equal facts and plan equal LIDs and forwarding blocks, whatever else happened to them; and if these facts describe
-/// exactly what an end port is joined to, and that part holds the plan, each packet from an end port there for a LID of
-/// the plan arrives at the end port that owns the LID.
+/// If two managers took in the same sightings, have the same greatest floor, and plan by the same rule and LMC, they
+/// hold equal facts and plan equal LIDs and forwarding blocks, whatever else happened to them. If these facts describe
+/// exactly the part that an end port is joined to, and that part holds the plan, each packet from an end port of the
+/// part for a LID of the plan arrives at the end port that owns the LID.
 #[tactic(auto, using(crate::proofs::Lives::same_taken_in_same_plan))]
 pub fn same_taken_in_same_plan()
     ensures { SameTakenInSamePlan }
 {}
 
-/// If a writing begins after any calls and no other one follows, the plan is written exactly if as many steps of its
-/// first three phases were answered as done as these phases have. An answer to a step ends it, so no step is counted
-/// twice.
+/// If a writing begins after any calls and no other writing follows, the plan is written exactly if as many steps of
+/// its first three phases were answered as done as these phases have. An answer to a step ends it, and thus no step is
+/// counted twice.
 pub fn written_is_each_step_done()
     ensures { WrittenIsEachStepDone }
 {}
 
-/// After a handover one of the two managers is master, once the sender knows how the handover was answered, if nothing
-/// else moves either of them meanwhile. The sender stays master unless the answer has status 0, and a manager that
-/// answers with status 0 took over.
+/// Once the sender of a handover knows how it was answered, one of the two managers is master, if nothing else moves
+/// either of them meanwhile. The sender stays master unless the answer has status 0, and a manager that answers with
+/// status 0 took over.
 pub fn handovers_leave_a_master()
     ensures { HandoversLeaveAMaster }
 {}
 
-/// An answer to a poll with its number, by LIDs or over the path, is taken for the answer to that poll, and not for a
-/// reply to a sweep, whatever else it says.
+/// An answer to a poll with its number, by LIDs or over the path, is taken as the answer to that poll, and not as a
+/// reply to a sweep, whatever else it contains.
 #[tactic(auto, using(crate::proofs::PollAnswers::answers_reach_polls))]
 pub fn answers_reach_polls()
     ensures { AnswersReachPolls }

@@ -1,4 +1,5 @@
-//! A subnet manager as a state machine: it is asked what to send and told what came, and does no input or output.
+//! A subnet manager as a state machine. Its caller asks it for packets to send and hands it those that come. It does no
+//! input or output.
 #![tactic(auto)]
 
 mod election;

@@ -26,7 +26,7 @@ use std::marker::Model;
 use sweep::Sweep;
 
 /// A subnet manager at an adapter's port: its state, what it knows of the subnet, its last sweep, and the packets that
-/// it has queued. Contracts see each part.
+/// it has queued. Contracts see each of these.
 #[derive(Drop)]
 pub struct Manager {
     pub(crate) alloc: Global,
@@ -69,7 +69,7 @@ impl Model for Manager {
 
 impl Manager {
     /// Creates a manager without facts at the port `port`, whose GUID is `port_guid`. Its state is Discovering. Takes
-    /// no memory yet.
+    /// no memory.
     pub fn new(
         alloc: Global,
         port_guid: Guid,
@@ -96,8 +96,8 @@ impl Manager {
 
     /// Begins a sweep, and queues its first request. The sweep's generation is the one after the newest in the store,
     /// or the floor if that is greater. Forgets the managers that the previous sweep saw. Walks the store once. By the
-    /// live conduct the sweep keeps the 64 bytes that it reads of each port and each switch; a later writing carries
-    /// them.
+    /// live conduct, the sweep keeps the 64 bytes that it reads of each port and each switch, and a later writing
+    /// carries them.
     ///
     /// # Errors
     ///
@@ -123,7 +123,7 @@ impl Manager {
         Ok(())
     }
 
-    /// Takes the first packet that is queued. Takes no memory.
+    /// Removes the first queued packet and returns it, or returns `None` if none is queued. Takes no memory.
     pub fn take_outgoing(&mut self) -> Option<Outgoing>
         ensures packet { result ≡ (after_take_outgoing self.old).packet }
         ensures manager { self.new ≡ (after_take_outgoing self.old).manager }
@@ -131,9 +131,9 @@ impl Manager {
         self.outgoing.pop_front()
     }
 
-    /// Forgets facts older than `floor`, and ignores them whenever they come again. A running sweep goes on: its
-    /// replies are accepted, but their facts are ignored if its generation is below `floor`. The generation of the next
-    /// sweep is not below it. Takes no memory. Walks the store if `floor` is greater than its floor.
+    /// Forgets facts older than `floor`, and ignores them if they come again. A running sweep goes on: its replies are
+    /// accepted, but their facts are ignored if its generation is below `floor`. The generation of the next sweep is at
+    /// least `floor`. Takes no memory. Walks the store if `floor` is greater than its floor.
     pub fn raise_floor(&mut self, floor: Generation)
         ensures { self.new ≡ after_raise_floor self.old floor }
     {
@@ -175,7 +175,8 @@ impl Manager {
         }
     }
 
-    /// Returns the TransactionID of the `i`-th request that waits for its answer, in rising order, from 0 on.
+    /// Returns the TransactionID of the `i`-th request that waits for its answer, in rising order and counted from 0.
+    /// Returns `None` if fewer requests wait.
     pub fn outstanding(&self, i: usize) -> Option<u64>
         ensures { result ≡ slice_get (outstanding self.now) i }
     {
@@ -229,8 +230,8 @@ impl Manager {
         }
     }
 
-    /// Returns how many of the last sweep's requests for SMInfo were not answered: each is for a manager that its port
-    /// reports but that is silent. Returns `None` if no sweep was begun.
+    /// Returns how many of the last sweep's requests for SMInfo were not answered. Each was sent to a port that reports
+    /// a manager, which was silent. Returns `None` if no sweep was begun.
     pub fn silent_managers(&self) -> Option<u64>
         ensures { result ≡ silent_in self.now.sweep }
     {

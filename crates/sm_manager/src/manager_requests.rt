@@ -26,7 +26,7 @@ use std::collections::VecDeque;
 use std::marker::Model;
 
 /// The requests of a manager outside its sweeps that wait for their answers. Contracts see these requests, the number
-/// of the next request, and for how many more requests there is memory.
+/// of the next request, and the number of further requests that there is memory for.
 #[derive(Drop)]
 pub(crate) struct ManagerRequests {
     table: RequestTable<Pending>,
@@ -152,7 +152,7 @@ impl ManagerRequests {
         Smp::lid_routed(method, AttributeId::SM_INFO, modifier, number, payload)
     }
 
-    /// Adds a poll under the next number, over the path or, if there is none, by LIDs, and returns its packet. Takes no
+    /// Adds a poll under the next number, over `path` or, if it is `None`, by LIDs. Returns its packet. Takes no
     /// memory.
     pub(crate) fn send_poll(&mut self, path: Option<Path<63>>) -> Smp
         requires room { 0 < self.old.room }
@@ -174,7 +174,7 @@ impl ManagerRequests {
         packet
     }
 
-    /// Returns the request at `index`, in the order of numbers.
+    /// Returns the request at `index`, in the order of numbers, or `None` if there is none.
     pub(crate) fn get(&self, index: usize) -> Option<&Pending>
         ensures { option_copied result ≡ slice_get self.now.pending index }
     {
@@ -190,21 +190,21 @@ impl ManagerRequests {
         self.table.get(index).unwrap().purpose
     }
 
-    /// Returns whether no step that counts waits.
+    /// Returns whether none of the waiting requests is a step that counts.
     pub(crate) fn none_counts(&self) -> bool
         ensures { result ≡ none_counts self.now.pending }
     {
         self.counting == 0
     }
 
-    /// Returns the index of the request with this TransactionID. Takes a search.
+    /// Returns the index of the request with this TransactionID, or `None` if there is none. Takes a search.
     pub(crate) fn index_of(&self, transaction: u64) -> Option<usize>
         ensures { IsIndexFor (with_number transaction self.now.pending) self.now.pending result }
     {
         self.table.index_of(transaction)
     }
 
-    /// Returns the index of the request that the packet answers. Takes a search.
+    /// Returns the index of the request that the packet answers, or `None` if there is none. Takes a search.
     pub(crate) fn index_for(&self, smp: &Smp) -> Option<usize>
         ensures { IsIndexFor (find (answers smp.now) self.now.pending) self.now.pending result }
     {
@@ -217,7 +217,7 @@ impl ManagerRequests {
         }
     }
 
-    /// Removes the request at `index`. Moves the requests on one side of it.
+    /// Removes the request at `index` and returns it. Moves the requests on one side of it.
     pub(crate) fn end(&mut self, index: usize) -> Pending
         requires { index < length self.old.pending }
         ensures request { Some result ≡ slice_get self.old.pending index }
@@ -236,7 +236,7 @@ impl ManagerRequests {
     }
 }
 
-/// Returns a poll: over the path or, if there is none, by LIDs.
+/// Returns the packet of a poll over `path` or, if it is `None`, by LIDs.
 fn poll_packet(number: u64, path: &Option<Path<63>>) -> Smp
     requires { number < 2 ^ 32 }
     ensures { result ≡ poll_packet number path.now }

@@ -16,13 +16,13 @@ use smp_bytes::{AttributeId, Lid, Method, Smp, SmpClass};
 use sweep::{REQUESTS_PER_REPLY, Sweep, SweepFault};
 
 impl Manager {
-    /// Handles a packet that came to the manager's port. `from` is the LID of its sender; a packet that came by LIDs
-    /// has one.
+    /// Handles a packet that came to the manager's port. `from` is the LID of its sender. A packet that came by LIDs
+    /// must have one.
     ///
     /// A reply to the sweep adds its facts, or notes another manager, and queues the next requests. If that ends the
     /// sweep, the state changes by what the sweep saw. An answer to a poll, a control or a step of a writing ends that
-    /// request; the last answer of a phase queues the next phase. A request for SMInfo is answered, and a control is
-    /// obeyed if the table of states has a move for it. By the live conduct a trap by LIDs is repressed, and its
+    /// request. The last answer of a phase queues the next phase. A request for SMInfo is answered, and a control is
+    /// obeyed if the table of states has a move for it. By the live conduct, a trap by LIDs is repressed, and its
     /// content is returned.
     ///
     /// The work does not grow with what is known, except for searches and, at the end of a sweep, for the managers that
@@ -30,9 +30,9 @@ impl Manager {
     ///
     /// # Errors
     ///
-    /// Returns `Sweep` if the bytes are not a packet, with their fault; `Unasked` if the packet answers no request, is
-    /// not a request for SMInfo and is not repressed; `Sweep` if the sweep refuses the reply; `SequenceSpent` if no
-    /// numbers are left for what goes out; `Memory`.
+    /// Returns `Sweep` with the fault of the bytes if they are not a packet. Returns `Unasked` if the packet answers no
+    /// request, is not a request for SMInfo and is not repressed. Returns `Sweep` if the sweep refuses the reply.
+    /// Returns `SequenceSpent` if no numbers are left for what is to be sent, and `Memory` if memory runs out.
     pub fn on_packet(
         &mut self,
         bytes: &[u8; 256],
@@ -57,7 +57,7 @@ impl Manager {
         }
     }
 
-    /// Handles a packet.
+    /// Handles the packet `smp`. `from` is the LID of its sender. A packet that came by LIDs must have one.
     fn take(&mut self, smp: &Smp, from: Option<Lid>) -> Result<(), ManagerFault>
         requires { HasSender smp.now from }
         ensures judged { JudgesButFor is_memory result (packet_taken self.old smp.now from None).fault }
@@ -75,7 +75,7 @@ impl Manager {
         }
     }
 
-    /// Returns the trap that the manager represses, if the packet is one.
+    /// Returns the content of the trap that the manager represses, or `None` if the packet is not such a trap.
     fn trap_told(&self, smp: &Smp) -> Option<Trap>
         ensures { result ≡ trap_told self.now smp.now }
     {
@@ -86,7 +86,8 @@ impl Manager {
         }
     }
 
-    /// Takes a reply to the sweep.
+    /// Takes a reply to the sweep: adds what it shows and queues the next requests. Returns `Unasked` if no sweep was
+    /// begun.
     fn take_reply(&mut self, smp: &Smp) -> Result<(), ManagerFault>
         ensures judged { JudgesButFor is_memory result
             (sweep_answered self.old smp.now self.old.sweep).fault }
@@ -114,7 +115,7 @@ impl Manager {
     }
 }
 
-/// Returns the refusal of a sweep as the manager's own.
+/// Returns the manager's fault for a refusal by the sweep.
 fn refusal_of(fault: SweepFault) -> ManagerFault
     ensures { result ≡ refusal_of fault }
 {
@@ -126,8 +127,8 @@ fn refusal_of(fault: SweepFault) -> ManagerFault
     }
 }
 
-/// Returns why a reply is refused if there is no memory for what it may bring up: the sweep's own refusal, or `Memory`
-/// if the sweep accepts it.
+/// Returns the fault if there is no memory for what a reply may queue: the sweep's refusal, or `Memory` if the sweep
+/// accepts the reply.
 fn fault_without_room(sweep: &Sweep, smp: &Smp) -> ManagerFault
     ensures { IsFaultWithoutRoom (judged sweep.now smp.now) result }
 {
@@ -144,8 +145,8 @@ fn is_info_request(smp: &Smp) -> bool
     !smp.is_response() && smp.attribute_id() == AttributeId::SM_INFO
 }
 
-/// Returns whether a packet answers a request of a sweep: it came over a directed route, and the high half of its
-/// TransactionID is not 0.
+/// Returns whether a packet is an answer to a request of a sweep: it came over a directed route, and the high half of
+/// its TransactionID is not 0.
 fn is_for_sweep(smp: &Smp) -> bool
     ensures { result ≡ is_for_sweep smp.now }
 {

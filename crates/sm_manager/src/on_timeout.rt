@@ -9,13 +9,14 @@ use crate::fault::ManagerFault;
 use crate::manager::Manager;
 
 impl Manager {
-    /// Handles the timeout of a request, which waits no longer. The third lost poll in a row changes the state. If this
-    /// ends the sweep, the state changes by what the sweep saw. Takes memory only if this ends a phase of a writing.
+    /// Handles the timeout of the request with this TransactionID. The request no longer waits. The third lost poll in
+    /// a row changes the state. If the timeout ends the sweep, the state changes by what the sweep saw. Takes memory
+    /// only if the timeout ends a phase of a writing.
     ///
     /// # Errors
     ///
     /// Returns `Unasked` if no request with this TransactionID waits. Returns `SequenceSpent` and `Memory` only if the
-    /// next phase would go out.
+    /// next phase would be sent.
     pub fn on_timeout(&mut self, transaction: u64) -> Result<(), ManagerFault>
         ensures judged { JudgesButFor is_memory result (after_timeout self.old transaction).fault }
         ensures ok { OnOk result (self.new ≡ (after_timeout self.old transaction).manager) }

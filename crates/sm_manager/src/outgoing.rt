@@ -6,14 +6,14 @@ use smp_bytes::{Lid, Smp};
 use std::collections::VecDeque;
 use sweep::Sweep;
 
-/// A packet to be sent: to a LID, or by the path that it carries.
+/// A packet that is to be sent to a LID or, without one, by the path that it carries.
 #[derive(Clone, Copy, Debug)]
 pub struct Outgoing {
     pub packet: Smp,
     pub to: Option<Lid>,
 }
 
-/// Moves all requests that the sweep has queued to `outgoing`; they then wait for their replies. Takes no memory.
+/// Moves all requests that the sweep has queued to `outgoing`. They then wait for their replies. Takes no memory.
 pub(crate) fn send_queued(sweep: &mut Sweep, outgoing: &mut VecDeque<Outgoing>)
     requires { deque_len outgoing.old + length sweep.old.queued ≤ deque_capacity outgoing.old }
     ensures sweep { sweep.new ≡ with_all_sent sweep.old }

@@ -8,7 +8,7 @@ use smp_bytes::{AttributeId, Method, Path, Smp};
 pub enum Purpose {
     /// A poll, which asks whether the master is still there.
     Poll,
-    /// A control, which tells another manager to take over, or that this one has.
+    /// A control, which tells another manager to take over, or that this manager has taken over.
     Control,
     /// A step of the last writing.
     Step {
@@ -20,13 +20,13 @@ pub enum Purpose {
 /// A request outside sweeps that was sent and waits for its answer.
 #[derive(Debug, Drop)]
 pub struct Pending {
-    /// The low half of its TransactionID, whose high half is 0.
+    /// The low half of the TransactionID. The high half is 0.
     pub number: u32,
     pub purpose: Purpose,
     /// The number of the attribute.
     pub attribute: u16,
     pub modifier: u32,
-    /// The ports that lead to the agent, or `None` if it went by LIDs.
+    /// The ports that lead to the agent, or `None` if the request went by LIDs.
     pub path: Option<Path<63>>,
 }
 

@@ -22,7 +22,8 @@ use std::alloc::AllocError;
 use std::collections::VecDeque;
 
 impl Manager {
-    /// Answers a request for SMInfo: by its path if it came over a directed route, else to the LID of its sender.
+    /// Answers a request for SMInfo. The answer goes by the request's path if it came over a directed route, and
+    /// otherwise to `from`, the LID of its sender.
     pub(crate) fn serve(&mut self, smp: &Smp, from: Option<Lid>) -> Result<(), ManagerFault>
         ensures judged { JudgesButFor is_memory result
             (unless_spent self.old (served self.old smp.now from)).fault }
@@ -52,7 +53,7 @@ impl Manager {
         Ok(())
     }
 
-    /// Moves the state by the table of states, answers the control, and queues the message to its sender, if any.
+    /// Answers a control, moves the state by the table of states, and queues the message to the sender if there is one.
     fn answer_control(&mut self, smp: &Smp, from: Option<Lid>) -> Result<(), ManagerFault>
         ensures judged { JudgesButFor is_memory result
             (unless_spent self.old (controlled self.old smp.now from)).fault }
@@ -83,7 +84,7 @@ impl Manager {
     }
 }
 
-/// Moves the state, and returns the answer to the control, which has the new state.
+/// Moves the state, and returns the answer to the control. The answer contains the new state.
 fn move_on(
     transition: &Transition,
     smp: &Smp,
@@ -98,7 +99,8 @@ fn move_on(
     answer(smp, from, transition.status(), standing)
 }
 
-/// Builds the answer to a request: by its path if it came over a directed route, else to the LID of its sender.
+/// Builds the answer to a request. It goes by the request's path if it came over a directed route, and otherwise to
+/// `from`, the LID of its sender.
 fn answer(smp: &Smp, from: &Option<Lid>, status: Status, standing: &Standing) -> Outgoing
     requires { status.0 < 2 ^ 15 }
     ensures { result ≡ answer_out standing.now smp.now from.now status.0 }
@@ -111,7 +113,7 @@ fn answer(smp: &Smp, from: &Option<Lid>, status: Status, standing: &Standing) ->
     Outgoing { packet, to }
 }
 
-/// Returns the LID to which a control is acknowledged: the sender's, or `None` if it came over a directed route.
+/// Returns the LID to which a control is acknowledged: `from`, or `None` if the control came over a directed route.
 fn acknowledged_at(smp: &Smp, from: Option<Lid>) -> Option<Lid>
     ensures { result ≡ acknowledged_at smp.now from }
 {
@@ -121,7 +123,7 @@ fn acknowledged_at(smp: &Smp, from: Option<Lid>) -> Option<Lid>
     }
 }
 
-/// Returns the data of an answer: the manager's SMInfo, or in a refusal the data of the request.
+/// Returns the data of an answer: the manager's SMInfo if `status` is 0, and otherwise the data of the request.
 fn answer_data(smp: &Smp, status: Status, standing: &Standing) -> [u8; 64]
     ensures { result ≡ answer_data standing.now smp.now status.0 }
 {
@@ -132,7 +134,7 @@ fn answer_data(smp: &Smp, status: Status, standing: &Standing) -> [u8; 64]
     }
 }
 
-/// Returns whether a request may be a control to be obeyed: a Set by LIDs, or by the live conduct any Set.
+/// Returns whether a request may be a control that is obeyed: a Set by LIDs or, by the live conduct, any Set.
 fn is_control(standing: &Standing, smp: &Smp) -> bool
     ensures { result ≡ is_control standing.now smp.now }
 {
@@ -155,7 +157,8 @@ fn status_for(smp: &Smp) -> Status
     }
 }
 
-/// Returns the number of requests that go out for a message: 1 if there are both a message and a LID to send it to.
+/// Returns the number of requests that are sent for a message: 1 if there are both a message and a LID to send it to,
+/// and otherwise 0.
 fn message_count(to: &Option<Lid>, message: &Option<Message>) -> usize
     ensures { result ≡ message_count to.now message.now }
 {

@@ -36,7 +36,7 @@ impl Trap {
 }
 
 impl Manager {
-    /// Returns whether a packet is a trap that the manager represses: by the live conduct, one that came by LIDs.
+    /// Returns whether a packet is a trap that the manager represses: by the live conduct, a trap that came by LIDs.
     pub(crate) fn represses(&self, smp: &Smp) -> bool
         ensures { result ≡ represses self.now smp.now }
     {
@@ -45,7 +45,8 @@ impl Manager {
             && smp.class() == SmpClass::LidRouted
     }
 
-    /// Queues the answer to a trap, so that its sender does not send it again.
+    /// Queues the answer to a trap for the sender's LID `from`. After that answer the sender no longer repeats the
+    /// trap.
     pub(crate) fn repress(&mut self, smp: &Smp, from: Option<Lid>) -> Result<(), ManagerFault>
         ensures ok { OnOk result (self.new ≡ repressing self.old smp.now from) }
         ensures err { OnErr result (self.new ≡ self.old) }
@@ -57,7 +58,7 @@ impl Manager {
     }
 }
 
-/// Builds the answer to a trap: its attribute, modifier, TransactionID and data go back to its sender.
+/// Builds the answer to a trap. It returns the attribute, the modifier, the TransactionID and the data to the sender.
 fn repress_out(smp: &Smp, from: Option<Lid>) -> Outgoing
     ensures { result ≡ repress_out smp.now from }
 {

@@ -20,8 +20,8 @@ use sweep::Sweep;
 
 impl Manager {
     /// Begins to write the plan of what is known, over the paths of the last sweep: the LID of each end port, the
-    /// forwarding blocks of each switch and their top, and then the states of ports on wires. A phase goes out as a
-    /// whole, and the next one once each of its steps was answered or timed out.
+    /// forwarding blocks of each switch and their top, and then the states of ports on wires. Each phase is sent as a
+    /// whole. The next phase follows once each step was answered or timed out.
     ///
     /// # Errors
     ///
@@ -40,7 +40,7 @@ impl Manager {
         Ok(())
     }
 
-    /// Returns a writing of the plan of what is known, with no step sent yet.
+    /// Returns a writing of the plan of what is known. None of its steps is sent yet.
     fn planned(&self) -> Result<Writing, ManagerFault>
         ensures judged { JudgesButFor is_memory result (writing_fault self.now) }
         ensures writing { IfOk result (λ w. w
@@ -64,7 +64,8 @@ impl Manager {
     ///
     /// # Errors
     ///
-    /// Returns the first of these that applies: `NotMaster`; `SweepRunning` if the sweep is not done; `WritingRunning`.
+    /// Returns the first of these that applies: `NotMaster`, also if no sweep was begun; `SweepRunning` if the sweep is
+    /// not done; `WritingRunning`.
     fn last_sweep(&self) -> Result<&Sweep, ManagerFault>
         ensures judged { Judges result (write_fault self.now) }
         ensures sweep { IfOk result (λ s. self.now.sweep ≡ Some s.now) }
@@ -108,7 +109,8 @@ impl Manager {
         Ok(())
     }
 
-    /// Returns the number of steps that go out when a waiting step ends.
+    /// Returns the number of steps that are sent when a waiting step ends: those of the next phase if it is the only
+    /// one that waits, and otherwise 0.
     fn count_after(&self) -> usize
         ensures { result ≡ count_after self.now }
     {
@@ -122,8 +124,8 @@ impl Manager {
     }
 }
 
-/// Returns `found`, or `SequenceSpent` if no numbers are left. Other faults of `found` come before that, and lack of
-/// memory after it.
+/// Returns `found`, or `SequenceSpent` if `are_numbers` is false. Faults of `found` other than `Memory` come before
+/// `SequenceSpent`.
 pub(crate) fn where_numbered<T: Drop>(
     found: Result<T, ManagerFault>,
     are_numbers: bool,

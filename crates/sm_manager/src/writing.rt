@@ -14,7 +14,7 @@ use std::marker::Model;
 /// A plan that is being written, or was.
 #[derive(Drop)]
 pub(crate) struct Writing {
-    /// The phases that have not been sent, in their order; the first of them has steps.
+    /// The phases that have not been sent, in their order. The first of them has steps.
     later: VecDeque<Phase>,
     /// Whether a step that counts was not done.
     has_failed: bool,
@@ -29,7 +29,7 @@ impl Model for Writing {
 }
 
 impl Writing {
-    /// Creates a writing of `phases`, with no step sent yet.
+    /// Creates a writing of `phases`. None of their steps is sent yet.
     pub(crate) fn new(phases: VecDeque<Phase>) -> Self
         ensures { result ≡ record { later = without_empty_phases phases.items; has_failed = false } }
     {
@@ -51,7 +51,7 @@ impl Writing {
         }
     }
 
-    /// Notes whether a step was done. `counts` says whether the plan is written only if the step was done.
+    /// Notes whether a step was done. `counts` says whether the plan is written only if that step is done.
     pub(crate) fn note(&mut self, counts: bool, was_done: bool)
         ensures later { self.new.later ≡ self.old.later }
         ensures failed { self.new.has_failed ≡ self.old.has_failed || (counts && not was_done) }
@@ -59,7 +59,7 @@ impl Writing {
         self.has_failed = self.has_failed || (counts && !was_done);
     }
 
-    /// Sends the next phase. Takes no memory.
+    /// Queues the steps of the next phase, which then wait for their answers. Takes no memory.
     pub(crate) fn send_next(
         &mut self,
         requests: &mut ManagerRequests,
@@ -111,7 +111,7 @@ fn pass(later: &mut VecDeque<Phase>)
     }
 }
 
-/// Sends the steps of a phase, which then wait for their answers. Takes no memory.
+/// Queues the steps of a phase, which then wait for their answers. Takes no memory.
 fn send_steps(
     counts: bool,
     steps: Vec<Step>,

@@ -5,7 +5,7 @@ use Rattle.attr_codec.specs.declared.sm_info.SmInfo.{SmInfo}
 use Rattle.sm_state.specs.declared.conduct.Conduct.{Conduct}
 use Rattle.sm_state.specs.declared.conduct.Conduct.TheVariants.{Plain, Live}
 
--- the live conduct with an SM_Key, or the plain one
+-- the live conduct with an SM_Key, or the plain conduct if there is no key
 abbrev pub conduct_with : Option ℕ → Conduct
 conduct_with None = Plain
 conduct_with (Some key) = Live key

@@ -16,7 +16,7 @@ modifier_of_control Discover = 5
 abbrev pub controls : List Control
 controls = Handover ∷ Acknowledge ∷ Disable ∷ Standby ∷ Discover ∷ []
 
--- the control with this modifier
+-- the control with this modifier; None if there is none
 abbrev pub control_of_modifier : ℕ → Option Control
 control_of_modifier modifier = find (λ control. modifier == modifier_of_control control) controls
 

@@ -1,4 +1,4 @@
--- The managers that a sweep saw: which of them outrank a manager, which it hands over to, and which it polls.
+-- The managers that a sweep saw: which of them outrank a manager, to which it hands over, and which it polls.
 -- InfiniBand Architecture Specification, Volume 1: subnet management, subnet manager (states, priorities).
 use Rattle.std.specs.Prelude.{◌≡◌, Bool, true, false, ◌&&◌, ◌||◌, not, List, [], ◌∷◌, ◌++◌, filter, find, Contains, ◌==◌, if◌then◌else◌, Option, Some, None}
 use Rattle.std.specs.List.{AllByRecursion, list_any}
@@ -13,7 +13,7 @@ use Rattle.sm_state.specs.Ranks.{wins}
 use Rattle.sm_state.specs.States.{number_of_state}
 use Rattle.sm_state.specs.declared.election.SeenManager.{SeenManager}
 
--- the manager says that it is in `state`; a reserved number is none of the states
+-- the manager reports that it is in `state`; a reserved number is none of the states
 abbrev pub says : SmState → SmInfo → Bool
 says state info = info.state == number_of_state state
 
@@ -47,15 +47,15 @@ abbrev pub best_with : (SeenManager → Bool) → List SeenManager → Option Se
 best_with test [] best = best
 best_with test (s ∷ seen) best = best_with test seen (next_best (test s) best s)
 
--- the greatest manager that passes the test, of equals the first
+-- the greatest manager that passes the test, the first of equals; None if none passes
 abbrev pub greatest_of : (SeenManager → Bool) → List SeenManager → Option SeenManager
 greatest_of test seen = best_with test seen None
 
--- the greatest candidate, of equals the first
+-- the greatest candidate, the first of equals; None if there is none
 abbrev pub successor_of : SmInfo → List SeenManager → Option SeenManager
 successor_of own seen = greatest_of (is_candidate own) seen
 
--- in words: the successor wins over each manager before it, and none after it wins over it
+-- the successor wins over each manager before it, and none after it wins over it
 pub record IsFirstGreatest (managers : List SeenManager) (successor : SeenManager) : Type 0 where
   pub before : List SeenManager
   pub after : List SeenManager
@@ -68,6 +68,7 @@ abbrev pub IsSuccessorOrNone : List SeenManager → Option SeenManager → Type 
 IsSuccessorOrNone managers None = managers ≡ []
 IsSuccessorOrNone managers (Some successor) = IsFirstGreatest managers successor
 
+-- the successor is the first of the greatest candidates
 abbrev pub SuccessorLaw : Type 0
 SuccessorLaw = (own : SmInfo) (seen : List SeenManager)
     → IsSuccessorOrNone (filter (is_candidate own) seen) (successor_of own seen)
@@ -82,7 +83,7 @@ is_heard_master own s = is_heard own s.info && says Master s.info
 abbrev pub is_above : SmInfo → SeenManager → Bool
 is_above own s = outranks own s.info
 
--- the first master that is heard; if there is none, the greatest manager that outranks `own`
+-- the first master that is heard; if there is none, the greatest manager that outranks `own`, the first of equals
 abbrev pub polled_of : SmInfo → List SeenManager → Option SeenManager
 polled_of own seen = option_or (find (is_heard_master own) seen) (greatest_of (is_above own) seen)
 
@@ -91,5 +92,6 @@ abbrev pub IsPolledOrNone : SmInfo → List SeenManager → Option SeenManager �
 IsPolledOrNone own seen None = any_outranks own seen ≡ false
 IsPolledOrNone own seen (Some polled) = Contains seen polled × (outranks own polled.info ≡ true)
 
+-- the polled manager outranks `own`
 abbrev pub PolledLaw : Type 0
 PolledLaw = (own : SmInfo) (seen : List SeenManager) → IsPolledOrNone own seen (polled_of own seen)

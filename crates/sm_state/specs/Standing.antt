@@ -41,7 +41,7 @@ info_of s = record {
 abbrev pub is_acknowledge : Control → Bool
 is_acknowledge control = modifier_of_control control == modifier_of_control Acknowledge
 
--- the SMInfo that the manager sends with a control; by the live conduct an acknowledgement says Standby
+-- the SMInfo that the manager sends with a control; by the live conduct, an acknowledgement reports Standby
 abbrev pub info_with : Control → Standing → SmInfo
 info_with control s =
     if is_live s.conduct && is_acknowledge control then record (info_of s) { state = number_of_state Standby }
@@ -54,32 +54,34 @@ is_in state s = number_of_state s.state == number_of_state state
 abbrev pub one_more : ℕ → ℕ
 one_more n = min (n + 1) (2 ^ 32 - 1)
 
--- a sweep begins, or a request is answered
+-- the manager after it began a sweep or answered a request
 abbrev pub active_once_more : Standing → Standing
 active_once_more s = record s { act_count = one_more s.act_count }
 
--- a request for SMInfo is answered: by the live conduct it counts like a sweep
+-- the manager after it answered a request for SMInfo: by the live conduct, this counts like a sweep
 abbrev pub after_request_heard : Standing → Standing
 after_request_heard s = if is_live s.conduct then active_once_more s else s
 
 -- how the state moves --------------------------------------------------------------------------
 
--- a change of state resets the count of lost polls
+-- the manager after it entered `state`; a change of state resets the count of lost polls
 abbrev pub moved_to : SmState → Standing → Standing
 moved_to state s = if is_in state s then s else record s { state = state; polls_lost = 0 }
 
--- the state moves by the table of states
+-- the manager after an event, by the table of states
 abbrev pub moved_by : Event → Standing → Standing
 moved_by e s = moved_to (stepped s.conduct s.state e).state s
 
 -- polls -----------------------------------------------------------------------------------------
 
+-- the manager after a poll was answered
 abbrev pub poll_answered : Standing → Standing
 poll_answered s = record s { polls_lost = 0 }
 
--- three polls in a row, or more, were lost
+-- the manager, which leaves its state if three or more polls in a row were lost
 abbrev pub three_lost : Standing → Standing
 three_lost s = if nat_le 3 s.polls_lost then moved_by PollsUnanswered s else s
 
+-- the manager after a poll was lost
 abbrev pub poll_lost : Standing → Standing
 poll_lost s = three_lost (record s { polls_lost = one_more s.polls_lost })

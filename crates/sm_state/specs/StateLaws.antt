@@ -1,4 +1,4 @@
--- The laws of the moves of managers, in words.
+-- The laws of the moves of managers.
 use Rattle.std.specs.Prelude.{◌≡◌, ◌⊎◌, ℕ, Some, None}
 use Rattle.sm_state.specs.declared.conduct.Conduct.{Conduct}
 use Rattle.sm_state.specs.declared.control.Control.{Control}
@@ -26,7 +26,7 @@ IsNamed NotActive e = Is control.Standby e
 IsNamed Master e =
     Is control.Handover e ⊎ (Is control.Acknowledge e ⊎ (Is control.Discover e ⊎ (e ≡ event.HandoverWanted)))
 
--- an event that the table does not name changes nothing
+-- an event for which the table has no row changes nothing
 abbrev pub NothingElseMoves : Type 0
 NothingElseMoves =
     (conduct : Conduct) (state : SmState) (e : Event) → (IsNamed state e → ⊥)
@@ -39,7 +39,7 @@ MastersStay =
     → (Is control.Acknowledge e × ((stepped conduct Master e).state ≡ Standby))
     ⊎ (Is control.Discover e × ((stepped conduct Master e).state ≡ Discovering))
 
--- an acknowledgement is sent only for a handover, and its sender is then master
+-- a manager that sends an acknowledgement has received a handover, and is then master
 abbrev pub OthersAreTold : Type 0
 OthersAreTold =
     (conduct : Conduct) (state : SmState) (e : Event) → (stepped conduct state e).message ≡ Some message.Acknowledge

@@ -13,7 +13,7 @@ number_of_state Master = 3
 abbrev pub states : List SmState
 states = NotActive ∷ Discovering ∷ Standby ∷ Master ∷ []
 
--- the state with this number
+-- the state with this number; None if it is reserved
 abbrev pub state_of_number : ℕ → Option SmState
 state_of_number number = find (λ state. number == number_of_state state) states
 

@@ -23,8 +23,8 @@ to state sends = record { state = state; message = sends; is_refused = false }
 abbrev pub refused : SmState → Transition
 refused state = record { state = state; message = None; is_refused = true }
 
--- what a standby does about an acknowledgement: by the live conduct the answer to its handover has made it a standby
--- before the acknowledgement comes
+-- what a standby does about an acknowledgement: by the live conduct nothing, since the answer to its handover has
+-- already made it a standby; by the plain conduct it is refused
 abbrev pub acknowledged_late : Conduct → Transition
 acknowledged_late Plain = refused Standby
 acknowledged_late (Live key) = to Standby None

@@ -14,7 +14,7 @@ pub enum Conduct {
 }
 
 impl Conduct {
-    /// Returns the live conduct with an SM_Key, or the plain one if there is no key.
+    /// Returns the live conduct with an SM_Key, or the plain conduct if there is no key.
     pub fn with(sm_key: Option<u64>) -> Self
         ensures { result ≡ conduct_with sm_key }
     {
@@ -24,7 +24,7 @@ impl Conduct {
         }
     }
 
-    /// Returns the SM_Key.
+    /// Returns the SM_Key, 0 for the plain conduct.
     pub fn sm_key(self) -> u64
         ensures { result ≡ key_of self }
     {
@@ -34,7 +34,7 @@ impl Conduct {
         }
     }
 
-    /// Returns whether the conduct is the live one.
+    /// Returns whether this is the live conduct.
     pub fn is_live(self) -> bool
         ensures { result ≡ is_live self }
     {

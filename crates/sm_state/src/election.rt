@@ -36,8 +36,8 @@ fn any_outranks(own: &SmInfo, seen: &[SeenManager]) -> bool
     seen.iter().any(|other| outranks(own, &other.info))
 }
 
-/// Returns the manager to hand over to: the greatest one that is heard, says Standby or Master, and wins over `own`; of
-/// equals the first. Walks all of `seen`.
+/// Returns the manager to hand over to: the greatest manager that is heard, reports Standby or Master, and wins over
+/// `own`; the first of equals. Returns `None` if there is none. Walks all of `seen`.
 pub fn successor(own: &SmInfo, seen: &[SeenManager]) -> Option<SeenManager>
     ensures { result ≡ successor_of own.now seen.now }
 {
@@ -49,14 +49,14 @@ pub fn successor(own: &SmInfo, seen: &[SeenManager]) -> Option<SeenManager>
 }
 
 /// Returns the manager to poll: the first master that is heard; if there is none, the greatest manager that outranks
-/// `own`, of equals the first. Walks all of `seen`.
+/// `own`, the first of equals. Returns `None` if there is none. Walks all of `seen`.
 pub fn polled(own: &SmInfo, seen: &[SeenManager]) -> Option<SeenManager>
     ensures { result ≡ polled_of own.now seen.now }
 {
     first_master(own, seen).or(greatest_above(own, seen))
 }
 
-/// Returns the first master that is heard.
+/// Returns the first master that is heard, or `None` if there is none.
 fn first_master(own: &SmInfo, seen: &[SeenManager]) -> Option<SeenManager>
     ensures { result ≡ find (is_heard_master own.now) seen.now }
 {
@@ -65,7 +65,7 @@ fn first_master(own: &SmInfo, seen: &[SeenManager]) -> Option<SeenManager>
         .find(|other| is_heard_master(own, other))
 }
 
-/// Returns the greatest manager that outranks `own`, of equals the first.
+/// Returns the greatest manager that outranks `own`, the first of equals, or `None` if there is none.
 fn greatest_above(own: &SmInfo, seen: &[SeenManager]) -> Option<SeenManager>
     ensures { result ≡ greatest_of (is_above own.now) seen.now }
 {
@@ -103,7 +103,8 @@ fn better(best: Option<SeenManager>, other: SeenManager) -> SeenManager
     }
 }
 
-/// Returns whether the manager whose SMInfo is `own` may hand over to `other`.
+/// Returns whether the manager whose SMInfo is `own` may hand over to `other`: `other` is heard, reports Standby or
+/// Master, and wins over `own`.
 fn is_candidate(own: &SmInfo, other: &SeenManager) -> bool
     ensures { result ≡ is_candidate own.now other.now }
 {
@@ -127,14 +128,14 @@ fn outranks(own: &SmInfo, other: &SmInfo) -> bool
 }
 
 /// Returns whether the manager whose SMInfo is `own` takes `other` for a manager of its subnet: its own SM_Key is 0, or
-/// both have the same one.
+/// the two SM_Keys are equal.
 fn is_heard(own: &SmInfo, other: &SmInfo) -> bool
     ensures { result ≡ is_heard own.now other.now }
 {
     own.sm_key == 0 || other.sm_key == own.sm_key
 }
 
-/// Returns whether a manager says that it is in `state`. A reserved number is none of the states.
+/// Returns whether a manager reports that it is in `state`. A reserved number is none of the states.
 fn says(state: SmState, info: &SmInfo) -> bool
     ensures { result ≡ says state info.now }
 {

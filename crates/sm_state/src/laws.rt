@@ -10,18 +10,18 @@ pub fn wins_is_an_order()
     ensures { WinsIsAnOrder }
 {}
 
-/// An event that the state has no move for leaves the state and sends nothing.
+/// An event for which the state has no move does not change the state and sends nothing.
 pub fn nothing_else_moves()
     ensures { NothingElseMoves }
 {}
 
-/// A master stays master, unless it gets an acknowledgement that another manager is master, or the control to discover
-/// anew.
+/// A master stays master, unless it receives an acknowledgement that another manager is master, or the control to
+/// discover anew.
 pub fn masters_stay()
     ensures { MastersStay }
 {}
 
-/// A manager that sends an acknowledgement is then master, since another one handed over to it.
+/// A manager that sends an acknowledgement is then master, since another manager handed over to it.
 pub fn others_are_told()
     ensures { OthersAreTold }
 {}
@@ -44,7 +44,8 @@ pub fn successor_is_the_first_of_the_greatest()
     ensures { SuccessorLaw }
 {}
 
-/// The manager to poll was seen, and outranks the one that polls. There is none only if no seen manager outranks it.
+/// The manager to poll was seen, and outranks the manager that polls. There is none only if no seen manager outranks
+/// it.
 #[tactic(auto, using(crate::proofs::WhomToPoll::polled_law))]
 pub fn polled_managers_outrank()
     ensures { PolledLaw }

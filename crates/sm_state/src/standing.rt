@@ -10,7 +10,7 @@ use smp_bytes::Guid;
 /// A subnet manager's identity and state.
 #[derive(Clone, Copy, Debug)]
 pub struct Standing {
-    /// The GUID of the port that it sits at.
+    /// The GUID of the port at which it sits.
     pub guid: Guid,
     pub priority: Priority,
     /// How it deals with other managers.
@@ -49,7 +49,7 @@ impl Standing {
         }
     }
 
-    /// Returns the SMInfo that it sends with `control`. By the live conduct an acknowledgement says Standby, which
+    /// Returns the SMInfo that it sends with `control`. By the live conduct, an acknowledgement reports Standby, which
     /// OpenSM expects.
     pub fn info_with(&self, control: Control) -> SmInfo
         ensures { result ≡ info_with control self.now }
@@ -71,14 +71,14 @@ impl Standing {
         self.state.number() == state.number()
     }
 
-    /// Counts a sweep that begins, or a request that is answered.
+    /// Counts a sweep that begins, or a request that is answered. Saturates.
     pub fn count_activity(&mut self)
         ensures { self.new ≡ active_once_more self.old }
     {
         self.act_count = self.act_count.saturating_add(1);
     }
 
-    /// Counts a request for SMInfo that is answered, by the live conduct.
+    /// Counts a request for SMInfo that is answered. By the plain conduct, does nothing.
     pub fn count_request(&mut self)
         ensures { self.new ≡ after_request_heard self.old }
     {
@@ -97,7 +97,7 @@ impl Standing {
         }
     }
 
-    /// Moves by the table of states.
+    /// Changes the state after `event`, by the table of states.
     pub fn move_by(&mut self, event: Event)
         ensures { self.new ≡ moved_by event self.old }
     {

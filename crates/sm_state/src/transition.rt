@@ -10,7 +10,7 @@ use smp_bytes::Status;
 pub struct Transition {
     /// The state afterwards.
     pub state: SmState,
-    /// The message to the other manager, if any.
+    /// The message to the other manager; `None` if there is none.
     pub message: Option<Message>,
     /// Whether a control is refused.
     pub is_refused: bool,

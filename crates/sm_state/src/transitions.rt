@@ -48,7 +48,7 @@ pub fn step(conduct: Conduct, state: SmState, event: Event) -> Transition
     }
 }
 
-/// Returns what a manager in `state` does about `control`, which is `None` if the modifier is not a control's.
+/// Returns what a manager in `state` does about `control`, which is `None` if the modifier is no control's.
 fn after_control(conduct: Conduct, state: SmState, control: Option<Control>) -> Transition
     ensures { result ≡ after_control conduct state control }
 {
@@ -67,8 +67,8 @@ fn after_control(conduct: Conduct, state: SmState, control: Option<Control>) -> 
     }
 }
 
-/// Returns what a standby does about an acknowledgement. By the live conduct the answer to its handover has made it a
-/// standby before, so the acknowledgement changes nothing; by the plain one it is refused.
+/// Returns what a standby does about an acknowledgement. By the live conduct nothing changes, since the answer to its
+/// handover has already made it a standby. By the plain conduct the acknowledgement is refused.
 fn acknowledged_late(conduct: Conduct) -> Transition
     ensures { result ≡ acknowledged_late conduct }
 {

@@ -1,27 +1,28 @@
--- Which packet answers a request: one with its TransactionID, attribute, modifier, class and path. InfiniBand
+-- When a packet answers a request: it has the request's TransactionID, attribute, modifier, class and path. InfiniBand
 -- Architecture Specification, Volume 1: management datagrams, TransactionID; directed route SMPs.
 use Rattle.std.specs.Prelude.{ℕ, ◌+◌, Bool, true, ◌&&◌, not, List, [], ◌∷◌, length, ◌==◌, Option, Some, None}
 use Rattle.smp_bytes.specs.Field.{number_in}
 use Rattle.smp_bytes.specs.Packet.{transaction_id, attribute_id, attribute_modifier, hop_count, initial_path, is_directed}
 
--- the packet's InitialPath has these ports from index i on
+-- whether the packet's InitialPath has these ports from index i on
 abbrev pub has_ports : List ℕ → ℕ → List ℕ → Bool
 has_ports packet i [] = true
 has_ports packet i (port ∷ ports) = number_in (initial_path i) packet == port && has_ports packet (i + 1) ports
 
--- the packet is directed over the path, or LID routed if there is no path
+-- whether the packet is directed over the path or, if there is no path, LID routed
 abbrev pub goes_by : List ℕ → Option (List ℕ) → Bool
 goes_by packet None = not (is_directed packet)
 goes_by packet (Some path) =
     is_directed packet && (number_in hop_count packet == length path && has_ports packet 1 path)
 
--- the packet has this attribute and modifier, and goes by this path, or by LID if there is no path
+-- whether the packet has this attribute and modifier, and goes by this path or, if there is no path, by LID
 abbrev pub is_of : List ℕ → ℕ → ℕ → Option (List ℕ) → Bool
 is_of packet attribute modifier path =
     number_in attribute_id packet == attribute
     && (number_in attribute_modifier packet == modifier && goes_by packet path)
 
--- the packet has this TransactionID, attribute and modifier, and goes by this path, or by LID if there is no path
+-- whether the packet has this TransactionID, attribute and modifier, and goes by this path or, if there is no path, by
+-- LID
 abbrev pub answers : List ℕ → ℕ → ℕ → ℕ → Option (List ℕ) → Bool
 answers packet transaction attribute modifier path =
     transaction == number_in transaction_id packet && is_of packet attribute modifier path

@@ -2,12 +2,12 @@
 use Rattle.std.specs.Prelude.{ℕ, ◌+◌, ◌/◌, ◌%◌, ◌*◌, ◌^◌, ◌==◌, Bool, not, ◌||◌, List, [], ◌∷◌, ◌++◌, take, drop, slice_index, length, nat_le}
 use Rattle.byteorder.specs.Endian.{big_number, big_bytes}
 
--- a field of whole bytes: the offset of the first, and their number
+-- a field of whole bytes: the offset of its first byte, and the number of its bytes
 pub record Field : Type 0 where
   pub at : ℕ
   pub len : ℕ
 
--- some bits of one byte: the offset of the byte, the lowest bit, and the number of bits
+-- bits of one byte: the offset of the byte, the lowest bit, and the number of bits
 pub record Bits : Type 0 where
   pub at : ℕ
   pub shift : ℕ
@@ -21,7 +21,7 @@ number_in field bytes = big_number field.len (drop field.at bytes)
 abbrev pub bits_in : Bits → List ℕ → ℕ
 bits_in bits bytes = slice_index bytes bits.at / 2 ^ bits.shift % 2 ^ bits.width
 
--- the bytes of a field as they stand
+-- the bytes of a field
 abbrev pub bytes_in : Field → List ℕ → List ℕ
 bytes_in field bytes = take field.len (drop field.at bytes)
 
@@ -33,11 +33,11 @@ with_bytes at written bytes = take at bytes ++ (written ++ drop (at + length wri
 abbrev pub with_number : Field → ℕ → List ℕ → List ℕ
 with_number field number bytes = with_bytes field.at (big_bytes field.len number) bytes
 
--- one field ends before the other begins
+-- whether one field ends before the other begins
 abbrev pub are_apart : Field → Field → Bool
 are_apart a b = nat_le (a.at + a.len) b.at || nat_le (b.at + b.len) a.at
 
--- the field ends within the first `count` bytes
+-- whether the field ends within the first `count` bytes
 abbrev pub ends_within : ℕ → Field → Bool
 ends_within count field = nat_le (field.at + field.len) count
 
@@ -46,21 +46,21 @@ pub record Entry : Type 0 where
   pub field : Field
   pub number : ℕ
 
--- `bytes`, with each entry written, one after the other
+-- `bytes`, with each entry written in turn
 abbrev pub with_numbers : List Entry → List ℕ → List ℕ
 with_numbers [] bytes = bytes
 with_numbers (e ∷ entries) bytes = with_numbers entries (with_number e.field e.number bytes)
 
--- a byte with `number` in place of some bits; the bits above and below stay
+-- a byte with `number` written into these bits; the bits above and below stay
 abbrev pub replaced : Bits → ℕ → ℕ → ℕ
 replaced bits number byte =
     (byte / 2 ^ (bits.shift + bits.width) * 2 ^ bits.width + number) * 2 ^ bits.shift + byte % 2 ^ bits.shift
 
--- `bytes`, with `number` written into some bits of one byte
+-- `bytes`, with `number` written into these bits of one byte
 abbrev pub with_bits : Bits → ℕ → List ℕ → List ℕ
 with_bits bits number bytes =
     with_number (record { at = bits.at; len = 1 }) (replaced bits number (slice_index bytes bits.at)) bytes
 
--- the bits are in different bytes, or all bits of one are above all bits of the other
+-- whether the bits are in different bytes, or all bits of one are above all bits of the other
 abbrev pub are_bits_apart : Bits → Bits → Bool
 are_bits_apart a b = not (a.at == b.at) || (nat_le (a.shift + a.width) b.shift || nat_le (b.shift + b.width) a.shift)

@@ -3,7 +3,7 @@
 -- status, attributes.
 use Rattle.std.specs.Prelude.{ℕ}
 
--- classes: LID routed, and directed route
+-- the classes: LID routed, and directed route
 
 abbrev pub lid_routed_class : ℕ
 lid_routed_class = 0x01
@@ -11,7 +11,7 @@ lid_routed_class = 0x01
 abbrev pub directed_class : ℕ
 directed_class = 0x81
 
--- methods: the two requests, and the answer to either
+-- the methods: the two requests, and the answer to either
 
 abbrev pub get : ℕ
 get = 0x01
@@ -22,7 +22,7 @@ set = 0x02
 abbrev pub get_resp : ℕ
 get_resp = 0x81
 
--- statuses: the request was done, or why it was not
+-- the statuses: the request was done, or why it was not
 
 abbrev pub done : ℕ
 done = 0x0000
@@ -36,7 +36,7 @@ method_and_attribute_not_supported = 0x000C
 abbrev pub invalid_field : ℕ
 invalid_field = 0x001C
 
--- attributes
+-- the attributes
 
 abbrev pub node_description : ℕ
 node_description = 0x0010

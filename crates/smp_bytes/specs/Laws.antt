@@ -1,4 +1,4 @@
--- What a write into a field, or into some bits of a byte, does: what was written is read, and all else stays.
+-- The effect of a write into a field, or into bits of a byte: what was written is read, and all else stays.
 use Rattle.std.specs.Prelude.{◌≡◌, ◌≢◌, ℕ, ◌+◌, ◌^◌, ◌<◌, ◌≤◌, ◌⊎◌, List, All, length, slice_index, true}
 use Rattle.smp_bytes.specs.Field.{Field, Bits, number_in, bits_in, with_number, with_bits, are_apart, are_bits_apart}
 
@@ -30,13 +30,13 @@ abbrev pub BytesOutsideStay : Type 0
 BytesOutsideStay = (field : Field) (number : ℕ) (bytes : List ℕ) → LiesIn field bytes
     → KeepsBytesOutside field bytes (with_number field number bytes)
 
--- only `with_number` gives bytes that hold the number and are otherwise as they were
+-- only `with_number` gives bytes that hold the number in the field and are otherwise as they were
 abbrev pub WriteIsUnique : Type 0
 WriteIsUnique =
     (field : Field) (number : ℕ) (old new : List ℕ) → LiesIn field old → All (λ byte. byte < 256) new
     → KeepsBytesOutside field old new → number_in field new ≡ number → new ≡ with_number field number old
 
--- of two writes into one field the last one stands
+-- of two writes into one field, only the last one has an effect
 abbrev pub LastWriteStands : Type 0
 LastWriteStands = (field : Field) (number before : ℕ) (bytes : List ℕ) → LiesIn field bytes
     → with_number field number (with_number field before bytes) ≡ with_number field number bytes
@@ -49,7 +49,7 @@ pub record AreBitsIn (bits : Bits) (bytes : List ℕ) : Type 0 where
   pub byte : slice_index bytes bits.at < 256
   pub within : bits.shift + bits.width ≤ 8
 
--- a number that is written into some bits is read from them
+-- a number that is written into bits is read from them
 abbrev pub BitsAreRead : Type 0
 BitsAreRead = (bits : Bits) (number : ℕ) (bytes : List ℕ) → AreBitsIn bits bytes → number < 2 ^ bits.width
     → bits_in bits (with_bits bits number bytes) ≡ number
@@ -66,7 +66,7 @@ pub record KeepsOtherBytes (bits : Bits) (old new : List ℕ) : Type 0 where
   pub byte : slice_index new bits.at < 256
   pub others : (offset : ℕ) → offset ≢ bits.at → slice_index new offset ≡ slice_index old offset
 
--- a write into some bits keeps the other bytes
+-- a write into bits keeps the other bytes
 abbrev pub OtherBytesStay : Type 0
 OtherBytesStay = (bits : Bits) (number : ℕ) (bytes : List ℕ) → AreBitsIn bits bytes → number < 2 ^ bits.width
     → KeepsOtherBytes bits bytes (with_bits bits number bytes)

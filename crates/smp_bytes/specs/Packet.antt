@@ -1,4 +1,4 @@
--- A subnet management packet (SMP) is a list of 256 bytes: its fields, and the faults of bytes that are no packet.
+-- A subnet management packet (SMP) is a list of 256 bytes: its fields, and the faults of bytes that are not a packet.
 -- InfiniBand Architecture Specification, Volume 1: management datagram header, and SMP formats, LID routed and directed
 -- route.
 use Rattle.std.specs.Prelude.{ℕ, ◌+◌, ◌%◌, ◌^◌, Bool, ◌&&◌, ◌||◌, not, List, nat_lt, ◌==◌, if◌then◌else◌, Option, Some, None}
@@ -9,7 +9,7 @@ use Rattle.smp_bytes.specs.declared.smp_fault.SmpFault.TheVariants.{BaseVersion,
 
 -- the table of fields --------------------------------------------------------------
 
--- in both classes
+-- the fields of both classes
 
 abbrev pub base_version : Field
 base_version = record { at = 0; len = 1 }
@@ -50,7 +50,7 @@ m_key = record { at = 24; len = 8 }
 abbrev pub attribute_data : Field
 attribute_data = record { at = 64; len = 64 }
 
--- only in the directed class
+-- the fields of the directed class only
 
 abbrev pub hop_pointer : Field
 hop_pointer = record { at = 6; len = 1 }
@@ -74,17 +74,19 @@ return_path i = record { at = 192 + i; len = 1 }
 
 -- what the fields say -----------------------------------------------------------------
 
+-- whether the packet is LID routed
 abbrev pub is_lid_routed : List ℕ → Bool
 is_lid_routed packet = number_in mgmt_class packet == lid_routed_class
 
+-- whether the packet is directed
 abbrev pub is_directed : List ℕ → Bool
 is_directed packet = number_in mgmt_class packet == directed_class
 
--- the R bit: the packet is an answer, or another packet that asks for no answer
+-- whether the R bit is set: the packet is an answer, or another packet that asks for no answer
 abbrev pub is_response : List ℕ → Bool
 is_response packet = bits_in response_bit packet == 1
 
--- a directed packet on its way back
+-- whether the D bit is set: a directed packet is on its way back
 abbrev pub is_returning : List ℕ → Bool
 is_returning packet = bits_in direction_bit packet == 1
 
@@ -92,7 +94,7 @@ is_returning packet = bits_in direction_bit packet == 1
 abbrev pub status : List ℕ → ℕ
 status packet = if is_directed packet then number_in status_word packet % 2 ^ 15 else number_in status_word packet
 
--- the LID that stands for "no LID-routed part"
+-- the permissive LID, which means "no LID-routed part"
 abbrev pub permissive_lid : ℕ
 permissive_lid = 0xFFFF
 
@@ -100,7 +102,7 @@ permissive_lid = 0xFFFF
 abbrev pub max_hops : ℕ
 max_hops = 63
 
--- the first fault of the fields that only the directed class has
+-- the first fault of the fields that only the directed class has; None if there is none
 abbrev pub directed_fault_of : List ℕ → Option SmpFault
 directed_fault_of packet =
     if nat_lt max_hops (number_in hop_count packet) then Some HopCount

@@ -1,16 +1,16 @@
--- What built packets contain, and what a packet contains after its status is written. InfiniBand Architecture
--- Specification, Volume 1: SMP formats; management methods; directed route SMPs.
+-- The contents of built packets, and of a packet after its status is written. InfiniBand Architecture Specification,
+-- Volume 1: SMP formats; management methods; directed route SMPs.
 use Rattle.std.specs.Prelude.{◌≡◌, ℕ, ◌+◌, ◌^◌, ◌<◌, ◌≤◌, ◌⊎◌, List, All, length, slice_index, None, true}
 use Rattle.smp_bytes.specs.Field.{Field, number_in, bytes_in, with_number}
 use Rattle.smp_bytes.specs.Packet.{base_version, mgmt_class, class_version, method, status_word, transaction_id, attribute_id, attribute_modifier, m_key, attribute_data, hop_pointer, hop_count, dr_slid, dr_dlid, initial_path, return_path, permissive_lid, max_hops, is_directed, is_response, is_returning, status, fault_of}
 use Rattle.smp_bytes.specs.Header.{lid_routed_class, directed_class, get_resp}
 use Rattle.smp_bytes.specs.Requests.{directed, lid_routed, answer_packet, word_with_status}
 
--- the reserved bytes behind the attribute ID
+-- the reserved bytes after the attribute ID
 abbrev pub reserved_after_attribute_id : Field
 reserved_after_attribute_id = record { at = 18; len = 2 }
 
--- what requests of both classes hold
+-- the fields of a request of either class
 pub record HoldsRequest (packet : List ℕ) (method_number attribute modifier tid : ℕ) (payload : List ℕ) : Type 0 where
   pub count : length packet ≡ 256
   pub parses : fault_of packet ≡ None
@@ -25,7 +25,7 @@ pub record HoldsRequest (packet : List ℕ) (method_number attribute modifier ti
   pub m_key : number_in m_key packet ≡ 0
   pub attribute_data : bytes_in attribute_data packet ≡ payload
 
--- what else a directed request holds: no hop is made, and InitialPath is 0 except for the ports of the path
+-- the further fields of a directed request: no hop is made, and InitialPath is 0 except for the ports of the path
 pub record HoldsPath (packet path : List ℕ) : Type 0 where
   pub class : number_in mgmt_class packet ≡ directed_class
   pub hop_pointer : number_in hop_pointer packet ≡ 0
@@ -38,7 +38,7 @@ pub record HoldsPath (packet path : List ℕ) : Type 0 where
   pub behind : (i : ℕ) → length path < i → i < 64 → number_in (initial_path i) packet ≡ 0
   pub return_path : (i : ℕ) → i < 64 → number_in (return_path i) packet ≡ 0
 
--- what else a LID-routed request holds
+-- the further fields of a LID-routed request
 pub record HoldsNoPath (packet : List ℕ) : Type 0 where
   pub class : number_in mgmt_class packet ≡ lid_routed_class
   pub no_hops : number_in (record { at = 6; len = 2 }) packet ≡ 0
@@ -71,12 +71,12 @@ LidRoutedReadsBack =
     payload
     × HoldsNoPath (lid_routed method_number attribute modifier tid payload)
 
--- the byte at `offset` belongs to neither the method, the status nor the attribute
+-- the byte at `offset` belongs to none of the method, the status and the attribute
 abbrev pub IsKeptInAnswer : ℕ → Type 0
 IsKeptInAnswer offset = (offset < 3) ⊎ (((6 ≤ offset) × (offset < 64)) ⊎ (128 ≤ offset))
 
--- what an answer holds: the method GetResp, the D bit if it is directed, the status and the attribute as given, and all
--- else as in the request
+-- the fields of an answer: the method GetResp, the D bit if it is directed, the status and the attribute that were
+-- given, and all else as in the request
 pub record HoldsAnswer (request answer : List ℕ) (given : ℕ) (payload : List ℕ) : Type 0 where
   pub count : length answer ≡ 256
   pub parses : fault_of answer ≡ None
@@ -88,7 +88,7 @@ pub record HoldsAnswer (request answer : List ℕ) (given : ℕ) (payload : List
   pub attribute_data : bytes_in attribute_data answer ≡ payload
   pub kept : (offset : ℕ) → IsKeptInAnswer offset → slice_index answer offset ≡ slice_index request offset
 
--- an answer holds what was given, if the status of a directed answer leaves the highest bit to the direction
+-- an answer holds what was given; the status of a directed answer must leave the highest bit to the direction
 abbrev pub AnswerReadsBack : Type 0
 AnswerReadsBack =
     (request : List ℕ) (given : ℕ) (payload : List ℕ) → length request ≡ 256 → fault_of request ≡ None → length payload
@@ -96,7 +96,7 @@ AnswerReadsBack =
     → given < 2 ^ 16 → (is_directed request ≡ true → given < 2 ^ 15)
     → HoldsAnswer request (answer_packet request given payload) given payload
 
--- what a packet holds after its status is written: its class stays, and so does the direction of a directed packet
+-- the fields of a packet after its status is written: its class stays, and so does the direction of a directed packet
 pub record HoldsStatus (old new : List ℕ) (given : ℕ) : Type 0 where
   pub class : is_directed new ≡ is_directed old
   pub status : status new ≡ given

@@ -18,7 +18,7 @@ impl Method {
     pub const GET_RESP: Method = Method(0x81);
 }
 
-/// The outcome of a request; in a directed packet at most 0x7FFF.
+/// The outcome of a request. In a directed packet it is at most 0x7FFF.
 #[derive(Clone, Copy, Debug, PartialEq, Eq)]
 pub struct Status(pub u16);
 

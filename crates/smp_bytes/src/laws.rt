@@ -24,12 +24,12 @@ pub fn bytes_outside_field_stay()
     ensures { BytesOutsideStay }
 {}
 
-/// A write into a field gives the only bytes that hold the number there and are otherwise as they were.
+/// Only a write into a field gives bytes that hold the number there and are otherwise as they were.
 pub fn write_is_unique()
     ensures { WriteIsUnique }
 {}
 
-/// If two numbers are written into a field, one after the other, the last one stands.
+/// If two numbers are written into a field, one after the other, the last one stays.
 pub fn last_write_stands()
     ensures { LastWriteStands }
 {}
@@ -39,7 +39,7 @@ pub fn written_bits_are_read()
     ensures { BitsAreRead }
 {}
 
-/// Bits keep their number if they share none with the bits that are written, in the same byte too.
+/// Bits keep their number if they share no bit with those that are written, even in the same byte.
 pub fn bits_apart_stay()
     ensures { BitsApartStay }
 {}
@@ -49,9 +49,9 @@ pub fn other_bytes_stay()
     ensures { OtherBytesStay }
 {}
 
-/// A directed request holds the method, attribute, modifier, transaction ID, path and data that were given; HopPointer
-/// is 0, HopCount the path's length, both LIDs are the permissive one, and all else except the versions and the class
-/// is 0.
+/// A directed request holds the method, attribute, modifier, transaction ID, path and data that were given. HopPointer
+/// is 0, HopCount is the path's length, both LIDs are the permissive LID, and all else except the versions and the
+/// class is 0.
 pub fn directed_request_reads_back()
     ensures { DirectedReadsBack }
 {}
@@ -62,13 +62,13 @@ pub fn lid_routed_request_reads_back()
     ensures { LidRoutedReadsBack }
 {}
 
-/// An answer holds the status and the data that were given, and is on its way back if it is directed; all else except
+/// An answer holds the status and the data that were given, and is on its way back if it is directed. All else except
 /// the method is as in the request.
 pub fn answer_reads_back()
     ensures { AnswerReadsBack }
 {}
 
-/// A status that is written is read; the class stays, and so does the direction of a directed packet.
+/// A status that is written is read. The class stays, and so does the direction of a directed packet.
 pub fn status_reads_back()
     ensures { StatusReadsBack }
 {}

@@ -18,7 +18,7 @@ impl Model for Lid {
 }
 
 impl Lid {
-    /// The LID of a port without one.
+    /// The LID 0, which means that a port has none.
     pub const NONE: Self = Lid(0);
 
     /// The first number past the unicast LIDs, which end at 0xBFFF (addressing).

@@ -4,7 +4,7 @@ use crate::port_num::PortNum;
 use arrayvec::ArrayVec;
 use std::marker::Model;
 
-/// The ports that a directed packet leaves by, one after the other: at most `MAX`. Contracts see the list.
+/// The ports by which a directed packet leaves, one after the other. There are at most `MAX`. Contracts see the list.
 #[derive(Debug, Drop)]
 pub struct Path<const MAX: usize> {
     ports: ArrayVec<u8, MAX>,
@@ -69,7 +69,7 @@ impl<const MAX: usize> Path<MAX> {
         self.len() == MAX
     }
 
-    /// Returns the port at index `i`, counted from 0.
+    /// Returns the port at index `i`, counted from 0, or `None` if there is none.
     pub fn get(&self, i: usize) -> Option<PortNum>
         ensures { result ≡ slice_get self.now i }
     {

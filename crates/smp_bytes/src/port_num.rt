@@ -4,7 +4,7 @@ ghost use Rattle.smp_bytes.specs.Ports.{is_within};
 use std::fmt;
 use std::marker::Model;
 
-/// The number of a port of a node; 0 is the management port of a switch.
+/// The number of a port of a node. Number 0 is the management port of a switch.
 #[derive(Clone, Copy, Debug, PartialEq, Eq, PartialOrd, Ord)]
 pub struct PortNum(u8);
 
@@ -36,7 +36,7 @@ impl PortNum {
         self.0
     }
 
-    /// Returns whether the port is from 1 to `count`. Port 0 of a switch never is.
+    /// Returns whether the number is from 1 to `count`. Port 0 of a switch never is.
     pub const fn is_within(self, count: u8) -> bool
         ensures { result ≡ is_within self count }
     {

@@ -1,4 +1,4 @@
-//! Tests with packets written byte by byte from the format, and of what is printed.
+//! Tests with packets written byte by byte from the format, and tests of what is printed.
 use crate::{
     AttributeId, Generation, Guid, Lid, Method, NodeType, Path, PortNum, Smp, SmpFault, Status,
 };
@@ -29,7 +29,7 @@ const REQUEST: [u8; 130] = [
     0, 1, // InitialPath
 ];
 
-/// Returns a packet's bytes: `begin`, and 0 behind it.
+/// Returns the bytes of a packet: `begin`, followed by zeros.
 fn packet(begin: &[u8]) -> [u8; 256] {
     let mut bytes = [0; 256];
     for (slot, byte) in bytes.iter_mut().zip(begin) {
@@ -47,7 +47,7 @@ fn assert_at(rt: &impl Abort, smp: &Smp, offset: usize, wanted: &[u8]) {
     assert!(rt; is_there, "from {offset} on");
 }
 
-/// Returns what the readers read from a packet, as numbers in the order of the fields.
+/// Returns the fields of a packet as numbers, in their order.
 fn numbers(smp: &Smp) -> [u64; 14] {
     [
         u64::from(smp.base_version()),
@@ -90,7 +90,7 @@ fn reads_each_field(rt: HostRuntime) -> Result<(), Fail> {
     Ok(())
 }
 
-/// The offset of a byte of the reply, its new value, the fault, and the fault's name.
+/// The offset of a byte of the reply, its new value, and the fault that it causes with its name.
 const CHANGES: [(usize, u8, SmpFault, &str); 7] = [
     (0, 2, SmpFault::BaseVersion, "BaseVersion"),
     (1, 0x82, SmpFault::Class, "Class"),

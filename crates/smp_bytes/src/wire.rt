@@ -107,7 +107,7 @@ pub fn bits_at(bytes: &[u8], at: usize, shift: u32, width: u32) -> u8
     number as u8
 }
 
-/// Writes `number` into `width` bits of the byte at `at`, the lowest of which is bit `shift`. All other bits stay.
+/// Writes `number` into `width` bits of the byte at `at`. The lowest of them is bit `shift`. All other bits stay.
 pub fn put_bits(bytes: &mut [u8], at: usize, shift: u32, width: u32, number: u8)
     requires offset { at < length bytes.old }
     requires some { 1 ≤ width }
@@ -121,7 +121,7 @@ pub fn put_bits(bytes: &mut [u8], at: usize, shift: u32, width: u32, number: u8)
     put_u8(bytes, at, replaced);
 }
 
-/// Returns `byte` with `number` in `width` of its bits, the lowest of which is bit `shift`.
+/// Returns `byte` with `number` in `width` of its bits. The lowest of them is bit `shift`.
 fn replaced(byte: u32, shift: u32, width: u32, number: u32) -> u8
     requires byte { byte < 256 }
     requires within { shift + width ≤ 8 }

@@ -1,4 +1,4 @@
--- The distance classes of vertices: how near they are to the roots that are named, or to the leaf vertices.
+-- The distance classes of vertices: their distances from the named roots or from the leaf vertices.
 use Rattle.std.specs.Prelude.{◌≡◌, ◌<◌, ◌≤◌, ℕ, zero, suc, List, [], ◌∷◌, map, length, Option, None, Some, ◌*◌, ◌/◌, ◌+◌, ◌^◌, unwrap_or, slice_index_or}
 use Rattle.port_graph.specs.declared.edge.Edge.{Edge}
 use Rattle.port_graph.specs.Heads.{heads}
@@ -15,7 +15,7 @@ distance edges a b = shortest (heads edges) (length edges) a b
 abbrev pub no_distances : DistanceSum
 no_distances = record { near = None; sum = 0; count = 0 }
 
--- the sum with one more distance: the least, the sum and the count
+-- the summary with one more distance, which counts in the least, the sum and the count; None changes nothing
 abbrev pub with_distance : DistanceSum → Option ℕ → DistanceSum
 with_distance t None = t
 with_distance t (Some d) = record { near = Some (lesser d t.near); sum = t.sum + d; count = t.count + 1 }
@@ -29,12 +29,13 @@ with_distances edges s t (a ∷ some) = with_distances edges s (with_distance t 
 abbrev pub distance_sum : List (List Edge) → List ℕ → ℕ → DistanceSum
 distance_sum edges some s = with_distances edges s no_distances some
 
--- four times the mean, rounded down; 0 if there are none
+-- four times the mean of `count` numbers, rounded down; 0 if there are none
 abbrev pub quarters_of : ℕ → ℕ → ℕ
 quarters_of sum zero = 0
 quarters_of sum (suc count) = 4 * sum / suc count
 
--- the distance from the nearest root if there is one, else the mean distance from the leaf vertices, in quarters
+-- the distance from the nearest root if there is one, and otherwise four times the mean distance from the leaf
+-- vertices, rounded down
 abbrev pub distance_class_by : DistanceSum → DistanceSum → ℕ
 distance_class_by roots leaves = unwrap_or roots.near (quarters_of leaves.sum leaves.count)
 
@@ -51,11 +52,11 @@ distance_class_of edges leaves roots s = distance_class_by (distance_sum edges r
 abbrev pub distance_classes_of : List (List Edge) → List ℕ → List ℕ → List ℕ
 distance_classes_of edges leaves roots = map (distance_class_of edges leaves roots) (numbers_from 0 (length edges))
 
--- the distances are below 2^64
+-- the sum of the distances is at most 2^64 times their number
 abbrev pub IsDistanceSum : DistanceSum → Type 0
 IsDistanceSum t = t.sum ≤ t.count * 2 ^ 64
 
--- the distances are below 2^64, and at most n
+-- each distance is at most 2^64, and there are at most n of them
 pub record IsDistanceSumOf (n : ℕ) (t : DistanceSum) : Type 0 where
   pub sum : IsDistanceSum t
   pub count : t.count ≤ n
@@ -65,12 +66,12 @@ pub record HasRoom (t : DistanceSum) : Type 0 where
   pub sum : t.sum + 2 ^ 64 ≤ 2 ^ 128
   pub count : t.count + 1 < 2 ^ 64
 
--- these are the distance sums of the vertices, from the vertices `some`
+-- the list has the sum of the distances of each vertex from the vertices `some`
 pub record AreDistanceSums (edges : List (List Edge)) (some : List ℕ) (distance_sums : List DistanceSum) : Type 0 where
   pub all : length distance_sums ≡ length edges
   pub each : (s : ℕ) → s < length edges → slice_index_or distance_sums s no_distances ≡ distance_sum edges some s
 
--- each distance sum with the distance at its index
+-- `new` has each sum of `old` with the distance at its index added
 pub record AreWithDistances (old new : List DistanceSum) (distances : List (Option ℕ)) : Type 0 where
   pub all : length new ≡ length old
   pub each : (s : ℕ) → s < length old → slice_index_or new s no_distances

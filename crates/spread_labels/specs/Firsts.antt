@@ -1,4 +1,5 @@
--- The keys by which an order grows: the distance class of a vertex, and its distance from the first of its component.
+-- The keys that an order grows by: the distance class of a vertex, and its distance from the first vertex of its
+-- component.
 use Rattle.std.specs.Prelude.{◌≡◌, ◌<◌, ℕ, true, List, map, filter, EachIndex, length, Option, is_some, option_and_then, unwrap_or, slice_index, slice_index_or, None, Some}
 use Rattle.std.specs.Option.{option_or}
 use Rattle.port_graph.specs.declared.edge.Edge.{Edge}
@@ -12,7 +13,7 @@ use Rattle.spread_labels.specs.Stages.{earliest_of}
 abbrev pub distances_from : List (List Edge) → ℕ → List (Option ℕ)
 distances_from edges s = map (distance edges s) (numbers_from 0 (length edges))
 
--- keys with only the distance class
+-- keys that have only the distance class
 abbrev pub by_distance_class : List ℕ → List VertexKey
 by_distance_class distance_classes = map (λ c. record { distance_class = c; distance = 0 }) distance_classes
 
@@ -22,30 +23,30 @@ first_among keys distances =
     earliest_of (before_by keys)
     (filter (λ a. is_some (slice_index_or distances a None)) (numbers_from 0 (length keys)))
 
--- the distance of the earliest of the vertices that have one
+-- the distance of the earliest of the vertices that have a distance; 0 if there is none
 abbrev pub from_first : List VertexKey → List (Option ℕ) → ℕ
 from_first keys distances =
     unwrap_or (option_and_then (λ a. slice_index_or distances a None) (first_among keys distances)) 0
 
--- the first of the component of vertex s
+-- the first vertex of the component of vertex s
 abbrev pub first_at : List (List Edge) → List VertexKey → ℕ → ℕ
 first_at edges keys s = unwrap_or (first_among keys (distances_from edges s)) s
 
--- each distance in `far` is the vertex's from the first of its component, and each of the first `count` vertices has
--- one
+-- each distance in `far` is that of the vertex from the first vertex of its component, and each of the first `count`
+-- vertices has a distance
 pub record AreFar (edges : List (List Edge)) (keys : List VertexKey) (count : ℕ) (far : List (Option ℕ)) : Type 0 where
   pub all : length far ≡ length edges
   pub right : (s d : ℕ) → s < length edges → slice_index_or far s None ≡ Some d
       → from_first keys (distances_from edges s) ≡ d
   pub known : (s : ℕ) → s < count → is_some (slice_index_or far s None) ≡ true
 
--- each vertex without a distance gets the one that was found; the other distances stay
+-- each vertex without a distance gets the distance that was found, if there is one; the other distances stay
 abbrev pub FillsIn : List (Option ℕ) → List (Option ℕ) → List (Option ℕ) → Type 0
 FillsIn far found new =
     EachIndex new (λ k. slice_index_or new k None ≡ option_or (slice_index_or far k None) (slice_index_or found k None))
 
--- the key of a vertex: its distance class, and its distance from the first of its component, by distance class and then
--- by number
+-- the key of vertex s: its distance class, and its distance from the first vertex of its component, by distance class
+-- and then by number
 abbrev pub key_of : List (List Edge) → List ℕ → ℕ → VertexKey
 key_of edges distance_classes s =
     record {

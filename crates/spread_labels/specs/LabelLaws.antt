@@ -1,4 +1,4 @@
--- What labels, costs and candidates are, vertex by vertex.
+-- The properties of labels, costs and candidates at each vertex.
 use Rattle.std.specs.Prelude.{◌≡◌, ◌≢◌, ◌<◌, ◌≤◌, ◌⊎◌, ℕ, suc, List, length, Contains, None, Some}
 use Rattle.port_graph.specs.declared.edge.Edge.{Edge}
 use Rattle.port_graph.specs.Walks.{Walk}
@@ -8,14 +8,14 @@ use Rattle.spread_labels.specs.declared.label.Label.TheVariants.{Up, Down}
 use Rattle.spread_labels.specs.declared.label.Mark.{Mark}
 use Rattle.spread_labels.specs.Labels.{Marks, marks, candidates}
 
--- an edge of s that leads to a vertex of this cost: up, or down to one labelled Down
+-- edge e of s leads to a vertex of this cost and gives s a label: it leads up, or the vertex is labeled Down
 pub record Gives (edges : List (List Edge)) (marks : Marks) (s : ℕ) (e : Edge) (cost : ℕ) : Type 0 where
   pub edge : Contains (edges_at edges s) e
   pub label : Label
   pub labelled : marks e.to ≡ Some (record { cost = cost; label = label })
   pub up_or_down : (e.to < s) ⊎ (label ≡ Down)
 
--- an edge gives s a label from cost `round`, and none from a lesser cost; the label is Up exactly if one that gives
+-- an edge gives s a label from cost `round`, and none from a lesser cost; the label is Up exactly if an edge that gives
 -- from this cost leads up
 pub record IsGiven (edges : List (List Edge)) (marks : Marks) (s round : ℕ) (label : Label) : Type 0 where
   pub edge : Edge
@@ -25,7 +25,7 @@ pub record IsGiven (edges : List (List Edge)) (marks : Marks) (s round : ℕ) (l
   pub when_down : label ≡ Down → (e : Edge) → Gives edges marks s e round → s ≤ e.to
 
 -- the labels and costs towards target t: t is Down at cost 0; each other vertex with a label has it from its edges, at
--- one more than their least cost; no edge gives a label to a vertex without one
+-- a cost one more than the least that gives; no edge gives a label to a vertex without a label
 pub record AreMarks (edges : List (List Edge)) (t : ℕ) (marks : Marks) : Type 0 where
   pub target : marks t ≡ Some (record { cost = 0; label = Down })
   pub other : (s : ℕ) (m : Mark) → s ≢ t → marks s ≡ Some m → (round : ℕ) × (m.cost ≡ suc round)
@@ -37,12 +37,12 @@ abbrev pub LabelledLaw : Type 0
 LabelledLaw = (edges : List (List Edge)) (t : ℕ) → LeadToVertices edges → t < length edges
     → AreMarks edges t (marks edges t)
 
--- no other labels do
+-- no other labels and costs satisfy `AreMarks`
 abbrev pub UniqueLaw : Type 0
 UniqueLaw = (edges : List (List Edge)) (t : ℕ) (one other : Marks) → AreMarks edges t one → AreMarks edges t other
     → (s : ℕ) → one s ≡ other s
 
--- each edge has one back
+-- if a has an edge to b, b has an edge to a
 abbrev pub IsSymmetric : List (List Edge) → Type 0
 IsSymmetric edges = (a b : ℕ) → Contains (heads edges a) b → Contains (heads edges b) a
 
@@ -63,11 +63,12 @@ pub record AreReached (edges : List (List Edge)) (t : ℕ) : Type 0 where
   pub no_other : (s : ℕ) (m : Mark) → marks edges t s ≡ Some m → Walk (heads edges) s t m.cost
   pub bounded : (s : ℕ) (m : Mark) → marks edges t s ≡ Some m → m.cost < length edges
 
+-- in a graph in a grown order, exactly the vertices of the target's component have labels
 abbrev pub ReachedLaw : Type 0
 ReachedLaw = (edges : List (List Edge)) (t : ℕ) → IsGrownGraph edges → t < length edges → AreReached edges t
 
--- an edge from a vertex with mark m to one of a cost one less: up, or down to one labelled Down; from one labelled Down
--- only the latter
+-- an edge from a vertex with mark m to a vertex of a cost one less; it leads up, or down to a vertex labeled Down; if m
+-- is Down, it leads down to such a vertex
 pub record IsStep (edges : List (List Edge)) (t s : ℕ) (m : Mark) (e : Edge) : Type 0 where
   pub edge : Contains (edges_at edges s) e
   pub to : Mark
@@ -76,12 +77,14 @@ pub record IsStep (edges : List (List Edge)) (t s : ℕ) (m : Mark) (e : Edge) :
   pub up_or_down : (e.to < s) ⊎ ((s < e.to) × (to.label ≡ Down))
   pub from_down : m.label ≡ Down → (s < e.to) × (to.label ≡ Down)
 
--- each labelled vertex except the target has candidates; they are steps, and all edges that give from a cost one less
+-- a labeled vertex except the target has candidates; each candidate is a step; each edge that gives from a cost one
+-- less is a candidate
 pub record AreCandidates (edges : List (List Edge)) (t s : ℕ) (m : Mark) : Type 0 where
   pub some : s ≢ t → (e : Edge) × Contains (candidates edges t s) e
   pub steps : (e : Edge) → Contains (candidates edges t s) e → IsStep edges t s m e
   pub all : (e : Edge) (cost : ℕ) → m.cost ≡ suc cost → Gives edges (marks edges t) s e cost
       → Contains (candidates edges t s) e
 
+-- the candidates of each labeled vertex satisfy `AreCandidates`
 abbrev pub CandidatesLaw : Type 0
 CandidatesLaw = (edges : List (List Edge)) (t s : ℕ) (m : Mark) → marks edges t s ≡ Some m → AreCandidates edges t s m

@@ -1,5 +1,5 @@
--- Labels towards a target, in rounds. Vertices are numbered by their positions in an order: up is to a lesser
--- number, down to a greater one.
+-- Labels towards a target, in rounds. Vertices are numbered by their positions in an order. An edge leads up if it
+-- leads to a lesser number, and down if it leads to a greater one.
 use Rattle.std.specs.Prelude.{ℕ, zero, suc, Bool, true, false, ◌||◌, ◌==◌, nat_lt}
 use Rattle.std.specs.Prelude.{List, [], ◌∷◌, filter, length, Option, None, Some, if◌then◌else◌}
 use Rattle.std.specs.List.{list_any}
@@ -9,6 +9,7 @@ use Rattle.spread_labels.specs.declared.label.Label.{Label}
 use Rattle.spread_labels.specs.declared.label.Label.TheVariants.{Up, Down}
 use Rattle.spread_labels.specs.declared.label.Mark.{Mark}
 
+-- whether a label is Down
 abbrev pub is_down : Label → Bool
 is_down Up = false
 is_down Down = true
@@ -17,11 +18,12 @@ is_down Down = true
 abbrev pub Marks : Type 0
 Marks = ℕ → Option Mark
 
--- an edge gives s a label: up to a vertex with mark m, or down to one labelled Down
+-- whether edge e gives s a label: it leads up to a vertex with mark m, or down to one labeled Down
 abbrev pub gives_from : ℕ → Edge → Option Mark → Bool
 gives_from s e None = false
 gives_from s e (Some m) = nat_lt e.to s || is_down m.label
 
+-- whether edge e gives s a label, by these marks
 abbrev pub gives : Marks → ℕ → Edge → Bool
 gives marks s e = gives_from s e (marks e.to)
 
@@ -33,18 +35,18 @@ givers edges marks s = filter (gives marks s) (edges_at edges s)
 abbrev pub leads_up : ℕ → List Edge → Bool
 leads_up s es = list_any (λ e. nat_lt e.to s) es
 
--- the mark that the edges give: Up if one of them leads up, else Down
+-- the mark that the edges give: Up if one of them leads up, and Down otherwise; None if there are no edges
 abbrev pub mark_by : ℕ → ℕ → List Edge → Option Mark
 mark_by round s [] = None
 mark_by round s (e ∷ es) = Some (record { cost = round; label = if leads_up s (e ∷ es) then Up else Down })
 
--- the first mark, if there is one, else the other
+-- the first mark if there is one, and the other otherwise
 abbrev pub mark_or : Option Mark → Option Mark → Option Mark
 mark_or None other = other
 mark_or (Some m) other = Some m
 
--- the label of s after this many rounds: at first only the target has one, Down; in each round a vertex without a label
--- gets one from the edges that give, by the labels of the round before
+-- the label of s after `round` rounds: at first only the target has a label, Down; in each round a vertex without a
+-- label gets one from the edges that give, by the labels of the round before
 abbrev pub marks_after : List (List Edge) → ℕ → ℕ → ℕ → Option Mark
 marks_after edges t zero s = if s == t then Some (record { cost = 0; label = Down }) else None
 marks_after edges t (suc round) s =
@@ -54,14 +56,16 @@ marks_after edges t (suc round) s =
 abbrev pub marks : List (List Edge) → ℕ → ℕ → Option Mark
 marks edges t s = marks_after edges t (length edges) s
 
--- the edges that gave a vertex its label, by the labels of the round before
+-- the edges that give s its label in round `round + 1`, by the labels after `round` rounds
 abbrev pub givers_before : List (List Edge) → ℕ → ℕ → ℕ → List Edge
 givers_before edges t s zero = []
 givers_before edges t s (suc round) = givers edges (marks_after edges t round) s
 
+-- the edges that gave s this mark; none if there is no mark
 abbrev pub candidates_by : List (List Edge) → ℕ → ℕ → Option Mark → List Edge
 candidates_by edges t s None = []
 candidates_by edges t s (Some m) = givers_before edges t s m.cost
 
+-- the candidates of s towards target t: the edges that gave s its label
 abbrev pub candidates : List (List Edge) → ℕ → ℕ → List Edge
 candidates edges t s = candidates_by edges t s (marks edges t s)

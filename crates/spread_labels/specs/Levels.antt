@@ -5,7 +5,7 @@ use Rattle.port_graph.specs.Heads.{edges_at}
 use Rattle.spread_labels.specs.DistanceClasses.{distance_sum}
 use Rattle.spread_labels.specs.Orders.{numbers_from}
 
--- the distance from the nearest leaf vertex, 0 if there is none
+-- the distance of vertex s from the nearest leaf vertex; 0 if there is none
 abbrev pub level_of : List (List Edge) → List ℕ → ℕ → ℕ
 level_of edges leaves s = unwrap_or (distance_sum edges leaves s).near 0
 
@@ -13,11 +13,11 @@ level_of edges leaves s = unwrap_or (distance_sum edges leaves s).near 0
 abbrev pub levels_of : List (List Edge) → List ℕ → List ℕ
 levels_of edges leaves = map (level_of edges leaves) (numbers_from 0 (length edges))
 
--- whether an edge of a vertex leads to a higher one
+-- whether edge e of vertex s leads to a higher vertex
 abbrev pub is_rise : List ℕ → ℕ → Edge → Bool
 is_rise levels s e = nat_lt (slice_index levels s) (slice_index levels e.to)
 
--- the number of edges of a vertex that lead to higher ones
+-- the number of edges of vertex s that lead to higher vertices
 abbrev pub rises_at : List (List Edge) → List ℕ → ℕ → ℕ
 rises_at edges levels s = length (filter (is_rise levels s) (edges_at edges s))
 
@@ -31,8 +31,8 @@ abbrev pub width_of : List (List Edge) → List ℕ → ℕ → ℕ
 width_of edges levels h =
     greatest 1 (map (rises_at edges levels) (filter (λ s. slice_index levels s == h) (numbers_from 0 (length edges))))
 
--- the digit weight of a level: the product of the widths of the lesser levels, but at most 65536, which no number of a
--- LID exceeds
+-- the digit weight of a level: the product of the widths of the lesser levels, but at most 65536, which is more than
+-- any number of a LID
 abbrev pub digit_weight_of : List (List Edge) → List ℕ → ℕ → ℕ
 digit_weight_of edges levels zero = 1
 digit_weight_of edges levels (suc h) = min (digit_weight_of edges levels h * width_of edges levels h) 65536

@@ -1,5 +1,5 @@
--- Marks towards many targets side by side. For each vertex: the targets that it has a mark for, and those for which the
--- mark is Down. For each edge: the targets for which it gave the mark.
+-- Marks towards many targets at once. For each vertex: the targets that it has a mark for, and those for which the mark
+-- is Down. For each edge: the targets for which it gave the mark.
 use Rattle.std.specs.Prelude.{◌≡◌, ◌<◌, ℕ, zero, suc, Bool, false, not, ◌&&◌, ◌||◌, ◌==◌, nat_lt, List, [], ◌∷◌, length, replicate, Option, None, Some, is_some, slice_index, slice_index_or, if◌then◌else◌}
 use Rattle.std.specs.List.{list_any}
 use Rattle.port_graph.specs.declared.edge.Edge.{Edge}
@@ -9,11 +9,12 @@ use Rattle.spread_labels.specs.declared.target_set.TargetSet.{TargetSet}
 use Rattle.spread_labels.specs.Labels.{candidates, gives, is_down, marks_after}
 use Rattle.spread_labels.specs.TargetSets.{EachTarget, has, no_targets}
 
--- the set of a vertex or an edge
+-- the set of the vertex or edge at index i
 abbrev pub set_at : List TargetSet → ℕ → TargetSet
 set_at sets i = slice_index_or sets i no_targets
 
--- the targets for which an edge of s gives it a mark: up to those that have one, or down to those marked Down
+-- the targets for which edge e gives s a mark: those that the vertex above has a mark for, or those for which the
+-- vertex below is marked Down
 abbrev pub giver_set : ℕ → List TargetSet → List TargetSet → Edge → TargetSet
 giver_set s marked downs e = if nat_lt e.to s then set_at marked e.to else set_at downs e.to
 
@@ -21,7 +22,7 @@ giver_set s marked downs e = if nat_lt e.to s then set_at marked e.to else set_a
 abbrev pub edge_at : List Edge → ℕ → Edge
 edge_at es j = slice_index_or es j (record { port = 0; to = 0 })
 
--- for each edge of s, what was noted before, and the new targets for which the edge gives a mark
+-- for each edge of s, `row` has the targets of `old` and those of `new` for which the edge gives a mark
 abbrev pub AreNoted : ℕ → List Edge → List TargetSet → List TargetSet → TargetSet → List TargetSet → List TargetSet
     → Type 0
 AreNoted s es marked downs new old row = EachTarget (λ k. (j : ℕ) → j < length es → has (set_at row j) k
@@ -50,7 +51,7 @@ no_sets es = replicate (length es) no_targets
 abbrev pub sets_at : List (List TargetSet) → ℕ → List TargetSet
 sets_at rows s = slice_index_or rows s []
 
--- the sets of the first `count` vertices after one more round
+-- the sets of the first `count` vertices after one more round, and the sets of their edges
 pub record AreSetSteps (edges : List (List Edge)) (marked downs : List TargetSet) (rows : List (List TargetSet))
     (count : ℕ) (next_marked next_downs : List TargetSet) (next_rows : List (List TargetSet)) : Type 0 where
   pub all_marked : length next_marked ≡ count
@@ -64,10 +65,12 @@ abbrev pub gave_before : List (List Edge) → ℕ → ℕ → Edge → ℕ → B
 gave_before edges t s e zero = false
 gave_before edges t s e (suc round) = gives (marks_after edges t round) s e
 
+-- whether edge e gave s this mark
 abbrev pub gave_by : List (List Edge) → ℕ → ℕ → Edge → Option Mark → Bool
 gave_by edges t s e None = false
 gave_by edges t s e (Some m) = gave_before edges t s e m.cost
 
+-- whether edge e gave s the mark that it has after this many rounds
 abbrev pub gave : List (List Edge) → ℕ → ℕ → ℕ → Edge → Bool
 gave edges t round s e = gave_by edges t s e (marks_after edges t round s)
 
@@ -76,7 +79,7 @@ abbrev pub down_of : Option Mark → Bool
 down_of None = false
 down_of (Some m) = is_down m.label
 
--- what the sets say of target t, at number k, after this many rounds
+-- after this many rounds, the sets at number k describe the marks towards target t
 pub record AreSetsTowards (edges : List (List Edge)) (t k round : ℕ) (marked downs : List TargetSet)
     (rows : List (List TargetSet)) : Type 0 where
   pub is_marked : (s : ℕ) → s < length edges → has (set_at marked s) k ≡ is_some (marks_after edges t round s)
@@ -109,11 +112,11 @@ pub record AreCandidateSets (edges : List (List Edge)) (targets : List ℕ) (row
   pub each : (k s : ℕ) → k < length targets → s < length edges
       → picked k (sets_at rows s) (edges_at edges s) ≡ candidates edges (slice_index targets k) s
 
--- for each vertex, which of the first n targets it is
+-- the set of each of `count` vertices has the indices, among the first n targets, at which the vertex is
 pub record AreAtTargets (count : ℕ) (targets : List ℕ) (n : ℕ) (sets : List TargetSet) : Type 0 where
   pub all : length sets ≡ count
   pub each : (k s : ℕ) → k < n → s < count → has (set_at sets s) k ≡ (s == slice_index targets k)
 
--- the sets of the first n vertices have equal targets
+-- the sets of the first n vertices are equal
 abbrev pub AreSame : List TargetSet → List TargetSet → ℕ → Type 0
 AreSame old new n = EachTarget (λ k. (s : ℕ) → s < n → has (set_at old s) k ≡ has (set_at new s) k)

@@ -1,4 +1,4 @@
--- Ports of candidates, target by target.
+-- Lists of the ports of candidates, by target.
 use Rattle.std.specs.Prelude.{ℕ, List, [], ◌∷◌, ◌++◌, if◌then◌else◌}
 use Rattle.spread_labels.specs.declared.target_set.TargetSet.{TargetSet}
 use Rattle.spread_labels.specs.TargetSets.{has}

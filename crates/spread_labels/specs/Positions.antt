@@ -3,12 +3,12 @@ use Rattle.std.specs.Prelude.{◌≡◌, ◌<◌, ℕ, List, length, Contains, s
 use Rattle.port_graph.specs.declared.edge.Edge.{Edge}
 use Rattle.spread_labels.specs.Orders.{at_position, position_of}
 
--- each position has one of n vertices, and none stands twice
+-- each position has one of n vertices, and no vertex is at two positions
 pub record StandOnce (n : ℕ) (vertices : List ℕ) : Type 0 where
   pub within : (i : ℕ) → i < length vertices → at_position vertices i < n
   pub once : (i j : ℕ) → i < length vertices → j < i → at_position vertices j ≡ at_position vertices i → ⊥
 
--- the positions of n vertices, for those that stand in the order
+-- the position of each of n vertices that is in the order
 pub record ArePositions (n : ℕ) (vertices positions : List ℕ) : Type 0 where
   pub all : length positions ≡ n
   pub each : (s : ℕ) → Contains vertices s → slice_index positions s ≡ position_of vertices s

@@ -1,4 +1,4 @@
--- The edges up and those down, each in lists of their own, as slopes have them.
+-- The edges up and the edges down, each in lists of their own, as slopes need them.
 use Rattle.std.specs.Prelude.{ℕ, suc, Bool, nat_lt, List, [], ◌∷◌, filter}
 use Rattle.port_graph.specs.declared.edge.Edge.{Edge}
 use Rattle.port_graph.specs.Slopes.{Slope}
@@ -12,20 +12,24 @@ abbrev pub rows_from : (ℕ → Edge → Bool) → ℕ → List (List Edge) → 
 rows_from test k [] = []
 rows_from test k (es ∷ rows) = filter (test k) es ∷ rows_from test (suc k) rows
 
+-- the edges of each vertex that lead up
 abbrev pub ups_of : List (List Edge) → List (List Edge)
 ups_of edges = rows_from (λ s e. nat_lt e.to s) 0 edges
 
+-- the edges of each vertex that lead down
 abbrev pub downs_of : List (List Edge) → List (List Edge)
 downs_of edges = rows_from (λ s e. nat_lt s e.to) 0 edges
 
+-- the slopes of a graph: its edges up and its edges down
 abbrev pub slopes_of : List (List Edge) → List Slope
 slopes_of edges = indexed (ups_of edges) (downs_of edges)
 
--- the sides are slopes, and what climbs and descends on the edges does so on the slopes
+-- the edges up and down are slopes, and edges that climb or descend in the graph do so on the slopes
 pub record AreSides (edges : List (List Edge)) : Type 0 where
   pub slopes : AreSlopes (ups_of edges) (downs_of edges)
   pub climbs : (es : List Edge) (s u : ℕ) → ClimbsBy edges s es u → Climbs (slopes_of edges) s es u
   pub descends : (es : List Edge) (s u : ℕ) → DescendsBy edges s es u → Descends (slopes_of edges) s es u
 
+-- each graph whose edges go both ways has sides that are slopes
 abbrev pub SidesLaw : Type 0
 SidesLaw = (edges : List (List Edge)) → IsSymmetric edges → AreSides edges

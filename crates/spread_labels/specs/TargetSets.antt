@@ -1,9 +1,9 @@
--- Sets of targets that stand side by side.
+-- Sets of up to 64 targets.
 use Rattle.std.specs.Prelude.{◌<◌, ℕ, ◌==◌, Bool}
 use Rattle.std.specs.Int.{bit_at}
 use Rattle.spread_labels.specs.declared.target_set.TargetSet.{TargetSet}
 
--- P holds for each target
+-- P holds for each of the 64 numbers of targets
 abbrev pub EachTarget : (ℕ → Type 0) → Type 0
 EachTarget P = (k : ℕ) → k < 64 → P k
 
@@ -11,5 +11,6 @@ EachTarget P = (k : ℕ) → k < 64 → P k
 unfoldable pub has : TargetSet → ℕ → Bool
 has set k = bit_at set.bits k == 1
 
+-- the empty set
 abbrev pub no_targets : TargetSet
 no_targets = record { bits = 0 }

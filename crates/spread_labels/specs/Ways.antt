@@ -8,20 +8,22 @@ use Rattle.port_graph.specs.Heads.{edges_at, LeadToVertices}
 use Rattle.spread_labels.specs.declared.label.Mark.{Mark}
 use Rattle.spread_labels.specs.Labels.{marks, candidates}
 
--- edges up from s to u; `Descends` edges down
+-- the edges lead up from s to u, in turn
 abbrev pub Climbs : List (List Edge) → ℕ → List Edge → ℕ → Type 0
 Climbs edges s [] u = s ≡ u
 Climbs edges s (e ∷ es) u = Contains (edges_at edges s) e × (e.to < s) × Climbs edges e.to es u
 
+-- the edges lead down from s to u, in turn
 abbrev pub Descends : List (List Edge) → ℕ → List Edge → ℕ → Type 0
 Descends edges s [] u = s ≡ u
 Descends edges s (e ∷ es) u = Contains (edges_at edges s) e × (s < e.to) × Descends edges e.to es u
 
--- the edges are those picked at each vertex from s up to the target t
+-- the edges are those that are picked at each vertex from s to the target t
 abbrev pub Follows : (ℕ → Edge) → ℕ → ℕ → List Edge → Type 0
 Follows pick t s [] = s ≡ t
 Follows pick t s (e ∷ es) = (s ≢ t) × (pick s ≡ e) × Follows pick t e.to es
 
+-- the cost of vertex s towards target t; None if it has no label
 abbrev pub cost : List (List Edge) → ℕ → ℕ → Option ℕ
 cost edges t s = option_map (λ m. m.cost) (marks edges t s)
 
@@ -31,12 +33,12 @@ CostsFall edges t n [] = Unit {0}
 CostsFall edges t zero (e ∷ es) = ⊥
 CostsFall edges t (suc n) (e ∷ es) = (cost edges t e.to ≡ Some n) × CostsFall edges t n es
 
--- the vertices that are passed, including the first and the last
+-- the vertices that the edges pass, including the first and the last
 abbrev pub vertices_along : ℕ → List Edge → List ℕ
 vertices_along s [] = s ∷ []
 vertices_along s (e ∷ es) = s ∷ vertices_along e.to es
 
--- a way by the picked edges: up, and then down, over as many edges as the cost, past no vertex twice
+-- a way by the picked edges: it goes up and then down, takes as many edges as the cost, and passes no vertex twice
 pub record Way (edges : List (List Edge)) (pick : ℕ → Edge) (t s n : ℕ) : Type 0 where
   pub ups : List Edge
   pub downs : List Edge
@@ -53,15 +55,16 @@ abbrev pub PicksCandidates : List (List Edge) → (ℕ → ℕ) → (ℕ → ℕ
 PicksCandidates edges home pick = (lid s : ℕ) (m : Mark) → marks edges (home lid) s ≡ Some m → s ≢ home lid
     → Contains (candidates edges (home lid) s) (pick lid s)
 
--- whichever candidates are picked, they make a way to the home from each vertex with a label
+-- whichever candidates are picked, they lead to the home from each vertex with a label
 abbrev pub WaysLaw : Type 0
 WaysLaw = (edges : List (List Edge)) (home : ℕ → ℕ) (pick : ℕ → ℕ → Edge) → PicksCandidates edges home pick
     → (lid s : ℕ) (m : Mark) → marks edges (home lid) s ≡ Some m → Way edges (pick lid) (home lid) s m.cost
 
--- the number of a channel from a into b, if there are n vertices
+-- the number of the channel from a into b, if there are n vertices
 abbrev pub channel_number : ℕ → ℕ → ℕ → ℕ
 channel_number n a b = if nat_lt b a then n - b else n + b
 
+-- the numbers of the channels that the edges take from s on, if there are n vertices
 abbrev pub channels_along : ℕ → ℕ → List Edge → List ℕ
 channels_along n s [] = []
 channels_along n s (e ∷ es) = channel_number n s e.to ∷ channels_along n e.to es
@@ -72,7 +75,7 @@ ChannelsLaw = (edges : List (List Edge)) → LeadToVertices edges → (s u t : �
     → Climbs edges s ups u → Descends edges u downs t
     → IsStrictlyIncreasing (channels_along (length edges) s (ups ++ downs))
 
--- a channel: a vertex and an edge of it
+-- a vertex and one of its edges
 abbrev pub Channel : Type 0
 Channel = ℕ × Edge
 
@@ -83,7 +86,7 @@ pub record MayWait (edges : List (List Edge)) (held next : Channel) : Type 0 whe
   pub there : held.1.to ≡ next.0
   pub wants : Contains (candidates edges target next.0) next.1
 
--- n + 1 channels from a to b: a packet that holds one may wait for the next
+-- n + 1 channels from a to b, where a packet that holds one may wait for the next
 abbrev pub MayWaitInTurn : List (List Edge) → ℕ → Channel → Channel → Type 0
 MayWaitInTurn edges zero a b = a ≡ b
 MayWaitInTurn edges (suc n) a b = (c : Channel) × MayWait edges a c × MayWaitInTurn edges n c b

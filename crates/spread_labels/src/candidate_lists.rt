@@ -1,4 +1,4 @@
-//! The ports of candidates, target by target.
+//! Lists of the ports of candidates, by target.
 ghost use Rattle.std.specs.Prelude.{◌≡◌, ◌<◌, ◌++◌, [], length, map, IfOk, OnOk, slice_index_or};
 ghost use Rattle.spread_labels.specs.TargetSets.{EachTarget};
 ghost use Rattle.spread_labels.specs.MarkSets.{picked};
@@ -10,7 +10,7 @@ use smp_bytes::PortNum;
 use std::alloc::{AllocError, Global};
 use std::marker::Model;
 
-/// For each of the targets that stand side by side, the ports of a vertex's candidates.
+/// The ports of a vertex's candidates, in a list for each of 64 targets.
 #[derive(Drop)]
 pub struct CandidateLists {
     lists: Vec<Vec<PortNum>>,
@@ -36,8 +36,8 @@ impl CandidateLists {
         Ok(CandidateLists { lists })
     }
 
-    /// Finds the ports of the edges whose set has a target, for each target, in the order of the edges. They replace
-    /// what was found before. Takes one step for each edge, and one for each port that is found.
+    /// Finds for each target the ports of the edges whose set in `sets` has the target, in the order of the edges.
+    /// Replaces the ports that were found before. Takes one step for each edge, and one for each port that is found.
     pub fn find(&mut self, edges: &[Edge], sets: &[TargetSet]) -> Result<(), AllocError>
         requires { length sets.now ≡ length edges.now }
         ensures { OnOk result (EachTarget (λ k. slice_index_or self.new k []
@@ -46,7 +46,7 @@ impl CandidateLists {
         find_all(&mut self.lists, edges, sets)
     }
 
-    /// Returns the ports towards a target.
+    /// Returns the ports towards `target`.
     pub fn at(&self, target: usize) -> &[PortNum]
         requires { target < 64 }
         ensures { result.now ≡ slice_index_or self.now target [] }
@@ -55,7 +55,7 @@ impl CandidateLists {
     }
 }
 
-/// Finds for each target the ports of the edges whose set has it.
+/// Sets the list of each target to the ports of the edges whose set in `sets` has the target.
 fn find_all(
     lists: &mut [Vec<PortNum>],
     edges: &[Edge],
@@ -79,7 +79,7 @@ fn clear(lists: &mut [Vec<PortNum>])
     }
 }
 
-/// Appends to each target's list the ports of the edges whose set has the target.
+/// Appends to the list of each target the ports of the edges whose set in `sets` has the target.
 fn add_all(lists: &mut [Vec<PortNum>], edges: &[Edge], sets: &[TargetSet]) -> Result<(), AllocError>
     requires lists { length lists.old ≡ 64 }
     requires all { length sets.now ≡ length edges.now }
@@ -93,7 +93,7 @@ fn add_all(lists: &mut [Vec<PortNum>], edges: &[Edge], sets: &[TargetSet]) -> Re
     Ok(())
 }
 
-/// Appends a port to the list of each target in `targets`.
+/// Appends `port` to the list of each target in `targets`.
 fn add(lists: &mut [Vec<PortNum>], port: PortNum, targets: TargetSet) -> Result<(), AllocError>
     requires { length lists.old ≡ 64 }
     ensures { OnOk result (EachTarget (λ k. slice_index_or (map (λ list. list.items) lists.new) k []

@@ -1,4 +1,4 @@
-//! The candidates of vertices, towards many targets side by side.
+//! The candidates of vertices, for many targets at once.
 ghost use Rattle.std.specs.Prelude.{◌≡◌, ◌<◌, ◌≤◌, [], length, map, All, IfOk, slice_index_or};
 ghost use Rattle.port_graph.specs.Heads.{LeadToVertices};
 ghost use Rattle.spread_labels.specs.MarkSets.{AreCandidateSets, no_sets};
@@ -9,7 +9,7 @@ use port_graph::Adjacency;
 use std::alloc::{AllocError, Global};
 use std::marker::Model;
 
-/// For each edge of each vertex, the targets towards which it gave the vertex its mark.
+/// For each edge of each vertex, the targets towards which the edge gave the vertex its mark.
 #[derive(Drop)]
 pub struct CandidateSets {
     rows: Vec<Vec<TargetSet>>,
@@ -25,8 +25,9 @@ impl Model for CandidateSets {
 }
 
 impl CandidateSets {
-    /// Finds the sets of all edges towards `targets`, of which there are at most 64. Takes a step or two for each edge
-    /// in each round, for all targets together; there are as many rounds as the greatest cost, and one more.
+    /// Finds for each edge the targets among `targets` towards which it is a candidate. There are at most 64 targets.
+    /// Takes a step or two for each edge in each round, for all targets together. There is one round more than the
+    /// greatest cost.
     pub fn towards(alloc: Global, edges: &Adjacency, targets: &[usize]) -> Result<Self, AllocError>
         requires lead { LeadToVertices edges.now }
         requires few { length targets.now ≤ 64 }
@@ -46,7 +47,7 @@ impl CandidateSets {
     }
 }
 
-/// Returns the sets of all edges towards `targets`, a row for each vertex.
+/// Returns for each vertex the sets of its edges towards `targets`.
 fn rows_towards(
     alloc: Global,
     edges: &Adjacency,
@@ -70,7 +71,7 @@ fn rows_towards(
     Ok(rows)
 }
 
-/// Returns a row of empty sets for each vertex, one for each edge.
+/// Returns a row for each vertex, with an empty set for each of its edges.
 fn no_rows(alloc: Global, edges: &Adjacency) -> Result<Vec<Vec<TargetSet>>, AllocError>
     ensures { IfOk result (λ rows. map (λ row. row.items) rows.items ≡ map no_sets edges.now) }
 {

@@ -1,4 +1,4 @@
-//! How near vertices are to others, and their distance classes.
+//! The distances of vertices from others, and their distance classes.
 ghost use Rattle.std.specs.Prelude.{◌≡◌, ◌<◌, ◌≤◌, ◌*◌, ◌^◌, length, map, All, IfOk};
 ghost use Rattle.port_graph.specs.Heads.{LeadToVertices};
 ghost use Rattle.spread_labels.specs.DistanceClasses.{AreDistanceSums, AreWithDistances, HasRoom};
@@ -12,10 +12,10 @@ use crate::level::near_or_0;
 use port_graph::{Adjacency, distances};
 use std::alloc::{AllocError, Global};
 
-/// The distances of a vertex from some others, summed up.
+/// A summary of the distances of a vertex from some other vertices.
 #[derive(Clone, Copy, Debug, PartialEq, Eq)]
 pub(crate) struct DistanceSum {
-    /// The least distance.
+    /// The least distance, if there is one.
     pub(crate) near: Option<usize>,
     /// The sum of the distances.
     pub(crate) sum: u128,
@@ -26,8 +26,9 @@ pub(crate) struct DistanceSum {
 /// The distance classes and levels of vertices.
 #[derive(Drop)]
 pub struct Grades {
-    /// The distance class of each vertex: its distance from the nearest root, if its component has one; otherwise four
-    /// times its mean distance from the leaf vertices of its component, rounded down, or 0 if there are none.
+    /// The distance class of each vertex. It is the distance from the nearest root if the vertex's component has a
+    /// root. Otherwise it is four times the mean distance from the leaf vertices of the component, rounded down, or 0
+    /// if there are none.
     pub distance_classes: Vec<u128>,
     /// The level of each vertex: its distance from the nearest leaf vertex, or 0 if its component has none.
     pub levels: Vec<usize>,
@@ -58,7 +59,7 @@ pub fn grade(
     })
 }
 
-/// Returns the distance class of each vertex, given its distances from roots and from leaf vertices.
+/// Returns the distance class of each vertex, given the sums of its distances from roots and from leaf vertices.
 fn distance_classes(
     alloc: Global,
     roots: &[DistanceSum],
@@ -76,7 +77,7 @@ fn distance_classes(
     Ok(distance_classes)
 }
 
-/// Returns the distance class of a vertex, given its distances from roots and from leaf vertices.
+/// Returns the distance class of a vertex, given the sums of its distances from roots and from leaf vertices.
 fn distance_class(roots: DistanceSum, leaves: DistanceSum) -> u128
     requires { IsDistanceSum leaves }
     ensures { result ≡ distance_class_by roots leaves }
@@ -87,7 +88,7 @@ fn distance_class(roots: DistanceSum, leaves: DistanceSum) -> u128
     }
 }
 
-/// Returns four times the mean, rounded down, or 0 if `count` is 0.
+/// Returns four times the mean of `count` numbers whose sum is `sum`, rounded down, or 0 if `count` is 0.
 fn quarters(sum: u128, count: usize) -> u128
     requires { sum ≤ count * 2 ^ 64 }
     ensures { result ≡ quarters_of sum count }
@@ -99,7 +100,7 @@ fn quarters(sum: u128, count: usize) -> u128
     4 * (sum / count) + 4 * (sum % count) / count
 }
 
-/// Returns the distance sum of each vertex from the vertices `some`.
+/// Returns the sum of the distances of each vertex from the vertices `some`.
 pub(crate) fn distance_sums(
     alloc: Global,
     edges: &Adjacency,
@@ -133,7 +134,7 @@ fn add_distances(distance_sums: &mut [DistanceSum], distances: &[Option<usize>])
     }
 }
 
-/// Returns the distance sum with one more distance, if there is one.
+/// Returns `distance_sum` with `distance` added, or unchanged if `distance` is `None`.
 fn with(distance_sum: DistanceSum, distance: Option<usize>) -> DistanceSum
     requires { HasRoom distance_sum }
     ensures { result ≡ with_distance distance_sum distance }

@@ -21,9 +21,9 @@ pub(crate) enum Stage {
     Placed,
 }
 
-/// Returns the vertices in their grown order. Next comes the vertex of the earliest key among those with an edge to a
-/// placed one; if there is none, the earliest of all that are left. Of equal keys the lesser vertex's is earlier. Takes
-/// one step for each pair of vertices and for each edge.
+/// Returns the vertices in their grown order. The next vertex is the one with the earliest key among those that have an
+/// edge to a placed one. If there is none, it is the one with the earliest key of all that are left. Of equal keys the
+/// lesser vertex's is earlier. Takes one step for each pair of vertices and for each edge.
 pub fn grown_order(
     alloc: Global,
     edges: &Adjacency,
@@ -45,7 +45,7 @@ pub fn grown_order(
     Ok(vertices)
 }
 
-/// Returns the vertex that is placed next.
+/// Returns the vertex that is placed next, or `None` if all are placed.
 fn next_vertex(keys: &[VertexKey], stages: &[Stage]) -> Option<usize>
     requires { length stages.now ≡ length keys.now }
     ensures next { result ≡ next_at (before_by keys.now) stages.now (length keys.now) }
@@ -57,7 +57,7 @@ fn next_vertex(keys: &[VertexKey], stages: &[Stage]) -> Option<usize>
     }
 }
 
-/// Returns the vertex of the earliest key among those at `stage`.
+/// Returns the vertex with the earliest key among those at `stage`, or `None` if there is none.
 fn earliest(keys: &[VertexKey], stages: &[Stage], stage: Stage) -> Option<usize>
     requires { length stages.now ≡ length keys.now }
     ensures earliest { result ≡ earliest_at (before_by keys.now) stages.now stage (length keys.now) }
@@ -72,14 +72,14 @@ fn earliest(keys: &[VertexKey], stages: &[Stage], stage: Stage) -> Option<usize>
     found
 }
 
-/// Returns whether two stages are equal.
+/// Returns whether `one` and `stage` are equal.
 fn is_at(one: Stage, stage: Stage) -> bool
     ensures { result ≡ is_stage one stage }
 {
     one == stage
 }
 
-/// Returns the earlier of `vertex` and the vertex found so far, if there is one.
+/// Returns the earlier of `vertex` and `found`, or `vertex` if `found` is `None`.
 pub(crate) fn earlier(keys: &[VertexKey], found: Option<usize>, vertex: usize) -> usize
     requires vertex { vertex < length keys.now }
     requires found { MatchOption found (Unit {0}) (λ other. other < length keys.now) }
@@ -91,7 +91,7 @@ pub(crate) fn earlier(keys: &[VertexKey], found: Option<usize>, vertex: usize) -
     }
 }
 
-/// Returns whether `one` has an earlier key than `other`.
+/// Returns whether `one` comes before `other`: it has an earlier key, or an equal key and a lesser number.
 pub fn is_before(keys: &[VertexKey], one: usize, other: usize) -> bool
     requires one { one < length keys.now }
     requires other { other < length keys.now }
@@ -101,7 +101,7 @@ pub fn is_before(keys: &[VertexKey], one: usize, other: usize) -> bool
     one_key.is_less(&other_key) || (!other_key.is_less(&one_key) && one < other)
 }
 
-/// Marks a vertex as placed, and each vertex that its edges lead to, if it is left, as beside a placed one.
+/// Marks `vertex` as placed. Each vertex that its edges lead to and that is left becomes beside a placed one.
 fn add_vertex(edges: &[Edge], vertex: usize, stages: &mut [Stage])
     requires vertex { vertex < length stages.old }
     requires lead { All (λ edge. edge.to < length stages.old) edges.now }

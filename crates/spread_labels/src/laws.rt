@@ -7,12 +7,12 @@ ghost use Rattle.spread_labels.specs.Orders.{OrderLaw, KeysLaw};
 ghost use Rattle.spread_labels.specs.Sides.{SidesLaw};
 ghost use Rattle.spread_labels.specs.EveryPair.{EveryPairLaw};
 
-/// The labels that the rounds give satisfy the characterisation, at each vertex.
+/// The labels and costs that the rounds give satisfy `AreMarks`.
 pub fn labelled_law()
     ensures { LabelledLaw }
 {}
 
-/// No other labels and costs satisfy the characterisation.
+/// No other labels and costs satisfy `AreMarks`.
 pub fn unique_law()
     ensures { UniqueLaw }
 {}
@@ -24,23 +24,24 @@ pub fn reached_law()
 {}
 
 /// Each vertex with a label, except the target, has a candidate. Each candidate leads to a vertex whose cost is one
-/// less; from a vertex labelled Down it leads down, to one labelled Down.
+/// less. From a vertex labeled `Down` it leads down, to a vertex labeled `Down`.
 pub fn candidates_law()
     ensures { CandidatesLaw }
 {}
 
-/// The candidates of a vertex are its edges that lead to a cost one less: up, or down to a vertex marked `Down`.
+/// The candidates of a vertex are its edges that lead to a vertex of a cost one less and either lead up or lead to a
+/// vertex marked `Down`.
 pub fn candidates_are_nearer()
     ensures { CandidatesAreNearer }
 {}
 
-/// From each vertex with a label the candidates lead to the LID's home, first up and then down, over as many edges as
-/// the cost and past no vertex twice, whichever are picked for each LID and vertex.
+/// From each vertex with a label the candidates lead to the LID's home, whichever are picked for each LID and vertex.
+/// The way goes up and then down, takes as many edges as the cost, and passes no vertex twice.
 pub fn ways_law()
     ensures { WaysLaw }
 {}
 
-/// Channel numbers rise along each way up and then down. They depend only on the order.
+/// Channel numbers rise along each way that goes up and then down. They depend only on the order.
 pub fn channels_law()
     ensures { ChannelsLaw }
 {}
@@ -50,8 +51,8 @@ pub fn no_cycle_law()
     ensures { NoCycleLaw }
 {}
 
-/// The grown order has each vertex once, and each one except the first of its component behind one that it has an edge
-/// to; and the graph by its positions is grown; whatever the keys.
+/// Whatever the keys, the grown order has each vertex once, and each vertex except the first of its component comes
+/// after a vertex that it has an edge to. The graph numbered by its positions is grown.
 pub fn order_law()
     ensures { OrderLaw }
 {}
@@ -61,18 +62,18 @@ pub fn keys_tell_apart()
     ensures { KeysTellApart }
 {}
 
-/// Next in the grown order comes the vertex with the earliest key of those that have an edge to a placed one; if none
-/// has, the earliest of all that are left.
+/// The next vertex of the grown order has the earliest key of those that have an edge to a placed one. If there is
+/// none, it has the earliest key of all that are left.
 pub fn keys_law()
     ensures { KeysLaw }
 {}
 
-/// The edges up and the edges down are slopes, and a way that climbs and descends on the edges does so on the slopes.
+/// The edges up and the edges down are slopes. A way that climbs and descends on the edges does so on the slopes.
 pub fn sides_law()
     ensures { SidesLaw }
 {}
 
-/// In the grown order each vertex of the component of a LID's home has a way there, over fewer edges than there are
+/// In the grown order each vertex of the component of a LID's home has a way to it, over fewer edges than there are
 /// vertices, whatever the keys and whichever candidates are picked.
 pub fn every_pair_law()
     ensures { EveryPairLaw }

@@ -73,7 +73,7 @@ fn next_digit_weight(digit_weight: usize, width: usize) -> usize
     digit_weight.saturating_mul(width).min(GREATEST_WEIGHT)
 }
 
-/// Returns the greatest of some levels or other numbers, or 0 if there are none.
+/// Returns the greatest number of `levels`, or 0 if it is empty.
 pub fn greatest_of(levels: &[usize]) -> usize
     ensures { result ≡ greatest 0 levels.now }
 {
@@ -84,7 +84,8 @@ pub fn greatest_of(levels: &[usize]) -> usize
     found
 }
 
-/// Returns the width of a level.
+/// Returns the width of `level`: the greatest number of edges to higher vertices that a vertex of it has, but at least
+/// 1.
 fn width(edges: &Adjacency, levels: &[usize], level: usize) -> usize
     requires all { length levels.now ≡ length edges.now }
     requires lead { LeadToVertices edges.now }

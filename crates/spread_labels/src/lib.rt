@@ -1,4 +1,5 @@
-//! Routes by labels: how far from the target each vertex gets its label, in rounds, and which edges gave it.
+//! Routes by labels: the cost at which each vertex gets its label, in rounds from the target, and the edges that give
+//! it.
 #![tactic(auto)]
 
 mod candidate_lists;

@@ -1,4 +1,4 @@
-//! Marks towards many targets side by side, in rounds.
+//! Marks towards many targets at once, in rounds.
 ghost use Rattle.std.specs.Prelude.{◌≡◌, ◌<◌, ◌≤◌, ◌&&◌, ◌||◌, true, length, map, nat_lt, All, IfOk};
 ghost use Rattle.std.specs.List.{list_any};
 ghost use Rattle.port_graph.specs.Heads.{LeadToVertices};
@@ -24,14 +24,14 @@ struct VertexSets {
     downs: TargetSet,
 }
 
-/// The targets for which edges give a vertex a mark, and those for which one that leads up does.
+/// The targets for which edges give a vertex a mark, and those for which an edge that leads up gives one.
 #[derive(Clone, Copy)]
 struct Givers {
     targets: TargetSet,
     ups: TargetSet,
 }
 
-/// Returns the targets for which an edge of a vertex gives it a mark.
+/// Returns the targets for which `edge` gives `vertex` a mark.
 fn giver_set(edge: &Edge, vertex: usize, marks: &MarkSets) -> TargetSet
     requires marked { edge.now.to < length marks.now.marked.items }
     requires downs { edge.now.to < length marks.now.downs.items }
@@ -44,7 +44,7 @@ fn giver_set(edge: &Edge, vertex: usize, marks: &MarkSets) -> TargetSet
     }
 }
 
-/// Returns the targets for which any edge of a vertex gives it a mark.
+/// Returns the targets for which any of the edges of `vertex` gives it a mark.
 fn given_by(edges: &[Edge], vertex: usize, marks: &MarkSets) -> Givers
     requires marked { All (λ edge. edge.to < length marks.now.marked.items) edges.now }
     requires downs { All (λ edge. edge.to < length marks.now.downs.items) edges.now }
@@ -66,7 +66,7 @@ fn given_by(edges: &[Edge], vertex: usize, marks: &MarkSets) -> Givers
     Givers { targets, ups }
 }
 
-/// Notes for each edge of a vertex the new targets for which it gave a mark.
+/// Adds to the set of each edge in `row` the targets of `new` for which the edge gives `vertex` a mark.
 fn note(row: &mut [TargetSet], edges: &[Edge], vertex: usize, marks: &MarkSets, new: TargetSet)
     requires all { length row.old ≡ length edges.now }
     requires marked { All (λ edge. edge.to < length marks.now.marked.items) edges.now }
@@ -81,7 +81,8 @@ fn note(row: &mut [TargetSet], edges: &[Edge], vertex: usize, marks: &MarkSets, 
     }
 }
 
-/// Returns the sets of a vertex after one more round. Notes for each of its edges the targets for which it gave a mark.
+/// Returns the sets of `vertex` after one more round. Adds to the set of each edge in `row` the targets for which it
+/// gave the mark in this round.
 fn set_step(edges: &[Edge], vertex: usize, marks: &MarkSets, row: &mut [TargetSet]) -> VertexSets
     requires row { length row.old ≡ length edges.now }
     requires in_marked { vertex < length marks.now.marked.items }
@@ -100,7 +101,8 @@ fn set_step(edges: &[Edge], vertex: usize, marks: &MarkSets, row: &mut [TargetSe
     }
 }
 
-/// Returns the sets after one more round. Notes for each edge the targets for which it gave a mark.
+/// Returns the sets of all vertices after one more round. Adds to the set of each edge in `rows` the targets for which
+/// it gave the mark in this round.
 pub(crate) fn after_round(
     alloc: Global,
     edges: &Adjacency,
@@ -125,7 +127,7 @@ pub(crate) fn after_round(
     Ok(MarkSets { marked, downs })
 }
 
-/// Returns the sets before the first round: each target is marked for itself, and `Down`.
+/// Returns the sets before the first round: each target is marked `Down` for itself.
 pub(crate) fn at_first(
     alloc: Global,
     count: usize,
@@ -142,7 +144,7 @@ pub(crate) fn at_first(
     })
 }
 
-/// Returns for each of `count` vertices which targets it is.
+/// Returns for each of `count` vertices the indices in `targets` at which it is.
 fn at_targets(alloc: Global, count: usize, targets: &[usize]) -> Result<Vec<TargetSet>, AllocError>
     requires few { length targets.now ≤ 64 }
     requires vertices { All (λ target. target < count) targets.now }
@@ -155,7 +157,7 @@ fn at_targets(alloc: Global, count: usize, targets: &[usize]) -> Result<Vec<Targ
     Ok(sets)
 }
 
-/// Returns whether a round changed nothing: for each target the marked vertices are equal.
+/// Returns whether `old` and `new` have the same marked vertices for each target.
 pub(crate) fn are_same(old: &MarkSets, new: &MarkSets) -> bool
     requires { length old.now.marked.items ≡ length new.now.marked.items }
     ensures { result ≡ true → AreSame old.now.marked.items new.now.marked.items (length old.now.marked.items) }

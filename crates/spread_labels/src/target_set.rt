@@ -2,10 +2,10 @@
 ghost use Rattle.std.specs.Prelude.{◌≡◌, ◌<◌, ◌&&◌, ◌||◌, ◌==◌, true, false, not, MatchOption};
 ghost use Rattle.spread_labels.specs.TargetSets.{EachTarget, has, no_targets};
 
-/// The number of targets that stand side by side.
+/// The number of targets in a set.
 pub const TARGETS: usize = 64;
 
-/// A set of the targets that stand side by side, with a bit for each.
+/// A set of up to 64 targets. Each has one bit.
 #[derive(Clone, Copy, Debug, PartialEq, Eq)]
 pub struct TargetSet {
     bits: u64,
@@ -20,7 +20,7 @@ impl TargetSet {
         TargetSet { bits: 0 }
     }
 
-    /// Returns the set with one more target.
+    /// Returns the set with `target` added.
     pub(crate) fn with(self, target: usize) -> Self
         requires { target < 64 }
         ensures { EachTarget (λ k. has result k ≡ ((k == target) || has self k)) }
@@ -79,7 +79,7 @@ impl TargetSet {
         (self.bits >> target) & 1 == 1
     }
 
-    /// Returns the least target in the set.
+    /// Returns the least target in the set, or `None` if the set is empty.
     pub(crate) fn first(self) -> Option<usize>
         ensures { MatchOption result (EachTarget (λ k. has self k ≡ false))
             (λ target. (target < 64) × (has self target ≡ true)) }
@@ -91,7 +91,7 @@ impl TargetSet {
         }
     }
 
-    /// Returns the set without one of its targets.
+    /// Returns the set without `target`, which must be in it.
     pub(crate) fn but(self, target: usize) -> Self
         requires target { target < 64 }
         requires among { has self target ≡ true }

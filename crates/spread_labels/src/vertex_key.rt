@@ -6,7 +6,7 @@ ghost use Rattle.spread_labels.specs.Keys.{key_less};
 pub struct VertexKey {
     /// The distance class of the vertex.
     pub distance_class: u128,
-    /// Its distance from the first of its component.
+    /// The distance of the vertex from the first vertex of its component.
     pub distance: usize,
 }
 

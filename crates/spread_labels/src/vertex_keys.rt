@@ -9,8 +9,9 @@ use crate::vertex_key::VertexKey;
 use port_graph::{Adjacency, distances};
 use std::alloc::{AllocError, Global};
 
-/// Computes the key of each vertex: its distance class, and its distance from the first of its component, which is the
-/// vertex of the least distance class, and of those the least. Takes two breadth-first searches for each component.
+/// Computes the key of each vertex: its distance class, and its distance from the first vertex of its component. The
+/// first vertex is the one of the least distance class, and the least such vertex. Takes two breadth-first searches for
+/// each component.
 pub fn keys(
     alloc: Global,
     edges: &Adjacency,
@@ -33,7 +34,7 @@ pub fn keys(
     Ok(keys)
 }
 
-/// Returns keys with only the distance class.
+/// Returns keys that have only the distance class. Their distance is 0.
 fn by_distance_class(alloc: Global, distance_classes: &[u128]) -> Result<Vec<VertexKey>, AllocError>
     ensures { IfOk result (λ keys. keys.items ≡ by_distance_class distance_classes.now) }
 {
@@ -44,7 +45,7 @@ fn by_distance_class(alloc: Global, distance_classes: &[u128]) -> Result<Vec<Ver
     keys.collect(alloc)
 }
 
-/// Returns the distance of each vertex from the first of its component.
+/// Returns the distance of each vertex from the first one, by `keys`, of its component.
 fn far(
     alloc: Global,
     edges: &Adjacency,
@@ -65,7 +66,8 @@ fn far(
     Ok(far)
 }
 
-/// Returns the distances of all vertices from the first of a vertex's component.
+/// Returns the distance of each vertex from the first one, by `keys`, of the component of `vertex`. A vertex of another
+/// component has none.
 fn from_first(
     alloc: Global,
     edges: &Adjacency,
@@ -82,7 +84,7 @@ fn from_first(
     distances(alloc, edges, first)
 }
 
-/// Sets the distance of each vertex that has none yet.
+/// Fills each distance of `far` that is missing with the one that was found, if there is one.
 fn fill(far: &mut [Option<usize>], found: &[Option<usize>])
     requires { length far.old ≡ length found.now }
     ensures { FillsIn far.old found.now far.new }
@@ -92,7 +94,7 @@ fn fill(far: &mut [Option<usize>], found: &[Option<usize>])
     }
 }
 
-/// Returns the vertex of the earliest key among those that have a distance.
+/// Returns the vertex with the earliest key among those that have a distance, or `None` if there is none.
 fn first(keys: &[VertexKey], distances: &[Option<usize>]) -> Option<usize>
     requires { length distances.now ≡ length keys.now }
     ensures first { result ≡ first_among keys.now distances.now }

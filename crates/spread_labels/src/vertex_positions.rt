@@ -7,7 +7,7 @@ ghost use Rattle.spread_labels.specs.Positions.{ArePositions, StandOnce, to_posi
 use port_graph::{Adjacency, Edge};
 use std::alloc::{AllocError, Global};
 
-/// Returns the position of each of `count` vertices in an order.
+/// Returns the position in `vertices` of each of `count` vertices. The position of a vertex that is not there is 0.
 pub fn positions(alloc: Global, vertices: &[usize], count: usize) -> Result<Vec<usize>, AllocError>
     requires { StandOnce count vertices.now }
     ensures { IfOk result (λ positions. ArePositions count vertices.now positions.items) }
@@ -19,7 +19,7 @@ pub fn positions(alloc: Global, vertices: &[usize], count: usize) -> Result<Vec<
     Ok(positions)
 }
 
-/// Returns the position of a vertex in a list, or the length of the list if it lacks the vertex. Takes a search.
+/// Returns the position of `vertex` in `vertices`, or the length of `vertices` if it is not there. Takes a search.
 pub fn position_of(vertices: &[usize], vertex: usize) -> usize
     ensures { result ≡ position_of vertices.now vertex }
 {
@@ -31,7 +31,7 @@ pub fn position_of(vertices: &[usize], vertex: usize) -> usize
     vertices.len()
 }
 
-/// Returns the positions of some vertices.
+/// Returns the position of each of `vertices`, given the position of each vertex.
 pub fn positions_at(
     alloc: Global,
     positions: &[usize],
@@ -47,7 +47,7 @@ pub fn positions_at(
     Ok(found)
 }
 
-/// Returns the counts of some vertices, given the count of each vertex.
+/// Returns the count of each of `vertices`, given the count of each vertex.
 pub fn counts_at(alloc: Global, counts: &[u16], vertices: &[usize]) -> Result<Vec<u16>, AllocError>
     requires { All (λ vertex. vertex < length counts.now) vertices.now }
     ensures { IfOk result (λ found. found.items ≡ map (slice_index counts.now) vertices.now) }
@@ -79,7 +79,7 @@ pub fn by_positions(
     Ok(placed)
 }
 
-/// Returns edges to vertices as edges to the positions of these.
+/// Returns the edges, each leading to the position of its vertex.
 fn to_positions(alloc: Global, edges: &[Edge], positions: &[usize]) -> Result<Vec<Edge>, AllocError>
     requires { All (λ edge. edge.to < length positions.now) edges.now }
     ensures { IfOk result (λ found. found.items ≡ map (to_position positions.now) edges.now) }

@@ -1,5 +1,5 @@
--- Which candidate a packet takes by balanced loads: for each adapter each position takes one, in turn or by counted loads,
--- and the LIDs that are attached at a position share the routes to the adapters there.
+-- The candidate that a packet takes if loads are balanced: for each adapter each position takes one candidate, in turn
+-- or by counted loads, and the LIDs that are attached at a position share the routes to its adapters.
 use Rattle.std.specs.Prelude.{ℕ, ◌+◌, ◌*◌, ◌==◌, List, [], map, slice_index, slice_index_or, sum_by, take, if◌then◌else◌}
 use Rattle.std.specs.Prelude.{Option, None, Some}
 use Rattle.port_graph.specs.declared.edge.Edge.{Edge}
@@ -9,33 +9,35 @@ use Rattle.balanced_choices.specs.BalancedChoices.{are_even, balanced_choices, d
 use Rattle.balanced_choices.specs.FirstLoads.{first_loads}
 use Rattle.balanced_choices.specs.declared.rounds.Destination.{Destination}
 
--- how routes towards adapters are chosen: by what first choices go by, the digit weight, the leaf number and the number of
--- adapters of each position; and if these do not balance loads, for each adapter, position by position, the number of the
--- candidate that each position takes
+-- how routes towards adapters are chosen: the digit weight, the leaf number and the number of adapters of each position
+-- give the first choices; if these do not balance loads, `counted` has for each adapter the number of the candidate
+-- that each position takes
 pub record AdapterChoices : Type 0 where
   pub weights : List ℕ
   pub leaf_numbers : List ℕ
   pub adapters : List ℕ
   pub counted : Option (List (List ℕ))
 
--- the number of the first adapter at position q: how many adapters there are before
+-- the number of the first adapter at position q: how many adapters there are at earlier positions
 abbrev pub first_at : List ℕ → ℕ → ℕ
 first_at adapters q = sum_by (λ n. n) (take q adapters)
 
--- the number of the adapter at position q whose choices are those of a LID with this number
+-- the number of the adapter at position q whose choices a LID with this number takes
 abbrev pub adapter_of : List ℕ → ℕ → ℕ → ℕ
 adapter_of adapters lid q = first_at adapters q + in_turn (slice_index adapters q) lid
 
--- the number of the first end at position q: each leaf takes as many numbers as the most adapters that a position has
+-- the number of the first end at position q: each leaf number stands for as many numbers as the most adapters of a
+-- position
 abbrev pub first_number : List ℕ → List ℕ → ℕ → ℕ
 first_number leaf_numbers adapters q = slice_index leaf_numbers q * greatest 0 adapters
 
--- the number of the end at position q whose choices are those of a LID with this number
+-- the number of the end at position q whose choices a LID with this number takes
 abbrev pub end_number : AdapterChoices → ℕ → ℕ → ℕ
 end_number by lid q = first_number by.leaf_numbers by.adapters q + in_turn (slice_index by.adapters q) lid
 
--- the number of the candidate that a LID with this number takes at position p towards position q: the first choice, counted
--- round by who takes it, or the one that was made; 0 if there are no adapters at q
+-- the number of the candidate that a LID with this number takes at position p towards position q: if choices are not
+-- counted, the digits of the end's number from the weight of p on, plus p; otherwise the counted choice, or 0 if there
+-- are no adapters at q
 abbrev pub choice_with : Option (List (List ℕ)) → AdapterChoices → ℕ → ℕ → ℕ → ℕ
 choice_with None by lid p q = digits_from (slice_index by.weights p) (end_number by lid q) + p
 choice_with (Some choices) by lid p q =
@@ -58,7 +60,8 @@ destination leaf_numbers adapters q = record {
 abbrev pub destinations : List ℕ → List ℕ → List Destination
 destinations leaf_numbers adapters = map (destination leaf_numbers adapters) (leaf_vertices adapters)
 
--- the choices if each adapter sends a packet to each: those in turn if their loads are even, and balanced ones otherwise
+-- None if the loads by first choices are even, and otherwise balanced choices, when each adapter sends a packet to each
+-- adapter
 abbrev pub counted_if_uneven : List (List Edge) → List ℕ → List ℕ → List Destination → Option (List (List ℕ))
 counted_if_uneven graph adapters weights ds =
     if are_even graph (first_loads graph adapters weights ds) then None

@@ -5,7 +5,7 @@ use Rattle.std.specs.Option.{option_map_or}
 use Rattle.subnet_view.specs.Reading.{Cells, is_usable, port_count_of, switches}
 use Rattle.subnet_view.specs.Wires.{across}
 
--- whether the wire in a port of a switch leads to an adapter
+-- whether the wire in port p of switch g leads to an adapter
 abbrev pub has_adapter_at : Cells → ℕ → ℕ → Bool
 has_adapter_at cells g p = option_map_or (λ q. not (is_usable cells q.0)) (across cells g p) false
 
@@ -13,6 +13,6 @@ has_adapter_at cells g p = option_map_or (λ q. not (is_usable cells q.0)) (acro
 abbrev pub adapters_at : Cells → ℕ → ℕ
 adapters_at cells g = length (filter (has_adapter_at cells g) (range_with_len 1 (port_count_of cells g)))
 
--- that number of each usable switch, by rising GUID
+-- the number of adapter ports that are wired to each usable switch, by rising GUID
 abbrev pub adapters_of : Cells → List ℕ
 adapters_of cells = map (adapters_at cells) (switches cells)

@@ -1,5 +1,5 @@
--- The order of leaf switches in which LIDs take their turns: leaf switches with a common neighbor come one after the
--- other, so that their LIDs spread over the wires of that neighbor.
+-- The order in which leaf switches take turns: leaf switches with a common neighbor come one after the other, so that
+-- their LIDs spread over the wires of that neighbor.
 use Rattle.std.specs.Prelude.{ℕ, ◌%◌, ◌^◌, Bool, ◌&&◌, ◌||◌, List, [], ◌∷◌, ◌==◌, filter, length, map, min, nat_lt, slice_index}
 use Rattle.port_graph.specs.declared.edge.Edge.{Edge}
 use Rattle.spread_labels.specs.LeafVertices.{leaf_vertices}
@@ -16,21 +16,22 @@ least n (m ∷ ms) = least (min n m) ms
 abbrev pub least_head : ℕ → List Edge → ℕ
 least_head n edges = least n (map (λ e. e.to) edges)
 
--- the least neighbor of each vertex, the number of vertices if it has none
+-- the least neighbor of each vertex; the number of vertices if it has none
 abbrev pub least_neighbors : List (List Edge) → List ℕ
 least_neighbors edges = map (least_head (length edges)) edges
 
--- whether vertex a comes before vertex b, given the least neighbors: its own is less, or they have one and a is less
+-- whether vertex a comes before vertex b, given the least neighbors: its least neighbor is less, or it is equal and a
+-- is less
 abbrev pub goes_first : List ℕ → ℕ → ℕ → Bool
 goes_first neighbors a b =
     nat_lt (slice_index neighbors a) (slice_index neighbors b)
     || (slice_index neighbors a == slice_index neighbors b && nat_lt a b)
 
--- the leaf number of vertex s: how many leaf vertices come before it, counted round at 2^16
+-- the leaf number of vertex s: how many leaf vertices come before it, modulo 2^16
 abbrev pub leaf_number : List ℕ → List ℕ → ℕ → ℕ
 leaf_number neighbors leaves s = length (filter (λ leaf. goes_first neighbors leaf s) leaves) % 2 ^ 16
 
--- the leaf number of each switch, by rising GUID, given how many adapters each has
+-- the leaf number of each switch, by rising GUID, given how many adapters each switch has
 abbrev pub leaf_numbers : List SwitchEdges → List ℕ → List ℕ
 leaf_numbers graph adapters =
     map (leaf_number (least_neighbors (by_index graph)) (leaf_vertices adapters)) (numbers_from 0 (length graph))

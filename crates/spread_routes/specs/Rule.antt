@@ -14,13 +14,13 @@ use Rattle.subnet_view.specs.Graph.{guids_of}
 use Rattle.subnet_view.specs.GraphLaws.{IsGraph}
 use Rattle.subnet_view.specs.Routing.{Routing, IsRouting}
 
--- what the rule is given: the key of each switch, by rising GUID, and the number by which a packet for a LID takes one
--- of some edges at a position, towards another position
+-- what the rule needs: the key of each switch, by rising GUID, and the number by which a packet for a LID takes one of
+-- some edges at a position towards another position
 pub record Spreading : Type 0 where
   pub keys : List VertexKey
   pub number : ℕ → ℕ → ℕ → List Edge → ℕ
 
--- the edges of each switch, to the indices of switches
+-- the edges of each switch, as edges to the indices of switches
 abbrev pub by_index : List SwitchEdges → List (List Edge)
 by_index graph = map (λ c. map (positioned_edge (guids_of graph)) c.edges) graph
 
@@ -28,7 +28,7 @@ by_index graph = map (λ c. map (positioned_edge (guids_of graph)) c.edges) grap
 abbrev pub order_by_keys : List SwitchEdges → List VertexKey → List ℕ
 order_by_keys graph keys = order (by_index graph) (before_by keys)
 
--- the position of switch g in that order
+-- the position of switch g in the order that grows by the keys
 abbrev pub position : List SwitchEdges → List VertexKey → ℕ → ℕ
 position graph keys g = position_of (order_by_keys graph keys) (position_of (guids_of graph) g)
 
@@ -36,19 +36,21 @@ position graph keys g = position_of (order_by_keys graph keys) (position_of (gui
 abbrev pub switch_there : List SwitchEdges → List VertexKey → ℕ → ℕ
 switch_there graph keys p = at_position (guids_of graph) (at_position (order_by_keys graph keys) p)
 
--- the edges of the switch at each position, to positions
+-- the edges of the switch at each position, as edges to positions
 abbrev pub by_positions : List SwitchEdges → List VertexKey → List (List Edge)
 by_positions graph keys = grown (by_index graph) (before_by keys)
 
--- the edge that a packet for the LID takes at position p towards position q, by its number, counted round
+-- the edge that a packet for the LID takes at position p towards position q, by its number modulo the number of edges;
+-- None if there are no edges
 abbrev pub taken : Spreading → ℕ → ℕ → ℕ → List Edge → Option Edge
 taken by lid p q edges = chosen edges (by.number lid p q edges)
 
--- the edge by which a packet for the LID leaves the switch at position p for the one at position q
+-- the edge by which a packet for the LID leaves the switch at position p for the switch at position q; None if there is
+-- none
 abbrev pub edge_to : List SwitchEdges → Spreading → ℕ → ℕ → ℕ → Option Edge
 edge_to graph by lid p q = taken by lid p q (candidates (by_positions graph by.keys) q p)
 
--- the rule: the port of that edge; the cost and the channels by positions
+-- the rule: the port of the edge that is taken, and the cost and the channels by positions
 abbrev pub spread : List SwitchEdges → Spreading → Routing
 spread graph by = record {
   next = λ lid s t.
@@ -58,6 +60,6 @@ spread graph by = record {
       channel_number (length (by_positions graph by.keys)) (position graph by.keys a) (position graph by.keys b);
 }
 
--- the rule is a rule of routing, whatever the keys, and whatever edges the LIDs take
+-- whatever the keys and whatever edges the LIDs take, the rule is a rule of routing
 abbrev pub SpreadIsRouting : Type 0
 SpreadIsRouting = (graph : List SwitchEdges) (by : Spreading) → IsGraph graph → IsRouting graph (spread graph by)

@@ -1,4 +1,4 @@
--- The tables of the rule, and the ports that it gives.
+-- The tables of the rule, and the ports that it chooses.
 use Rattle.std.specs.Prelude.{◌≡◌, ◌<◌, ◌≤◌, ◌+◌, ◌%◌, ℕ, List, [], ◌∷◌, length, Option, None, slice_get, slice_index, slice_index_or, slice_set}
 use Rattle.port_graph.specs.declared.edge.Edge.{Edge}
 use Rattle.port_graph.specs.Heads.{edges_at}
@@ -14,7 +14,7 @@ use Rattle.spread_routes.specs.Rule.{by_positions, order_by_keys}
 use Rattle.spread_routes.specs.AdapterChoices.{AdapterChoices}
 use Rattle.spread_routes.specs.Spread.{Grading, number_by, number_with, lid_digit_there, spread_at}
 
--- the LID digit of no switch
+-- a LID digit for a position that has no switch
 abbrev pub no_lid_digit : LidDigit
 no_lid_digit = record { level = 0; digit_weight = 1; offset = 0 }
 
@@ -30,12 +30,13 @@ pub record IsByPositions (by : Grading) (edges : List (List Edge)) (positions : 
   pub lid_digit : (p : ℕ) → p < length edges → slice_index_or lid_digits p no_lid_digit ≡ lid_digit_there by p
 
 -- the candidates of all vertices towards the switches at the indices from `first` up to, but not including, `end`: for
--- each edge the targets for which it is a candidate
+-- each edge, the targets for which it is a candidate
 pub record TowardsValue : Type 0 where
   pub first : ℕ
   pub end : ℕ
   pub sets : List (List TargetSet)
 
+-- the sets are those of the candidates towards at most 64 switches of the graph
 pub record AreTowards (by : Grading) (towards : TowardsValue) : Type 0 where
   pub few : towards.end ≤ towards.first + 64
   pub within : towards.end ≤ length by.graph
@@ -44,8 +45,8 @@ pub record AreTowards (by : Grading) (towards : TowardsValue) : Type 0 where
       → picked k (sets_at towards.sets p) (edges_at (by_positions by.graph by.keys) p)
       ≡ candidates (by_positions by.graph by.keys) (position_of (order_by_keys by.graph by.keys) (towards.first + k)) p
 
--- how packets leave a switch: the ports of its candidates towards each target, the targets for which one of them leads
--- to a higher switch, and the switch's LID digit; the choices for adapters if loads are balanced, and the positions of the
+-- how packets leave a switch: the ports of its candidates towards each target, the targets for which a candidate leads
+-- to a higher switch, the switch's LID digit, the choices for adapters if loads are balanced, and the positions of the
 -- switch and of the targets
 pub record ExitsValue : Type 0 where
   pub ports : List (List ℕ)
@@ -55,16 +56,16 @@ pub record ExitsValue : Type 0 where
   pub own : ℕ
   pub targets : List ℕ
 
--- the port with this number, counted round
+-- the port with this number, modulo the number of ports; None if there are no ports
 abbrev pub port_chosen : List ℕ → ℕ → Option ℕ
 port_chosen [] choice = None
 port_chosen (port ∷ ports) choice = slice_get (port ∷ ports) (choice % length (port ∷ ports))
 
--- the port with this number, counted round, if there are ports
+-- the port with this number, modulo the number of ports, if there are ports
 abbrev pub port_turn : List ℕ → ℕ → ℕ
 port_turn ports choice = slice_index ports (choice % length ports)
 
--- the number by which a LID takes one of the ports towards target k
+-- the number by which a LID chooses among the ports towards target k
 abbrev pub exit_number : ExitsValue → ℕ → ℕ → ℕ
 exit_number exits k lid =
     number_with exits.choices (number_by exits.lid_digit (has exits.higher k) lid) lid exits.own
@@ -79,7 +80,7 @@ abbrev pub AreExits : Grading → TowardsValue → ℕ → ExitsValue → Type 0
 AreExits by towards own exits = (k lid : ℕ) → towards.first + k < towards.end → port_by exits k lid
     ≡ (spread_at by).next lid (switch_at by.graph own) (switch_at by.graph (towards.first + k))
 
--- `entries`, with `f lid` at each of these LIDs
+-- the entries with `f lid` at each of the LIDs
 abbrev pub with_entries : (ℕ → ℕ) → List ℕ → List ℕ → List ℕ
 with_entries f entries [] = entries
 with_entries f entries (lid ∷ lids) = with_entries f (slice_set entries lid (f lid)) lids

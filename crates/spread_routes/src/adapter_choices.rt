@@ -1,4 +1,4 @@
-//! Choices of candidates by which the loads of channels are balanced.
+//! Choices of candidates that balance the loads of channels.
 ghost use Rattle.std.specs.Prelude.{◌≡◌, ◌<◌, ◌≤◌, ◌-◌, ◌%◌, ◌^◌, All, IfOk, IsTrue, is_some, length, map, max, min};
 ghost use Rattle.std.specs.Prelude.{slice_index};
 ghost use Rattle.std.specs.Option.{option_map};
@@ -27,10 +27,10 @@ pub(crate) struct AdapterChoices {
     adapters: Vec<u16>,
     /// The most adapters at one position.
     most: u16,
-    /// The number of the first adapter at each position, as far as 64 bits go.
+    /// The number of the first adapter at each position, but at most 2^64 - 1.
     firsts: Vec<usize>,
-    /// For each adapter, position by position, the number of the candidate that each position takes, if first choices do
-    /// not balance loads.
+    /// For each adapter, the number of the candidate that each position takes. `None` if the loads by first choices are
+    /// even.
     counted: Option<Vec<Vec<u8>>>,
 }
 
@@ -56,9 +56,10 @@ impl Model for AdapterChoices {
 }
 
 impl AdapterChoices {
-    /// Balances the loads of a graph by positions, if each adapter sends a packet to each. `weights`, `leaf_numbers` and
-    /// `adapters` have the digit weight, the leaf number and the number of adapters of each position. Takes what
-    /// `first_loads` takes, and if these loads are not even what `balanced_choices` takes besides.
+    /// Balances the loads of a graph by positions for the case that each adapter sends a packet to each adapter.
+    /// `weights`, `leaf_numbers` and `adapters` have the digit weight, the leaf number and the number of adapters of
+    /// each position. Takes as long as `first_loads` and, if its loads are not even, as long as `balanced_choices`
+    /// besides.
     pub(crate) fn of(
         alloc: Global,
         edges: &Adjacency,
@@ -88,7 +89,7 @@ impl AdapterChoices {
         })
     }
 
-    /// Returns whether choices were made by counted loads.
+    /// Returns whether the choices were made by counted loads.
     pub(crate) fn are_counted(&self) -> bool
         ensures { result ≡ is_some self.now.counted }
     {
@@ -96,7 +97,7 @@ impl AdapterChoices {
     }
 
     /// Returns the number of the candidate that a LID with this number takes at the position `own` towards the position
-    /// `target`; 0 if there are no adapters at `target`. Choices were made by counted loads.
+    /// `target`, or 0 if there are no adapters at `target`. The choices must have been made by counted loads.
     pub(crate) fn towards(&self, number: usize, own: usize, target: usize) -> usize
         requires { IsTrue (is_some self.now.counted) }
         ensures { result ≡ choice_towards self.now number own target }
@@ -124,7 +125,7 @@ impl AdapterChoices {
         RoundRobin::first(self.weight_at(own), own, count)
     }
 
-    /// Returns the number of the end at a position whose routes a LID with this number takes.
+    /// Returns the number of the end at `position` whose routes a LID with the number `number` takes.
     pub(crate) fn end_number(&self, number: usize, position: usize) -> usize
         ensures number { result ≡ end_number self.now number position }
         ensures small { result < 2 ^ 33 }
@@ -133,8 +134,8 @@ impl AdapterChoices {
         first + in_turn(self.count_at(position), number)
     }
 
-    /// Returns the number of the adapter at a position whose choices are those of a LID with this number, as far as 64
-    /// bits go.
+    /// Returns the number of the adapter at `position` whose choices a LID with the number `number` takes, but at most
+    /// 2^64 - 1.
     fn adapter_of(&self, number: usize, position: usize) -> usize
         requires { position < length self.now.adapters }
         ensures { result ≡ min (adapter_of self.now.adapters number position) (2 ^ 64 - 1) }
@@ -143,7 +144,7 @@ impl AdapterChoices {
         self.firsts[position].saturating_add(turn)
     }
 
-    /// Returns the number of adapters at a position; 0 past the last.
+    /// Returns the number of adapters at `position`, or 0 if there is no such position.
     fn count_at(&self, position: usize) -> usize
         ensures count { result ≡ slice_index self.now.adapters position }
         ensures small { result < 2 ^ 16 }
@@ -154,7 +155,7 @@ impl AdapterChoices {
         }
     }
 
-    /// Returns the digit weight of a position; 0 past the last.
+    /// Returns the digit weight of `position`, or 0 if there is no such position.
     fn weight_at(&self, position: usize) -> usize
         ensures { result ≡ slice_index self.now.weights position }
     {
@@ -164,7 +165,7 @@ impl AdapterChoices {
         }
     }
 
-    /// Returns the leaf number of a position; 0 past the last.
+    /// Returns the leaf number of `position`, or 0 if there is no such position.
     fn leaf_number_at(&self, position: usize) -> usize
         ensures number { result ≡ slice_index self.now.leaf_numbers position }
         ensures small { result < 2 ^ 16 }
@@ -176,7 +177,7 @@ impl AdapterChoices {
     }
 }
 
-/// Returns `number`, counted round among `count`; 0 if `count` is 0.
+/// Returns `number` modulo `count`, or 0 if `count` is 0.
 fn in_turn(count: usize, number: usize) -> usize
     ensures turn { result ≡ in_turn count number }
     ensures within { result ≤ count }
@@ -184,7 +185,7 @@ fn in_turn(count: usize, number: usize) -> usize
     if count == 0 { 0 } else { number % count }
 }
 
-/// Returns the choice of a position, or 0 if there is no such position.
+/// Returns the choice of `position`, or 0 if there is no such position.
 fn choice_at(choices: &[u8], position: usize) -> usize
     ensures { result ≡ slice_index choices.now position }
 {
@@ -194,7 +195,7 @@ fn choice_at(choices: &[u8], position: usize) -> usize
     }
 }
 
-/// Returns how many packets each position sends to each adapter: one from each of its adapters.
+/// Returns the number of packets that each position sends to each adapter: one from each of its own adapters.
 fn sent(alloc: Global, adapters: &[u16]) -> Result<Vec<usize>, AllocError>
     ensures { IfOk result (λ sent. sent.items ≡ adapters.now) }
 {
@@ -205,8 +206,8 @@ fn sent(alloc: Global, adapters: &[u16]) -> Result<Vec<usize>, AllocError>
     Ok(sent)
 }
 
-/// Returns the positions with adapters as destinations. Each has as many ends as it has adapters, and as many numbers as
-/// the most adapters that a position has, from its leaf number times these on.
+/// Returns the positions with adapters as destinations. Each has one end for each of its adapters. The number of its
+/// first end is its leaf number times the most adapters of a position.
 fn destinations(
     alloc: Global,
     leaf_numbers: &[u16],
@@ -252,7 +253,7 @@ fn counted_if_uneven(
     Ok(Some(choices))
 }
 
-/// Returns the number of the first adapter at each position, as far as 64 bits go.
+/// Returns the number of the first adapter at each position, but at most 2^64 - 1.
 fn firsts(alloc: Global, adapters: &[u16]) -> Result<Vec<usize>, AllocError>
     ensures { IfOk result (λ firsts. firsts.items
         ≡ map (λ q. min (first_at adapters.now q) (2 ^ 64 - 1)) (numbers_from 0 (length adapters.now))) }

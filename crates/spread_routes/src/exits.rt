@@ -1,4 +1,4 @@
-//! How packets leave a switch towards others.
+//! The ports by which packets leave a switch towards others.
 ghost use Rattle.std.specs.Prelude.{◌≡◌, ◌<◌, ◌^◌, [], All, IsTrue, None, OnOk, is_some};
 ghost use Rattle.std.specs.Prelude.{length, map, slice_index, slice_index_or};
 ghost use Rattle.std.specs.Prelude.{unwrap_or};
@@ -17,7 +17,7 @@ use spread_labels::{CandidateLists, TargetSet};
 use std::alloc::{AllocError, Global};
 use std::marker::Model;
 
-/// The ports by which packets may leave a switch towards each of some targets, and which of them a LID takes.
+/// The ports by which packets may leave a switch towards each of some targets, and how a LID chooses among them.
 #[derive(Drop)]
 pub struct Exits<'s> {
     lists: CandidateLists,
@@ -28,7 +28,7 @@ pub struct Exits<'s> {
     choices: Option<&'s AdapterChoices>,
     /// The position of the switch.
     own: usize,
-    /// The positions of the targets, and of what stands behind them.
+    /// The positions of the targets. The list may go on with other positions.
     targets: &'s [usize],
 }
 
@@ -68,8 +68,8 @@ impl<'s> Exits<'s> {
         })
     }
 
-    /// Sets by what LIDs choose among the ports: the choices for adapters, if there are some, at the position `own` towards
-    /// the positions `targets`.
+    /// Sets how LIDs choose among the ports: by `choices`, if there are some, at the position `own` towards the
+    /// positions `targets`.
     pub(crate) fn choose_by(
         &mut self,
         choices: Option<&'s AdapterChoices>,
@@ -111,8 +111,9 @@ impl<'s> Exits<'s> {
         self.lists.find(edges, sets)
     }
 
-    /// Writes for each LID the number of the port that it takes towards a target by its number of `numbers`, or `none`
-    /// if no way leads there. Takes one step for each LID, and some more if their numbers are not consecutive.
+    /// Writes for each of `lids` the number of the port that it takes towards `target`, or `none` if no way leads
+    /// there. A LID chooses by its number in `numbers`. Takes one step for each LID, and a few more if their numbers
+    /// are not consecutive.
     pub fn write(&self, target: usize, lids: &[Lid], numbers: &[u16], none: u8, entries: &mut [u8])
         requires target { target < 64 }
         requires lids { All (λ lid. lid < length entries.old) lids.now }
@@ -139,7 +140,7 @@ impl<'s> Exits<'s> {
         }
     }
 
-    /// Returns the position of a target; 0 if there is no such target.
+    /// Returns the position of `target`, or 0 if there is no such target.
     fn position_of(&self, target: usize) -> usize
         ensures { result ≡ slice_index self.now.targets target }
     {
@@ -150,8 +151,8 @@ impl<'s> Exits<'s> {
     }
 }
 
-/// Writes for each LID the port of `ports` that it takes by its choice at the position `own` towards the position
-/// `target`. Choices were made by counted loads.
+/// Writes for each of `lids` the port of `ports` that it takes by its choice at the position `own` towards the position
+/// `target`. The choices must have been made by counted loads.
 fn write_chosen(
     entries: &mut [u8],
     lids: &[Lid],
@@ -176,8 +177,8 @@ fn write_chosen(
     }
 }
 
-/// Writes for each LID the port of `ports` that it takes by its first choice at the position `own` towards the position
-/// `target`.
+/// Writes for each of `lids` the port of `ports` that it takes by its first choice at the position `own` towards the
+/// position `target`.
 fn write_in_turn(
     entries: &mut [u8],
     lids: &[Lid],
@@ -203,7 +204,7 @@ fn write_in_turn(
     }
 }
 
-/// Writes `none` for each LID.
+/// Writes `none` for each of `lids`.
 fn write_none(entries: &mut [u8], lids: &[Lid], none: u8)
     requires { All (λ lid. lid < length entries.old) lids.now }
     ensures { entries.new ≡ with_entries (λ lid. none) entries.old lids.now }
@@ -213,7 +214,7 @@ fn write_none(entries: &mut [u8], lids: &[Lid], none: u8)
     }
 }
 
-/// Writes for each LID the port of `ports` that it takes.
+/// Writes for each of `lids` the port of `ports` that it takes.
 fn write_ports(
     entries: &mut [u8],
     lids: &[Lid],
@@ -238,7 +239,7 @@ fn write_ports(
     }
 }
 
-/// Returns the number of a LID.
+/// Returns the number of `lid`.
 fn number_of(numbers: &[u16], lid: usize) -> usize
     requires { lid < length numbers.now }
     ensures number { result ≡ slice_index numbers.now lid }

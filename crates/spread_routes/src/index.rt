@@ -1,4 +1,4 @@
-//! Switches of a graph by their indices.
+//! The indices of the switches of a graph.
 ghost use Rattle.std.specs.Prelude.{◌≡◌, ◌<◌, length, All, IfOk};
 ghost use Rattle.subnet_view.specs.GraphLaws.{IsGraph};
 ghost use Rattle.spread_routes.specs.Spread.{indices_of};
@@ -7,7 +7,8 @@ use smp_bytes::Guid;
 use std::alloc::{AllocError, Global};
 use subnet_view::SwitchGraph;
 
-/// Returns the indices of the GUIDs that are switches of the graph. Takes a search for each GUID.
+/// Returns the index of each of `guids` that is a switch of the graph, and ignores the others. Takes a search for each
+/// GUID.
 pub(crate) fn indices(
     alloc: Global,
     graph: &SwitchGraph,

@@ -1,4 +1,4 @@
-//! The order of leaf switches in which LIDs take their turns.
+//! The order in which leaf switches take turns.
 ghost use Rattle.std.specs.Prelude.{◌≡◌, ◌<◌, All, IfOk, filter, length};
 ghost use Rattle.spread_routes.specs.LeafNumbers.{goes_first, leaf_number, leaf_numbers, least_head, least_neighbors};
 
@@ -7,9 +7,9 @@ use spread_labels::leaf_vertices;
 use std::alloc::{AllocError, Global};
 use subnet_view::SwitchGraph;
 
-/// Returns the number of each switch among the leaf switches, by rising GUID, counted round at 2^16. Leaf switches with a
-/// common least neighbor come one after the other. `adapters` has the number of adapters at each switch, by rising GUID.
-/// Takes as many steps for each switch as there are leaf switches.
+/// Returns the number of each switch among the leaf switches, by rising GUID, modulo 2^16. Leaf switches with a common
+/// least neighbor have consecutive numbers. `adapters` has the number of adapters at each switch, by rising GUID. Takes
+/// as many steps for each switch as there are leaf switches.
 pub fn leaf_numbers(
     alloc: Global,
     graph: &SwitchGraph,
@@ -28,7 +28,7 @@ pub fn leaf_numbers(
     Ok(numbers)
 }
 
-/// Returns the leaf number of the vertex `index`: how many leaf vertices come before it, counted round at 2^16.
+/// Returns the leaf number of the vertex `index`: the number of leaf vertices that come before it, modulo 2^16.
 fn leaf_number(neighbors: &[usize], leaves: &[usize], index: usize) -> u16
     requires index { index < length neighbors.now }
     requires leaves { All (λ leaf. leaf < length neighbors.now) leaves.now }
@@ -49,7 +49,7 @@ fn count_before(neighbors: &[usize], leaves: &[usize], index: usize) -> usize
         .count()
 }
 
-/// Returns whether vertex `a` comes before vertex `b`.
+/// Returns whether vertex `a` comes before vertex `b`: its least neighbor is less, or it is equal and `a` is less.
 fn goes_first(neighbors: &[usize], a: usize, b: usize) -> bool
     requires a { a < length neighbors.now }
     requires b { b < length neighbors.now }
@@ -58,7 +58,7 @@ fn goes_first(neighbors: &[usize], a: usize, b: usize) -> bool
     neighbors[a] < neighbors[b] || neighbors[a] == neighbors[b] && a < b
 }
 
-/// Returns the least neighbor of each vertex, the number of vertices if it has none.
+/// Returns the least neighbor of each vertex, or the number of vertices if it has no neighbor.
 fn least_neighbors(alloc: Global, edges: &Adjacency) -> Result<Vec<usize>, AllocError>
     ensures { IfOk result (λ found. found.items ≡ least_neighbors edges.now) }
 {

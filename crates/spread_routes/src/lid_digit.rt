@@ -1,4 +1,4 @@
-//! What switches choose among edges by.
+//! How switches choose among edges by the digits of LIDs.
 ghost use Rattle.std.specs.Prelude.{◌≡◌, ◌<◌, All, IfOk, length, map, nat_lt, slice_index_or, if◌then◌else◌};
 ghost use Rattle.std.specs.List.{list_any};
 ghost use Rattle.port_graph.specs.Heads.{LeadToVertices};
@@ -15,7 +15,7 @@ use spread_labels::{TargetSet, digit_weights};
 use std::alloc::{AllocError, Global};
 use subnet_view::SwitchGraph;
 
-/// What a switch chooses among its edges by.
+/// How a switch chooses among its edges by a digit of the LID.
 #[derive(Clone, Copy, Debug, PartialEq, Eq)]
 pub(crate) struct LidDigit {
     /// The distance of the nearest leaf switch.
@@ -27,7 +27,8 @@ pub(crate) struct LidDigit {
 }
 
 impl LidDigit {
-    /// Returns the turns of LIDs among `count` ports. `is_higher` says whether one of them leads to a higher switch.
+    /// Returns the turns of LIDs among `count` ports. `is_higher` says whether one of the ports leads to a higher
+    /// switch.
     pub(crate) fn turn(&self, is_higher: bool, count: usize) -> RoundRobin
         requires weight { 0 < self.now.digit_weight }
         requires count { 0 < count }
@@ -41,7 +42,7 @@ impl LidDigit {
     }
 }
 
-/// Returns the digit weights of LID digits.
+/// Returns the digit weight of each LID digit.
 pub(crate) fn weights_of(alloc: Global, lid_digits: &[LidDigit]) -> Result<Vec<usize>, AllocError>
     ensures { IfOk result (λ weights. weights.items ≡ map (λ d. d.digit_weight) lid_digits.now) }
 {
@@ -79,7 +80,8 @@ pub(crate) fn lid_digits(
     Ok(lid_digits)
 }
 
-/// Returns the targets for which an edge whose set has them leads to a higher switch than this one.
+/// Returns the targets for which one of the edges leads to a switch at a higher level than `lid_digit`. An edge counts
+/// for the targets of its set.
 pub(crate) fn higher_targets(
     lid_digits: &[LidDigit],
     lid_digit: &LidDigit,
@@ -101,7 +103,7 @@ pub(crate) fn higher_targets(
     higher
 }
 
-/// Returns the level at a position.
+/// Returns the level of the switch at `position`.
 fn level_at(lid_digits: &[LidDigit], position: usize) -> usize
     requires { position < length lid_digits.now }
     ensures { result ≡ (slice_index_or lid_digits.now position no_lid_digit).level }

@@ -20,7 +20,7 @@ use std::alloc::{AllocError, Global};
 use std::marker::Model;
 use subnet_view::SwitchGraph;
 
-/// The candidates of all switches towards some of them, the targets.
+/// The candidates of all switches towards some switches, the targets.
 #[derive(Drop)]
 pub struct Towards {
     /// The index of the first target.
@@ -92,9 +92,9 @@ impl<'g> Model for Spread<'g> {
 
 impl<'g> Spread<'g> {
     /// Computes the routes. `adapters` has the number of adapters at each switch, by rising GUID, and `order` says what
-    /// the order of switches grows by. Ignores GUIDs that are no switch of the graph. Takes a breadth-first search from
-    /// each leaf switch and each root, two for each component if the order grows from roots, and a search for each switch
-    /// that is named. If loads are balanced, takes what `balanced_choices` takes besides.
+    /// the order of switches grows by. Ignores GUIDs that are not a switch of the graph. Takes a breadth-first search
+    /// from each leaf switch and each root, two for each component if the order grows from roots, and a search for each
+    /// switch that is named. If loads are balanced, takes as long as `balanced_choices` besides.
     pub fn of(
         alloc: Global,
         graph: &'g SwitchGraph,
@@ -139,7 +139,7 @@ impl<'g> Spread<'g> {
         })
     }
 
-    /// Computes the routes if loads are not balanced, given the keys and the levels of switches and their indices in
+    /// Computes the routes without balancing loads, given the keys and the levels of the switches, and their indices in
     /// their order.
     fn by_keys(
         alloc: Global,
@@ -169,9 +169,9 @@ impl<'g> Spread<'g> {
         })
     }
 
-    /// Finds the candidates of all switches towards the 64 switches from index `first` on, or as many as there are.
-    /// Takes a step or two for each edge in each round, for all these targets together; there are as many rounds as the
-    /// greatest cost, and one more.
+    /// Finds the candidates of all switches towards the 64 switches from index `first` on, or towards as many as there
+    /// are. Takes a step or two for each edge in each round, for all these targets together. There is one round more
+    /// than the greatest cost.
     pub fn towards(&self, alloc: Global, first: usize) -> Result<Towards, AllocError>
         requires { first < length self.now.graph }
         ensures are { IfOk result (λ towards. AreTowards self.now towards) }
@@ -183,8 +183,8 @@ impl<'g> Spread<'g> {
         Ok(Towards { first, end, sets })
     }
 
-    /// Finds how packets leave the switch at index `own` towards each target. Replaces what `exits` had before. Takes a
-    /// step or two for each edge, and one for each candidate.
+    /// Finds how packets leave the switch at the index `own` towards each target. Replaces the contents of `exits`.
+    /// Takes a step or two for each edge, and one for each candidate.
     pub fn exits_from<'s>(
         &'s self,
         own: usize,
@@ -206,7 +206,7 @@ impl<'g> Spread<'g> {
     }
 }
 
-/// Returns what stands in a list from index `first` on.
+/// Returns the part of a list from index `first` on. It is empty if the list is shorter.
 fn behind(list: &[usize], first: usize) -> &[usize]
     ensures { result.now ≡ drop first list.now }
 {

@@ -1,4 +1,4 @@
-//! What switches are ordered by, and the order that grows by it.
+//! The keys that order switches, and the order that grows by them.
 ghost use Rattle.std.specs.Prelude.{◌≡◌, ◌<◌, All, IfOk, length, map};
 ghost use Rattle.subnet_view.specs.GraphLaws.{IsGraph};
 ghost use Rattle.spread_labels.specs.LeafVertices.{leaf_vertices};
@@ -17,7 +17,7 @@ use std::alloc::{AllocError, Global};
 use subnet_view::SwitchGraph;
 use trial_loads::least_loaded_keys;
 
-/// The keys and levels of switches, by which they are ordered and led.
+/// The keys that order switches, and the levels of the switches.
 #[derive(Drop)]
 pub(crate) struct SwitchKeys {
     /// The key of each switch, by rising GUID.
@@ -26,8 +26,8 @@ pub(crate) struct SwitchKeys {
     pub(crate) levels: Vec<usize>,
 }
 
-/// Returns the switches of a graph in the order by which the rule goes. `adapters` has the number of adapters at each
-/// switch, by rising GUID. Takes what `Spread::of` takes, except for the edges.
+/// Returns the switches of a graph in the order of the rule. `adapters` has the number of adapters at each switch, by
+/// rising GUID. Takes as long as `Spread::of`, except for the edges.
 pub fn switches_in_order(
     alloc: Global,
     graph: &SwitchGraph,
@@ -43,7 +43,7 @@ pub fn switches_in_order(
     switches_at(alloc, graph.switches(), &vertices)
 }
 
-/// Returns the switches at these indices.
+/// Returns the GUIDs of the switches at `indices`.
 fn switches_at(alloc: Global, guids: &[Guid], indices: &[usize]) -> Result<Vec<Guid>, AllocError>
     requires { All (λ i. i < length guids.now) indices.now }
     ensures { IfOk result (λ found. found.items ≡ map (at_position guids.now) indices.now) }
@@ -55,7 +55,7 @@ fn switches_at(alloc: Global, guids: &[Guid], indices: &[usize]) -> Result<Vec<G
     Ok(found)
 }
 
-/// Returns the keys and the levels of switches.
+/// Returns the keys and the levels of the switches, by what `order` grows by.
 pub(crate) fn switch_keys(
     alloc: Global,
     graph: &SwitchGraph,
@@ -76,7 +76,7 @@ pub(crate) fn switch_keys(
     }
 }
 
-/// Returns the keys by distances from roots, and the levels of switches.
+/// Returns the keys of the switches by their distances from `roots`, and their levels.
 fn from_roots(
     alloc: Global,
     graph: &SwitchGraph,
@@ -99,7 +99,7 @@ fn from_roots(
     Ok(SwitchKeys { keys, levels })
 }
 
-/// Returns the keys by a list that names switches, and the levels of switches.
+/// Returns the keys of the switches by the list `switches`, and their levels.
 fn as_named(
     alloc: Global,
     graph: &SwitchGraph,
@@ -121,7 +121,7 @@ fn as_named(
     Ok(SwitchKeys { keys, levels })
 }
 
-/// Returns the keys by the order of the least trial load, and the levels of switches.
+/// Returns the keys of the switches by the order of the least trial load, and their levels.
 fn least_loaded(
     alloc: Global,
     graph: &SwitchGraph,
@@ -138,7 +138,8 @@ fn least_loaded(
     Ok(SwitchKeys { keys, levels })
 }
 
-/// Returns the keys of switches by a list that names some. Takes a search for each switch of the list.
+/// Returns the keys of the switches of a graph by the list `switches`, which may name only some. Takes a search for
+/// each switch of the list.
 fn keys_as_named(
     alloc: Global,
     graph: &SwitchGraph,
@@ -158,7 +159,7 @@ fn keys_as_named(
     Ok(keys)
 }
 
-/// Returns the key of a switch before which `number` are named.
+/// Returns the key of a switch that has `number` switches before it in the list.
 fn key_at(number: usize) -> VertexKey
     ensures { result ≡ record { distance_class = 0; distance = number } }
 {

@@ -4,18 +4,18 @@ ghost use Rattle.spread_routes.specs.SwitchOrders.{is_balanced, order_value_of};
 use smp_bytes::Guid;
 use std::alloc::{AllocError, Global};
 
-/// What the order of switches, by which the rule goes, grows by.
+/// What the order of the switches grows by.
 #[derive(Drop)]
 pub enum SwitchOrder {
-    /// The distances of switches from some of them.
+    /// The distances of the switches from some switches, the roots.
     FromRoots {
-        /// The switches from which distances count. If there are none, the most central switch of each component is
-        /// found.
+        /// The roots. If there are none, the most central switch of each component is found.
         roots: Vec<Guid>,
     },
     /// A list that names switches.
     AsNamed {
-        /// The switches. Those that are missing come behind, by rising GUID; GUIDs that are no switch are ignored.
+        /// The switches. Switches that are missing come after them, by rising GUID. GUIDs that are not a switch are
+        /// ignored.
         switches: Vec<Guid>,
     },
     /// A list that names switches, with loads balanced.
@@ -23,9 +23,9 @@ pub enum SwitchOrder {
         /// The switches, as in `AsNamed`.
         switches: Vec<Guid>,
     },
-    /// The least trial load, with loads balanced: the order without roots if its trial loads are even; otherwise the
-    /// first whose trial load is least, of this order and the orders by depth from the eight switches of least GUID,
-    /// forwards and backwards.
+    /// The least trial load, with loads balanced. If the trial loads of the order without roots are even, that order is
+    /// taken. Otherwise it is the first of least trial load among that order and the orders by depth from the eight
+    /// switches of least GUID, forwards and backwards.
     LeastLoaded,
 }
 

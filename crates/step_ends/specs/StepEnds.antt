@@ -23,41 +23,42 @@ use Rattle.between_orders.specs.Between.{Goal}
 use Rattle.next_tables.specs.ByOrder.{position_at}
 use Rattle.next_run.specs.RunNext.{IsGoalOf, IsLoopInStep, IsNextStep, next_towards, planned, step_text, stepped}
 
--- the plan delivers from each switch from which some tables deliver, at the end port that alone holds a LID in these
--- tables and in the plan
+-- if some tables deliver from a switch to the end port that alone holds a LID in these tables and in the plan, the plan
+-- delivers from that switch too
 abbrev pub DeliversWhatTablesCan : Cells → HeldPlan → Type 0
 DeliversWhatTablesCan cells plan =
     (tables : HeldPlan) (line : HeldLid) → IsKept tables plan line
     → (i n : ℕ) → after n (next_hops_of cells tables line.lid) (To i) ≡ Ends (Taken line.port)
     → (m : ℕ) × (after m (next_hops_of cells plan line.lid) (To i) ≡ Ends (Taken line.port))
 
--- no way of the plan to an end port that alone holds a LID meets more than `most` switches
+-- no route of the plan to an end port that alone holds a LID passes more than `most` switches
 abbrev pub MeetAtMost : Cells → HeldPlan → ℕ → Type 0
 MeetAtMost cells plan most =
     (line : HeldLid) → owners_of plan line.lid ≡ line.port ∷ []
     → (i m : ℕ) → after m (next_hops_of cells plan line.lid) (To i) ≡ Ends (Taken line.port)
     → after most (next_hops_of cells plan line.lid) (To i) ≡ Ends (Taken line.port)
 
--- after `most` steps, and two at least, a step returns what it was given
+-- after `most` or more steps, and at least two, a step returns what it was given
 abbrev pub StepsEnd : Type 0
 StepsEnd =
     (cells : Cells) (held plan : HeldPlan) (most n : ℕ) → DeliversWhatTablesCan cells plan → MeetAtMost cells plan most
     → most ≤ n → 2 ≤ n
     → settled cells plan held (suc n) ≡ settled cells plan held n
 
--- the plan of a view with room delivers what tables can
+-- the plan of a view with room delivers from each switch from which some tables deliver
 abbrev pub PlansDeliverWhatTablesCan : Type 0
 PlansDeliverWhatTablesCan =
     (rule : RuleValue) (lmc : ℕ) (facts : Facts) → AreInRange facts → ¬ (IsNoRoom lmc (cells_of facts))
     → DeliversWhatTablesCan (cells_of facts) (held_plan (plan_of rule lmc (cells_of facts)))
 
 -- a step from tables that are right by the order of the plan's switches makes no credit loop, and the next tables are
--- right by that order
+-- again right by that order
 pub record IsFreeOfLoops (lmc : ℕ) (rule : RuleValue) (facts : Facts) (held : HeldPlan) : Type 0 where
   pub loops : (cycle lids : List ℕ) → IsLoopInStep (cells_of facts) held (stepped lmc rule facts held) cycle lids
       → cycle ≡ []
   pub right : are_right (cells_of facts) (plan_position rule (cells_of facts)) (stepped lmc rule facts held) ≡ true
 
+-- with room, a step from tables that are right by the order of the plan's switches is free of loops
 abbrev pub RightTablesMakeNoLoop : Type 0
 RightTablesMakeNoLoop =
     (rule : RuleValue) (lmc : ℕ) (facts : Facts) (held : HeldPlan) → AreInRange facts
@@ -70,12 +71,13 @@ StepsHaveOneResult =
     (told : Bool) (rule : RuleValue) (facts : Facts) (held plan next other : HeldPlan)
     → IsNextStep told rule facts held plan next → IsNextStep told rule facts held plan other → next ≡ other
 
--- a step by the order that held tables tell, towards tables between that order and the plan's, makes no credit loop, and
--- the next tables are right by that order
+-- a step by the order that held tables imply, towards tables between that order and the plan's, makes no credit loop,
+-- and the next tables are right by that order
 pub record IsFreeByTold (facts : Facts) (held next : HeldPlan) (goal : Goal) : Type 0 where
   pub loops : (cycle lids : List ℕ) → IsLoopInStep (cells_of facts) held next cycle lids → cycle ≡ []
   pub right : are_right (cells_of facts) (position_at goal.positions) next ≡ true
 
+-- a step by the order that the held tables imply is free of loops
 abbrev pub ToldStepsMakeNoLoop : Type 0
 ToldStepsMakeNoLoop =
     (rule : RuleValue) (lmc : ℕ) (facts : Facts) (held : HeldPlan) (goal : Goal)
@@ -87,27 +89,27 @@ abbrev pub printed : ℕ → RuleValue → Facts → List ℕ → ℕ → List �
 printed lmc rule facts text zero = text
 printed lmc rule facts text (suc n) = step_text lmc rule facts (held_of (printed lmc rule facts text n))
 
--- n steps are enough: as many as the longest way of the plan meets switches, two at least, and besides, for steps by an
--- order, twice as many as there are switches, and two
+-- n steps are enough: at least `most` + 2 * (the number of switches) + 2, if `most` is at least 2 and no route of the
+-- plan passes more than `most` switches
 pub record AreEnough (rule : RuleValue) (lmc : ℕ) (facts : Facts) (n : ℕ) : Type 0 where
   pub most : ℕ
   pub meet : MeetAtMost (cells_of facts) (planned lmc rule facts) most
   pub two : 2 ≤ most
   pub enough : most + 2 * length (switches (cells_of facts)) + 2 ≤ n
 
--- if there is room, `next` prints in the end what it was given, byte for byte
+-- if there is room, `next` prints what it was given, byte for byte, after enough steps
 abbrev pub PrintedStepsEnd : Type 0
 PrintedStepsEnd =
     (rule : RuleValue) (lmc : ℕ) (facts : Facts) (text : List ℕ) (n : ℕ) → lmc ≤ 7 → AreInRange facts
     → ¬ (IsNoRoom lmc (cells_of facts)) → AreEnough rule lmc facts n
     → printed lmc rule facts text (suc n) ≡ printed lmc rule facts text n
 
--- no way meets more switches than there are
+-- no route of a plan passes more switches than there are
 abbrev pub WaysMeetAtMostAll : Type 0
 WaysMeetAtMostAll = (cells : Cells) (plan : HeldPlan) → MeetAtMost cells plan (length (switches cells))
 
--- if a LID is given and no usable switch held a greater top than the greatest LID, `next` prints in the end what `plan`
--- prints
+-- if a LID is given and no usable switch held a greater top than the greatest LID, `next` prints what `plan` prints
+-- after enough steps
 abbrev pub LastTextIsThePlans : Type 0
 LastTextIsThePlans =
     (rule : RuleValue) (lmc : ℕ) (facts : Facts) (text : List ℕ) (n top : ℕ) → lmc ≤ 7 → AreInRange facts

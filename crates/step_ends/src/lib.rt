@@ -1,4 +1,4 @@
-//! The end of repeated steps, of whole tables.
+//! How repeated steps of whole tables end.
 #![tactic(auto)]
 
 pub mod laws;

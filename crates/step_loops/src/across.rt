@@ -1,4 +1,4 @@
-//! The channels that packets for one LID take in turn while switches go over from one table to another.
+//! The channels that packets for one LID take one after the other while switches change from one table to another.
 ghost use Rattle.std.specs.Prelude.{◌≡◌, ◌<◌, ◌*◌, ◌/◌, ◌^◌, [], IfOk, OnOk, length};
 ghost use Rattle.fact_store.specs.View.{cells_of};
 ghost use Rattle.packet_walks.specs.Edges.{edges_of};
@@ -19,7 +19,7 @@ pub(crate) struct Columns {
 }
 
 impl Columns {
-    /// Returns the columns of no switches.
+    /// Returns empty columns.
     pub fn none(alloc: Global) -> Self
         ensures held { result.held.items ≡ [] }
         ensures next { result.next.items ≡ [] }
@@ -31,7 +31,7 @@ impl Columns {
     }
 }
 
-/// Returns the columns of `lid`, from the blocks that have it. Takes two steps for each switch.
+/// Returns the columns of `lid`, from the blocks with its entries. Takes two steps for each switch.
 pub(crate) fn columns_of(
     alloc: Global,
     held: &Network,
@@ -57,10 +57,10 @@ pub(crate) fn columns_of(
     })
 }
 
-/// Records that two channels follow each other if packets for the LID of `columns` take the one by either table, and
-/// then the other by either table. `before` has the columns of the previous LID, which have been added; equal ones are
-/// not added again. Takes a step for each switch if they are equal or if both tables have the same edges, otherwise
-/// four. Each of these steps also walks the channels that follow the switch's own, if the next one is not known to.
+/// Records that a channel follows another if packets for the LID of `columns` take them in this order, each by either
+/// table. `before` has the columns of the previous LID, which the caller has added. Equal columns are not added again.
+/// Takes a step for each switch if they are equal or if both tables have the same edges, otherwise four. If the next
+/// channel is not known to follow the switch's channel, each of these steps also walks the channels that follow it.
 pub(crate) fn add_step(
     waits: &mut Waits,
     before: &Columns,
@@ -81,7 +81,7 @@ pub(crate) fn add_step(
     add_all(waits, &columns.held, &columns.next)
 }
 
-/// Records that channels follow each other by the edges of two columns that differ.
+/// Records which channels follow each other if packets take each of them by either of two columns that differ.
 fn add_all(
     waits: &mut Waits,
     held: &[Option<Edge>],

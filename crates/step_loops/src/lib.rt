@@ -1,4 +1,4 @@
-//! Whether packets can wait for each other in a credit loop while switches go over from one table to the next, and for
+//! Whether packets can wait for each other in a credit loop while switches change from one table to the next, and for
 //! which LIDs.
 #![tactic(auto)]
 

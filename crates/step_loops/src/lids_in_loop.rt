@@ -14,9 +14,9 @@ use smp_bytes::Lid;
 use std::alloc::{AllocError, Global};
 
 /// Returns, for each channel of a credit loop in a step, the least LID for which packets that hold it wait for the next
-/// channel; after the last channel comes the first. At each of the two switches the entry may be of either table. For
-/// each LID, until each channel has one, takes a step for each switch by either table, and four for each channel that
-/// has no LID yet.
+/// channel. The first channel follows the last. At each of the two switches, the entry may be of either table. For each
+/// LID, until each channel has one, takes a step for each switch by either table, and four for each channel that has no
+/// LID yet.
 pub fn loop_lids(
     alloc: Global,
     held: &Network,
@@ -45,7 +45,7 @@ pub fn loop_lids(
     Ok(lids)
 }
 
-/// Returns, for each channel of `cycle`, the next one; after the last comes the first.
+/// Returns, for each channel of `cycle`, the next one. The first follows the last.
 fn turned(alloc: Global, cycle: &[usize]) -> Result<Vec<usize>, AllocError>
     ensures { IfOk result (λ after. after.items ≡ turned cycle.now) }
 {
@@ -57,14 +57,14 @@ fn turned(alloc: Global, cycle: &[usize]) -> Result<Vec<usize>, AllocError>
     Ok(after)
 }
 
-/// Returns `count` zeros; 0 is no LID.
+/// Returns a list of `count` zeros, which stand for unknown LIDs.
 fn none_known(alloc: Global, count: usize) -> Result<Vec<Lid>, AllocError>
     ensures { IfOk result (λ lids. lids.items ≡ replicate count 0) }
 {
     vec![in alloc; Lid::NONE; count]
 }
 
-/// Returns whether all `lids` are known.
+/// Returns whether all `lids` are known: none of them is 0.
 fn are_known(lids: &[Lid]) -> bool
     ensures { result ≡ are_known lids.now }
 {
@@ -109,7 +109,7 @@ fn noted(
     }
 }
 
-/// Returns whether packets leave the switch of `channel` by it, and the next switch by `other`, by the edges of either
+/// Returns whether packets leave a switch by `channel` and the next switch by `other`, each by the edges of either
 /// column.
 fn waits(channel: usize, other: usize, held: &[Option<Edge>], next: &[Option<Edge>]) -> bool
     ensures { IsTrue result ↔ TakesHere held.now next.now channel other }
@@ -120,8 +120,8 @@ fn waits(channel: usize, other: usize, held: &[Option<Edge>], next: &[Option<Edg
         || takes(channel, other, next, next)
 }
 
-/// Returns whether packets leave the switch of `channel` by it, by the edges in `before`, and the next switch by
-/// `other`, by the edges in `now`.
+/// Returns whether packets leave a switch by `channel`, by the edges in `before`, and the next switch by `other`, by
+/// the edges in `now`.
 fn takes(channel: usize, other: usize, before: &[Option<Edge>], now: &[Option<Edge>]) -> bool
     ensures { IsTrue result ↔ TakesFrom before.now now.now channel other }
 {
@@ -135,7 +135,7 @@ fn takes(channel: usize, other: usize, before: &[Option<Edge>], now: &[Option<Ed
     is_channel(channel, channel / 256, first) && is_channel(other, to, second)
 }
 
-/// Returns whether `channel` is that of `edge`, an edge of `vertex`.
+/// Returns whether `channel` is the channel of `edge`, an edge of `vertex`.
 fn is_channel(channel: usize, vertex: usize, edge: Edge) -> bool
     ensures { IsTrue result ↔ (channel ≡ number_of vertex edge) }
 {

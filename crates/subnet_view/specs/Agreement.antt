@@ -1,5 +1,5 @@
--- When a view describes a part of a fabric, or describes it exactly. What it says of claimed LIDs may be anything.
--- InfiniBand Architecture Specification, Volume 1: subnet management, NodeInfo, PortInfo and SwitchInfo.
+-- When a view describes a part of a fabric, or describes it exactly. The LIDs that ports claim in the view may be
+-- anything. InfiniBand Architecture Specification, Volume 1: subnet management, NodeInfo, PortInfo and SwitchInfo.
 use Rattle.std.specs.Prelude.{◌≡◌, ◌↔◌, ℕ, Some, IsTrue}
 use Rattle.fabric_model.specs.declared.cable.NodePort.{NodePort}
 use Rattle.smp_bytes.specs.NodeType.{is_switch}
@@ -26,7 +26,7 @@ pub record IsEndPortIn (part : Part) (f : Fabric) (port : NodePort) (node : fabr
   pub end_port : fabric.IsEndPort f port
   pub in_part : part port
 
--- the port p of the node with the GUID g
+-- `port` is the port p of the node with the GUID g
 pub record IsPortNamed (f : Fabric) (g p : ℕ) (port : NodePort) : Type 0 where
   pub node : fabric.Node
   pub node_there : IsNodeAt f port.node node
@@ -40,7 +40,7 @@ pub record HasEndPort (part : Part) (f : Fabric) (g p : ℕ) : Type 0 where
   pub end_port : fabric.IsEndPort f port
   pub in_part : part port
 
--- a wire of the part, by the GUIDs of its nodes and the numbers of its ports
+-- there is a wire of the part between these ports, given by the GUIDs of their nodes and their numbers
 pub record HasWire (part : Part) (f : Fabric) (g p h q : ℕ) : Type 0 where
   pub from : NodePort
   pub to : NodePort
@@ -49,14 +49,15 @@ pub record HasWire (part : Part) (f : Fabric) (g p h q : ℕ) : Type 0 where
   pub wire : walks.IsWire f from to
   pub in_part : part (vertex_of f from)
 
--- the facts have the type and the number of ports of an end port's node, its port GUID, and a switch's table room
+-- the facts have the type and the number of ports of an end port's node, its port GUID, and the table room if the node
+-- is a switch
 pub record TellsEndPort (cells : Cells) (node : fabric.Node) (p : ℕ) : Type 0 where
   pub kind : node_of cells node.guid ≡ Some (node.kind, node.ports)
   pub port_guid : port_guid_of cells node.guid p ≡ Some (node.port_guid p)
   pub cap : IsTrue (is_switch node.kind) → cap_of cells node.guid ≡ Some node.cap
 
--- the view describes the part, whose nodes have different GUIDs: it tells the part's end ports and their nodes, and the
--- wires in its ports, as they are; of anything else it may tell anything, such as nodes that are gone
+-- the view describes the part, whose nodes have different GUIDs: it contains the part's end ports and their nodes, and
+-- the wires in its ports, as they are; it may contain anything else, such as nodes that are gone
 pub record Covers (part : Part) (cells : Cells) (f : Fabric) : Type 0 where
   pub guids_distinct : (p q : NodePort) (a b : fabric.Node) → IsEndPortIn part f p a → IsEndPortIn part f q b → a.guid
       ≡ b.guid → p.node ≡ q.node
@@ -66,8 +67,8 @@ pub record Covers (part : Part) (cells : Cells) (f : Fabric) : Type 0 where
   pub wires_there : (port : NodePort) (node : fabric.Node) → IsNodeAt f port.node node → part (vertex_of f port)
       → (h q : ℕ) → IsWire cells node.guid port.port h q → HasWire part f node.guid port.port h q
 
--- the view describes the part exactly: the part's nodes have different GUIDs, and the view tells the part's end ports
--- and their nodes, its switches and its wires, and no others
+-- the view describes the part exactly: the part's nodes have different GUIDs, and the view contains the part's end
+-- ports and their nodes, its switches and its wires, and no others
 pub record AgreesOn (part : Part) (cells : Cells) (f : Fabric) : Type 0 where
   pub guids_distinct : (p q : NodePort) (a b : fabric.Node) → IsEndPortIn part f p a → IsEndPortIn part f q b → a.guid
       ≡ b.guid → p.node ≡ q.node

@@ -8,19 +8,19 @@ use Rattle.reply_facts.specs.declared.value.Value.{Value}
 use Rattle.reply_facts.specs.Key.{key_cmp}
 use Rattle.subnet_view.specs.Reading.{Cells}
 
--- key k comes before `key`
+-- whether key k comes before `key`
 abbrev pub is_before : Key → Key → Bool
 is_before k key = is_lt (key_cmp k key)
 
--- the next cell and the later ones are in the order of keys; if there is no next cell, none is left
+-- the next cell and the later ones are in the order of keys; if there is no next cell, there is no later one
 abbrev pub AreLeft : Option (Key × Cell Value) → Cells → Type 0
 AreLeft next later = MatchOption next (later ≡ []) (λ s. T (is_sorted key_cmp (s ∷ later)))
 
--- this key and later keys are found as before
+-- `key` and later keys are found as before
 abbrev pub KeepsFrom : Key → Cells → Cells → Type 0
 KeepsFrom key old new = (k : Key) → is_before k key ≡ false → find key_cmp k new ≡ find key_cmp k old
 
--- the first cell, if there is one, has this key or a later one
+-- the first cell, if there is one, has `key` or a later key
 abbrev pub IsFrom : Key → Cells → Type 0
 IsFrom key [] = Unit {0}
 IsFrom key (s ∷ later) = is_before s.0 key ≡ false

@@ -9,9 +9,10 @@ use Rattle.subnet_view.specs.Graph.{guids_of, neighbors}
 abbrev pub distance : List SwitchEdges → ℕ → ℕ → Option ℕ
 distance graph a b = shortest (neighbors graph) (length graph) a b
 
+-- whether a walk leads from one switch to the other
 abbrev pub in_one_component : List SwitchEdges → ℕ → ℕ → Bool
 in_one_component graph a b = is_some (distance graph a b)
 
--- the least GUID of a switch's component
+-- the root of a switch's component, which is its least GUID; None if the GUID is not that of a switch
 abbrev pub root_of : List SwitchEdges → ℕ → Option ℕ
 root_of graph a = find (in_one_component graph a) (guids_of graph)

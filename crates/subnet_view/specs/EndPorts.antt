@@ -15,34 +15,34 @@ use Rattle.subnet_view.specs.declared.end_port.EndPort.{EndPort}
 use Rattle.reply_facts.specs.Known.{node_of, port_guid_of}
 use Rattle.subnet_view.specs.Reading.{Cells, is_switch_node, is_port_of}
 
--- port 0 of a switch, or a port from 1 to the number of ports of another node
+-- whether p is port 0 of a switch, or from 1 to the number of ports of another node
 abbrev pub is_end_port_number : Cells → ℕ → ℕ → Bool
 is_end_port_number cells g p = if is_switch_node cells g then p == 0 else is_port_of cells g p
 
--- an end port: port 0 of a switch, or a port of another node, with a known GUID
+-- whether the port is an end port: port 0 of a switch, or a port of another node, with a known GUID
 abbrev pub is_end_port : Cells → ℕ → ℕ → Bool
 is_end_port cells g p = is_end_port_number cells g p && is_some (port_guid_of cells g p)
 
--- the end port of a cell with its port GUID, if the cell is an end port's GUID
+-- the end port of a cell with its port GUID; None if the cell is not the GUID of an end port
 abbrev pub guid_and_port : Cells → Key × Cell Value → Option (ℕ × EndPort)
 guid_and_port cells ((PortGuid g p), c) =
     if is_end_port_number cells g p then option_map (λ guid. (guid, record { node = g; port = p }))
     (port_guid_of cells g p) else None
 guid_and_port cells (_, c) = None
 
--- port GUID, node GUID and port
+-- the port GUID, the node GUID and the port
 abbrev pub port_numbers : ℕ × EndPort → List ℕ
 port_numbers e = e.0 ∷ e.1.node ∷ e.1.port ∷ []
 
--- the first number in which two end ports differ decides
+-- the order of end ports: the first number in which they differ decides
 abbrev pub port_cmp : ℕ × EndPort → ℕ × EndPort → Ordering
 port_cmp a b = slice_cmp nat_cmp (port_numbers a) (port_numbers b)
 
--- a comes before b: by port GUID, then node GUID, then port
+-- whether a comes before b: by port GUID, then node GUID, then port
 abbrev pub comes_before : ℕ × EndPort → ℕ × EndPort → Bool
 comes_before a b = is_lt (port_cmp a b)
 
--- the list with e put before the first end port that it comes before
+-- the list with e inserted before the first end port that it comes before
 abbrev pub put_in_order : ℕ × EndPort → List (ℕ × EndPort) → List (ℕ × EndPort)
 put_in_order e [] = e ∷ []
 put_in_order e (x ∷ xs) = if comes_before e x then e ∷ x ∷ xs else x ∷ put_in_order e xs
@@ -85,7 +85,7 @@ abbrev pub ComesBefore : Cells → EndPort → EndPort → Type 0
 ComesBefore cells a b = (m n : ℕ) → port_guid_of cells a.node a.port ≡ Some m → port_guid_of cells b.node b.port
     ≡ Some n → IsTrue (comes_before (m, a) (n, b))
 
--- the list has the end ports, and nothing else
+-- the list has exactly the end ports
 abbrev pub HasEndPorts : Cells → List EndPort → Type 0
 HasEndPorts cells ports = (e : EndPort) → Contains ports e ↔ IsEndPort cells e.node e.port
 

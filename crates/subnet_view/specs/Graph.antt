@@ -6,13 +6,13 @@ use Rattle.subnet_view.specs.Reading.{Cells, is_switch_node, port_count_of, swit
 use Rattle.subnet_view.specs.Wires.{across}
 use Rattle.subnet_view.specs.SwitchEdges.{SwitchEdges}
 
--- the wire in a port, if it leads to a switch
+-- the edge of the wire in port p of g; None if no wire leads from there to a switch
 abbrev pub edge_at : Cells → ℕ → ℕ → Option Edge
 edge_at cells g p =
     option_and_then (λ q. if is_switch_node cells q.0 then Some (record { port = p; to = q.0 }) else None)
     (across cells g p)
 
--- the wires of a switch to switches, by rising port
+-- the wires from a switch to other switches, by rising port
 abbrev pub edges_of : Cells → ℕ → List Edge
 edges_of cells g = filter_map (edge_at cells g) (range_with_len 1 (port_count_of cells g))
 
@@ -20,15 +20,15 @@ edges_of cells g = filter_map (edge_at cells g) (range_with_len 1 (port_count_of
 abbrev pub graph_of : Cells → List SwitchEdges
 graph_of cells = map (λ g. record { guid = g; edges = edges_of cells g }) (switches cells)
 
--- the switches of a graph
+-- the GUIDs of the switches of a graph
 abbrev pub guids_of : List SwitchEdges → List ℕ
 guids_of graph = map (λ c. c.guid) graph
 
--- the wires of a switch
+-- the edges of switch a; empty if the graph lacks it
 abbrev pub edges_at : List SwitchEdges → ℕ → List Edge
 edges_at [] a = []
 edges_at (c ∷ graph) a = if c.guid == a then c.edges else edges_at graph a
 
--- the switches that a's wires lead to
+-- the switches that the edges of a lead to
 abbrev pub neighbors : List SwitchEdges → ℕ → List ℕ
 neighbors graph a = map (λ e. e.to) (edges_at graph a)

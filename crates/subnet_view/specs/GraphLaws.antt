@@ -1,4 +1,4 @@
--- What the graph of the usable switches is, as statements.
+-- The properties of the graph of the usable switches.
 use Rattle.std.specs.Prelude.{◌↔◌, ℕ, List, map, Contains, IsTrue}
 use Rattle.std.specs.List.Sorted.{IsStrictlyIncreasing}
 use Rattle.fact_store.specs.View.{Facts, cells_of}
@@ -7,6 +7,7 @@ use Rattle.subnet_view.specs.Wires.{IsWire}
 use Rattle.subnet_view.specs.SwitchEdges.{SwitchEdges}
 use Rattle.subnet_view.specs.Graph.{guids_of, edges_at, neighbors, graph_of}
 
+-- the GUID is that of a switch of the graph
 abbrev pub IsSwitch : List SwitchEdges → ℕ → Type 0
 IsSwitch graph a = Contains (guids_of graph) a
 
@@ -26,7 +27,7 @@ GraphLaw = (facts : Facts) → IsGraph (graph_of (cells_of facts))
 abbrev pub SwitchLaw : Type 0
 SwitchLaw = (facts : Facts) (g : ℕ) → IsSwitch (graph_of (cells_of facts)) g ↔ IsTrue (is_usable (cells_of facts) g)
 
--- a wire from port p of g to the usable switch h
+-- a wire leads from port p of g to the usable switch h
 abbrev pub IsSwitchWire : Facts → ℕ → ℕ → ℕ → Type 0
 IsSwitchWire facts g p h = IsTrue (is_usable (cells_of facts) h) × ((q : ℕ) × IsWire (cells_of facts) g p h q)
 

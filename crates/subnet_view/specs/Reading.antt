@@ -1,4 +1,4 @@
--- What facts say of the nodes and ports of a subnet.
+-- What facts contain about the nodes and ports of a subnet.
 use Rattle.std.specs.Prelude.{◌≡◌, ◌↔◌, ◌<◌, ℕ, Bool, false, List, Contains, Option, None, Some, IsTrue, IsSome, is_some, ◌&&◌, if◌then◌else◌}
 use Rattle.std.specs.Option.{option_map_or}
 use Rattle.std.specs.List.{filter_map, AllPairs}
@@ -17,31 +17,31 @@ use Rattle.fact_store.specs.View.{Facts, cells_of}
 abbrev pub Cells : Type 0
 Cells = List (Key × Cell Value)
 
--- a port that is known to be up
+-- whether the port is known to be up
 abbrev pub is_up : Cells → ℕ → ℕ → Bool
 is_up cells g p = option_map_or (λ up. up) (up_of cells g p) false
 
--- what is known of a node says that it is a switch
+-- whether what is known of a node is that it is a switch
 abbrev pub is_switch_in : Option (NodeType × ℕ) → Bool
 is_switch_in node = option_map_or (λ n. is_switch n.0) node false
 
--- a node that is known to be a switch
+-- whether the node is known to be a switch
 abbrev pub is_switch_node : Cells → ℕ → Bool
 is_switch_node cells g = is_switch_in (node_of cells g)
 
--- the number of a node's ports, 0 if the node is not known
+-- the number of a node's ports; 0 if the node is not known
 abbrev pub port_count_of : Cells → ℕ → ℕ
 port_count_of cells g = option_map_or (λ n. n.1) (node_of cells g) 0
 
--- a node known to be a switch, with known table room
+-- whether the node is known to be a switch whose table room is known
 abbrev pub is_usable : Cells → ℕ → Bool
 is_usable cells g = is_switch_node cells g && is_some (cap_of cells g)
 
--- a port from 1 to the node's count
+-- whether p is from 1 to the node's number of ports
 abbrev pub is_port_of : Cells → ℕ → ℕ → Bool
 is_port_of cells g p = is_within p (port_count_of cells g)
 
--- the node of a cell, if it is a usable switch
+-- the node of a cell; None if it is not a usable switch
 abbrev pub usable_guid : Cells → Key × Cell Value → Option ℕ
 usable_guid cells ((Node g), c) = if is_usable cells g then Some g else None
 usable_guid cells (_, c) = None
@@ -60,7 +60,7 @@ IsUsable cells g = (ports : ℕ) × (node_of cells g ≡ Some (Switch, ports)) �
 abbrev pub UsableLaw : Type 0
 UsableLaw = (cells : Cells) (g : ℕ) → IsTrue (is_usable cells g) ↔ IsUsable cells g
 
--- the list has the usable switches, and nothing else
+-- the list has exactly the usable switches
 abbrev pub HasSwitches : Cells → List ℕ → Type 0
 HasSwitches cells guids = (g : ℕ) → Contains guids g ↔ IsUsable cells g
 

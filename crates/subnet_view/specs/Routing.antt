@@ -1,4 +1,4 @@
--- What every routing rule between switches has to keep: it leads to every switch of a component, passes no switch
+-- What every rule of routing between switches must keep: it leads to every switch of a component, passes no switch
 -- twice, and takes rising channels.
 use Rattle.std.specs.Prelude.{◌≡◌, ◌≢◌, ℕ, ◌==◌, true, false, List, [], ◌∷◌, map, length, AllPairs, Contains, Option, Some}
 use Rattle.std.specs.List.Sorted.{IsStrictlyIncreasing}
@@ -8,14 +8,14 @@ use Rattle.subnet_view.specs.Graph.{edges_at}
 use Rattle.subnet_view.specs.GraphLaws.{IsSwitch}
 use Rattle.subnet_view.specs.Components.{in_one_component}
 
--- a routing rule: the port by which a packet for a LID leaves one switch for another, the number of wires that it takes
--- from there, and the number of the channel from one switch to a neighbor
+-- a rule of routing: the port by which a packet for a LID leaves one switch for another, the number of wires that it
+-- takes from there, and the number of the channel from one switch to a neighbor
 pub record Routing : Type 0 where
   pub next : ℕ → ℕ → ℕ → Option ℕ
   pub cost : ℕ → ℕ → Option ℕ
   pub channel : ℕ → ℕ → ℕ
 
--- the edges are wires of the graph, one after the other from s on
+-- the edges are edges of the graph, one after the other from s on
 abbrev pub Passes : List SwitchEdges → ℕ → List Edge → Type 0
 Passes graph s [] = Unit {0}
 Passes graph s (e ∷ es) = Contains (edges_at graph s) e × Passes graph e.to es
@@ -44,8 +44,8 @@ pub record Leads (graph : List SwitchEdges) (rule : Routing) (lid s t n : ℕ) :
   pub no_switch_twice : AllPairs (λ a b. a ≢ b) (stops s edges)
   pub channels_rise : IsStrictlyIncreasing (numbers_along rule.channel s edges)
 
--- each switch of a component has a cost to each switch of it, and if a switch has a cost to another, the rule leads
--- there over as many wires
+-- each switch of a component has a cost to each switch of the component; if a switch has a cost to another, the rule
+-- leads there over as many wires
 pub record IsRouting (graph : List SwitchEdges) (rule : Routing) : Type 0 where
   pub reaches : (s t : ℕ) → IsSwitch graph s → IsSwitch graph t → in_one_component graph s t ≡ true → (n : ℕ)
       × (rule.cost s t ≡ Some n)

@@ -1,4 +1,4 @@
--- A switch with its wires.
+-- A switch with its wires to other switches.
 use Rattle.std.specs.Prelude.{ℕ, List}
 use Rattle.port_graph.specs.declared.edge.Edge.{Edge}
 

@@ -15,7 +15,7 @@ LeadBelow n edges = (e : Edge) → Contains edges e → e.to < n
 abbrev pub IsIndexOf : List ℕ → ℕ → ℕ → Type 0
 IsIndexOf numbers number i = (i < length numbers) × (slice_index numbers i ≡ number)
 
--- the index of a number, or None if the list does not have it
+-- `found` is the index of the number; None if the list does not have it
 abbrev pub IsIndexIn : List ℕ → ℕ → Option ℕ → Type 0
 IsIndexIn numbers number found = MatchOption found (¬ (Contains numbers number)) (IsIndexOf numbers number)
 
@@ -35,23 +35,23 @@ AreEdgesAt graph i edges = map (by_guid (guids_of graph)) edges ≡ edges_at gra
 abbrev pub distances_from : List SwitchEdges → ℕ → List (Option ℕ)
 distances_from graph i = map (distance graph (switch_at graph i)) (guids_of graph)
 
--- switches, each with its edges
+-- each switch with its edges
 abbrev pub switch_edges : List ℕ → List (List Edge) → List SwitchEdges
 switch_edges [] edges = []
 switch_edges (g ∷ guids) [] = []
 switch_edges (g ∷ guids) (es ∷ edges) = record { guid = g; edges = es } ∷ switch_edges guids edges
 
--- the graph of switches, from edges that lead to indices
+-- the graph of switches, given the edges of each, which lead to indices
 abbrev pub named : List ℕ → List (List Edge) → List SwitchEdges
 named guids edges = switch_edges guids (map (map (by_guid guids)) edges)
 
--- each switch has edges, which lead to switches, and together they are a graph
+-- each switch has edges that lead to switches, and together they are a graph
 pub record IsSwitchGraph (guids : List ℕ) (edges : List (List Edge)) : Type 0 where
   pub as_many : length edges ≡ length guids
   pub to_switches : LeadToVertices edges
   pub is_graph : IsGraph (named guids edges)
 
--- the edges of each switch of the graph, by rising GUID, which lead to indices
+-- the list has the edges of each switch of the graph, by rising GUID, and they lead to indices
 pub record AreEdgesByIndex (graph : List SwitchEdges) (edges : List (List Edge)) : Type 0 where
   pub as_many : length edges ≡ length graph
   pub to_switches : LeadToVertices edges

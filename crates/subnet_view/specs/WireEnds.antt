@@ -16,11 +16,11 @@ use Rattle.subnet_view.specs.Reading.{Cells, is_up, is_switch_in}
 use Rattle.subnet_view.specs.CellCursor.{KeepsFrom, is_before}
 use Rattle.subnet_view.specs.Wires.{is_at, is_wire_end}
 
--- the far end of a port's link, if the port can have a wire
+-- the far end of a port's link; None if the port cannot have a wire
 abbrev pub end_link : Cells → ℕ → ℕ → Option (ℕ × ℕ)
 end_link cells g p = if is_wire_end cells g p then link_of cells g p else None
 
--- the port of a link's cell and the far end of the link, if the port can have a wire
+-- the port of a link's cell and the far end of the link; None if the cell is not a link or the port cannot have a wire
 abbrev pub wire_end : Cells → Key × Cell Value → Option ((ℕ × ℕ) × (ℕ × ℕ))
 wire_end cells ((Link g p), c) = option_map (λ q. ((g, p), q)) (end_link cells g p)
 wire_end cells (_, c) = None
@@ -29,23 +29,23 @@ wire_end cells (_, c) = None
 abbrev pub wire_ends : Cells → List ((ℕ × ℕ) × (ℕ × ℕ))
 wire_ends cells = filter_map (wire_end cells) cells
 
--- the link of `near` leads to another port, `far`, and the link of `far` leads back
+-- whether the link of `near` leads to another port, `far`, and the link of `far` leads back
 abbrev pub is_pair : ℕ × ℕ → ℕ × ℕ → Option (ℕ × ℕ) → Bool
 is_pair near far back = not (is_at near.0 near.1 far) && option_map_or (is_at near.0 near.1) back false
 
--- by what is read in step: -----------------------------------------------------------
+-- by what a reader has left: -----------------------------------------------------------
 
--- the number of a node's ports, 0 if the node is not known
+-- the number of a node's ports; 0 if the node is not known
 abbrev pub count_of : Option (NodeType × ℕ) → ℕ
 count_of node = option_map_or (λ n. n.1) node 0
 
--- a port that can have a wire, by the cells that the reader has not passed
+-- whether a port can have a wire, by the cells that the reader has not passed
 abbrev pub is_end_read : PortReader → ℕ → ℕ → Bool
 is_end_read r g p = let node = node_of r.nodes g in is_up r.ports g p && is_within p (count_of node)
     && (if is_switch_in node then is_some (cap_of r.caps g) else is_some (port_guid_of r.guids g p))
 
--- the port of a link's cell and the far end of the link, if the port can have a wire by the cells that the reader has
--- not passed
+-- the port of a link's cell and the far end of the link, by the cells that the reader has not passed; None if the port
+-- cannot have a wire
 abbrev pub end_read : PortReader → Key × Cell Value → Option ((ℕ × ℕ) × (ℕ × ℕ))
 end_read r ((Link g p), c) =
     if is_end_read r g p then option_map (λ q. ((g, p), q)) (peer_in (value_in (Some c))) else None

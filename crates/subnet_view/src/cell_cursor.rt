@@ -41,7 +41,7 @@ impl<'s> CellCursor<'s> {
         CellCursor { next, later }
     }
 
-    /// Returns the type of a node and its number of ports.
+    /// Returns the type of `node` and its number of ports, if they are known. Passes the cells of earlier keys.
     pub(crate) fn node(&mut self, node: Guid) -> Option<(NodeType, u8)>
         ensures value { result ≡ node_of self.old node }
         ensures later { KeepsFrom (Node node) self.old self.new }
@@ -52,7 +52,7 @@ impl<'s> CellCursor<'s> {
         }
     }
 
-    /// Returns the GUID of a port.
+    /// Returns the GUID of `port` of `node`, if it is known. Passes the cells of earlier keys.
     pub(crate) fn port_guid(&mut self, node: Guid, port: PortNum) -> Option<Guid>
         ensures value { result ≡ port_guid_of self.old node port }
         ensures later { KeepsFrom (PortGuid node port) self.old self.new }
@@ -63,7 +63,8 @@ impl<'s> CellCursor<'s> {
         }
     }
 
-    /// Returns how many LIDs a switch's linear forwarding table has room for.
+    /// Returns the number of LIDs that the linear forwarding table of the switch `node` has room for, if it is known.
+    /// Passes the cells of earlier keys.
     pub(crate) fn cap(&mut self, node: Guid) -> Option<u16>
         ensures value { result ≡ cap_of self.old node }
         ensures later { KeepsFrom (Cap node) self.old self.new }
@@ -74,7 +75,7 @@ impl<'s> CellCursor<'s> {
         }
     }
 
-    /// Returns whether a port is known to be up.
+    /// Returns whether `port` of `node` is known to be up. Passes the cells of earlier keys.
     pub(crate) fn is_up(&mut self, node: Guid, port: PortNum) -> bool
         ensures value { result ≡ is_up self.old node port }
         ensures later { KeepsFrom (Port node port) self.old self.new }
@@ -82,8 +83,8 @@ impl<'s> CellCursor<'s> {
         matches!(self.known(Key::Port(node, port)), Some(Value::Up(true)))
     }
 
-    /// Returns the known value of a key. Passes the cells of earlier keys, so only this key and later ones can be
-    /// looked up afterwards.
+    /// Returns the known value of `key`, or `None` if there is none. Passes the cells of earlier keys. Only this key
+    /// and later ones can be looked up afterwards.
     fn known(&mut self, key: Key) -> Option<Value>
         ensures value { result ≡ known_in self.old key }
         ensures later { KeepsFrom key self.old self.new }

@@ -13,14 +13,14 @@ use std::alloc::{AllocError, Global};
 /// A port with a LID of its own: port 0 of a switch, or a port of another node.
 #[derive(Clone, Copy, Debug, PartialEq, Eq)]
 pub struct EndPort {
-    /// The GUID of its node.
+    /// The GUID of the node.
     pub node: Guid,
     /// The number of the port at its node.
     pub port: PortNum,
 }
 
-/// Returns whether a port is an end port: port 0 of a switch, or a port of another node, with a known GUID. Takes two
-/// searches.
+/// Returns whether `port` of `node` is an end port: port 0 of a switch, or a port of another node, with a known GUID.
+/// Takes two searches.
 pub fn is_end_port(store: &Store, node: Guid, port: PortNum) -> bool
     ensures { result ≡ is_end_port (cells_of store.now) node port }
 {
@@ -87,7 +87,7 @@ fn sort(found: &mut [(Guid, EndPort)])
     found.sort_unstable_by_key(sort_key);
 }
 
-/// Returns the port GUID, the node GUID and the port.
+/// Returns the port GUID, the node GUID and the port, by which end ports are sorted.
 pub(crate) fn sort_key(end: &(Guid, EndPort)) -> [u64; 3]
     ensures { result ≡ port_numbers end.now }
 {
@@ -98,8 +98,8 @@ pub(crate) fn sort_key(end: &(Guid, EndPort)) -> [u64; 3]
     ]
 }
 
-/// Returns the end port of a cell with its port GUID, if the cell is the GUID of an end port. Takes a search if it is a
-/// port GUID.
+/// Returns the end port of a cell with its port GUID, or `None` if the cell is not the GUID of an end port. Takes a
+/// search if the cell is a port GUID.
 pub(crate) fn guid_and_port(store: &Store, sighting: &Sighting) -> Option<(Guid, EndPort)>
     requires { cell_for store.now sighting.now.0 ≡ Some sighting.now.1 }
     ensures { result ≡ guid_and_port (cells_of store.now) sighting.now }
@@ -117,8 +117,7 @@ pub(crate) fn guid_and_port(store: &Store, sighting: &Sighting) -> Option<(Guid,
     }
 }
 
-/// Returns whether the port is port 0 of a switch, or a port from 1 to the number of ports of another node. Takes a
-/// search.
+/// Returns whether `port` is port 0 of a switch, or from 1 to the number of ports of another node. Takes a search.
 fn is_end_port_number(store: &Store, node: Guid, port: PortNum) -> bool
     ensures { result ≡ is_end_port_number (cells_of store.now) node port }
 {

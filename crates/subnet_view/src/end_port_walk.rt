@@ -9,7 +9,8 @@ use fact_store::Store;
 use smp_bytes::Guid;
 
 /// Returns the first end port after `last` in the order of `end_ports`, with its port GUID, or the first of all if
-/// `last` is `None`. Takes no memory. Walks the cells, with a search for each port GUID.
+/// `last` is `None`. Returns `None` if there is none. Takes no memory. Walks the cells, with a search for each port
+/// GUID.
 pub fn next_end_port(store: &Store, last: Option<(Guid, EndPort)>) -> Option<(Guid, EndPort)>
     ensures { MatchOption result (ports_after (cells_of store.now) last ≡ [])
         (λ end. ports_after (cells_of store.now) last
@@ -39,7 +40,7 @@ fn nearer(
     }
 }
 
-/// Returns whether an end port comes after `last`, if there is one.
+/// Returns whether `end` comes after `last`, or `true` if `last` is `None`.
 fn is_after(last: &Option<(Guid, EndPort)>, end: &(Guid, EndPort)) -> bool
     ensures { result ≡ is_after last.now end.now }
 {
@@ -49,7 +50,7 @@ fn is_after(last: &Option<(Guid, EndPort)>, end: &(Guid, EndPort)) -> bool
     }
 }
 
-/// Returns whether an end port comes before `next`, if there is one.
+/// Returns whether `end` comes before `next`, or `true` if `next` is `None`.
 fn is_before(next: &Option<(Guid, EndPort)>, end: &(Guid, EndPort)) -> bool
     ensures { result ≡ is_before next.now end.now }
 {
@@ -59,7 +60,7 @@ fn is_before(next: &Option<(Guid, EndPort)>, end: &(Guid, EndPort)) -> bool
     }
 }
 
-/// Returns whether one end port comes before another.
+/// Returns whether `a` comes before `b` in the order of end ports.
 fn comes_before(a: &(Guid, EndPort), b: &(Guid, EndPort)) -> bool
     ensures { result ≡ comes_before a.now b.now }
 {

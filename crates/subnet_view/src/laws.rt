@@ -1,4 +1,4 @@
-//! What the readers of a view mean, and what the graph of switches is.
+//! The meaning of the readers of a view, and of the graph of switches.
 ghost use Rattle.subnet_view.specs.EndPorts.{EndPortLaw, EndPortsLaw};
 ghost use Rattle.subnet_view.specs.GraphLaws.{GraphLaw, SwitchLaw, EdgeLaw};
 ghost use Rattle.subnet_view.specs.Reading.{UsableLaw, SwitchesLaw};
@@ -14,8 +14,8 @@ pub fn switches_are_listed_by_guid()
     ensures { SwitchesLaw }
 {}
 
-/// An end port is port 0 of a node known to be a switch, or a port from 1 to the count of a node known to be of another
-/// type, and its GUID is known.
+/// An end port is port 0 of a node known to be a switch, or a port from 1 to the number of ports of a node known to be
+/// of another type. Its GUID is known.
 pub fn end_port_is_in_words()
     ensures { EndPortLaw }
 {}
@@ -36,13 +36,13 @@ pub fn wires_go_both_ways()
 {}
 
 /// A port is attached to a port of a usable switch exactly if its node is not known to be a switch and a wire leads
-/// from the one to the other.
+/// from it to that port.
 pub fn attachment_is_in_words()
     ensures { AttachedLaw }
 {}
 
-/// Facts give a graph: its switches stand by rising GUID, each with its edges by rising port, and each wire leads to a
-/// switch that has a wire back.
+/// Facts give a graph: its switches are in order of rising GUID, each with its edges by rising port, and each edge
+/// leads to a switch that has an edge back.
 pub fn facts_give_a_graph()
     ensures { GraphLaw }
 {}

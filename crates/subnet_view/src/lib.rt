@@ -1,4 +1,4 @@
-//! What a view of a subnet says: its usable switches, its end ports and its wires, and the graph of switches.
+//! The usable switches, end ports and wires of a view of a subnet, and the graph of its switches.
 #![tactic(auto)]
 
 mod cell_cursor;

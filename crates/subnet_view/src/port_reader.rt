@@ -19,7 +19,7 @@ pub(crate) struct PortReader<'s> {
 }
 
 impl<'s> PortReader<'s> {
-    /// Creates a reader of all that a store says.
+    /// Creates a reader of all cells of a store.
     pub(crate) fn new(store: &'s Store) -> Self
         ensures { ReadsAll (cells_of store.now) result }
     {
@@ -31,8 +31,8 @@ impl<'s> PortReader<'s> {
         }
     }
 
-    /// Returns both ends of a link's cell, its own port and the far end, if its own port can have a wire. Passes what
-    /// is known of earlier ports.
+    /// Returns both ends of a link's cell, which are its own port and the far end. Returns `None` if its own port
+    /// cannot have a wire. Passes what is known of earlier ports.
     pub(crate) fn wire_end(
         &mut self,
         sighting: &Sighting,
@@ -52,7 +52,7 @@ impl<'s> PortReader<'s> {
         }
     }
 
-    /// Returns whether a port can have a wire. Passes what is known of earlier ports.
+    /// Returns whether `port` of `node` can have a wire. Passes what is known of earlier ports.
     fn is_wire_end(&mut self, node: Guid, port: PortNum) -> bool
         ensures end { result ≡ is_end_read self.old node port }
         ensures later { KeepsPort node port self.old self.new }
@@ -65,7 +65,7 @@ impl<'s> PortReader<'s> {
     }
 }
 
-/// Returns whether the port is from 1 to the number of ports of its node; `false` if the node is not known.
+/// Returns whether `port` is from 1 to the number of ports of its node. Returns `false` if the node is not known.
 fn is_port_of(port: PortNum, node: Option<(NodeType, u8)>) -> bool
     ensures { result ≡ is_within port (count_of node) }
 {
@@ -75,7 +75,7 @@ fn is_port_of(port: PortNum, node: Option<(NodeType, u8)>) -> bool
     }
 }
 
-/// Returns whether the node is known to be a switch.
+/// Returns whether `node` is known to be a switch.
 fn is_switch(node: Option<(NodeType, u8)>) -> bool
     ensures { result ≡ is_switch_in node }
 {

@@ -30,14 +30,14 @@ pub(crate) fn is_switch(store: &Store, node: Guid) -> bool
     matches!(store.node(node), Some((NodeType::Switch, _)))
 }
 
-/// Returns whether a cell says that its node is a switch.
+/// Returns whether the value of a cell is that its node is a switch.
 pub(crate) fn is_switch_said(sighting: &Sighting) -> bool
     ensures { result ≡ is_switch_in (kind_in (value_in (Some sighting.now.1))) }
 {
     matches!(sighting.value(), Some(Value::Kind(NodeType::Switch, _)))
 }
 
-/// Returns the GUID that a cell says.
+/// Returns the GUID that is the value of a cell, or `None` if its value is not a GUID.
 pub(crate) fn guid_said(sighting: &Sighting) -> Option<Guid>
     ensures { result ≡ guid_in (value_in (Some sighting.now.1)) }
 {
@@ -47,7 +47,8 @@ pub(crate) fn guid_said(sighting: &Sighting) -> Option<Guid>
     }
 }
 
-/// Returns the node and the port that a cell says are at the other end of the link.
+/// Returns the node and the port at the other end of a link that are the value of a cell, or `None` if its value is not
+/// those.
 pub(crate) fn peer_said(sighting: &Sighting) -> Option<(Guid, PortNum)>
     ensures { result ≡ peer_in (value_in (Some sighting.now.1)) }
 {

@@ -8,7 +8,8 @@ use fact_store::{Key, Refused, Sighting, Store};
 use smp_bytes::Guid;
 use std::alloc::{AllocError, Global};
 
-/// Returns whether a node is a usable switch: known to be a switch, with known table room. Takes two searches.
+/// Returns whether `node` is a usable switch: it is known to be a switch, and its table room is known. Takes two
+/// searches.
 pub fn is_usable(store: &Store, node: Guid) -> bool
     ensures { result ≡ is_usable (cells_of store.now) node }
 {
@@ -35,7 +36,8 @@ fn listed_switches(alloc: Global, store: &Store) -> Result<Vec<Guid>, AllocError
     Ok(found)
 }
 
-/// Returns the node of a cell of the store, if it is a usable switch. Takes a search if it is a switch.
+/// Returns the node of a cell of the store, or `None` if it is not a usable switch. Takes a search if the node is a
+/// switch.
 pub fn usable_guid(store: &Store, sighting: &Sighting) -> Option<Guid>
     requires { cell_for store.now sighting.now.0 ≡ Some sighting.now.1 }
     ensures { result ≡ usable_guid (cells_of store.now) sighting.now }
@@ -52,7 +54,7 @@ pub fn usable_guid(store: &Store, sighting: &Sighting) -> Option<Guid>
     }
 }
 
-/// Returns whether the cell says that `node` is a switch, and its table room is known.
+/// Returns whether the value of the cell is that `node` is a switch, and its table room is known.
 fn is_usable_said(store: &Store, node: Guid, sighting: &Sighting) -> bool
     ensures { result ≡ (is_switch_in (kind_in (value_in (Some sighting.now.1)))
         && is_some (cap_of (cells_of store.now) node)) }

@@ -66,21 +66,21 @@ impl SwitchGraph {
         &self.guids
     }
 
-    /// Returns the switches, by rising GUID, and drops the edges.
+    /// Returns the switches, by rising GUID, and frees the edges.
     pub fn into_switches(self) -> Vec<Guid>
         ensures { result.items ≡ guids_of self }
     {
         self.guids
     }
 
-    /// Returns the switch at an index. Takes one step.
+    /// Returns the switch at `index`, or `None` if there is none. Takes one step.
     pub fn switch(&self, index: usize) -> Option<Guid>
         ensures { result ≡ slice_get (guids_of self.now) index }
     {
         self.guids.get(index).copied()
     }
 
-    /// Returns the index of a switch. Takes a search.
+    /// Returns the index of `switch`, or `None` if it is not in the graph. Takes a search.
     pub fn index_of(&self, switch: Guid) -> Option<usize>
         ensures { IsIndexIn (guids_of self.now) switch result }
     {
@@ -113,8 +113,8 @@ impl SwitchGraph {
         port_graph::distances(alloc, &self.edges, from)
     }
 
-    /// Returns the root of each switch's component, the least GUID in it, by rising GUID of the switches. Takes a
-    /// breadth-first search for each component.
+    /// Returns the root of the component of each switch, which is the least GUID in it. The switches are by rising
+    /// GUID. Takes a breadth-first search for each component.
     pub fn roots(&self, alloc: Global) -> Result<Vec<Option<Guid>>, AllocError>
         ensures { IfOk result (λ roots. roots.items ≡ map (root_of self.now) (guids_of self.now)) }
     {
@@ -137,7 +137,7 @@ fn edges(alloc: Global, wires: &Wires, guids: &[Guid]) -> Result<Adjacency, Allo
     Ok(edges)
 }
 
-/// Returns the wires from a switch to switches, by rising port.
+/// Returns the wires from a switch to other switches, by rising port.
 fn edges_of(
     alloc: Global,
     wires: &Wires,
@@ -158,8 +158,8 @@ fn edges_of(
     Ok(found)
 }
 
-/// Returns the edge of the wire in a port, if it leads to a switch. Takes two searches among the wires, and one among
-/// the switches if there is a wire.
+/// Returns the edge of the wire in `port` of `guid`, or `None` if no wire leads from there to a switch. Takes two
+/// searches among the wires, and one among the switches if there is a wire.
 fn edge_at(wires: &Wires, guids: &[Guid], guid: Guid, port: PortNum) -> Option<Edge>
     requires { guids.now ≡ switches (cells_of wires.now) }
     ensures wire { option_map (by_guid guids.now) result ≡ edge_at (cells_of wires.now) guid port }
@@ -170,7 +170,7 @@ fn edge_at(wires: &Wires, guids: &[Guid], guid: Guid, port: PortNum) -> Option<E
     Some(Edge { port, to })
 }
 
-/// Returns the index of a GUID among rising GUIDs. Takes a search.
+/// Returns the index of `guid` among the rising GUIDs `guids`, or `None` if it is not there. Takes a search.
 fn index_of(guids: &[Guid], guid: Guid) -> Option<usize>
     requires { IsStrictlyIncreasing guids.now }
     ensures { IsIndexIn guids.now guid result }

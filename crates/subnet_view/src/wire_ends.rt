@@ -6,8 +6,9 @@ use crate::reading::{is_switch, is_up};
 use fact_store::Store;
 use smp_bytes::{Guid, NodeType, PortNum};
 
-/// Returns the node and the port at the other end of the wire in a port. There is a wire if the links of two different
-/// ports name each other, and both ports are up and belong to usable switches or are end ports. Takes eight searches.
+/// Returns the node and the port at the other end of the wire in `port` of `node`, or `None` if there is no wire. There
+/// is a wire if the links of two different ports name each other, and both ports are up and either belong to usable
+/// switches or are end ports. Takes eight searches.
 pub fn wire(store: &Store, node: Guid, port: PortNum) -> Option<(Guid, PortNum)>
     ensures { result ≡ across (cells_of store.now) node port }
 {
@@ -19,8 +20,8 @@ pub fn wire(store: &Store, node: Guid, port: PortNum) -> Option<(Guid, PortNum)>
     }
 }
 
-/// Returns the switch and its port that the wire in an adapter port leads to. A port of a node that is known to be a
-/// switch is attached to nothing. Takes ten searches.
+/// Returns the switch and its port that the wire in an adapter port leads to, or `None` if there is none. A port of a
+/// node that is known to be a switch is attached to nothing. Takes ten searches.
 pub fn attached(store: &Store, node: Guid, port: PortNum) -> Option<(Guid, PortNum)>
     ensures { result ≡ attached (cells_of store.now) node port }
 {
@@ -35,7 +36,7 @@ pub fn attached(store: &Store, node: Guid, port: PortNum) -> Option<(Guid, PortN
     }
 }
 
-/// Returns whether there is a wire between two ports. The link of `near` names `far`.
+/// Returns whether there is a wire between the ports `near` and `far`. The link of `near` must name `far`.
 fn is_wire(store: &Store, near: (Guid, PortNum), far: (Guid, PortNum)) -> bool
     ensures { result ≡ is_wire (cells_of store.now) near.0 near.1 far }
 {

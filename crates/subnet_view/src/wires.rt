@@ -49,8 +49,8 @@ impl<'s> Wires<'s> {
         self.store
     }
 
-    /// Returns the node and the port at the other end of the wire in a port, as `wire` does. Takes two searches among
-    /// the ports that can have a wire.
+    /// Returns the node and the port at the other end of the wire in `port` of `node`, as `wire` does. Takes two
+    /// searches among the ports that can have a wire.
     pub fn across(&self, node: Guid, port: PortNum) -> Option<(Guid, PortNum)>
         ensures { result ≡ across (cells_of self.now) node port }
     {
@@ -79,7 +79,8 @@ impl<'s> Wires<'s> {
         }
     }
 
-    /// Returns the far end of a port's link, if the port can have a wire. Takes a search among the ports that can.
+    /// Returns the far end of the link of `port` of `node`, or `None` if the port cannot have a wire. Takes a search
+    /// among the ports that can.
     fn end_link(&self, node: Guid, port: PortNum) -> Option<(Guid, PortNum)>
         ensures { result ≡ end_link (cells_of self.now) node port }
     {

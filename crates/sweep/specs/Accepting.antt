@@ -6,7 +6,7 @@ use Rattle.sweep.specs.Sweep.{Sweep}
 use Rattle.sweep.specs.Finding.{finding, questions, IsWithinReach}
 use Rattle.sweep.specs.Replies.{judged, request_of, sightings_by}
 
--- `accepted` has the index, question and context of the request that `packet` answers, what it brings up, the answer,
+-- `accepted` has the index, question and context of the request that `packet` answers, what the reply adds, the answer,
 -- and the answer's facts
 pub record IsAccepted (s : Sweep) (packet : List ℕ) (accepted : Accepted) : Type 0 where
   pub request : Request

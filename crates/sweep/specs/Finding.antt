@@ -1,4 +1,4 @@
--- What a reply brings up: what is new, and what is asked next.
+-- What a reply adds: what is new, and what is asked next.
 -- InfiniBand Architecture Specification, Volume 1: subnet management, NodeInfo and PortInfo; topology discovery.
 use Rattle.std.specs.Prelude.{◌≡◌, ℕ, zero, suc, ◌+◌, ◌<◌, Bool, true, false, ◌&&◌, ◌||◌, not, List, [], ◌∷◌, ◌++◌, length, nat_lt, ◌==◌, if◌then◌else◌, Option, Some, None, is_some}
 use Rattle.std.specs.Option.{option_map_or}
@@ -40,12 +40,13 @@ vertex_of path info kind ports =
       path = path;
     }
 
--- a node whose GUID is new to the sweep
+-- what NodeInfo adds about a node whose GUID is new to the sweep
 abbrev pub found_anew : List ℕ → NodeInfo → Option NodeType → Finding
 found_anew path info None = Nothing
 found_anew path info (Some kind) = NewVertex (vertex_of path info kind info.num_ports)
 
--- a known node: its first reply decides its type and number of ports, and only another port of an adapter is new
+-- what NodeInfo adds about a known node: its first reply decided its type and number of ports, and only another port of
+-- an adapter is new
 abbrev pub found_again : Sweep → List ℕ → NodeInfo → Vertex → Finding
 found_again s path info first =
     if is_switch first.kind || is_some (vertex_at s.reached info.node_guid info.local_port_num) then Nothing
@@ -55,6 +56,7 @@ abbrev pub node_found_of : Sweep → List ℕ → NodeInfo → Option Vertex →
 node_found_of s path info None = found_anew path info (type_of_number info.node_type)
 node_found_of s path info (Some first) = found_again s path info first
 
+-- what NodeInfo adds
 abbrev pub node_found : Sweep → List ℕ → NodeInfo → Finding
 node_found s path info = node_found_of s path info (first_vertex s.reached info.node_guid)
 
@@ -64,13 +66,13 @@ abbrev pub is_start : List ℕ → Bool
 is_start [] = true
 is_start (port ∷ path) = false
 
--- the node is a switch, and the port is neither its management port nor the one that leads back
+-- the node is a switch, and the port is neither its management port nor the port that leads back
 abbrev pub is_way_on : Sweep → ℕ → ℕ → Bool
 is_way_on s guid port =
     option_map_or (λ first. is_switch first.kind
     && (not (port == 0) && not (port == first.arrival))) (first_vertex s.reached guid) false
 
--- the sweep goes on by the port: it is the port that the sweep goes out by, or a way on from a switch
+-- the sweep goes on by the port: it is the port by which the sweep goes out, or a way on from a switch
 abbrev pub goes_by : Sweep → List ℕ → ℕ → ℕ → Bool
 goes_by s path guid port = (is_start path && port == s.origin) || is_way_on s guid port
 
@@ -78,7 +80,7 @@ goes_by s path guid port = (is_start path && port == s.origin) || is_way_on s gu
 abbrev pub leads_on : Sweep → List ℕ → ℕ → ℕ → List ℕ → Bool
 leads_on s path guid port info = is_up_state (bits_in port_state info) && goes_by s path guid port
 
--- whether the sweep goes on by a port, given the greatest length of a path
+-- whether the sweep goes on by a port; `TooFar` if the path already has the greatest length
 abbrev pub onward : Sweep → List ℕ → ℕ → ℕ → List ℕ → Onward
 onward s path guid port info =
     if not (leads_on s path guid port info) then Stays
@@ -89,7 +91,7 @@ onward s path guid port info =
 abbrev pub has_manager : List ℕ → Bool
 has_manager info = bits_in is_sm_bit info == 1
 
--- the first reply of the node said that it is not a switch
+-- the first reply of the node reported that it is not a switch
 abbrev pub is_of_adapter : Sweep → ℕ → Bool
 is_of_adapter s guid = option_map_or (λ first. not (is_switch first.kind)) (first_vertex s.reached guid) false
 
@@ -97,6 +99,7 @@ is_of_adapter s guid = option_map_or (λ first. not (is_switch first.kind)) (fir
 abbrev pub asks_manager : Sweep → List ℕ → ℕ → List ℕ → Bool
 asks_manager s path guid info = has_manager info && (not (is_start path) && is_of_adapter s guid)
 
+-- what the PortInfo of a port reports
 abbrev pub port_finding_of : Sweep → List ℕ → ℕ → ℕ → List ℕ → PortFinding
 port_finding_of s path guid port info =
     record {
@@ -110,20 +113,21 @@ port_finding_of s path guid port info =
 abbrev pub port_found_of : Sweep → List ℕ → ℕ → ℕ → List ℕ → Finding
 port_found_of s path guid port info = Port (port_finding_of s path guid port info)
 
--- what PortInfo brings up; nothing if the request was not about a node
+-- what PortInfo adds; nothing if the request was not about a node
 abbrev pub port_found : Sweep → List ℕ → Option ℕ → ℕ → List ℕ → Finding
 port_found s path None port info = Nothing
 port_found s path (Some guid) port info = port_found_of s path guid port info
 
 -- by any reply -----------------------------------------------------------------------------------
 
+-- what the reply to this question adds
 abbrev pub finding_of : Sweep → Request → List ℕ → Question → Finding
 finding_of s r packet ask.Node = node_found s r.path (node_info_of packet)
 finding_of s r packet ask.Switch = Nothing
 finding_of s r packet (ask.Port port) = port_found s r.path (about_of r.context) port (payload_of packet)
 finding_of s r packet (ask.Manager guid port) = Nothing
 
--- what the reply to a request brings up
+-- what the reply to a request adds
 abbrev pub finding : Sweep → Request → List ℕ → Finding
 finding s r packet = finding_of s r packet r.question
 
@@ -144,7 +148,7 @@ vertex_questions v =
     ∷ port_questions 0 (v.ports + 1) v.path (About v.guid)
     else record { question = ask.Port v.port; path = v.path; context = About v.guid } ∷ []
 
--- the question for the manager at the port, if it is to be asked, over the path to the port
+-- the question for the manager at the port over the path to the port, if the manager is to be asked
 abbrev pub manager_questions : List ℕ → PortFinding → List Asking
 manager_questions path found =
     if found.asks_manager
@@ -163,6 +167,7 @@ abbrev pub port_found_questions : List ℕ → PortFinding → List Asking
 port_found_questions path found =
     manager_questions path found ++ onward_questions path found.guid found.port found.onward
 
+-- the questions that follow from a finding
 abbrev pub questions : List ℕ → Finding → List Asking
 questions path Nothing = []
 questions path (NewVertex v) = vertex_questions v
@@ -170,27 +175,31 @@ questions path (Port found) = port_found_questions path found
 
 -- what the sweep has then ----------------------------------------------------------------------------
 
+-- the vertices, with the new vertex, if the reply adds one
 abbrev pub with_vertex : Finding → List Vertex → List Vertex
 with_vertex Nothing reached = reached
 with_vertex (NewVertex v) reached = placed vertex_key v reached
 with_vertex (Port found) reached = reached
 
--- a state is added, unless its number is reserved or the port has one already
+-- the states with this state added, unless its number is reserved or the port has a state already
 abbrev pub with_state_of : ℕ → ℕ → Option PortState → List SeenState → List SeenState
 with_state_of guid port None states = states
 with_state_of guid port (Some state) states =
     placed state_key (record { guid = guid; port = port; state = state }) states
 
+-- the states, with the port's state, if the reply adds one
 abbrev pub with_state : Finding → List SeenState → List SeenState
 with_state Nothing states = states
 with_state (NewVertex v) states = states
 with_state (Port found) states = with_state_of found.guid found.port found.state states
 
+-- 1 if the port leads too far, otherwise 0
 abbrev pub one_too_far : Onward → ℕ
 one_too_far Stays = 0
 one_too_far Leads = 0
 one_too_far TooFar = 1
 
+-- the number of ports that lead too far by the finding: 0 or 1
 abbrev pub too_far_by : Finding → ℕ
 too_far_by Nothing = 0
 too_far_by (NewVertex v) = 0
@@ -206,10 +215,11 @@ with_finding s path found =
       too_far = s.too_far + too_far_by found;
     }
 
--- only a path shorter than the longest one is extended
+-- a path is extended only if it is shorter than the longest path
 abbrev pub IsPathWithinReach : List ℕ → Onward → Type 0
 IsPathWithinReach path onward = onward ≡ Leads → length path < max_hops
 
+-- what the reply adds extends no path beyond the longest one
 abbrev pub IsWithinReach : List ℕ → Finding → Type 0
 IsWithinReach path Nothing = Unit {0}
 IsWithinReach path (NewVertex v) = Unit {0}

@@ -1,4 +1,4 @@
--- The attributes that a sweep keeps, if it is asked to: 64 bytes each, as the first reply of a port or a switch said.
+-- The attributes that a sweep keeps, if it is asked to: the 64 bytes in the first reply about each port or switch.
 -- InfiniBand Architecture Specification, Volume 1: subnet management, PortInfo and SwitchInfo.
 use Rattle.std.specs.Prelude.{◌≡◌, ℕ, ◌≤◌, Bool, true, false, List, [], Option, Some, None, option_map}
 use Rattle.reply_facts.specs.Report.{about_of, payload_of}
@@ -22,13 +22,13 @@ image_key i = (i.guid, i.port)
 abbrev pub no_images : Bool → Images
 no_images keeps = record { keeps = keeps; ports = []; switches = [] }
 
--- the image that is kept under a GUID and a port
+-- the image that is kept under a GUID and a port; None if there is none
 abbrev pub image_at : List SeenImage → ℕ → ℕ → Option (List ℕ)
 image_at images guid port = option_map (λ i. i.bytes) (found_at image_key guid port images)
 
 -- what a reply adds ---------------------------------------------------------------------------
 
--- an image is added if images are kept and none has its GUID and port
+-- the images with this image added, if images are kept and none has its GUID and port
 abbrev pub with_image : Bool → SeenImage → List SeenImage → List SeenImage
 with_image true image images = placed image_key image images
 with_image false image images = images
@@ -47,18 +47,18 @@ images_of images guid bytes (ask.Port port) =
     }
 images_of images guid bytes (ask.Manager at port) = images
 
--- the images with the data of a reply added, if the request was about a node
+-- the images, with the data of a reply added if the request was about a node
 abbrev pub images_about : Images → Option ℕ → List ℕ → Question → Images
 images_about images None bytes question = images
 images_about images (Some guid) bytes question = images_of images guid bytes question
 
--- what is kept once the reply to a request has come
+-- the images after the reply to a request
 abbrev pub images_with : Images → Request → List ℕ → Images
 images_with images r packet = images_about images (about_of r.context) (payload_of packet) r.question
 
 -- with memory ------------------------------------------------------------------------------------
 
--- what is kept, and for how many more images there is memory
+-- what is kept, and the numbers of further images for which there is memory
 pub record ImageTable : Type 0 where
   pub kept : Images
   pub port_room : ℕ

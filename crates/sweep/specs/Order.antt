@@ -13,11 +13,11 @@ passes_at test items index = option_map_or test (slice_get items index) false
 abbrev pub is_before : ℕ × ℕ → ℕ × ℕ → Bool
 is_before a b = nat_lt a.0 b.0 || (a.0 == b.0 && nat_lt a.1 b.1)
 
--- each item is before all that come later
+-- each item is before all later items
 abbrev pub AreInOrder : {T : Type 0} → (T → ℕ × ℕ) → List T → Type 0
 AreInOrder key items = AreOrdered (λ a b. is_before (key a) (key b) ≡ true) items
 
--- the items with `x` inserted in order; if one with its GUID and port is there, that one stays
+-- the items with `x` inserted in order, unless an item with its GUID and port is there
 abbrev pub placed : {T : Type 0} → (T → ℕ × ℕ) → T → List T → List T
 placed key x [] = x ∷ []
 placed key x (y ∷ ys) =
@@ -29,7 +29,7 @@ placed key x (y ∷ ys) =
 abbrev pub has_key : {T : Type 0} → (T → ℕ × ℕ) → ℕ → ℕ → T → Bool
 has_key key guid port x = (key x).0 == guid && (key x).1 == port
 
--- the item with this GUID and port
+-- the item with this GUID and port; None if there is none
 abbrev pub found_at : {T : Type 0} → (T → ℕ × ℕ) → ℕ → ℕ → List T → Option T
 found_at key guid port items = find (has_key key guid port) items
 

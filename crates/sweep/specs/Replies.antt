@@ -31,16 +31,17 @@ belongs generation packet r =
     answers packet (transaction_of generation r.number) (attribute_asked r.question) (modifier_asked r.question)
     (Some r.path)
 
--- the request that waits for the reply `packet`
+-- the request that waits for the reply `packet`; None if there is none
 abbrev pub request_of : Sweep → List ℕ → Option Request
 request_of s packet = find (belongs s.generation packet) s.outstanding
 
 -- what is answered ----------------------------------------------------------------------------
 
+-- the report of the reply to a request
 abbrev pub report_for : Sweep → Request → List ℕ → Report
 report_for s r packet = record { generation = s.generation; context = r.context; bytes = packet }
 
--- the fault of a reply; the data of SMInfo are not judged, since a manager may say anything of itself
+-- the fault of a reply; the data of SMInfo are not judged, since a manager may report anything about itself
 abbrev pub fault_by : Question → Report → Option ReportFault
 fault_by ask.Node report = report_fault report
 fault_by ask.Switch report = report_fault report
@@ -60,7 +61,7 @@ answer_by (ask.Manager guid port) report = Seen guid port (sm_info_in (payload_o
 abbrev pub answer_for : Sweep → Request → List ℕ → Answer
 answer_for s r packet = answer_by r.question (report_for s r packet)
 
--- a request that the reply brings up needs a number of more than 32 bits
+-- a request that follows from the reply needs a number of more than 32 bits
 abbrev pub is_spent : Sweep → Request → List ℕ → Bool
 is_spent s r packet = nat_lt (2 ^ 32) (s.next + length (questions r.path (finding s r packet)))
 

@@ -14,11 +14,12 @@ pub data Event : Type 0 where
   Hears : List ℕ → Event
   TimesOut : ℕ → Event
 
--- a reply that is refused leaves everything as it is
+-- the sweep after it received a packet, given its answer; a reply that is refused leaves everything as it is
 abbrev pub heard : Sweep → List ℕ → Result Answer SweepFault → Sweep
 heard s packet (Ok answer) = after_reply s packet
 heard s packet (Err fault) = s
 
+-- the sweep after an event
 abbrev pub step : Sweep → Event → Sweep
 step s Sends = (after_next_request s).sweep
 step s (Hears packet) = heard s packet (judged s packet)
@@ -28,7 +29,7 @@ abbrev pub first_number : List Request → List ℕ
 first_number [] = []
 first_number (r ∷ queued) = r.number ∷ []
 
--- the number of the request that goes out, if one does
+-- the number of the request that goes out; empty if none does
 abbrev pub number_sent : Sweep → Event → List ℕ
 number_sent s Sends = first_number s.queued
 number_sent s (Hears packet) = []
@@ -44,16 +45,18 @@ abbrev pub NumbersRise : Type 0
 NumbersRise = (origin generation first : ℕ) (keeps : Bool) (events : List Event)
     → AreOrdered (λ a b. a < b) (numbers_sent (started origin generation first keeps) events)
 
--- the number of replies accepted
+-- 1 if a reply was accepted, otherwise 0
 abbrev pub taken_by : Result Answer SweepFault → ℕ
 taken_by (Ok answer) = 1
 taken_by (Err fault) = 0
 
+-- 1 if the event is a reply that is accepted, otherwise 0
 abbrev pub reply_taken : Sweep → Event → ℕ
 reply_taken s Sends = 0
 reply_taken s (Hears packet) = taken_by (judged s packet)
 reply_taken s (TimesOut transaction) = 0
 
+-- the number of replies that are accepted
 abbrev pub replies_taken : Sweep → List Event → ℕ
 replies_taken s [] = 0
 replies_taken s (e ∷ events) = reply_taken s e + replies_taken (step s e) events
@@ -77,41 +80,45 @@ EachCounts =
 
 -- managers that are asked ----------------------------------------------------------------------
 
--- the number of requests for SMInfo
+-- the number of requests for SMInfo among the requests
 abbrev pub managers_in : List Request → ℕ
 managers_in [] = 0
 managers_in (r ∷ requests) = managers_asked r.question + managers_in requests
 
+-- 1 if the first request of the queue is for SMInfo, otherwise 0
 abbrev pub manager_in_first : List Request → ℕ
 manager_in_first [] = 0
 manager_in_first (r ∷ queued) = managers_asked r.question
 
--- the number of requests for SMInfo that go out
+-- the number of requests for SMInfo that go out by the event: 0 or 1
 abbrev pub manager_sent : Sweep → Event → ℕ
 manager_sent s Sends = manager_in_first s.queued
 manager_sent s (Hears packet) = 0
 manager_sent s (TimesOut transaction) = 0
 
+-- the number of requests for SMInfo that go out
 abbrev pub managers_sent : Sweep → List Event → ℕ
 managers_sent s [] = 0
 managers_sent s (e ∷ events) = manager_sent s e + managers_sent (step s e) events
 
--- the number of managers that answer with a reply that is accepted
+-- 1 if a manager's answer is accepted, otherwise 0
 abbrev pub manager_told : Result Answer SweepFault → ℕ
 manager_told (Ok (Facts report)) = 0
 manager_told (Ok (Seen guid port info)) = 1
 manager_told (Err fault) = 0
 
+-- 1 if the event is a manager's answer that is accepted, otherwise 0
 abbrev pub manager_heard : Sweep → Event → ℕ
 manager_heard s Sends = 0
 manager_heard s (Hears packet) = manager_told (judged s packet)
 manager_heard s (TimesOut transaction) = 0
 
+-- the number of managers' answers that are accepted
 abbrev pub managers_heard : Sweep → List Event → ℕ
 managers_heard s [] = 0
 managers_heard s (e ∷ events) = manager_heard s e + managers_heard (step s e) events
 
--- each request for SMInfo that went out was answered, waits, or counts as a silent manager
+-- as many requests for SMInfo went out as were answered, wait, or count as silent managers
 abbrev pub EachManagerCounts : Type 0
 EachManagerCounts =
     (origin generation first : ℕ) (keeps : Bool) (events : List Event) →
@@ -127,6 +134,7 @@ pub record HasNoImage (s : Sweep) : Type 0 where
   pub ports : (guid port : ℕ) → port_image s guid port ≡ None
   pub switches : (guid : ℕ) → switch_image s guid ≡ None
 
+-- a sweep that is not asked to keep images keeps none after any run
 abbrev pub NoImageUnasked : Type 0
 NoImageUnasked =
     (origin generation first : ℕ) (events : List Event)

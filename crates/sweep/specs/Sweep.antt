@@ -17,10 +17,11 @@ use Rattle.request_table.specs.Numbers as numbers
 use Rattle.sweep.specs.Images.{Images, image_at, no_images}
 use Rattle.sweep.specs.Order.{AreInOrder, found_at}
 
--- The port that the sweep goes out by and its generation; the number of the next request; the requests that are to be
--- sent and those that wait for a reply, both by rising number; the vertices that were reached and the states of ports
--- that were seen, in the order of GUIDs and ports; the attributes that are kept; the number of requests that timed out,
--- and of these for SMInfo; and the number of ports that lead further than the longest path.
+-- The port by which the sweep goes out and its generation; the number of the next request; the requests that are to be
+-- sent and the requests that wait for a reply, both by rising number; the vertices that were reached and the states of
+-- ports that were seen, in the order of GUIDs and ports; the attributes that are kept; the number of requests that
+-- timed out, and the number of them that were for SMInfo; and the number of ports that lead further than the longest
+-- path.
 pub record Sweep : Type 0 where
   pub origin : ℕ
   pub generation : ℕ
@@ -48,7 +49,7 @@ modifier_asked ask.Switch = 0
 modifier_asked (ask.Port port) = port
 modifier_asked (ask.Manager guid port) = 0
 
--- the number of managers that are asked for SMInfo
+-- the number of managers that are asked for SMInfo: 0 or 1
 abbrev pub managers_asked : Question → ℕ
 managers_asked ask.Node = 0
 managers_asked ask.Switch = 0
@@ -100,16 +101,17 @@ empty_sweep origin generation first keeps =
       too_far = 0;
     }
 
--- a sweep begins by asking the node that it sits at for NodeInfo
+-- a sweep begins by asking its own node for NodeInfo
 abbrev pub first_question : Asking
 first_question = record { question = ask.Node; path = []; context = Start }
 
+-- a sweep that has its first question in the queue
 abbrev pub started : ℕ → ℕ → ℕ → Bool → Sweep
 started origin generation first keeps = asking (empty_sweep origin generation first keeps) (first_question ∷ [])
 
 -- sending and waiting ----------------------------------------------------------------------
 
--- the sweep after its next request went out, and the request's packet, None if the queue was empty
+-- the sweep after its next request went out, and the request's packet; None if the queue was empty
 pub record Sent : Type 0 where
   pub sweep : Sweep
   pub packet : Option (List ℕ)
@@ -123,19 +125,19 @@ after_next_request_of s (r ∷ queued) =
           Some (packet_of s.generation r);
     }
 
--- the first request of the queue goes out, and then waits for its reply
+-- the sweep after the first request of the queue went out, which then waits for its reply, and the request's packet
 abbrev pub after_next_request : Sweep → Sent
 after_next_request s = after_next_request_of s s.queued
 
--- the requests without the one with the number `number`
+-- the requests without the request that has the number `number`
 abbrev pub without_number : ℕ → List Request → List Request
 without_number number requests = numbers.without_number (λ r. r.number) number requests
 
--- the request with this TransactionID
+-- the request with this TransactionID; None if there is none
 abbrev pub request_with : ℕ → ℕ → List Request → Option Request
 request_with generation transaction requests = find (λ r. transaction_of generation r.number == transaction) requests
 
--- a fault unless a request with this TransactionID waits
+-- `NotOutstanding` if no request with this TransactionID waits, otherwise None
 abbrev pub timeout_fault : Sweep → ℕ → Option SweepFault
 timeout_fault s transaction =
     if is_some (request_with s.generation transaction s.outstanding) then None else Some NotOutstanding
@@ -149,12 +151,12 @@ after_timeout_of s (Some r) =
       silent_managers = s.silent_managers + managers_asked r.question;
     }
 
--- a request that timed out no longer waits, and counts as unanswered; if it was for SMInfo, its manager counts as
--- silent
+-- the sweep after a request timed out: the request no longer waits, and counts as unanswered; if it was for SMInfo, its
+-- manager counts as silent
 abbrev pub after_timeout : Sweep → ℕ → Sweep
 after_timeout s transaction = after_timeout_of s (request_with s.generation transaction s.outstanding)
 
--- the TransactionID of the waiting request at index `i`
+-- the TransactionID of the waiting request at index `i`; None if there are fewer
 abbrev pub outstanding_at : Sweep → ℕ → Option ℕ
 outstanding_at s i = option_map (λ r. transaction_of s.generation r.number) (slice_get s.outstanding i)
 
@@ -178,25 +180,27 @@ state_key p = (p.guid, p.port)
 abbrev pub first_vertex : List Vertex → ℕ → Option Vertex
 first_vertex reached guid = find (λ r. r.guid == guid) reached
 
+-- the vertex of a node with this port; None if it was not reached
 abbrev pub vertex_at : List Vertex → ℕ → ℕ → Option Vertex
 vertex_at reached guid port = found_at vertex_key guid port reached
 
+-- the state of a port that was seen; None if none was
 abbrev pub state_at : List SeenState → ℕ → ℕ → Option PortState
 state_at states guid port = option_map (λ p. p.state) (found_at state_key guid port states)
 
--- the path that first reached a switch (port 0) or an adapter's port
+-- the path that first reached a switch (port 0) or an adapter's port; None if it was not reached
 abbrev pub path_to : Sweep → ℕ → ℕ → Option (List ℕ)
 path_to s guid port = option_map (λ r. r.path) (vertex_at s.reached guid port)
 
--- the state of a port in its first reply with a state that is not reserved
+-- the state of a port in its first reply with a state that is not reserved; None if there was none
 abbrev pub seen_state : Sweep → ℕ → ℕ → Option PortState
 seen_state s guid port = state_at s.states guid port
 
--- PortInfo in the first reply about a port, if it is kept
+-- PortInfo in the first reply about a port; None if it is not kept
 abbrev pub port_image : Sweep → ℕ → ℕ → Option (List ℕ)
 port_image s guid port = image_at s.images.ports guid port
 
--- SwitchInfo in the first reply of a switch, if it is kept
+-- SwitchInfo in the first reply of a switch; None if it is not kept
 abbrev pub switch_image : Sweep → ℕ → Option (List ℕ)
 switch_image s guid = image_at s.images.switches guid 0
 

@@ -1,9 +1,10 @@
--- The requests of a sweep: those that wait for a reply, and those that are to be sent.
+-- The requests of a sweep: the requests that wait for a reply, and the requests that are to be sent.
 use Rattle.std.specs.Prelude.{◌≡◌, ℕ, ◌+◌, ◌≤◌, List, ◌++◌, length}
 use Rattle.sweep.specs.declared.request.Request.{Request}
 use Rattle.sweep.specs.Sweep.{Asking, numbered}
 
--- the requests, the number of the next one, and for how many more there is memory
+-- the requests that wait, the requests to be sent, the number of the next request, and the number of further requests
+-- for which there is memory
 pub record SweepRequests : Type 0 where
   pub next : ℕ
   pub outstanding : List Request

@@ -2,7 +2,7 @@ use attr_codec::SmInfo;
 use fact_store::Report;
 use smp_bytes::{Guid, PortNum};
 
-/// What an accepted reply gives.
+/// What an accepted reply contains.
 #[derive(Clone, Copy, Debug)]
 pub enum Answer {
     /// Facts: a report for a store to ingest.

@@ -16,7 +16,7 @@ use std::alloc::{AllocError, Global};
 use std::marker::Model;
 
 /// What a sweep has found. Contracts see the vertices, the states of ports, the number of ports that lead too far, and
-/// for how many more vertices and states there is memory.
+/// the numbers of further vertices and states for which there is memory.
 #[derive(Drop)]
 pub(crate) struct Discovered {
     /// By rising GUID and port, like `seen`.
@@ -146,7 +146,7 @@ impl Discovered {
         self.seen.reserve(1)
     }
 
-    /// Returns the first vertex of a node. Takes a search.
+    /// Returns the first vertex of a node, or `None` if it was not reached. Takes a search.
     pub(crate) fn first_of(&self, guid: Guid) -> Option<&Vertex>
         requires { AreInOrder vertex_key self.now.reached }
         ensures { option_copied result ≡ first_vertex self.now.reached guid }
@@ -154,7 +154,7 @@ impl Discovered {
         first_of(&self.vertices, guid)
     }
 
-    /// Returns the vertex with this GUID and port. Takes a search.
+    /// Returns the vertex with this GUID and port, or `None` if it was not reached. Takes a search.
     pub(crate) fn vertex(&self, guid: Guid, port: PortNum) -> Option<&Vertex>
         requires { AreInOrder vertex_key self.now.reached }
         ensures { option_copied result ≡ vertex_at self.now.reached guid port }
@@ -162,7 +162,7 @@ impl Discovered {
         vertex_at(&self.vertices, guid, port)
     }
 
-    /// Returns the state of a port. Takes a search.
+    /// Returns the state of a port, or `None` if none was seen. Takes a search.
     pub(crate) fn state(&self, guid: Guid, port: PortNum) -> Option<PortState>
         requires { AreInOrder state_key self.now.states }
         ensures { result ≡ state_at self.now.states guid port }
@@ -170,8 +170,8 @@ impl Discovered {
         state_of(item_at(&self.seen, guid, port))
     }
 
-    /// Adds the vertex or the state that a reply brings up, unless it is there already, and counts a port that leads
-    /// too far. Takes no memory.
+    /// Adds the vertex or the state that a reply adds, unless it is there already, and counts a port that leads too
+    /// far. Takes no memory.
     pub(crate) fn put(&mut self, finding: Finding)
         requires reached { AreInOrder vertex_key self.old.reached }
         requires states { AreInOrder state_key self.old.states }

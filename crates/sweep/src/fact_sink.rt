@@ -3,7 +3,7 @@ ghost use Rattle.reply_facts.specs.Report.{Sightings};
 
 use fact_store::{Refused, Sighting, Store};
 
-/// A keeper of the facts in replies.
+/// A destination for the facts in replies.
 pub(crate) trait Keeper {
     /// The keeper with `sightings` added.
     ghost kept: { Self → Sightings → Self };
@@ -25,7 +25,7 @@ impl Keeper for Store {
     }
 }
 
-/// A keeper that drops all facts.
+/// A destination that drops all facts.
 #[derive(Drop)]
 pub(crate) struct Nowhere;
 

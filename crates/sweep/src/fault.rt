@@ -13,7 +13,7 @@ pub enum SweepFault {
     /// The bytes are not a packet, or not an answer that can be read.
     #[error("{0}")]
     Bad(ReportFault),
-    /// A request that the reply brings up needs a number over 4294967295.
+    /// A request that follows from the reply needs a number over 4294967295.
     #[error("SequenceSpent")]
     SequenceSpent,
     /// Memory ran out.
@@ -24,7 +24,7 @@ pub enum SweepFault {
 impl SweepFault {
     ghost use Rattle.sweep.specs.Fault.{sweep_fault_name};
 
-    /// Returns the name that `{}` writes; for a fault of the report, the report's name of it.
+    /// Returns the name that `{}` writes. For a fault of the report, this is the report's name of it.
     pub fn name(self) -> &'static str
         ensures { result.now ≡ sweep_fault_name self }
     {

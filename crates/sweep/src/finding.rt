@@ -10,7 +10,7 @@ use attr_codec::{Attribute, NodeInfo, PortInfo, PortState};
 use fact_store::{Context, is_up};
 use smp_bytes::{Guid, NodeType, Path, PortNum, Smp};
 
-/// What a reply brings up.
+/// What a reply adds.
 #[derive(Debug, Drop)]
 pub(crate) enum Finding {
     /// Nothing new.
@@ -45,7 +45,7 @@ pub(crate) enum Onward {
 }
 
 impl Finding {
-    /// Returns the number of requests that the finding brings up.
+    /// Returns the number of requests that follow from the finding.
     pub(crate) fn question_count(&self) -> u64
         ensures count { (path : List ℕ) → result ≡ length (questions path self.now) }
         ensures within { result ≤ 257 }
@@ -59,7 +59,7 @@ impl Finding {
 }
 
 impl PortFinding {
-    /// Returns the number of requests that the port brings up.
+    /// Returns the number of requests that follow from what the port reports.
     fn question_count(&self) -> u64
         ensures count { (path : List ℕ) → result ≡ length (port_found_questions path self.now) }
         ensures within { result ≤ 257 }
@@ -73,7 +73,7 @@ impl PortFinding {
 }
 
 impl Vertex {
-    /// Returns the number of requests that a new vertex brings up.
+    /// Returns the number of requests that follow from a new vertex.
     fn question_count(&self) -> u64
         ensures count { result ≡ length (vertex_questions self.now) }
         ensures within { result ≤ 257 }
@@ -87,7 +87,7 @@ impl Vertex {
 }
 
 impl Sweep {
-    /// Returns what the reply to `request` brings up.
+    /// Returns what the reply to `request` adds.
     pub(crate) fn finding(&self, request: &Request, smp: &Smp) -> Finding
         ensures { result ≡ finding self.now request.now smp.now }
     {
@@ -107,7 +107,7 @@ impl Sweep {
         }
     }
 
-    /// Returns what NodeInfo brings up: a new node, another port of an adapter, or nothing.
+    /// Returns what NodeInfo adds: a new node, another port of an adapter, or nothing.
     fn node_found(&self, path: &Path<63>, info: &NodeInfo) -> Finding
         ensures { result ≡ node_found self.now path.now info.now }
     {
@@ -128,8 +128,8 @@ impl Sweep {
         Finding::NewVertex(vertex_of(path, info, first.kind, first.ports))
     }
 
-    /// Returns what PortInfo brings up: the port's state, whether to ask the manager that sits there, and whether the
-    /// sweep goes on by the port.
+    /// Returns what PortInfo adds: the port's state, whether to ask the manager that sits there, and whether the sweep
+    /// goes on by the port.
     fn port_found(&self, path: &Path<63>, guid: Guid, port: PortNum, info: &PortInfo) -> Finding
         ensures { result ≡ port_found_of self.now path.now guid port info.now }
     {
@@ -150,7 +150,7 @@ impl Sweep {
         has_manager(info) && !path.is_empty() && self.is_of_adapter(guid)
     }
 
-    /// Returns whether the first reply of the node `guid` said that it is not a switch.
+    /// Returns whether the first reply of the node `guid` reported that it is not a switch.
     fn is_of_adapter(&self, guid: Guid) -> bool
         ensures { result ≡ is_of_adapter self.now guid }
     {
@@ -179,8 +179,8 @@ impl Sweep {
         is_up(info) && self.goes_by(path, guid, port)
     }
 
-    /// Returns whether the sweep goes on by a port: it is the port that the sweep goes out by, or a port of a switch
-    /// other than port 0 and the one that leads back.
+    /// Returns whether the sweep goes on by a port: it is the port by which the sweep goes out, or a port of a switch
+    /// other than port 0 and the port that leads back.
     fn goes_by(&self, path: &Path<63>, guid: Guid, port: PortNum) -> bool
         ensures { result ≡ goes_by self.now path.now guid port }
     {

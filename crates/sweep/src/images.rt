@@ -29,8 +29,8 @@ impl OfPort for SeenImage {
     }
 }
 
-/// The attributes that a sweep keeps, if it is asked to. Contracts see them, and for how many more of each kind there
-/// is memory.
+/// The attributes that a sweep keeps, if it is asked to. Contracts see them, and the numbers of further images of each
+/// kind for which there is memory.
 #[derive(Drop)]
 pub(crate) struct Images {
     keeps: bool,
@@ -112,14 +112,14 @@ impl Images {
         }
     }
 
-    /// Returns PortInfo of a port, if it is kept. Takes a search.
+    /// Returns PortInfo of a port, or `None` if it is not kept. Takes a search.
     pub(crate) fn of_port(&self, guid: Guid, port: PortNum) -> Option<SeenImage>
         ensures { result ≡ found_at image_key guid port self.now.kept.ports }
     {
         item_at(&self.ports, guid, port)
     }
 
-    /// Returns SwitchInfo of a switch, if it is kept. Takes a search.
+    /// Returns SwitchInfo of a switch, or `None` if it is not kept. Takes a search.
     pub(crate) fn of_switch(&self, guid: Guid) -> Option<SeenImage>
         ensures { result ≡ found_at image_key guid 0 self.now.kept.switches }
     {

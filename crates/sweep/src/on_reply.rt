@@ -20,8 +20,8 @@ use attr_codec::{Attribute, SmInfo};
 use fact_store::{Context, Report, ReportFault, Sighting, Store, answer_fault, sightings_in};
 use smp_bytes::Smp;
 
-/// An accepted reply: the index of its request among those that wait, the request's question and context, the answer,
-/// its facts, and what it brings up.
+/// An accepted reply: the index of its request among the waiting requests, the request's question and context, the
+/// answer, its facts, and what it adds.
 #[derive(Drop)]
 pub(crate) struct Accepted {
     pub(crate) index: usize,
@@ -43,14 +43,14 @@ impl Sweep {
         }
     }
 
-    /// Takes the reply to a request that waits, and queues what it brings up: for a new node its ports; for a port
-    /// first the manager that sits there, and then the node behind it.
+    /// Takes the reply to a request that waits, and queues the requests that follow from it: for a new node, the
+    /// requests for its ports; for a port, first for the manager that sits there, and then for the node behind it.
     ///
     /// # Errors
     ///
-    /// In this order: the bytes are not a packet; no request waits for it; facts cannot be read from the reply or, if
-    /// it is SMInfo, it is not an answer with status 0; no number is left for a request that it brings up; and memory
-    /// ran out.
+    /// Returns the first of these faults: the bytes are not a packet; no request waits for them; facts cannot be read
+    /// from the reply or, if it is SMInfo, it is not an answer with status 0; no number is left for a request that
+    /// follows from it; memory ran out.
     pub fn on_reply(&mut self, bytes: &[u8; 256]) -> Result<Answer, SweepFault>
         ensures judged { JudgesButFor is_memory result (result_err (judged self.old bytes.now)) }
         ensures answer { IfOk result (λ answer. judged self.old bytes.now ≡ Ok answer) }

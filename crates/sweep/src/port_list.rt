@@ -53,7 +53,7 @@ fn is_at<T: OfPort>(items: &PageList<T>, index: usize, guid: Guid, port: PortNum
     }
 }
 
-/// Returns the item of a port. Takes a search.
+/// Returns the item of a port, or `None` if there is none. Takes a search.
 pub(crate) fn item_at<T: OfPort>(items: &PageList<T>, guid: Guid, port: PortNum) -> Option<T>
     requires { AreInOrder T.key items.now.items }
     ensures { result ≡ found_at T.key guid port items.now.items }

@@ -104,7 +104,7 @@ impl Request {
         )
     }
 
-    /// Returns whether a packet has the request's TransactionID, attribute, modifier and path.
+    /// Returns whether a packet has the TransactionID, attribute, modifier and path of the request.
     pub(crate) fn is_answered_by(&self, generation: Generation, smp: &Smp) -> bool
         ensures { result ≡ belongs generation smp.now self.now }
     {

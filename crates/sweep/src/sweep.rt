@@ -19,7 +19,7 @@ use std::marker::Model;
 /// discovery). Contracts see each part.
 #[derive(Drop)]
 pub struct Sweep {
-    /// The port of its own node that it goes out by.
+    /// The port of its own node by which it goes out.
     pub(crate) origin: PortNum,
     pub(crate) generation: Generation,
     pub(crate) requests: SweepRequests,
@@ -94,8 +94,8 @@ impl Sweep {
         })
     }
 
-    /// Takes the next request from the queue, first in, first out, and returns its packet. The request then waits for
-    /// its reply. Takes one step.
+    /// Takes the next request from the queue, first in, first out, and returns its packet, or `None` if the queue is
+    /// empty. The request then waits for its reply. Takes one step.
     pub fn next_request(&mut self) -> Option<Smp>
         ensures packet { result ≡ (after_next_request self.old).packet }
         ensures sweep { self.new ≡ (after_next_request self.old).sweep }
@@ -136,7 +136,8 @@ impl Sweep {
         self.generation
     }
 
-    /// Returns the TransactionID of the `i`-th request that waits for a reply, in rising order, from 0 on.
+    /// Returns the TransactionID of the waiting request at index `i`, by rising TransactionID, or `None` if there are
+    /// fewer.
     pub fn outstanding(&self, i: usize) -> Option<u64>
         ensures { result ≡ outstanding_at self.now i }
     {
@@ -175,7 +176,8 @@ impl Sweep {
         self.found.vertices()
     }
 
-    /// Returns the path that first reached a switch (port 0) or an adapter's port. Takes a search.
+    /// Returns the path that first reached a switch (port 0) or an adapter's port, or `None` if it was not reached.
+    /// Takes a search.
     pub fn path_to(&self, guid: Guid, port: PortNum) -> Option<&Path<63>>
         ensures { option_copied result ≡ path_to self.now guid port }
     {
@@ -183,14 +185,15 @@ impl Sweep {
         Some(&vertex.path)
     }
 
-    /// Returns the state of a port in its first reply with a state that is not reserved. Takes a search.
+    /// Returns the state of a port in its first reply with a state that is not reserved, or `None` if there was none.
+    /// Takes a search.
     pub fn seen_state(&self, guid: Guid, port: PortNum) -> Option<PortState>
         ensures { result ≡ seen_state self.now guid port }
     {
         self.found.state(guid, port)
     }
 
-    /// Returns PortInfo of a port, as its first reply said, if it is kept. Takes a search.
+    /// Returns PortInfo in the first reply about a port, or `None` if it is not kept. Takes a search.
     pub fn port_image(&self, guid: Guid, port: PortNum) -> Option<PortInfo>
         ensures { result ≡ port_image self.now guid port }
     {
@@ -198,7 +201,7 @@ impl Sweep {
         Some(PortInfo::decode(&image.bytes))
     }
 
-    /// Returns SwitchInfo of a switch, as its first reply said, if it is kept. Takes a search.
+    /// Returns SwitchInfo in the first reply of a switch, or `None` if it is not kept. Takes a search.
     pub fn switch_image(&self, guid: Guid) -> Option<SwitchInfo>
         ensures { result ≡ switch_image self.now guid }
     {

@@ -20,15 +20,15 @@ use smp_bytes::{Generation, Guid, Path, PortNum, Smp};
 use std::alloc::{AllocError, Global};
 use std::marker::Model;
 
-/// The most requests that a reply brings up: one for the table of a switch, one for its port 0, and one for each of its
-/// other ports, of which it has at most 254.
+/// The maximum number of requests that follow from a reply: one for the table of a switch, one for its port 0, and one
+/// for each of its other ports, of which it has at most 254.
 pub const REQUESTS_PER_REPLY: usize = 256;
 
-/// The requests of a sweep. Contracts see those that wait for a reply, those to be sent, the number of the next
-/// request, and for how many more there is memory.
+/// The requests of a sweep. Contracts see the requests that wait for a reply, the requests to be sent, the number of
+/// the next request, and the number of further requests for which there is memory.
 #[derive(Drop)]
 pub(crate) struct SweepRequests {
-    /// The requests that wait, and then those to be sent.
+    /// The requests that wait, and then the requests to be sent.
     table: RequestTable<Request>,
     /// The number of requests that wait.
     sent: usize,
@@ -77,7 +77,7 @@ impl SweepRequests {
         self.table.is_empty()
     }
 
-    /// Reserves memory for as many more requests as a reply can bring up.
+    /// Reserves memory for as many more requests as can follow from a reply.
     pub(crate) fn reserve(&mut self) -> Result<(), AllocError>
         ensures next { self.new.next ≡ self.old.next }
         ensures outstanding { self.new.outstanding ≡ self.old.outstanding }
@@ -87,7 +87,7 @@ impl SweepRequests {
         self.table.reserve(REQUESTS_PER_REPLY)
     }
 
-    /// Returns the next request to be sent.
+    /// Returns the next request to be sent, or `None` if there is none.
     pub(crate) fn first(&self) -> Option<&Request>
         ensures { option_copied result ≡ slice_get self.now.queued 0 }
     {
@@ -106,7 +106,7 @@ impl SweepRequests {
         self.sent += 1;
     }
 
-    /// Returns the waiting request at `index`, in the order of numbers.
+    /// Returns the waiting request at `index`, in the order of numbers, or `None` if there are fewer.
     pub(crate) fn get(&self, index: usize) -> Option<&Request>
         ensures { option_copied result ≡ slice_get self.now.outstanding index }
     {
@@ -127,7 +127,7 @@ impl SweepRequests {
         self.table.count_below(sequence_of(generation, transaction))
     }
 
-    /// Returns the index of the waiting request with this TransactionID. Takes a search.
+    /// Returns the index of the waiting request with this TransactionID, or `None` if there is none. Takes a search.
     pub(crate) fn index_of(&self, generation: Generation, transaction: u64) -> Option<usize>
         ensures { IsIndexFor (request_with generation transaction self.now.outstanding)
             self.now.outstanding result }
@@ -141,7 +141,7 @@ impl SweepRequests {
         }
     }
 
-    /// Returns the index of the waiting request that a packet answers. Takes a search.
+    /// Returns the index of the waiting request that a packet answers, or `None` if there is none. Takes a search.
     pub(crate) fn index_for(&self, generation: Generation, smp: &Smp) -> Option<usize>
         ensures { IsIndexFor (find (belongs generation smp.now) self.now.outstanding)
             self.now.outstanding result }
@@ -185,7 +185,7 @@ impl SweepRequests {
         });
     }
 
-    /// Queues the questions for PortInfo of all ports of a switch, from its management port on.
+    /// Queues the questions for PortInfo of all ports of a switch, from its port 0 on.
     fn ask_ports(&mut self, vertex: &Vertex)
         requires room { vertex.now.ports + 1 ≤ self.old.room }
         requires number { self.old.next + (vertex.now.ports + 1) ≤ 2 ^ 32 }
@@ -247,7 +247,7 @@ impl SweepRequests {
         self.ask(Question::Node, path, Context::Via(guid, port));
     }
 
-    /// Queues the questions that a port brings up.
+    /// Queues the questions that follow from what a port reports.
     fn ask_of_port(&mut self, path: Path<63>, found: &PortFinding)
         requires reach { IsPathWithinReach path found.now.onward }
         requires room { length (port_found_questions path found.now) ≤ self.old.room }
@@ -261,7 +261,7 @@ impl SweepRequests {
         }
     }
 
-    /// Removes the request at `index`, and queues the questions that its reply brings up. Takes no memory.
+    /// Removes the request at `index`, and queues the questions that follow from its reply. Takes no memory.
     pub(crate) fn take(&mut self, index: usize, finding: &Finding)
         requires { CanTake self.old index finding.now }
         ensures { HasTaken index finding.now self.old self.new }

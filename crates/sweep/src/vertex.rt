@@ -10,9 +10,9 @@ use smp_bytes::{Guid, NodeType, Path, PortNum};
 pub struct Vertex {
     pub guid: Guid,
     pub port: PortNum,
-    /// The type of the node, as its first reply said.
+    /// The type of the node, as its first reply reported.
     pub kind: NodeType,
-    /// The number of ports, as the first reply said.
+    /// The number of ports, as the first reply reported.
     pub ports: u8,
     /// The port at which the request arrived.
     pub arrival: PortNum,
@@ -28,7 +28,7 @@ impl Vertex {
     }
 }
 
-/// The state of a port, as a reply said.
+/// The state of a port, as a reply reported.
 #[derive(Clone, Copy, Debug, PartialEq, Eq)]
 pub struct SeenState {
     pub guid: Guid,

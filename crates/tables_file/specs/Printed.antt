@@ -13,11 +13,12 @@ use Rattle.tables_file.specs.Reading.{first_fault, held_of}
 abbrev pub IsRead : PlanValue → Type 0
 IsRead plan = (first_fault (plan_text plan) ≡ None) × (held_of (plan_text plan) ≡ held_plan plan)
 
+-- the text of each plan whose numbers are in range is read
 abbrev pub PrintedPlansAreRead : Type 0
 PrintedPlansAreRead = (plan : PlanValue) → IsPlanInRange plan → IsRead plan
 
--- the text of a view's plan is read, by each rule and under each LMC, if the view's facts are in range and there is
--- room for its LIDs
+-- by each rule and under each LMC, the text of a view's plan is read if the facts are in range and there is room for
+-- the LIDs
 abbrev pub PlansAreRead : Type 0
 PlansAreRead =
     (rule : RuleValue) (lmc : ℕ) (facts : Facts) → lmc ≤ 7 → AreInRange facts → ¬ (IsNoRoom lmc (cells_of facts))

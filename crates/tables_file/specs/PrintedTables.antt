@@ -9,18 +9,19 @@ use Rattle.held_tables.specs.PlanTables.{blocks_of, owned_lids, with_top}
 use Rattle.tables_file.specs.Reading.{first_fault, held_of}
 use Rattle.tables_file.specs.TablesText.{next_text}
 
--- the text has no fault, and says exactly `held`
+-- the text has no fault, and what it says is `held`
 abbrev pub Says : List ℕ → HeldPlan → Type 0
 Says text held = (first_fault text ≡ None) × (held_of text ≡ held)
 
--- a switch with its own top, by its GUID
+-- a switch with its own top: `top` of its GUID
 abbrev pub with_own_top : (ℕ → ℕ) → SwitchTable → HeldSwitch
 with_own_top top table = with_top (top table.guid) table
 
+-- the top of each switch is at most 0xBFFF
 abbrev pub AreTops : (ℕ → ℕ) → List SwitchTable → Type 0
 AreTops top tables = AllByRecursion (λ table. top table.guid ≤ 0xBFFF) tables
 
--- the LIDs with their owners, and the switches with their tops and their blocks
+-- the LIDs with their owners, and the switches with their own tops and their blocks
 abbrev pub held_under : (ℕ → ℕ) → PlanValue → HeldPlan
 held_under top plan = record {
   lids = owned_lids plan.given;
@@ -28,16 +29,17 @@ held_under top plan = record {
   blocks = blocks_of 0 plan.tables;
 }
 
+-- the text of the tables of a plan whose numbers are in range, with own tops of the switches, says these tables
 abbrev pub PrintedTablesAreRead : Type 0
 PrintedTablesAreRead =
     (top : ℕ → ℕ) (plan : PlanValue) → IsPlanInRange plan → AreTops top plan.tables
     → Says (next_text plan.given (held_under top plan)) (held_under top plan)
 
--- tops are LIDs, and blocks have 64 entries, each a byte
+-- each top is at most 0xBFFF, and each block has 64 entries, each a byte
 pub record IsHeldInRange (held : HeldPlan) : Type 0 where
   pub tops : AllByRecursion (λ switch. switch.top ≤ 0xBFFF) held.switches
   pub blocks : AllByRecursion (λ block. IsBlock block.entries) held.blocks
 
--- the tops and blocks that a text says are in range, whatever the text is
+-- the tops and blocks that a text gives are in range, whatever the text is
 abbrev pub TextsAreInRange : Type 0
 TextsAreInRange = (text : List ℕ) → IsHeldInRange (held_of text)

@@ -1,4 +1,4 @@
--- What a text says: what its lines say in turn, up to its first fault.
+-- What a text says: what its lines say in order, up to its first fault.
 use Rattle.std.specs.Prelude.{ℕ, ◌+◌, ◌^◌, ◌==◌, ◌||◌, ◌&&◌, Bool, List, [], ◌∷◌, Option, None, Some, Result, Ok, Err, nat_lt, if◌then◌else◌}
 use Rattle.text_words.specs.Text.{lines}
 use Rattle.tables_file.specs.declared.fault.PlanTextError.{PlanTextError}
@@ -15,11 +15,11 @@ use Rattle.held_tables.specs.Held.{HeldPlan, LidRange, nothing_held}
 use Rattle.held_tables.specs.HeldItem.{held_with}
 use Rattle.tables_file.specs.TextLine.{line_of}
 
--- the state before all lines
+-- the state before the first line
 abbrev pub start : LastLines
 start = record { lid = None; switch = None; block = 0 }
 
--- the state after a line, on which the order of later lines depends
+-- the state after a line; the order of later lines is checked by it
 abbrev pub last_lines_after : LastLines → HeldItem → LastLines
 last_lines_after last_lines Nothing = last_lines
 last_lines_after last_lines (Lid range) = record last_lines { lid = Some range.first }
@@ -30,28 +30,30 @@ last_lines_after last_lines (Block number entries) = record last_lines { block =
 abbrev pub fault_at : {T : Type 0} → ℕ → PlanTextError → Result T PlanLineFault
 fault_at number what = Err (record { line = number; wrong = what })
 
--- `held`, whose LID is not less than that of `last`, comes after it: its LID or its end port is greater
+-- `held` comes after `last`: its LID, its node or, on the same node, its port is greater; its LID must not be less
 abbrev pub is_behind : HeldLid → HeldLid → Bool
 is_behind last held =
     nat_lt last.lid held.lid || nat_lt last.port.node held.port.node
     || (last.port.node == held.port.node && nat_lt last.port.port held.port.port)
 
--- the LIDs of an end port, after those of the one before
+-- the LIDs of an end port, if they come after `last`, the first LID of the line before
 abbrev pub lid_behind : ℕ → HeldLid → LidRange → Result HeldItem PlanLineFault
 lid_behind number last range =
     if nat_lt range.first.lid last.lid then fault_at number wrong.Lid
     else if is_behind last range.first then Ok (Lid range)
     else fault_at number wrong.Port
 
+-- the LIDs of an end port, if they come after `last`, if there is such a line
 abbrev pub lid_after : ℕ → Option HeldLid → LidRange → Result HeldItem PlanLineFault
 lid_after number None range = Ok (Lid range)
 lid_after number (Some last) range = lid_behind number last range
 
--- the LIDs of an end port, if the last of them is a LID of an end port
+-- the LIDs of an end port, if the last of them is at most 0xBFFF
 abbrev pub lid_in_room : ℕ → Option HeldLid → LidRange → Result HeldItem PlanLineFault
 lid_in_room number last range =
     if nat_lt 0xC000 (range.first.lid + 2 ^ range.lmc) then fault_at number wrong.Lid else lid_after number last range
 
+-- the LIDs of an end port, by the numbers on its line; None stands for a number out of range
 abbrev pub lid_with : ℕ → Option HeldLid → Option ℕ → ℕ → Option ℕ → Option ℕ → Result HeldItem PlanLineFault
 lid_with number last None node port lmc = fault_at number wrong.Lid
 lid_with number last (Some lid) node None lmc = fault_at number wrong.Port
@@ -63,22 +65,24 @@ lid_with number last (Some lid) node (Some port) (Some lmc) =
           lmc;
     })
 
--- a switch, after the one before
+-- a switch, if its GUID is greater than that of the switch before
 abbrev pub switch_after : ℕ → Option ℕ → HeldSwitch → Result HeldItem PlanLineFault
 switch_after number None switch = Ok (Switch switch)
 switch_after number (Some last) switch =
     if nat_lt last switch.guid then Ok (Switch switch) else fault_at number wrong.Switch
 
+-- a switch, by the GUID and the top on its line; None stands for a top out of range
 abbrev pub switch_with : ℕ → Option ℕ → ℕ → Option ℕ → Result HeldItem PlanLineFault
 switch_with number last guid None = fault_at number wrong.Lid
 switch_with number last guid (Some top) = switch_after number last (record { guid = guid; top = top })
 
--- a block of the switch above it, after the one before
+-- a block, if its number is at least `next`
 abbrev pub block_after : ℕ → ℕ → Option ℕ → List ℕ → Result HeldItem PlanLineFault
 block_after number next None entries = fault_at number wrong.Block
 block_after number next (Some block) entries =
     if nat_lt block next then fault_at number wrong.Block else Ok (Block block entries)
 
+-- a block, if there is a switch above it
 abbrev pub block_below : ℕ → Option ℕ → ℕ → Option ℕ → List ℕ → Result HeldItem PlanLineFault
 block_below number None next block entries = fault_at number wrong.Syntax
 block_below number (Some switch) next block entries = block_after number next block entries
@@ -94,12 +98,12 @@ item_of number last_lines (Some (line.Lid l)) = lid_with number last_lines.lid l
 item_of number last_lines (Some (line.Switch l)) = switch_with number last_lines.switch l.guid l.top
 item_of number last_lines (Some (line.Block l)) = block_with number last_lines l.number l.entries
 
--- `next` of what a line says, or `last` of its fault
+-- `next` of the item of a line, or `last` of its fault
 abbrev pub then_or : {T : Type 0} → Result HeldItem PlanLineFault → (HeldItem → T) → (PlanLineFault → T) → T
 then_or (Ok item) next last = next item
 then_or (Err fault) next last = last fault
 
--- the first fault of lines whose numbers count from `number` on
+-- the first fault of the lines; the first line has the number `number`
 abbrev pub first_fault_from : ℕ → LastLines → List (List ℕ) → Option PlanLineFault
 first_fault_from number last_lines [] = None
 first_fault_from number last_lines (l ∷ later) =
@@ -113,7 +117,7 @@ items_from number last_lines (l ∷ later) =
     then_or (item_of number last_lines (line_of l)) (λ item. item
     ∷ items_from (number + 1) (last_lines_after last_lines item) later) (λ fault. [])
 
--- what is held, with what lines say in turn
+-- what is held after the lines that say these items
 abbrev pub held_by : HeldPlan → List HeldItem → HeldPlan
 held_by held [] = held
 held_by held (item ∷ items) = held_by (held_with held item) items

@@ -5,7 +5,7 @@ use Rattle.text_words.specs.declared.fault.LinesFault.TheVariants.{Line, Memory}
 use Rattle.held_tables.specs.Held.{HeldPlan}
 use Rattle.tables_file.specs.Reading.{first_fault, held_of}
 
--- exactly what the text says, or its first fault, unless memory was refused
+-- what the text says if it has no fault, otherwise its first fault; memory may run out for any text
 abbrev pub IsReadAs : List ℕ → Result HeldPlan PlanTextFault → Type 0
 IsReadAs text (Ok held) = (first_fault text ≡ None) × (held ≡ held_of text)
 IsReadAs text (Err (Line fault)) = first_fault text ≡ Some fault

@@ -11,10 +11,11 @@ use Rattle.held_tables.specs.Held.{HeldPlan}
 abbrev pub is_of : ℕ → HeldBlock → Bool
 is_of index block = block.switch == index
 
--- the blocks at the head that belong to the switch at `index`, and the blocks after them
+-- the blocks at the head that belong to the switch at `index`
 abbrev pub first_blocks : ℕ → List HeldBlock → List HeldBlock
 first_blocks index blocks = take_while (is_of index) blocks
 
+-- the blocks after the ones at the head that belong to the switch at `index`
 abbrev pub later_blocks : ℕ → List HeldBlock → List HeldBlock
 later_blocks index blocks = drop (prefix_len (is_of index) blocks) blocks
 
@@ -22,18 +23,18 @@ later_blocks index blocks = drop (prefix_len (is_of index) blocks) blocks
 abbrev pub block_text : HeldBlock → List ℕ
 block_text block = block_line (block.number, block.entries)
 
--- switches whose indices count from `index` on: for each its line, with its top, and a line for each of its blocks,
--- which are at the head
+-- for each switch, a line with its top and a line for each of its blocks; the first switch has the index `index`, and
+-- the blocks are in the order of the switches
 abbrev pub switches_text : ℕ → List HeldSwitch → List HeldBlock → List ℕ
 switches_text index [] blocks = []
 switches_text index (switch ∷ switches) blocks =
     switch_line switch.top switch.guid ++ flat_map block_text (first_blocks index blocks)
     ++ switches_text (suc index) switches (later_blocks index blocks)
 
--- the switches with their blocks
+-- the lines of the switches and of their blocks
 abbrev pub tables_text_of : HeldPlan → List ℕ
 tables_text_of held = switches_text 0 held.switches held.blocks
 
--- the LIDs of end ports, and then tables
+-- a line for each end port with its LIDs, and then the tables
 abbrev pub next_text : Given → HeldPlan → List ℕ
 next_text given next = lids_text given ++ tables_text_of next

@@ -1,4 +1,4 @@
--- What a line says: nothing, a LID, a switch or a block.
+-- What a line says: nothing, or a LID, a switch or a block.
 use Rattle.std.specs.Prelude.{ℕ, List, [], ◌∷◌, Option, None, Some, option_map, option_and_then, codes, if◌then◌else◌}
 use Rattle.std.specs.Str.{bytes_eq}
 use Rattle.text_words.specs.Text.{words}
@@ -10,48 +10,50 @@ use Rattle.tables_file.specs.declared.line.SwitchLine.{SwitchLine}
 use Rattle.tables_file.specs.declared.line.BlockLine.{BlockLine}
 use Rattle.tables_file.specs.Words.{small_of, bare_guid_of, port_of, entries_of}
 
--- the two words of a list, if it has two
+-- the two words of a list; None if it has more or fewer
 abbrev pub both : List (List ℕ) → Option (List ℕ × List ℕ)
 both (one ∷ other ∷ []) = Some (one, other)
 both _ = None
 
--- reads `lmc N`: a number, if it is at most 7
+-- reads `lmc N`; the inner value is None if N is above 7
 abbrev pub lmc_in : List ℕ × List ℕ → Option (Option ℕ)
 lmc_in x = if bytes_eq x.0 (codes "lmc") then small_of 7 x.1 else None
 
--- the LMC, 0 if the line has none
+-- reads the part of a `lid` line after the port; the LMC is 0 if there is no such part
 abbrev pub lmc_line : List (List ℕ) → Option (Option ℕ)
 lmc_line [] = Some (Some 0)
 lmc_line (word ∷ rest) = option_and_then lmc_in (both (word ∷ rest))
 
--- a LID, the port that holds it, and its LMC
+-- a `lid` line with the LID `lid`, the port `p` and the LMC that `rest` gives
 abbrev pub lid_of_port : Option ℕ → List (List ℕ) → ℕ × Option ℕ → Option LidLine
 lid_of_port lid rest p = option_map (λ lmc. record { lid = lid; node = p.0; port = p.1; lmc = lmc }) (lmc_line rest)
 
+-- reads the part of a `lid` line after its first word
 abbrev pub lid_line : List (List ℕ) → Option LidLine
 lid_line [] = None
 lid_line (lid ∷ []) = None
 lid_line (lid ∷ port ∷ rest) =
     option_and_then (λ n. option_and_then (lid_of_port n rest) (port_of port)) (count_of 0xBFFF lid)
 
--- a switch's GUID; 'top', and its top
+-- reads the part of a `switch` line after `guid`: `top` and a number
 abbrev pub top_line : List ℕ → List ℕ × List ℕ → Option SwitchLine
 top_line guid x =
     if bytes_eq x.0 (codes "top") then option_and_then
     (λ g. option_map (λ t. record { guid = g; top = t }) (small_of 0xBFFF x.1)) (bare_guid_of guid)
     else None
 
+-- reads the part of a `switch` line after its first word
 abbrev pub switch_line : List (List ℕ) → Option SwitchLine
 switch_line [] = None
 switch_line (guid ∷ rest) = option_and_then (top_line guid) (both rest)
 
--- the number of a block and its entries
+-- reads the part of a `block` line after its first word: a number and the entries
 abbrev pub block_line : List (List ℕ) → Option BlockLine
 block_line words =
     option_and_then (λ x. option_and_then (λ n. option_map (λ e. record { number = n; entries = e }) (entries_of x.1))
     (small_of 767 x.0)) (both words)
 
--- the line with these words
+-- the line with these words; None if the grammar has no such line
 abbrev pub line_in : List (List ℕ) → Option TextLine
 line_in [] = Some Empty
 line_in (word ∷ rest) =
@@ -60,6 +62,6 @@ line_in (word ∷ rest) =
     else if bytes_eq word (codes "block") then option_map Block (block_line rest)
     else None
 
--- what a line says
+-- what a line says; None if the grammar has no such line
 unfoldable pub line_of : List ℕ → Option TextLine
 line_of line = line_in (words line)

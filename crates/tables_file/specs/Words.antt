@@ -5,24 +5,24 @@ use Rattle.hex.specs.Hex.{decode_sized}
 use Rattle.text_words.specs.Number.{number_of, guid_of}
 use Rattle.text_words.specs.Quoted.{until}
 
--- n, if it is at most `most`
+-- n if it is at most `most`, otherwise None
 abbrev pub at_most : ℕ → ℕ → Option ℕ
 at_most most n = if nat_le n most then Some n else None
 
--- a decimal number, if it is at most `most`
+-- reads a decimal number; the inner value is None if it is above `most`
 abbrev pub small_of : ℕ → List ℕ → Option (Option ℕ)
 small_of most word = option_map (at_most most) (number_of 10 word)
 
--- a GUID: up to sixteen hex digits, without the '0x' that may precede them elsewhere
+-- reads a GUID of up to sixteen hex digits, without `0x` in front
 abbrev pub bare_guid_of : List ℕ → Option ℕ
 bare_guid_of word = guid_of (codes "0x" ++ word)
 
--- a node's GUID, a slash, and a port of it, if that is at most 254
+-- reads a node's GUID, a slash and a port of the node; the port is None if it is above 254
 abbrev pub port_of : List ℕ → Option (ℕ × Option ℕ)
 port_of word =
     option_and_then (λ x. option_and_then (λ node. option_map (λ port. (node, port)) (small_of 254 x.1))
     (bare_guid_of x.0)) (until 47 word)
 
--- the entries of a block: two hex digits each
+-- reads the 64 entries of a block, each as two hex digits
 abbrev pub entries_of : List ℕ → Option (List ℕ)
 entries_of word = result_ok (decode_sized word 64)

@@ -3,18 +3,18 @@ use text_words::{LineError, LineFault, LinesFault};
 /// What is wrong with a line of a plan's text.
 #[derive(Clone, Copy, Debug, PartialEq, Eq)]
 pub enum PlanTextError {
-    /// A line that the grammar does not have, or a block above all switches.
+    /// The grammar has no such line, or it is a block above all switches.
     Syntax,
-    /// A LID outside 1 to 49,151, a range of LIDs that ends above that, a top above that, or a LID less than the one on
-    /// the line before.
+    /// The LID is outside 1 to 49,151, the last LID of the end port or the top is above 49,151, or the LID is less than
+    /// on the `lid` line before.
     Lid,
-    /// A port above 254, or one that does not come after the port on the line before with the same LID.
+    /// The port is above 254, or the end port does not come after that of the `lid` line before, which has this LID.
     Port,
-    /// An LMC above 7.
+    /// The LMC is above 7.
     Lmc,
-    /// A switch that does not come after the one before.
+    /// The GUID of the switch is not greater than that of the switch before.
     Switch,
-    /// A block above 767, or one that does not come after the one before of its switch.
+    /// The number of the block is above 767, or not greater than that of the switch's block before.
     Block,
 }
 
@@ -35,7 +35,7 @@ impl LineError for PlanTextError {
     }
 }
 
-/// The first faulty line of a text, from 1, and what is wrong with it.
+/// The number of a text's first faulty line, from 1, and what is wrong with it.
 pub type PlanLineFault = LineFault<PlanTextError>;
 
 /// Why a text could not be read.

@@ -9,22 +9,22 @@ use held_tables::{HeldItem, HeldLid, HeldRange, HeldSwitch};
 use smp_bytes::{Guid, Lid};
 use subnet_view::EndPort;
 
-/// The first number that is no LID of an end port.
+/// The first number above all LIDs of end ports.
 const LID_END: u32 = Lid::UNICAST_END as u32;
 
 /// What must be kept of the lines so far to check the order of later ones.
 #[derive(Clone, Copy)]
 pub(crate) struct LastLines {
-    /// The first LID of the last line of an end port.
+    /// The first LID of the last `lid` line, with its end port.
     pub(crate) lid: Option<HeldLid>,
-    /// The last switch.
+    /// The GUID of the last switch.
     pub(crate) switch: Option<Guid>,
-    /// The least number that the switch's next block may have.
+    /// The least number that the next block of this switch may have.
     pub(crate) block: u32,
 }
 
 impl LastLines {
-    /// Returns the state before all lines.
+    /// Returns the state before the first line.
     pub(crate) fn start() -> Self
         ensures { result ≡ start }
     {
@@ -48,7 +48,7 @@ impl LastLines {
         }
     }
 
-    /// Returns what the line of a block says.
+    /// Returns what a `block` line numbered `number` says, or what is wrong with it.
     fn block(&self, number: usize, line: BlockLine) -> Result<HeldItem, PlanLineFault>
         ensures { result ≡ block_with number self.now line.number line.entries }
     {
@@ -94,7 +94,8 @@ fn wrong(line: usize, wrong: PlanTextError) -> Result<HeldItem, PlanLineFault>
     Err(PlanLineFault { line, wrong })
 }
 
-/// Returns what the line of a LID says, after the line of the LID `last`, if there is one.
+/// Returns what a `lid` line numbered `number` says, or what is wrong with it. `last` is the first LID of the `lid`
+/// line before, if there is one.
 fn lid(number: usize, last: Option<HeldLid>, line: LidLine) -> Result<HeldItem, PlanLineFault>
     ensures { result ≡ lid_with number last line.lid line.node line.port line.lmc }
 {
@@ -118,8 +119,8 @@ fn lid(number: usize, last: Option<HeldLid>, line: LidLine) -> Result<HeldItem, 
     lid_after(number, last, HeldRange { first, lmc })
 }
 
-/// Returns what the line of a LID says, after the line of the LID `last`, if there is one. The caller has checked that
-/// its numbers are in range.
+/// Returns what a `lid` line numbered `number` says if it comes after the `lid` line of `last`, if there is one. The
+/// caller has checked that its numbers are in range.
 fn lid_after(
     number: usize,
     last: Option<HeldLid>,
@@ -133,7 +134,8 @@ fn lid_after(
     }
 }
 
-/// Returns what the line of a LID says after the line of the LID `last`.
+/// Returns what a `lid` line numbered `number` says if it comes after the `lid` line of `last`, otherwise what is wrong
+/// with it.
 fn lid_behind(number: usize, last: HeldLid, range: HeldRange) -> Result<HeldItem, PlanLineFault>
     ensures { result ≡ lid_behind number last range }
 {
@@ -147,8 +149,8 @@ fn lid_behind(number: usize, last: HeldLid, range: HeldRange) -> Result<HeldItem
     }
 }
 
-/// Returns whether `held`, whose LID is not less than that of `last`, comes after it: its LID or its end port is
-/// greater.
+/// Returns whether `held` comes after `last`: its LID, its node or, on the same node, its port is greater. The LID of
+/// `held` must not be less than that of `last`.
 fn is_behind(last: HeldLid, held: HeldLid) -> bool
     ensures { result ≡ is_behind last held }
 {
@@ -158,7 +160,8 @@ fn is_behind(last: HeldLid, held: HeldLid) -> bool
         || (is_same_node && last.port.port < held.port.port)
 }
 
-/// Returns what the line of a switch says, after the switch `last`, if there is one.
+/// Returns what a `switch` line numbered `number` says, or what is wrong with it. `last` is the switch before, if there
+/// is one.
 fn switch(number: usize, last: Option<Guid>, line: SwitchLine) -> Result<HeldItem, PlanLineFault>
     ensures { result ≡ switch_with number last line.guid line.top }
 {

@@ -1,4 +1,4 @@
-//! The text of the tables that switches hold, as of a plan: who holds which LID, and the forwarding tables.
+//! The text of the tables that switches hold or that a plan gives: who holds which LID, and the forwarding tables.
 #![tactic(auto)]
 
 mod fault;

@@ -19,7 +19,7 @@ pub(crate) enum TextLine {
     Block(BlockLine),
 }
 
-/// A LID and the end port that holds it, as its line says. A number is `None` if it is out of its range.
+/// A LID and the end port that holds it, as a line gives them. A number is `None` if it is out of range.
 #[derive(Clone, Copy)]
 pub(crate) struct LidLine {
     /// From 1 to 49,151.
@@ -31,7 +31,7 @@ pub(crate) struct LidLine {
     pub(crate) lmc: Option<Lmc>,
 }
 
-/// A switch and its top, as its line says.
+/// A switch and its top, as a line gives them.
 #[derive(Clone, Copy)]
 pub(crate) struct SwitchLine {
     pub(crate) guid: Guid,
@@ -39,7 +39,7 @@ pub(crate) struct SwitchLine {
     pub(crate) top: Option<u16>,
 }
 
-/// A block of a switch, as its line says.
+/// A block of a switch, as a line gives it.
 #[derive(Clone, Copy)]
 pub(crate) struct BlockLine {
     /// Up to 767; `None` if it is greater.
@@ -47,7 +47,7 @@ pub(crate) struct BlockLine {
     pub(crate) entries: [u8; 64],
 }
 
-/// Returns what a line says, or `None` if the grammar does not have it.
+/// Returns what a line says, or `None` if the grammar has no such line.
 #[tactic(auto, unfolding(crate::specs::TextLine::line_of))]
 pub(crate) fn read_line(line: &[u8]) -> Option<TextLine>
     ensures { result ≡ line_of line.now }
@@ -78,7 +78,7 @@ fn two_words(line: &[u8]) -> Option<(&[u8], &[u8])>
     Some((one, other))
 }
 
-/// Parses the part of a `lid` line that follows the word.
+/// Parses the part of a `lid` line after its first word. Returns `None` if the grammar has no such line.
 fn lid_line(line: &[u8]) -> Option<LidLine>
     ensures { result ≡ lid_line (words line.now) }
 {
@@ -95,8 +95,8 @@ fn lid_line(line: &[u8]) -> Option<LidLine>
     })
 }
 
-/// Parses what follows the end port on a `lid` line: `lmc` and a number, or nothing. The inner value is `None` if the
-/// number is above 7.
+/// Parses the part of a `lid` line after the end port: `lmc` and a number, or nothing, which means LMC 0. The inner
+/// value is `None` if the number is above 7.
 fn lmc_line(line: &[u8]) -> Option<Option<Lmc>>
     ensures { result ≡ lmc_line (words line.now) }
 {
@@ -111,7 +111,7 @@ fn lmc_line(line: &[u8]) -> Option<Option<Lmc>>
     Some(lmc_of(number))
 }
 
-/// Parses the part of a `switch` line that follows the word.
+/// Parses the part of a `switch` line after its first word. Returns `None` if the grammar has no such line.
 fn switch_line(line: &[u8]) -> Option<SwitchLine>
     ensures { result ≡ switch_line (words line.now) }
 {
@@ -125,7 +125,7 @@ fn switch_line(line: &[u8]) -> Option<SwitchLine>
     Some(SwitchLine { guid, top })
 }
 
-/// Parses the part of a `block` line that follows the word.
+/// Parses the part of a `block` line after its first word. Returns `None` if the grammar has no such line.
 fn block_line(line: &[u8]) -> Option<BlockLine>
     ensures { result ≡ block_line (words line.now) }
 {

@@ -1,4 +1,4 @@
-//! Tables as text: for each switch a line with its own top, and one for each of its blocks.
+//! Tables as text: for each switch, a line with its own top and a line for each of its blocks.
 ghost use Rattle.std.specs.Prelude.{◌≡◌, ◌≤◌, ◌++◌, IsTrue, OnOk, length};
 ghost use Rattle.std.specs.List.{flat_map, prefix_len};
 ghost use Rattle.byte_io.specs.Writes.{Writes};
@@ -12,7 +12,7 @@ use held_tables::{Held, HeldBlock, HeldSwitch};
 use lft_blocks::{write_block, write_lids, write_switch};
 use lid_assign::LidMap;
 
-/// Writes a line for each LID of `lids`, rising, and then the tables, and flushes. Takes no memory.
+/// Writes a line for each end port of `lids`, by rising LID, and then the tables, and flushes. Takes no memory.
 pub fn write_next<W: Sink>(sink: &mut W, lids: &LidMap, next: &Held) -> Result<(), WriteFault>
     ensures writes { Writes W.written W.has_failed result sink.old sink.new (next_text lids.now next.now) }
     ensures flushed { OnOk result (IsTrue (W.is_flushed sink.new)) }
@@ -22,15 +22,15 @@ pub fn write_next<W: Sink>(sink: &mut W, lids: &LidMap, next: &Held) -> Result<(
     sink.flush()
 }
 
-/// Writes the tables: for each switch in turn, a line with its top and a line for each of its blocks. The blocks stand
-/// in the order of the switches.
+/// Writes the tables: for each switch in order, a line with its top and a line for each of its blocks. The blocks must
+/// be in the order of the switches.
 pub fn write_tables<W: Sink>(sink: &mut W, held: &Held) -> Result<(), WriteFault>
     ensures { WritesPart W.written W.has_failed result sink.old sink.new (tables_text_of held.now) }
 {
     write_switches(sink, held.switches(), held.blocks())
 }
 
-/// Writes switches with their blocks.
+/// Writes the lines of the switches and of their blocks, which must be in the order of the switches.
 fn write_switches<W: Sink>(
     sink: &mut W,
     switches: &[HeldSwitch],
@@ -56,7 +56,7 @@ fn split_blocks(blocks: &[HeldBlock], index: usize) -> (&[HeldBlock], &[HeldBloc
     blocks.split_at(count_of(blocks, index))
 }
 
-/// Returns how many blocks at the head belong to the switch at `index`.
+/// Returns the number of blocks at the head that belong to the switch at `index`.
 fn count_of(blocks: &[HeldBlock], index: usize) -> usize
     ensures count { result ≡ prefix_len (is_of index) blocks.now }
     ensures within { result ≤ length blocks.now }
@@ -69,7 +69,7 @@ fn count_of(blocks: &[HeldBlock], index: usize) -> usize
     blocks.len()
 }
 
-/// Writes the line of a switch, and those of its blocks.
+/// Writes the line of a switch and a line for each of its blocks.
 fn write_held<W: Sink>(
     sink: &mut W,
     switch: &HeldSwitch,

@@ -10,9 +10,9 @@ use held_tables::Held;
 use std::alloc::Global;
 use text_words::{LinesFault, split_line};
 
-/// Reads a plan's text. It has a line for each end port, by first LID, with the end port's LMC if that is given. For
-/// each switch, by rising GUID, it has the switch's line and the lines of its blocks, by rising number. Lines end with
-/// LF or CR LF, empty ones are skipped, and `#` begins a comment:
+/// Reads a plan's text. It has a line for each end port, by rising first LID, and the line may give the port's LMC. For
+/// each switch, by rising GUID, it has a line for the switch and lines for its blocks, by rising number. Lines end with
+/// LF or CR LF, empty lines are skipped, and `#` begins a comment:
 ///
 /// ```text
 /// lid 1 0000000000000010/0

@@ -7,7 +7,7 @@ use attr_codec::Lmc;
 use smp_bytes::{Guid, PortNum};
 use text_words::number;
 
-/// Parses a word of decimal digits as a number from 0 to `most`. The inner value is `None` if the number is greater.
+/// Parses decimal digits as a number. The inner value is `None` if the number is above `most`.
 pub(crate) fn small(word: &[u8], most: u16) -> Option<Option<u16>>
     ensures { result ≡ small_of most word.now }
 {
@@ -19,7 +19,7 @@ pub(crate) fn small(word: &[u8], most: u16) -> Option<Option<u16>>
     })
 }
 
-/// Parses a GUID of 1 to 16 hex digits.
+/// Parses a GUID of 1 to 16 hex digits. Returns `None` if `word` is no such GUID.
 #[tactic(auto, using(crate::proofs::BareGuids::bare_guid_is, crate::proofs::BareGuids::long_is_none))]
 pub(crate) fn bare_guid(word: &[u8]) -> Option<Guid>
     ensures { result ≡ bare_guid_of word.now }
@@ -40,7 +40,7 @@ pub(crate) fn node_port(word: &[u8]) -> Option<(Guid, Option<PortNum>)>
     Some((node, port_num(port)))
 }
 
-/// Returns the port with this number.
+/// Returns the port with this number, or `None` if there is no number.
 fn port_num(number: Option<u16>) -> Option<PortNum>
     requires { IfSome number (λ n. n ≤ 254) }
     ensures { result ≡ number }
@@ -51,7 +51,7 @@ fn port_num(number: Option<u16>) -> Option<PortNum>
     }
 }
 
-/// Returns the LMC with this number.
+/// Returns the LMC with this number, or `None` if there is no number.
 pub(crate) fn lmc_of(number: Option<u16>) -> Option<Lmc>
     requires { IfSome number (λ n. n ≤ 7) }
     ensures { result ≡ number }
@@ -62,7 +62,7 @@ pub(crate) fn lmc_of(number: Option<u16>) -> Option<Lmc>
     }
 }
 
-/// Returns what comes before the first slash, and what comes after it.
+/// Returns the part of `word` before its first slash and the part after it, or `None` if it has no slash.
 #[tactic(auto, using(text_words::proofs::Splits::until_at, text_words::proofs::Splits::until_none))]
 fn before_slash(word: &[u8]) -> Option<(&[u8], &[u8])>
     ensures { option_map (λ x. (x.0.now, x.1.now)) result ≡ until 47 word.now }
@@ -71,14 +71,15 @@ fn before_slash(word: &[u8]) -> Option<(&[u8], &[u8])>
     Some((&word[..len], &word[len + 1..]))
 }
 
-/// Returns the index of the first slash.
+/// Returns the index of the first slash, or `None` if there is none.
 fn slash(word: &[u8]) -> Option<usize>
     ensures { result ≡ position (λ b. b == 47) word.now }
 {
     word.iter().position(|b| *b == b'/')
 }
 
-/// Parses the entries of a block, each as two hex digits of either case: 128 digits.
+/// Parses the 64 entries of a block, each as two hex digits of either case. Returns `None` if `word` is not 128 such
+/// digits.
 pub(crate) fn entries(word: &[u8]) -> Option<[u8; 64]>
     ensures { result ≡ entries_of word.now }
 {

@@ -1,4 +1,4 @@
--- After a cut: what a floor forgets, which LIDs stay, and what a manager that takes the rest over brings up.
+-- After a cut: which facts a floor forgets, which LIDs stay, and what a manager brings up that takes over the rest.
 use Rattle.std.specs.Prelude.{◌≡◌, ◌<◌, ℕ, true, max, List, [], Contains, Some}
 use Rattle.fabric_model.specs.declared.cable.NodePort.{NodePort}
 use Rattle.fabric_model.specs.Fabric as fabric
@@ -23,12 +23,12 @@ use Rattle.takeover_laws.specs.Takeover.{SweepsAlone, planning_at, plan_by_it}
 
 -- floors -------------------------------------------------------------------------------------------------
 
--- a floor above 1 and above each generation that is held forgets all facts
+-- a floor above 1 and above each generation of the facts forgets all facts
 abbrev pub FloorsForget : Type 0
 FloorsForget = (facts : Facts) (floor : ℕ) → 1 < floor → newest_held facts < floor → cells_of (raised facts floor) ≡ []
 
--- if a manager is given a floor above 1 and above each generation that it holds, it has no facts then, and the
--- generation of its next sweep is the greater of its old floor and the given one
+-- once a manager is given a floor above 1 and above each generation that it holds, it has no facts, and the generation
+-- of its next sweep is the greater of its old floor and the given one
 abbrev pub RaisedManagersKnowNothing : Type 0
 RaisedManagersKnowNothing = (w : Managing) (floor : ℕ) → 1 < floor → newest_held w.manager.store < floor
     → (cells_of (after_manager_event w (Raise floor)).manager.store ≡ [])
@@ -53,7 +53,7 @@ LidsOutlast = (lmc : ℕ) (x y : Facts) → ¬ (IsNoRoom lmc (cells_of x)) → �
 
 -- a takeover of the rest ---------------------------------------------------------------------------------
 
--- earlier facts have each end port that is joined to the seat, and it holds the LID of their plan; they may have
+-- earlier facts contain each end port that is joined to the seat, and it holds the LID of their plan; they may contain
 -- others, which are gone
 pub record TakesRest (held : Facts) (w : Managing) (before between after : List ManagerEvent) : Type 0 where
   pub sweeps : SweepsAlone w before between after
@@ -66,8 +66,8 @@ pub record TakesRest (held : Facts) (w : Managing) (before between after : List 
       → range_of (plan_by_it (planning_at w before between) held).given (record { node = node.guid; port = port.port })
       ≡ Some (range_at (fabric_of w.scene.fabric) port)
 
--- the written plan gives each end port that is left the LID that it had, and once the plan is written, pings among
--- these end ports arrive
+-- the written plan gives each end port that is left the LID that it had; once the plan is written, pings among these
+-- end ports arrive
 pub record IsServed (held : Facts) (w : Managing) (before between after : List ManagerEvent) : Type 0 where
   pub lids_stay : (e : EndPort) → Contains (end_ports (cells_of (at_writing w before between).manager.store)) e
       → lid_of (plan_at (at_writing w before between)).given e
@@ -83,7 +83,7 @@ RestIsServed =
     (held : Facts) (w : Managing) (before between after : List ManagerEvent) → TakesRest held w before between after
     → IsServed held w before between after
 
--- a new manager that takes the rest over
+-- a new manager that takes over the rest
 pub record SomeManagerServesTheRest : Type 0 where
   pub managing : Managing
   pub port_guid : ℕ

@@ -1,4 +1,4 @@
--- A manager takes over a subnet that holds a plan: it sweeps while no LID changes, and its plan is the held one.
+-- A manager takes over a subnet that holds a plan: if it sweeps while no LID changes, its plan is the held one.
 use Rattle.std.specs.Prelude.{◌≡◌, ◌≤◌, ℕ, true, List, [], ◌∷◌, Some}
 use Rattle.fabric_model.specs.Fabric.{Fabric}
 use Rattle.fabric_model.specs.FabricWalks.{IsJoinedTo}
@@ -24,7 +24,7 @@ use Rattle.manager_laws.specs.WritingPings.{AreNoSweeps}
 use Rattle.manager_laws.specs.Written.{IsWritingRun, at_writing, at_first_steps, at_end, plan_at}
 use Rattle.takeover_laws.specs.Claims.{HasLidsOf}
 
--- at each moment of these events, each port has the LID that it has in the fabric f
+-- after each of these events, each port has the LID that it has in the fabric f
 abbrev pub LidsStayAround : Fabric → List ManagerEvent → Managing → Type 0
 LidsStayAround f [] w = Unit {0}
 LidsStayAround f (event ∷ events) w =
@@ -40,7 +40,7 @@ plan_by_it planning facts = plan_of planning.rule planning.lmc (cells_of facts)
 
 -- A manager without facts sweeps, and is about to write the plan of what it learned.
 pub record SweepsAlone (w : Managing) (before between after : List ManagerEvent) : Type 0 where
-  -- from a moment at which nothing is on its way, a sweep begins, and later a writing
+  -- no packet is on its way at the start; a sweep begins, and later a writing
   pub run : IsWritingRun w before between after
   -- the manager holds no facts when the sweep begins, and until the writing it learns only from this sweep
   pub knew_nothing : cells_of (after_manager_events before w).manager.store ≡ []
@@ -54,18 +54,18 @@ pub record SweepsAlone (w : Managing) (before between after : List ManagerEvent)
   pub lids_between : LidsStayAround (fabric_of w.scene.fabric) between
       (after_manager_event (after_manager_events before w) Begin)
 
--- A manager sweeps alone on a subnet that holds a plan.
+-- A manager without facts sweeps a subnet that holds a plan.
 pub record TakesOver (held : Facts) (w : Managing) (before between after : List ManagerEvent) : Type 0 where
   pub sweeps : SweepsAlone w before between after
-  -- the facts `held` describe exactly all that is joined to the seat, and what is joined to the seat holds their plan
-  -- by the manager's rule and LMC
+  -- the facts `held` describe exactly the part that is joined to the seat, and the part holds their plan by the
+  -- manager's rule and LMC
   pub has_room : ¬ (IsNoRoom (planning_at w before between).lmc (cells_of held))
   pub agrees : AgreesOn (IsJoinedTo (fabric_of w.scene.fabric) w.seat) (cells_of held) (fabric_of w.scene.fabric)
   pub holds : HoldsPlan (IsJoinedTo (fabric_of w.scene.fabric) w.seat) (plan_by_it (planning_at w before between) held)
       (fabric_of w.scene.fabric)
 
--- What the manager is about to write is what is there: the same LIDs, and each block as it is. Pings arrived before,
--- and arrive once it has written.
+-- The manager is about to write what is there: the same LIDs, and each block as it is. Pings arrived before, and arrive
+-- once it has written.
 pub record ChangesNothing (held : Facts) (w : Managing) (before between after : List ManagerEvent) : Type 0 where
   pub same_plan : plan_at (at_writing w before between) ≡ plan_by_it (planning_at w before between) held
   pub arrived : EachPingArrives (planning_at w before between).rule (cells_of held)
@@ -92,11 +92,12 @@ abbrev pub Carrying : PlanValue → Managing → ManagerEvent → Type 0
 Carrying plan w (Around event) = KeepsPlan plan no_sets w.scene.fabric event
 Carrying plan w event = Unit {0}
 
+-- in each of these events, each Set that an agent takes carries the plan's values
 abbrev pub AllCarry : PlanValue → List ManagerEvent → Managing → Type 0
 AllCarry plan [] w = Unit {0}
 AllCarry plan (event ∷ events) w = Carrying plan w event × AllCarry plan events (after_manager_event w event)
 
--- what is joined to a seat holds the plan of facts, and each ping there, for each LID of the plan, arrives
+-- the part that is joined to a seat holds the plan of facts, and each ping there, for each LID of the plan, arrives
 pub record IsInUse (rule : RuleValue) (facts : Facts) (plan : PlanValue) (s : Simulation) (seat : NodePort) : Type 0
   where
     pub holds : HoldsPlan (IsJoinedTo (fabric_of s) seat) plan (fabric_of s)
@@ -108,15 +109,15 @@ InUseAlong rule facts plan seat [] w = IsInUse rule facts plan w.scene.fabric se
 InUseAlong rule facts plan seat (event ∷ events) w =
     IsInUse rule facts plan w.scene.fabric seat × InUseAlong rule facts plan seat events (after_manager_event w event)
 
--- a takeover during which each Set carries the values of the held plan until the writing begins; from then on the run
--- itself (`IsWritingRun`) requires this
+-- a takeover in which each Set that an agent takes until the writing begins carries the values of the held plan; from
+-- then on the run itself (`IsWritingRun`) requires this
 pub record TakesOverQuietly (held : Facts) (w : Managing) (before between after : List ManagerEvent) : Type 0 where
   pub takes : TakesOver held w before between after
   pub carry_before : AllCarry (plan_by_it (planning_at w before between) held) before w
   pub carry_between : AllCarry (plan_by_it (planning_at w before between) held) between
       (after_manager_event (after_manager_events before w) Begin)
 
--- the held plan is in use at each moment before the sweep, until the writing, and between its Sets
+-- the held plan is in use at each moment: before the sweep, until the writing, and between its Sets
 pub record IsInUseThroughout (held : Facts) (w : Managing) (before between after : List ManagerEvent) : Type 0 where
   pub until_sweep : InUseAlong (planning_at w before between).rule held (plan_by_it (planning_at w before between) held)
       w.seat before w
@@ -126,7 +127,7 @@ pub record IsInUseThroughout (held : Facts) (w : Managing) (before between after
   pub while_writing : InUseAlong (planning_at w before between).rule held
       (plan_by_it (planning_at w before between) held) w.seat after (at_first_steps w before between)
 
--- what is held stays held, and every ping arrives before, between and after the Sets
+-- during a quiet takeover, the held plan stays in use at each moment
 abbrev pub PingsArriveThroughout : Type 0
 PingsArriveThroughout =
     (held : Facts) (w : Managing) (before between after : List ManagerEvent)

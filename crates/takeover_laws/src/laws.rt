@@ -7,98 +7,96 @@ ghost use Rattle.takeover_laws.specs.Rest.{FloorsForget, LidsOutlast, RaisedMana
 ghost use Rattle.takeover_laws.specs.Rest.{SomeManagerServesTheRest};
 ghost use Rattle.takeover_laws.specs.Takeover.{PingsArriveThroughout, SomeManagerTakesOver, TakeoverChangesNothing};
 
-/// Two views have one plan, by each rule and under each LMC, or neither has room, if they tell the same end ports and
-/// GUIDs, the same usable switches with as many ports and as much room, the same wires, and the same claims of the end
-/// ports.
+/// If two views contain the same end ports and GUIDs, the same usable switches with as many ports and as much room, the
+/// same wires, and the same claims of the end ports, they have one plan, by each rule and under each LMC, or neither
+/// has room.
 pub fn alike_views_plan_alike()
     ensures { AlikeViewsPlanAlike }
 {}
 
-/// A view has the plan of another one if both tell one subnet and each end port claims in the view the LID that the
-/// other's plan gives it.
+/// If two views describe one subnet and each end port claims in the second the LID that the plan of the first gives it,
+/// the second has the plan of the first.
 pub fn claimed_plans_stay()
     ensures { ClaimedPlansStay }
 {}
 
-/// Two views that know the same value of each key have one plan, at whatever generations they know
-/// it, and whatever is disputed.
+/// If two views know the same value of each key, they have one plan, whatever the generations and whatever is disputed.
 pub fn plans_read_known_values()
     ensures { PlansReadKnownValues }
 {}
 
-/// A view has the plan of another one if it knows the same values, at whatever generations, except for claims, and
-/// claims the LIDs of that plan.
+/// If a view knows the same values as another one, except for claims, and claims the LIDs of its plan, it has that
+/// plan, whatever the generations.
 pub fn known_plans_stay()
     ensures { KnownPlansStay }
 {}
 
-/// Two views that describe one part of a fabric exactly have one plan if they have the same claims of its end ports.
+/// If two views describe one part of a fabric exactly and have the same claims of its end ports, they have one plan.
 pub fn who_sees_the_same_plans_the_same()
     ensures { WhoSeesTheSamePlansTheSame }
 {}
 
-/// Two views that describe one part of a fabric exactly have one plan if their claims are the LIDs
-/// that its ports have.
+/// If two views describe one part of a fabric exactly and their claims are the LIDs that its ports have, they have one
+/// plan.
 pub fn who_sees_the_truth_plans_the_same()
     ensures { WhoSeesTheTruthPlansTheSame }
 {}
 
-/// Facts that describe a part of a fabric exactly, and claim the LIDs that its ports have, give the plan that the part
-/// holds, if that is the plan of some facts that describe the part exactly: the same LIDs, and each block as it is.
+/// If a part of a fabric holds the plan of some facts that describe it exactly, all facts that describe it exactly and
+/// claim the LIDs that its ports have give that plan: the same LIDs, and each block as it is.
 pub fn held_plans_are_planned()
     ensures { HeldPlansArePlanned }
 {}
 
-/// Each claim of a report that a sweep accepts is the LID that the port has, while no port gets another LID: on every
-/// fabric whose nodes have different GUIDs, whatever other managers send of what `manager_laws::laws::answers_tell`
-/// names, and whatever is lost, copied and reordered.
+/// On a fabric whose nodes have different GUIDs, each claim of a report that a sweep accepts is the LID that the port
+/// has, while no port gets another LID. Other managers may send what `manager_laws::laws::answers_tell` names, and
+/// packets may be lost, copied and reordered.
 pub fn accepted_claims_are_true()
     ensures { AcceptedClaimsAreTrue }
 {}
 
 /// A sweep that has every answer while no port gets another LID knows the LID of each end port that is joined to its
-/// seat, so all that it knows of them is true, claims included.
+/// seat. All that it knows of these end ports is then true, including their claims.
 pub fn swept_claims_are_true()
     ensures { SweptClaimsAreTrue }
 {}
 
-/// A sweep that has every answer while no port gets another LID gives the plan that all that is joined to its seat
-/// holds, the same LIDs and each block as it is, if that is the plan of facts that describe it exactly. It does not
-/// matter who planned it, in which generations, or from where.
+/// If the part that is joined to a sweep's seat holds the plan of facts that describe it exactly, and the sweep has
+/// every answer while no port gets another LID, the sweep gives that plan: the same LIDs, and each block as it is. It
+/// does not matter who planned it, in which generations, or from where.
 pub fn takeovers_change_nothing()
     ensures { TakeoversChangeNothing }
 {}
 
-/// A manager that held no facts is about to write the plan that its subnet holds, the same LIDs and each block as it
-/// is, if that is the plan of some facts that describe the subnet exactly, and the manager has swept it with every
-/// answer while no port got another LID. Pings arrived before, and arrive once the manager has written.
+/// If a subnet holds the plan of some facts that describe it exactly, and a manager that held no facts has swept it
+/// with every answer while no port got another LID, the manager is about to write that plan: the same LIDs, and each
+/// block as it is. Pings arrived before, and arrive once the manager has written.
 pub fn takeover_changes_nothing()
     ensures { TakeoverChangesNothing }
 {}
 
-/// During a takeover the subnet holds the plan at each moment, before the sweep, until the writing and between its
-/// Sets, and at each moment every ping from an end port there, for each LID of the plan, reaches the owner of the LID,
-/// if each Set that an agent takes until the writing carries that plan's values, and so does each later one that is not
-/// the writing's own.
+/// If each Set that an agent takes during a takeover carries the values of the held plan, or is one of the writing's
+/// own, the subnet holds the plan at each moment, before the sweep, until the writing and between its Sets, and at each
+/// moment every ping from an end port there, for each LID of the plan, reaches the owner of the LID.
 pub fn pings_arrive_throughout()
     ensures { PingsArriveThroughout }
 {}
 
-/// Some manager takes over: one that was just made, on an adapter wired to a switch, as is another adapter, whose port
-/// says that a manager sits there, which is silent. All of them hold LIDs of their own choice, and the switch a table.
-/// There are nine requests to agents and the first Set of the writing, with their answers, and the request to the
-/// manager, which is lost and given up.
+/// Some manager takes over: a new one on an adapter that is wired to a switch. Another adapter is wired to the switch,
+/// and its port reports a manager, which is silent. All of them hold LIDs of their own choice, and the switch holds a
+/// table. There are nine requests to agents and the first Set of the writing, with their answers, and the request to
+/// the manager, which is lost and given up.
 pub fn some_manager_takes_over()
     ensures { SomeManagerTakesOver }
 {}
 
-/// A floor above 1 and above each generation that is held forgets all that is held.
+/// A floor above 1 and above each generation that is held forgets all facts.
 pub fn floors_forget()
     ensures { FloorsForget }
 {}
 
-/// A manager that is given a floor above 1 and above each generation that it holds has no facts then, and the
-/// generation of its next sweep is the greater of its old floor and the given one.
+/// Once a manager is given a floor above 1 and above each generation that it holds, it has no facts, and the generation
+/// of its next sweep is the greater of its old floor and the given one.
 pub fn raised_managers_know_nothing()
     ensures { RaisedManagersKnowNothing }
 {}
@@ -108,14 +106,14 @@ pub fn lids_outlast()
     ensures { LidsOutlast }
 {}
 
-/// Each end port that a cut has left keeps the LID that it had, and once the plan is written pings arrive among them,
-/// if a manager that held no facts has swept what is left, with every answer while no port got another LID. The earlier
-/// facts may tell of others, which are gone.
+/// If a manager that held no facts has swept what a cut has left, with every answer while no port got another LID, each
+/// end port that is left keeps the LID that it had, and once the plan is written pings arrive among these end ports.
+/// The earlier facts may contain other end ports, which are gone.
 pub fn rest_is_served()
     ensures { RestIsServed }
 {}
 
-/// Some manager takes the rest over: the one of `some_manager_takes_over`, with earlier facts that tell of a third
+/// Some manager takes over the rest: that of `some_manager_takes_over`, with earlier facts that contain a third
 /// adapter, which is gone.
 pub fn some_manager_serves_the_rest()
     ensures { SomeManagerServesTheRest }

@@ -7,7 +7,7 @@ abbrev pub is_memory : {E : Type 0} → LinesFault E → Bool
 is_memory (Line fault) = false
 is_memory Memory = true
 
--- what `{}` writes; `word` gives the word for each fault of a line
+-- what `{}` writes for a fault; `word` gives the word for each fault of a line
 abbrev pub fault_text : {E : Type 0} → (E → List ℕ) → LinesFault E → List ℕ
 fault_text word (Line fault) = codes "line " ++ decimal fault.line ++ codes ": " ++ word fault.wrong
 fault_text word Memory = codes "out of memory"

@@ -10,6 +10,6 @@ is_name_byte b = nat_le 0x20 b && nat_le b 0x7E && not (b == 34)
 abbrev pub is_name : List ℕ → Bool
 is_name name = nat_le 1 (length name) && nat_le (length name) 64 && list_all is_name_byte name
 
--- the bytes, if they are a name
+-- the bytes if they are a name, otherwise None
 abbrev pub name_in : List ℕ → Option (List ℕ)
 name_in bytes = if is_name bytes then Some bytes else None

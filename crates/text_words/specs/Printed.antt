@@ -20,6 +20,6 @@ quoted_text name = 34 ∷ name ++ 34 ∷ []
 abbrev pub bracketed_text : ℕ → List ℕ
 bracketed_text port = 91 ∷ decimal port ++ 93 ∷ []
 
--- a name in quotes, with a port in brackets right behind it
+-- a name in quotes, directly followed by a port in brackets
 abbrev pub named_text : List ℕ → ℕ → List ℕ
 named_text name port = 34 ∷ name ++ 34 ∷ bracketed_text port

@@ -35,11 +35,11 @@ words_in (b ∷ word, later) = (b ∷ word) ∷ later
 abbrev pub is_behind_word : Bool → ℕ → Bool
 is_behind_word quoted b = not quoted && (b == 35 || is_blank b)
 
--- whether a word is within quotes behind b; each quote opens or closes
+-- a word is within quotes after b; each quote opens or closes
 abbrev pub is_quoted_after : Bool → ℕ → Bool
 is_quoted_after quoted b = if b == 34 then not quoted else quoted
 
--- the rest of the current word, within quotes or not, and the words behind it; a '#' outside quotes ends the line
+-- the rest of the current word, within quotes or not, and the words after it; a '#' outside quotes ends the line
 abbrev pub parts : Bool → List ℕ → List ℕ × List (List ℕ)
 parts quoted [] = ([], [])
 parts quoted (b ∷ bytes) =

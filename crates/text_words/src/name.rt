@@ -55,7 +55,7 @@ impl NodeName {
     }
 }
 
-/// Returns whether `name` is a name.
+/// Returns whether `name` is 1 to 64 characters that names may contain.
 fn is_name(name: &[u8]) -> bool
     ensures { result ≡ is_name name.now }
 {

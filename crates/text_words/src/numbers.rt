@@ -60,7 +60,7 @@ pub fn port_number(word: &[u8]) -> Option<Option<u8>>
     })
 }
 
-/// Parses a GUID: `0x` and 1 to 16 hex digits.
+/// Parses a GUID: `0x` and 1 to 16 hex digits. Returns `None` if the word is anything else.
 pub fn guid(word: &[u8]) -> Option<Guid>
     ensures { result ≡ guid_of word.now }
 {

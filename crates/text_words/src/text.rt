@@ -4,7 +4,7 @@ ghost use Rattle.std.specs.Str.{bytes_eq};
 ghost use Rattle.text_words.specs.Text.{lines, words, is_blank, parts, is_behind_word, is_quoted_after};
 ghost use Rattle.text_words.specs.Text.{without_return};
 
-/// Returns the first line of a text without its line end, and the text behind it. Returns `None` if the text is empty.
+/// Returns the first line of a text without its line end, and the text after it. Returns `None` if the text is empty.
 #[tactic(auto, using(crate::proofs::Splits::lines_at, crate::proofs::Splits::lines_none))]
 pub fn split_line(text: &[u8]) -> Option<(&[u8], &[u8])>
     ensures line { MatchOption result (lines text.now ≡ [])
@@ -44,14 +44,14 @@ pub fn split_word(line: &[u8]) -> Option<(&[u8], &[u8])>
     }
 }
 
-/// Returns the index of the first byte that is not a separator.
+/// Returns the index of the first byte that is not a separator, or `None` if there is none.
 fn word_start(line: &[u8]) -> Option<usize>
     ensures { result ≡ position (λ b. not (is_blank b)) line.now }
 {
     line.iter().position(|byte| !is_blank(*byte))
 }
 
-/// Returns the length of the word that the line begins with.
+/// Returns the length of the word with which the line begins.
 fn word_len(line: &[u8]) -> usize
     ensures within { result ≤ length line.now }
     ensures word { (parts false line.now).0 ≡ take result line.now }
@@ -67,14 +67,14 @@ fn word_len(line: &[u8]) -> usize
     line.len()
 }
 
-/// Returns whether a word ends before `byte`. `is_quoted` says whether the word is within quotes there.
+/// Returns whether a word ends before `byte`. `is_quoted` says whether the word is within quotes before `byte`.
 fn is_behind_word(is_quoted: bool, byte: u8) -> bool
     ensures { result ≡ is_behind_word is_quoted byte }
 {
     !is_quoted && (byte == b'#' || is_blank(byte))
 }
 
-/// Returns whether a word is within quotes behind `byte`. `is_quoted` says whether it is before `byte`.
+/// Returns whether a word is within quotes after `byte`. `is_quoted` says whether it is before `byte`.
 fn is_quoted_after(is_quoted: bool, byte: u8) -> bool
     ensures { result ≡ is_quoted_after is_quoted byte }
 {

@@ -1,4 +1,4 @@
--- The order of the switches that tables tell by themselves: switches are taken from the last one on.
+-- The order of the switches that tables imply by themselves. Switches are taken one by one, from the last one on.
 use Rattle.std.specs.Prelude.{◌≡◌, ◌<◌, ◌+◌, ℕ, ◌==◌, Bool, true, false, List, [], ◌∷◌, Option, None, Some, length, replicate, slice_get, slice_index_or, slice_set, if◌then◌else◌}
 use Rattle.subnet_view.specs.Reading.{Cells, switches}
 use Rattle.held_tables.specs.Held.{HeldPlan}
@@ -13,13 +13,13 @@ abbrev pub MayBeLast : Cells → HeldPlan → List Bool → ℕ → Type 0
 MayBeLast cells tables left j =
     (i k : ℕ) → is_left left i ≡ true → is_left left k ≡ true → IsTurn cells tables i j k → ⊥
 
--- no switch that is left and stands at `index` or later in `preferred` may be the last
+-- no switch that is left and is at `index` or later in `preferred` may be the last
 abbrev pub NoneFrom : Cells → HeldPlan → List ℕ → List Bool → ℕ → Type 0
 NoneFrom cells tables preferred left index =
     (k y : ℕ) → index < k + 1 → slice_get preferred k ≡ Some y → is_left left y ≡ true
     → MayBeLast cells tables left y → ⊥
 
--- switch x may be the last of those left, and no switch that is left and stands after it in `preferred` may be
+-- switch x may be the last of the switches left, and no switch that is left and comes after it in `preferred` may be
 pub record IsLast (cells : Cells) (tables : HeldPlan) (preferred : List ℕ) (left : List Bool) (x : ℕ) : Type 0 where
   pub is_left : is_left left x ≡ true
   pub may_be : MayBeLast cells tables left x
@@ -27,8 +27,8 @@ pub record IsLast (cells : Cells) (tables : HeldPlan) (preferred : List ℕ) (le
   pub stands : slice_get preferred index ≡ Some x
   pub none_behind : NoneFrom cells tables preferred left (index + 1)
 
--- switches are taken one after the other, each as the last of the switches left then; `end` says which are left in the
--- end
+-- the switches are taken in this order, each as the last of the switches that are left; `end` has the switches that are
+-- left after that
 abbrev pub AreTaken : Cells → HeldPlan → List ℕ → List Bool → List ℕ → List Bool → Type 0
 AreTaken cells tables preferred left [] end = left ≡ end
 AreTaken cells tables preferred left (x ∷ taken) end =
@@ -38,7 +38,7 @@ AreTaken cells tables preferred left (x ∷ taken) end =
 abbrev pub all_left : Cells → List Bool
 all_left cells = replicate (length (switches cells)) true
 
--- all switches are taken, the last one first; None if some are left but none of them may be the last
+-- all switches are taken, the last one first; None if some are left and none of them may be the last
 abbrev pub IsTold : Cells → HeldPlan → List ℕ → Option (List ℕ) → Type 0
 IsTold cells tables preferred None =
     (taken : List ℕ) × (end : List Bool) × AreTaken cells tables preferred (all_left cells) taken end
@@ -47,7 +47,7 @@ IsTold cells tables preferred (Some taken) =
     (end : List Bool) × AreTaken cells tables preferred (all_left cells) taken end
     × ((i : ℕ) → is_left end i ≡ false)
 
--- the position of switch s: how many are left when it is taken
+-- the position of switch s: the number of switches that are taken after it; 0 if it is not taken
 abbrev pub position_in : List ℕ → ℕ → ℕ
 position_in [] s = 0
 position_in (x ∷ taken) s = if x == s then length taken else position_in taken s

@@ -6,9 +6,9 @@ ghost use Rattle.told_order.specs.Turns.{lists_of};
 
 use crate::turns::SwitchTurn;
 
-/// Returns the switch that may be the last of the switches left, by the turns at each switch. If there are several,
-/// returns the one that stands last in `preferred`. Takes a step for each switch in `preferred` and for each turn at a
-/// switch that is left, until it finds one.
+/// Returns the last switch in `preferred` that may be the last of the switches left, by the turns at each switch, or
+/// `None` if there is none. Takes a step for each switch in `preferred` and for each turn at a switch that is left,
+/// until it finds one.
 pub(crate) fn last_of(
     turns: &[Vec<SwitchTurn>],
     preferred: &[usize],
@@ -25,8 +25,8 @@ pub(crate) fn last_of(
     None
 }
 
-/// Returns whether `switch` is left and no packet comes to it from a switch that is left and leaves it for one that is
-/// left.
+/// Returns whether `switch` is left and no packet comes to it from a switch that is left and leaves it for a switch
+/// that is left.
 fn may_be_last(turns: &[Vec<SwitchTurn>], left: &[bool], switch: usize) -> bool
     ensures { result ≡ may_be_last (lists_of turns.now) left.now switch }
 {
@@ -37,7 +37,7 @@ fn may_be_last(turns: &[Vec<SwitchTurn>], left: &[bool], switch: usize) -> bool
         }
 }
 
-/// Returns whether one of the turns leads from a switch that is left to one that is left.
+/// Returns whether one of the turns leads from a switch that is left to a switch that is left.
 fn turns_in(turns: &[SwitchTurn], left: &[bool]) -> bool
     ensures { result ≡ turns_in left.now turns.now }
 {
@@ -46,7 +46,7 @@ fn turns_in(turns: &[SwitchTurn], left: &[bool]) -> bool
         .any(|turn| is_left(left, turn.from) && is_left(left, turn.to))
 }
 
-/// Returns whether the switch at `index` is left.
+/// Returns whether the switch at `index` is left. Returns false if there is no such switch.
 pub(crate) fn is_left(left: &[bool], index: usize) -> bool
     ensures { result ≡ is_left left.now index }
 {

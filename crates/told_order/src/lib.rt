@@ -1,4 +1,4 @@
-//! The order of the switches that forwarding tables tell by themselves, whoever wrote them.
+//! The order of the switches that forwarding tables imply by themselves, whoever wrote them.
 #![tactic(auto)]
 
 mod last;

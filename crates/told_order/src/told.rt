@@ -1,4 +1,4 @@
-//! The order that tables tell.
+//! The order that tables imply.
 ghost use Rattle.std.specs.Prelude.{◌≡◌, IfOk, length, replicate, true};
 ghost use Rattle.std.specs.Option.{option_map};
 ghost use Rattle.std.specs.List.{list_any};
@@ -11,9 +11,10 @@ use packet_walks::Network;
 use std::alloc::{AllocError, Global};
 
 /// Returns the indices (by rising GUID) of all usable switches, in an order by which no packet, for any LID, goes down
-/// and then up again by the tables of `network`. The last switch comes first. Returns `None` if there is no such order.
-/// Each switch is the last one in `preferred` that may be taken then. Costs what `channel_waits` takes, and for each
-/// switch a step for each switch in `preferred` and each turn that is looked at.
+/// and then up again by the tables of `network`. The last switch comes first. Each switch is the last switch in
+/// `preferred` that can be taken at that point. Returns `None` if there is no such order, or if switches that
+/// `preferred` lacks are left. Costs what `channel_waits` takes, and for each switch a step for each switch in
+/// `preferred` and each turn that is looked at.
 pub fn told_order(
     alloc: Global,
     network: &Network,
@@ -37,14 +38,14 @@ pub fn told_order(
     Ok(Some(taken))
 }
 
-/// Returns `count` flags that are set.
+/// Returns a list of `count` flags, all true.
 fn all_left(alloc: Global, count: usize) -> Result<Vec<bool>, AllocError>
     ensures { IfOk result (λ left. left.items ≡ replicate count true) }
 {
     vec![in alloc; true; count]
 }
 
-/// Returns whether a flag is set.
+/// Returns whether any flag is true.
 fn is_any(left: &[bool]) -> bool
     ensures { result ≡ list_any (λ flag. flag) left.now }
 {

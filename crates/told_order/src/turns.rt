@@ -10,8 +10,8 @@ use held_tables::Far;
 use packet_walks::Network;
 use std::alloc::{AllocError, Global};
 
-/// A turn at a switch: packets for some LID come from one switch and leave for another, or for the one that they came
-/// from.
+/// A turn at a switch: packets for some LID come from one switch and leave for another, which may be the switch that
+/// they came from.
 #[derive(Clone, Copy, Debug, PartialEq, Eq)]
 pub(crate) struct SwitchTurn {
     /// The index of the switch that they come from.

@@ -11,7 +11,7 @@ use Rattle.topo_file.specs.declared.line.TopologyLine.TheVariants as line
 use Rattle.topo_file.specs.TopologyLine.{line_of}
 use Rattle.topo_file.specs.Reading.{◌>>=◌, node_of, nodes_of_lines}
 
--- the fault of a result, if it is one
+-- the fault of a result; None if it is a value
 abbrev pub fault_of : {T : Type 0} → Result T TopoFault → Option TopoFault
 fault_of (Ok value) = None
 fault_of (Err fault) = Some fault
@@ -31,7 +31,7 @@ with_new_name number names name =
     if is_used names name then Err (Name number)
     else (if nat_lt (length names) 1024 then Ok (names ++ Some name ∷ []) else Err (TooManyNodes number))
 
--- `names` if there is a node above the link of line `number`, else the line's fault
+-- `names` if there is a node above the link of line `number`, otherwise the line's fault
 abbrev pub below_node : ℕ → List (Option (List ℕ)) → Result (List (Option (List ℕ))) TopoFault
 below_node number [] = Err (Syntax number)
 below_node number (name ∷ names) = Ok (name ∷ names)
@@ -43,7 +43,7 @@ with_name number names (Some line.Empty) = Ok names
 with_name number names (Some (line.Node node)) = node_of number node >>= λ n. with_new_name number names n.name
 with_name number names (Some (line.Link link)) = below_node number names
 
--- `names` with the names in lines, or the first fault; the lines count from `number`
+-- `names` with the names in the lines, or the first fault; the first line has the number `number`
 abbrev pub with_names : ℕ → List (Option (List ℕ)) → List (List ℕ) → Result (List (Option (List ℕ))) TopoFault
 with_names number names [] = Ok names
 with_names number names (line ∷ later) =

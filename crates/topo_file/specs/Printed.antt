@@ -39,14 +39,14 @@ lines_from t id (node ∷ later) =
 abbrev pub topology_text : Layout → List ℕ
 topology_text t = lines_text (lines_from t 0 t.nodes)
 
--- the links stand in the order of their first ends' nodes
+-- the links are in the order of their first ends' nodes
 abbrev pub IsInOrder : List Cable → Type 0
 IsInOrder links = AllPairs (λ x y. x.one.node ≤ y.one.node) links
 
--- the text of a topology is read as that topology, if its links stand in the order of their first ends' nodes
+-- the text of a topology is read as that topology if its links are in the order of their first ends' nodes
 abbrev pub PrintedTopologiesAreRead : Type 0
 PrintedTopologiesAreRead = (t : Layout) → IsTopology t → IsInOrder t.links → topology_of (topology_text t) ≡ Ok t
 
--- the links of each topology that is read stand in the order of their first ends' nodes
+-- the links of each topology that is read are in the order of their first ends' nodes
 abbrev pub ReadTopologiesAreInOrder : Type 0
 ReadTopologiesAreInOrder = (text : List ℕ) (t : Layout) → topology_of text ≡ Ok t → IsInOrder t.links

@@ -41,6 +41,7 @@ node_with number node (Some ports) (Some cap) =
 node_with number node (Some ports) None = Err (Ports number)
 node_with number node None cap = Err (Ports number)
 
+-- the node in the line `number`, or the line's fault
 abbrev pub node_of : ℕ → NodeLine → Result Node TopoFault
 node_of number node = node_with number node node.ports node.cap
 
@@ -64,13 +65,13 @@ with_line number before (Some (line.Node node)) =
 with_line number before (Some (line.Link link)) =
     with_link_line number (length before.nodes) before.links link >>= λ links. Ok (record before { links = links })
 
--- the lines before, with what the lines add, or the first fault; the lines count from `number`
+-- the lines before, with what the lines add, or the first fault; the first line has the number `number`
 abbrev pub with_lines : ℕ → Lines → List (List ℕ) → Result Lines TopoFault
 with_lines number before [] = Ok before
 with_lines number before (line ∷ later) =
     with_line number before (line_of line) >>= λ now. with_lines (number + 1) now later
 
--- the port of the node `id`, if the node has it
+-- the port of the node `id`; None if the node does not have it
 abbrev pub port_at : List Node → ℕ → Option ℕ → Option NodePort
 port_at nodes id port =
     option_and_then (λ p. option_and_then (λ node. if nat_le p node.ports then Some (record {
@@ -80,11 +81,13 @@ port_at nodes id port =
     }) else None)
     (slice_get nodes id)) port
 
+-- the link between two ports, or the fault of line `number` if one of them does not exist
 abbrev pub link_between : ℕ → Option NodePort → Option NodePort → Result Cable TopoFault
 link_between number (Some one) (Some other) = Ok (record { one = one; other = other })
 link_between number (Some one) None = Err (Port number)
 link_between number None other = Err (Port number)
 
+-- the link of a line to the peer `id`, or the line's fault
 abbrev pub link_to : List Node → LinkAt → Option ℕ → Result Cable TopoFault
 link_to nodes at None = Err (Peer at.line)
 link_to nodes at (Some id) =
@@ -94,7 +97,7 @@ link_to nodes at (Some id) =
 abbrev pub link_of : List Node → LinkAt → Result Cable TopoFault
 link_of nodes at = link_to nodes at (id_of nodes at.link.peer)
 
--- a port is found, and is `p`
+-- `found` is the port `p`
 abbrev pub is_end : NodePort → Option NodePort → Bool
 is_end p found = option_map_or (is_same_port p) found false
 

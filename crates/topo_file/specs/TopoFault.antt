@@ -3,7 +3,7 @@ use Rattle.std.specs.Prelude.{◌≡◌, ℕ, List, Option, None, Some, Result, 
 use Rattle.topo_file.specs.declared.fault.TopoFault.{TopoFault}
 use Rattle.topo_file.specs.declared.fault.TopoFault.TheVariants.{Syntax, Name, Ports, Peer, Port, Linked, GuidRange, TooManyNodes, Memory}
 
--- the fault is what the text says, or lack of memory
+-- the fault is the fault in `told`, or lack of memory
 abbrev pub IsRefused : {T : Type 0} → TopoFault → Result T TopoFault → Type 0
 IsRefused Memory told = Unit {0}
 IsRefused fault told = told ≡ Err fault
@@ -41,10 +41,11 @@ fault_line (GuidRange line) = Some line
 fault_line (TooManyNodes line) = Some line
 fault_line Memory = None
 
--- what `{}` writes of a fault: its line, if there is one, and the word
+-- what `{}` writes for a fault: its line, if there is one, and the word
 abbrev pub said_at : Option ℕ → List ℕ → List ℕ
 said_at None word = word
 said_at (Some line) word = codes "line " ++ decimal line ++ codes ": " ++ word
 
+-- what `{}` writes for the fault
 abbrev pub fault_text : TopoFault → List ℕ
 fault_text fault = said_at (fault_line fault) (fault_word fault)

@@ -16,12 +16,12 @@ pub record Layout : Type 0 where
   pub nodes : List Node
   pub links : List Cable
 
--- the id of the node with this name
+-- the id of the node with this name; None if there is none
 abbrev pub id_of : List Node → List ℕ → Option ℕ
 id_of [] name = None
 id_of (node ∷ nodes) name = if bytes_eq node.name name then Some 0 else option_map suc (id_of nodes name)
 
--- `id` is that of the node with this name, or no node has the name
+-- the id is the id of the node with this name; None if no node has the name
 abbrev pub IsFound : List Node → List ℕ → Option ℕ → Type 0
 IsFound nodes name None = All (λ node. node.name ≢ name) nodes
 IsFound nodes name (Some id) = (node : Node) × (slice_get nodes id ≡ Some node) × (node.name ≡ name)
@@ -55,6 +55,7 @@ pub record IsPortIn (nodes : List Node) (p : NodePort) : Type 0 where
   pub some : 1 ≤ p.port
   pub within : p.port ≤ node.ports
 
+-- both ends of the link are ports of nodes in the list
 pub record IsLinkIn (nodes : List Node) (link : Cable) : Type 0 where
   pub one : IsPortIn nodes link.one
   pub other : IsPortIn nodes link.other

@@ -11,14 +11,14 @@ use Rattle.text_words.specs.Text.{words}
 use Rattle.text_words.specs.Number.{count_of, guid_of}
 use Rattle.text_words.specs.Quoted.{quoted_name, bracketed_port, named_port}
 
--- the type of node that a word names: a switch or a channel adapter
+-- the type of node that a word names: a switch or a channel adapter; None if it names none
 abbrev pub kind_of : List ℕ → Option NodeType
 kind_of word =
     if bytes_eq word (codes "Switch") then Some Switch else (if bytes_eq word (codes "Hca")
     || bytes_eq word (codes "Ca") then Some ChannelAdapter else None)
 
--- the size of a node's table: for a switch 1024, or the number after 'cap', inside it None if out of range; for an
--- adapter 0
+-- the size of a node's table: 0 for an adapter; for a switch 1024, or the number after `cap`; the inner value is None
+-- if the number is out of range
 abbrev pub cap_of : NodeType → List (List ℕ) → Option (Option ℕ)
 cap_of Switch [] = Some (Some 1024)
 cap_of Switch (word ∷ cap ∷ []) = if bytes_eq word (codes "cap") then count_of 0xC000 cap else None
@@ -44,6 +44,7 @@ link_line (port ∷ end ∷ []) =
     (bracketed_port port)
 link_line _ = None
 
+-- what a line says: a node if its first word names a type, otherwise a link
 abbrev pub line_of_kind : Option NodeType → List (List ℕ) → Option TopologyLine
 line_of_kind (Some kind) (word ∷ rest) = option_map Node (node_line kind rest)
 line_of_kind None words = option_map Link (link_line words)

@@ -11,7 +11,7 @@ use fabric_model::NodeId;
 use std::alloc::Global;
 use std::marker::Model;
 
-/// A link with the number of its line, and the node above that line.
+/// A link with the number of its line, and the node above this line.
 #[derive(Drop)]
 pub(crate) struct LinkAt {
     pub(crate) line: usize,
@@ -35,7 +35,7 @@ impl Model for Draft {
 }
 
 impl Draft {
-    /// Creates a draft of no lines.
+    /// Creates an empty draft.
     pub(crate) fn new(alloc: Global) -> Self
         ensures { result ≡ record { nodes = []; links = [] } }
     {

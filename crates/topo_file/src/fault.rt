@@ -4,7 +4,7 @@ use std::alloc::{AllocError, AllocFailed};
 use std::error::Error;
 use std::fmt;
 
-/// Why a text is not a topology. First each line is checked in turn, then each link in turn. Lines count from 1.
+/// Why a text is not a topology. First the lines are checked in order, and then the links. Lines count from 1.
 #[derive(Clone, Copy, Debug, PartialEq, Eq)]
 pub enum TopoFault {
     /// The line is not in the grammar, or is a link above all nodes.
@@ -30,7 +30,7 @@ pub enum TopoFault {
 impl TopoFault {
     ghost use Rattle.topo_file.specs.TopoFault.{fault_word, fault_line};
 
-    /// Returns what `{}` writes of the fault, without the line.
+    /// Returns the word that `{}` writes for the fault, without the line.
     pub fn word(self) -> &'static str
         ensures { result.now ≡ fault_word self }
     {
@@ -47,7 +47,7 @@ impl TopoFault {
         }
     }
 
-    /// Returns the number of the faulty line, from 1; `None` for lack of memory.
+    /// Returns the number of the faulty line, from 1, or `None` for lack of memory.
     pub fn line(self) -> Option<usize>
         ensures { result ≡ fault_line self }
     {

@@ -61,7 +61,7 @@ fn judge_node(names: &mut Names, line: usize, node: Node) -> Result<(), TopoFaul
     }
 }
 
-/// Returns whether a node has the name.
+/// Returns whether `name` is one of `names`.
 fn is_used(names: &[Option<NodeName>], name: &NodeName) -> bool
     ensures { result ≡ is_used names.now name.now }
 {

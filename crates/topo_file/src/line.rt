@@ -16,7 +16,7 @@ pub(crate) enum TopologyLine {
     Link(LinkLine),
 }
 
-/// A node as in its line. A number is `None` if it is out of its range.
+/// A node as its line gives it. A number is `None` if it is out of range.
 #[derive(Drop)]
 pub(crate) struct NodeLine {
     pub(crate) kind: NodeType,
@@ -28,7 +28,7 @@ pub(crate) struct NodeLine {
     pub(crate) cap: Option<u16>,
 }
 
-/// A link as in its line, below one of its nodes. A port is `None` if it is not from 1 to 254.
+/// A link as its line gives it, below one of its nodes. A port is `None` if it is not from 1 to 254.
 #[derive(Drop)]
 pub(crate) struct LinkLine {
     pub(crate) port: Option<u8>,
@@ -50,7 +50,7 @@ pub(crate) fn read_line(line: &[u8]) -> Option<TopologyLine>
     }
 }
 
-/// Returns the type of node that a word names.
+/// Returns the type of node that a word names, or `None` if it names none.
 fn kind(word: &[u8]) -> Option<NodeType>
     ensures { result ≡ kind_of word.now }
 {
@@ -63,7 +63,7 @@ fn kind(word: &[u8]) -> Option<NodeType>
     }
 }
 
-/// Parses the line of a node, without its first word.
+/// Parses the line of a node, without its first word. Returns `None` if the grammar has no such line.
 fn node_line(kind: NodeType, line: &[u8]) -> Option<NodeLine>
     ensures { result ≡ node_line kind (words line.now) }
 {
@@ -83,7 +83,8 @@ fn node_line(kind: NodeType, line: &[u8]) -> Option<NodeLine>
     })
 }
 
-/// Parses the size of a node's forwarding table from the rest of its line.
+/// Parses the size of a node's forwarding table from the rest of its line. The inner value is `None` if it is out of
+/// range.
 fn cap(kind: NodeType, line: &[u8]) -> Option<Option<u16>>
     ensures { result ≡ cap_of kind (words line.now) }
 {
@@ -96,7 +97,8 @@ fn cap(kind: NodeType, line: &[u8]) -> Option<Option<u16>>
     }
 }
 
-/// Parses the size of a switch's forwarding table from the word `cap` and what follows it.
+/// Parses the size of a switch's forwarding table from the word `cap` and what follows it. The inner value is `None` if
+/// it is out of range.
 fn given_cap(word: &[u8], line: &[u8]) -> Option<Option<u16>>
     ensures { result ≡ cap_of NodeType.Switch (word.now ∷ words line.now) }
 {
@@ -111,7 +113,7 @@ fn given_cap(word: &[u8], line: &[u8]) -> Option<Option<u16>>
     }
 }
 
-/// Parses a link from the first word of its line and what follows it.
+/// Parses a link from the first word of its line and what follows it. Returns `None` if the grammar has no such line.
 fn link_line(port: &[u8], line: &[u8]) -> Option<LinkLine>
     ensures { result ≡ link_line (port.now ∷ words line.now) }
 {

@@ -61,14 +61,14 @@ impl Links {
         &self.links
     }
 
-    /// Returns the port at the other end of the link in `port`. Takes a search.
+    /// Returns the port at the other end of the link in `port`, or `None` if there is no link. Takes a search.
     fn other_end(&self, port: NodePort) -> Option<NodePort>
         ensures { result ≡ other_end self.now port }
     {
         self.across.get(&key(port)).copied()
     }
 
-    /// Adds the link of a line, unless it is there already.
+    /// Adds the link of a line, unless it is there already. Returns `Linked` if one of its ports has another link.
     fn with(self, line: usize, link: Cable) -> Result<Self, TopoFault>
         ensures { Reads result (with_link line self link) }
     {

@@ -12,7 +12,7 @@ use std::collections::BTreeMap;
 use std::marker::Model;
 use text_words::NodeName;
 
-/// The most nodes of a topology.
+/// The maximum number of nodes of a topology.
 pub(crate) const MAX_NODES: usize = 1024;
 
 /// Nodes by id, each with a name of its own.
@@ -53,7 +53,7 @@ impl Nodes {
         self.nodes.len()
     }
 
-    /// Returns the node with this id. Takes one step.
+    /// Returns the node with this id, or `None` if there is none. Takes one step.
     pub(crate) fn get(&self, node: NodeId) -> Option<&Node>
         ensures { option_copied result ≡ slice_get self.now node }
     {
@@ -67,7 +67,7 @@ impl Nodes {
         &self.nodes
     }
 
-    /// Returns the id of the node with this name. Takes a search.
+    /// Returns the id of the node with this name, or `None` if there is none. Takes a search.
     pub(crate) fn id(&self, name: &NodeName) -> Option<NodeId>
         ensures { result ≡ id_of self.now name.now }
     {

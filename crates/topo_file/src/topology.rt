@@ -48,7 +48,8 @@ impl Topology {
         self.nodes.len()
     }
 
-    /// Returns the node with this id. Ids count from 0, in the order of the nodes' lines. Takes one step.
+    /// Returns the node with this id, or `None` if there is none. Ids count from 0, in the order of the nodes' lines.
+    /// Takes one step.
     pub fn node(&self, node: NodeId) -> Option<&Node>
         ensures node { option_copied result ≡ slice_get self.now.nodes node }
         ensures is_node { IfSome result (λ node. IsNode node.now) }
@@ -63,7 +64,7 @@ impl Topology {
         self.links.as_slice()
     }
 
-    /// Returns the id of the node with this name. Takes a search.
+    /// Returns the id of the node with this name, or `None` if there is none. Takes a search.
     pub fn find(&self, name: &str) -> Option<NodeId>
         ensures id { result ≡ id_of self.now.nodes name.now }
         ensures found { IsFound self.now.nodes name.now result }
@@ -71,7 +72,7 @@ impl Topology {
         self.nodes.id(&NodeName::new(name.as_bytes())?)
     }
 
-    /// Returns whether a node is a switch with this GUID. Takes a walk over the nodes.
+    /// Returns whether a node is a switch with this GUID. Walks the nodes.
     pub fn has_switch(&self, guid: Guid) -> bool
         ensures { result ≡ has_switch self.now.nodes guid }
     {
@@ -103,9 +104,9 @@ impl Topology {
 ///
 /// # Errors
 ///
-/// Returns the first fault, or `Memory` if memory runs out and no line has a fault other than that of its link: whether
-/// a link's peer and ports exist and are free is checked by indexes, which take memory. If memory runs out, the lines
-/// are checked again without any, by a walk over at most 1,024 names for each node.
+/// Returns the first fault. Returns `Memory` if memory runs out and no line has a fault other than a fault of its link.
+/// (Whether a link's peer and ports exist and are free is checked by indexes, which take memory.) If memory runs out,
+/// the lines are checked again without any, by a walk over at most 1,024 names for each node.
 pub fn parse(alloc: Global, text: &str) -> Result<Topology, TopoFault>
     ensures reads { Reads result (topology_of text.now) }
     ensures memory { result ≡ Err TopoFault.Memory → first_line_fault text.now ≡ None }

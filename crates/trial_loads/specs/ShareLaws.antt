@@ -1,25 +1,27 @@
--- What vertices share, and when.
+-- How much vertices share, and when they do.
 use Rattle.std.specs.Prelude.{◌≡◌, ◌≢◌, ◌<◌, ◌≤◌, ◌*◌, ℕ, List, [], ◌∷◌, length, Contains}
 use Rattle.port_graph.specs.declared.edge.Edge.{Edge}
 use Rattle.spread_labels.specs.Labels.{candidates}
 use Rattle.trial_loads.specs.TrialLoads.{in_turn, share}
 
--- when a vertex of the list shares, all has come to it: neither it nor one behind it hands on to it
+-- when a vertex of the list shares, everything has reached it: neither it nor a later vertex of the list has an edge to
+-- it
 abbrev pub ShareWhenAllHasCome : (ℕ → List Edge) → List ℕ → Type 0
 ShareWhenAllHasCome towards [] = Unit {0}
 ShareWhenAllHasCome towards (s ∷ ss) =
     ((r : ℕ) (e : Edge) → Contains (s ∷ ss) r → Contains (towards r) e → e.to ≢ s) × ShareWhenAllHasCome towards ss
 
--- each of n vertices has one turn, when all has come to it
+-- each of n vertices has one turn, when everything has reached it
 pub record AreTurns (towards : ℕ → List Edge) (n : ℕ) (turns : List ℕ) : Type 0 where
   pub all : (s : ℕ) → s < n → Contains turns s
   pub once : length turns ≡ n
   pub last : ShareWhenAllHasCome towards turns
 
+-- towards a target, the turns of the vertices of a graph satisfy `AreTurns`
 abbrev pub TurnsLaw : Type 0
 TurnsLaw = (graph : List (List Edge)) (t : ℕ)
     → AreTurns (candidates graph t) (length graph) (in_turn (candidates graph t) (length graph))
 
--- equal shares, one for each candidate, are together no more than what is shared
+-- equal shares of n, one for each candidate, are together at most n
 abbrev pub SharesLaw : Type 0
 SharesLaw = (n : ℕ) (es : List Edge) → length es * share n es ≤ n

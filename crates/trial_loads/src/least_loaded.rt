@@ -23,9 +23,9 @@ struct Trial {
 }
 
 /// Returns `keys` if the trial loads of the order that grows by them are even. Otherwise returns the keys of the order
-/// whose trial load is least: `keys` themselves, or those by an order by depth from one of the first eight vertices,
-/// forwards or backwards; the first of equals. `adapters` has the number of adapters at each vertex. Takes 17 trials at
-/// most.
+/// with the least trial load: `keys` themselves, or the keys by an order by depth from one of the first eight vertices,
+/// forwards or backwards. Of equal trial loads the first counts. `adapters` has the number of adapters at each vertex.
+/// Takes at most 17 trials.
 pub fn least_loaded_keys(
     alloc: Global,
     edges: &Adjacency,
@@ -52,7 +52,7 @@ pub fn least_loaded_keys(
     Ok(best.keys)
 }
 
-/// Tries the orders by depth in one direction. Returns the best trial of these and `first`.
+/// Tries the orders by depth in one direction. Returns the trial of the least load of these and `first`.
 fn try_by_depth(
     alloc: Global,
     edges: &Adjacency,
@@ -79,7 +79,7 @@ fn try_by_depth(
     Ok(best)
 }
 
-/// Returns keys with the trial load of the order that grows by them.
+/// Returns `keys` with the trial load of the order that grows by them.
 fn trial_of(
     alloc: Global,
     edges: &Adjacency,
@@ -97,14 +97,14 @@ fn trial_of(
     Ok(Trial { keys, load })
 }
 
-/// Returns the trial with the lesser load; `best` if they are equal.
+/// Returns the trial with the lesser load, or `best` if the loads are equal.
 fn lesser(best: Trial, other: Trial) -> Trial
     ensures { result ≡ if nat_lt other.load best.load then other else best }
 {
     if other.load < best.load { other } else { best }
 }
 
-/// Returns keys by the order by depth from `root`.
+/// Returns the keys of the vertices by the order by depth from `root`.
 fn keys_by_depth(
     alloc: Global,
     edges: &Adjacency,
@@ -121,7 +121,7 @@ fn keys_by_depth(
     keys_in(alloc, &vertices, edges.len())
 }
 
-/// Returns the keys of `count` vertices by a list: how many vertices stand before each there.
+/// Returns the keys of `count` vertices by the list `vertices`: the number of vertices before each there.
 fn keys_in(alloc: Global, vertices: &[usize], count: usize) -> Result<Vec<VertexKey>, AllocError>
     ensures { IfOk result (λ keys. keys.items ≡ keys_in vertices.now count) }
 {

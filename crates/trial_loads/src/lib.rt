@@ -1,4 +1,4 @@
-//! How evenly orders of vertices spread packets over the channels of a graph, and the one that does best.
+//! How evenly orders of vertices spread packets over the channels of a graph, and the order that spreads them best.
 #![tactic(auto)]
 
 pub mod laws;

@@ -13,11 +13,11 @@ use port_graph::{Adjacency, Edge};
 use spread_labels::{CandidateSets, TargetSet};
 use std::alloc::{AllocError, Global};
 
-/// The number of packets from each adapter to each.
+/// The number of packets from each adapter to each adapter.
 const PACKETS: usize = 65_536;
 
-/// Adds to `loads` what each channel carries of the packets from all adapters to those at each target. There are at most
-/// 64 targets.
+/// Adds to `loads` what each channel carries of the packets from all adapters to those at each target. There are at
+/// most 64 targets.
 pub(crate) fn add_packets_between(
     alloc: Global,
     graph: &Adjacency,
@@ -42,7 +42,7 @@ pub(crate) fn add_packets_between(
     Ok(())
 }
 
-/// Adds to `loads` what each channel carries when the packets that positions have go to target `k`.
+/// Adds to `loads` what each channel carries of the packets in `had` on their way to target `k`.
 fn add_packets_to(
     graph: &Adjacency,
     sets: &CandidateSets,
@@ -64,7 +64,8 @@ fn add_packets_to(
     share_down(graph, sets, ups, k, had, loads);
 }
 
-/// Sets what positions start with towards `to` adapters: `PACKETS` from each adapter to each.
+/// Sets the number of packets that each position starts with towards a target with `to` adapters: `PACKETS` from each
+/// of its adapters to each of them.
 fn start(adapters: &[u16], to: u16, had: &mut [usize])
     requires { length adapters.now ≡ length had.old }
     ensures { had.new ≡ first_had to adapters.now }
@@ -74,7 +75,7 @@ fn start(adapters: &[u16], to: u16, had: &mut [usize])
     }
 }
 
-/// Shares what the positions have that go up towards target `k`, from the last position to the first.
+/// Shares the packets of the positions that go up towards target `k`, from the last position to the first.
 fn share_up(
     graph: &Adjacency,
     sets: &CandidateSets,
@@ -102,7 +103,7 @@ fn share_up(
     }
 }
 
-/// Shares what the other positions have, from the first to the last.
+/// Shares the packets of the positions that do not go up towards target `k`, from the first to the last.
 fn share_down(
     graph: &Adjacency,
     sets: &CandidateSets,
@@ -130,7 +131,8 @@ fn share_down(
     }
 }
 
-/// Shares what `position` has over its candidates towards target `k`: of its `edges`, those whose set has it.
+/// Shares the packets of `position` evenly over its candidates towards target `k`: those of `edges` whose set has the
+/// target.
 fn share(
     edges: &[Edge],
     sets: &[TargetSet],
@@ -164,7 +166,7 @@ fn share(
     }
 }
 
-/// Counts the sets that have the target.
+/// Counts the sets that have `target`.
 fn count_having(sets: &[TargetSet], target: usize) -> usize
     requires { target < 64 }
     ensures { result ≡ count_by (λ set. has set target) sets.now }

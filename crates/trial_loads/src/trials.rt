@@ -12,7 +12,8 @@ use spread_labels::{
 };
 use std::alloc::{AllocError, Global};
 
-/// Returns the most that a channel carries by the order that grows by `keys`. Takes what `trial_loads` takes.
+/// Returns the greatest number of packets that a channel carries in the order that grows by `keys`. Takes as long as
+/// `trial_loads`.
 pub(crate) fn trial_load(
     alloc: Global,
     edges: &Adjacency,
@@ -29,11 +30,11 @@ pub(crate) fn trial_load(
     Ok(greatest_of(&loads))
 }
 
-/// Returns what each channel carries by the order that grows by `keys`, if each adapter sends 65,536 packets to each
-/// adapter, and each vertex on their way shares what it has evenly over its candidates. `adapters` has the number of
-/// adapters at each vertex. Takes what growing the order takes; for each 64 vertices that have adapters a step or two
-/// for each edge in each of as many rounds as the greatest cost; and for each of them three steps for each vertex and
-/// at most two for each edge.
+/// Returns the number of packets that each channel carries in the order that grows by `keys`. Each adapter sends 65,536
+/// packets to each adapter. Each vertex on the way shares its packets evenly over its candidates. `adapters` has the
+/// number of adapters at each vertex. Takes the time to grow the order. For each 64 vertices that have adapters, takes
+/// a step or two for each edge in as many rounds as the greatest cost. For each vertex that has adapters, takes three
+/// steps for each vertex and at most two for each edge.
 pub(crate) fn trial_loads(
     alloc: Global,
     edges: &Adjacency,
@@ -53,7 +54,8 @@ pub(crate) fn trial_loads(
     loads_by(alloc, &graph, &adapters)
 }
 
-/// Returns what each channel carries of the packets between all adapters. Counts the packets to 64 targets at a time.
+/// Returns the number of packets that each channel carries of those between all adapters. Counts the packets to 64
+/// targets at a time.
 fn loads_by(alloc: Global, graph: &Adjacency, adapters: &[u16]) -> Result<Vec<usize>, AllocError>
     requires lead { LeadToVertices graph.now }
     requires adapters { length adapters.now ≡ length graph.now }

@@ -1,4 +1,4 @@
-//! Where candidates lead up.
+//! The targets towards which candidates lead up.
 ghost use Rattle.std.specs.Prelude.{◌≡◌, IfOk, length};
 ghost use Rattle.spread_labels.specs.Labels.{leads_up};
 ghost use Rattle.spread_labels.specs.MarkSets.{AreRowsOf, picked};
@@ -9,7 +9,7 @@ use port_graph::{Adjacency, Edge};
 use spread_labels::{CandidateSets, TargetSet};
 use std::alloc::{AllocError, Global};
 
-/// Returns for each position the targets towards which a candidate leads up from there.
+/// Returns for each position the targets towards which one of its candidates leads up.
 pub(crate) fn upward(
     alloc: Global,
     graph: &Adjacency,

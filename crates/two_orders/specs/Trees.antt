@@ -10,16 +10,16 @@ use Rattle.two_orders.specs.Growth.{number_at}
 abbrev pub is_earlier : List ℕ → ℕ → ℕ → Bool
 is_earlier positions a b = nat_lt (number_at positions a) (number_at positions b)
 
--- the earliest among vertex v and its neighbors, the vertices that its edges lead to
+-- the earliest of vertex v and its neighbors, the vertices that its edges lead to
 abbrev pub earliest_beside : List (List Edge) → List ℕ → ℕ → ℕ
 earliest_beside edges positions v = earliest (is_earlier positions) v (heads edges v)
 
--- for each vertex, the earliest among itself and its neighbors
+-- for each vertex, the earliest of itself and its neighbors
 abbrev pub all_earliest : List (List Edge) → List ℕ → List ℕ
 all_earliest edges positions = map (earliest_beside edges positions) (range_with_len 0 (length edges))
 
--- an edge of v is in the tree if it leads to the earliest among v and its neighbors, or if v is the earliest among the
--- vertex at its other end and the neighbors of that
+-- an edge of v is in the tree if it leads to the earliest of v and its neighbors, or if v is the earliest of the vertex
+-- at its other end and that vertex's neighbors
 abbrev pub is_in_tree : List ℕ → ℕ → Edge → Bool
 is_in_tree earliests v e = (number_at earliests v == e.to) || (number_at earliests e.to == v)
 
@@ -27,8 +27,10 @@ is_in_tree earliests v e = (number_at earliests v == e.to) || (number_at earlies
 abbrev pub tree_edges : List (List Edge) → List ℕ → ℕ → List Edge
 tree_edges edges earliests v = filter (is_in_tree earliests v) (edges_at edges v)
 
+-- the edges of each vertex that are in the tree
 abbrev pub tree_by : List (List Edge) → List ℕ → List (List Edge)
 tree_by edges earliests = map (tree_edges edges earliests) (range_with_len 0 (length edges))
 
+-- the tree of these positions
 unfoldable pub tree : List (List Edge) → List ℕ → List (List Edge)
 tree edges positions = tree_by edges (all_earliest edges positions)

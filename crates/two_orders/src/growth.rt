@@ -45,8 +45,8 @@ fn key_of(position: usize) -> VertexKey
     }
 }
 
-/// Returns the positions of `count` vertices in a list; the length of the list for a vertex that it lacks. Takes a step
-/// for each vertex and each of the list.
+/// Returns the position of each of `count` vertices in a list, or the length of the list for a vertex that is not
+/// there. Takes a step for each vertex and each element of the list.
 pub fn positions_in(
     alloc: Global,
     vertices: &[usize],
@@ -59,7 +59,7 @@ pub fn positions_in(
         .collect(alloc)
 }
 
-/// Returns the position of a vertex in a list, or the length of the list if it lacks the vertex.
+/// Returns the position of `vertex` in a list, or the length of the list if it is not there.
 fn position_of(vertices: &[usize], vertex: usize) -> usize
     ensures { result ≡ position_of vertices.now vertex }
 {

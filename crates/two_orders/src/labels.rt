@@ -9,12 +9,12 @@ use crate::orders::Orders;
 use crate::trees::is_earlier;
 use port_graph::{Adjacency, Edge};
 
-/// Whether an edge leads up, to an earlier vertex, by each of two orders; else it leads down, to a later one.
+/// How an edge leads by each of two orders: up, to an earlier vertex, or down, to a later one.
 #[derive(Clone, Copy, Debug, PartialEq, Eq)]
 pub struct Sides {
-    /// Whether it leads up by the first order.
+    /// Whether the edge leads up by the first order.
     pub first_up: bool,
-    /// Whether it leads up by the second order.
+    /// Whether the edge leads up by the second order.
     pub second_up: bool,
 }
 
@@ -23,9 +23,9 @@ const BOTH_DOWN: Sides = Sides {
     second_up: false,
 };
 
-/// Labels the vertices from which walks get to those labelled at first: first those from which they go down by both
-/// orders, then those from which they go down by the second, then those from which they go down by the first, then all
-/// others. Takes at most four steps for each edge.
+/// Labels the vertices from which walks reach the vertices that have a label. Labels in turn those from which walks go
+/// down by both orders, those from which they go down by the second, those from which they go down by the first, and
+/// all others. Takes at most four steps for each edge.
 pub fn label_all(labels: &mut Vec<Option<Sides>>, edges: &Adjacency, orders: &Orders)
     ensures { labels.new.items ≡ labels_from edges.now orders.now labels.old.items }
 {
@@ -47,7 +47,8 @@ pub fn label_all(labels: &mut Vec<Option<Sides>>, edges: &Adjacency, orders: &Or
     label_each(labels, edges, orders, to_sides(true, true), orders.rising());
 }
 
-/// Returns the label of an edge that leads up by these orders, and down by the others.
+/// Returns the sides of an edge. It leads up by the first order if `first_up` and by the second if `second_up`, and
+/// down otherwise.
 fn to_sides(first_up: bool, second_up: bool) -> Sides
     ensures { result ≡ record { first_up = first_up; second_up = second_up } }
 {
@@ -57,7 +58,7 @@ fn to_sides(first_up: bool, second_up: bool) -> Sides
     }
 }
 
-/// Labels each vertex of a list in turn, if an edge to `sides` leads on from it.
+/// Gives each vertex of a list in turn the label `sides`, if it has none and one of its edges leads on to `sides`.
 fn label_each(
     labels: &mut Vec<Option<Sides>>,
     edges: &Adjacency,
@@ -72,7 +73,7 @@ fn label_each(
     }
 }
 
-/// Gives a vertex the label `sides` if it has none and an edge to these sides leads on.
+/// Gives a vertex the label `sides`, if it has none and one of its edges leads on to `sides`.
 fn label(
     labels: &mut Vec<Option<Sides>>,
     edges: &Adjacency,
@@ -87,7 +88,7 @@ fn label(
     }
 }
 
-/// Returns whether a vertex has no label, and an edge to `sides` leads on from it.
+/// Returns whether a vertex has no label and one of its edges leads on to `sides`.
 fn gets_label(
     labels: &[Option<Sides>],
     edges: &Adjacency,
@@ -115,14 +116,14 @@ fn some_leads_on(
         .any(|edge| leads_on(orders, labels, sides, vertex, edge.to))
 }
 
-/// Returns whether the vertex at `index` has no label.
+/// Returns whether the vertex at `index` exists and has no label.
 fn is_open(labels: &[Option<Sides>], index: usize) -> bool
     ensures { result ≡ is_open (slice_get labels.now index) }
 {
     matches!(labels.get(index), Some(None))
 }
 
-/// Returns whether an edge leads from one vertex to another and to `sides`, and a walk may go on from there.
+/// Returns whether an edge from `from` to `to` leads to `sides`, and a walk may go on from `to`.
 pub fn leads_on(
     orders: &Orders,
     labels: &[Option<Sides>],
@@ -132,11 +133,11 @@ pub fn leads_on(
 ) -> bool
     ensures { result ≡ leads_on orders.now labels.now sides from to }
 {
-    // The label first: in the early rounds most vertices have none.
+    // Looks at the label first: in the early rounds most vertices have none.
     goes_on(sides, label_at(labels, to)) && leads(orders, sides, from, to)
 }
 
-/// Returns whether an edge leads from one vertex to another and to `sides`.
+/// Returns whether an edge from `from` to `to` leads to `sides` by the two orders.
 fn leads(orders: &Orders, sides: Sides, from: usize, to: usize) -> bool
     ensures { result ≡ leads orders.now sides from to }
 {
@@ -144,7 +145,7 @@ fn leads(orders: &Orders, sides: Sides, from: usize, to: usize) -> bool
         && is_side(orders.second(), sides.second_up, from, to)
 }
 
-/// Returns whether an edge leads from one vertex to another of an earlier position, if `up`, or of a later one.
+/// Returns whether an edge from `from` to `to` leads to an earlier position if `up`, or to a later one otherwise.
 fn is_side(positions: &[usize], up: bool, from: usize, to: usize) -> bool
     ensures { result ≡ is_side positions.now up from to }
 {
@@ -155,7 +156,8 @@ fn is_side(positions: &[usize], up: bool, from: usize, to: usize) -> bool
     }
 }
 
-/// Returns whether a walk that came by an edge to `before` may go on from a vertex with this label.
+/// Returns whether a walk that came by an edge to `before` may go on from a vertex with the label `label`. Without a
+/// label it may not.
 fn goes_on(before: Sides, label: Option<Sides>) -> bool
     ensures { result ≡ goes_on before label }
 {
@@ -165,15 +167,15 @@ fn goes_on(before: Sides, label: Option<Sides>) -> bool
     }
 }
 
-/// Returns whether a walk that came by an edge to `before` may leave by one to `after`: up by an order only if it came
-/// up by it.
+/// Returns whether a walk that came by an edge to `before` may leave by an edge to `after`: it leads up by an order
+/// only if the walk came up by that order.
 fn may_follow(before: Sides, after: Sides) -> bool
     ensures { result ≡ may_follow before after }
 {
     (!after.first_up || before.first_up) && (!after.second_up || before.second_up)
 }
 
-/// Returns the label of the vertex at `index`, if it has one.
+/// Returns the label of the vertex at `index`, or `None` if it has none.
 pub fn label_at(labels: &[Option<Sides>], index: usize) -> Option<Sides>
     ensures { result ≡ label_at labels.now index }
 {

@@ -7,18 +7,18 @@ ghost use Rattle.two_orders.specs.Agreement.{
 };
 ghost use Rattle.two_orders.specs.LabelLaws.{AllGetLabels, LabelledGoOn, LabelsTurnWell};
 
-/// A walk that goes on by labels, whatever they are, goes down and then up by neither order.
+/// A walk that goes on by labels, whatever they are, never goes down and then up by either order.
 pub fn labels_turn_well()
     ensures law { LabelsTurnWell }
 {}
 
-/// An edge leads on, by its label, from each vertex that gets a label by `label_all`.
+/// From each vertex that gets a label by `label_all` an edge leads on by that label.
 pub fn labelled_go_on()
     ensures law { LabelledGoOn }
 {}
 
-/// Each vertex from which a walk leads to a target gets a label, if the first order grows by some positions, and the
-/// second by others over the tree of the first.
+/// If the first order grows by some positions, and the second grows by others over the tree of the first, each vertex
+/// from which a walk leads to a target gets a label.
 pub fn all_get_labels()
     ensures law { AllGetLabels }
 {}

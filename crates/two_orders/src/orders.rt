@@ -33,7 +33,8 @@ impl Model for Orders {
 }
 
 impl Orders {
-    /// Returns the two orders of `count` vertices, by the positions of the first and the list of the second.
+    /// Returns the two orders of `count` vertices. `first` has the position of each vertex in the first order, and
+    /// `rising` lists the vertices in the second.
     pub fn of(
         alloc: Global,
         first: Vec<usize>,
@@ -81,7 +82,7 @@ impl Orders {
         &self.falling
     }
 
-    /// Returns the position of each vertex in the first order, and drops the rest.
+    /// Returns the position of each vertex in the first order, and frees the rest.
     pub fn into_first(self) -> Vec<usize>
         ensures { result.items ≡ self.first }
     {

@@ -64,14 +64,14 @@ fn earlier(positions: &[usize], found: usize, other: usize) -> usize
     }
 }
 
-/// Returns whether a vertex has an earlier position than another.
+/// Returns whether `one` has an earlier position than `other`.
 pub(crate) fn is_earlier(positions: &[usize], one: usize, other: usize) -> bool
     ensures { result ≡ is_earlier positions.now one other }
 {
     number_at(positions, one) < number_at(positions, other)
 }
 
-/// Returns the edges of a vertex that are in the tree.
+/// Returns the edges of `vertex` that are in the tree.
 fn tree_edges(
     alloc: Global,
     edges: &Adjacency,

@@ -17,8 +17,8 @@ component_size graph b = count_by (in_one_component graph b) (guids_of graph)
 abbrev pub position_of : List SwitchEdges → ℕ → ℕ
 position_of graph b = count_by (λ a. in_one_component graph b a && is_before graph a b) (guids_of graph)
 
--- the number of the channel from a to b: the size of the component, minus the position of b if the wire leads up, and
--- plus it if the wire leads down
+-- the number of the channel from a to b: the size of the component, minus the position of b if the wire leads up, or
+-- plus the position of b if the wire leads down
 abbrev pub channel_number : List SwitchEdges → ℕ → ℕ → ℕ
 channel_number graph a b =
     if is_before graph b a then component_size graph b - position_of graph b else component_size graph b

@@ -8,7 +8,7 @@ abbrev pub goes_before : List (Option ℕ) → ℕ → ℕ → Bool
 goes_before ranks a b = let ra = unwrap_or (slice_index_or ranks a None) 0 in let rb =
     unwrap_or (slice_index_or ranks b None) 0 in nat_lt ra rb || (ra == rb && nat_lt a b)
 
--- each index, after its rank
+-- for each index, in order, a pair of its rank and the index; a missing rank counts as 0
 abbrev pub ranked : List (Option ℕ) → List (ℕ × ℕ)
 ranked ranks = map (λ x. (unwrap_or x.1 0, x.0)) (enumerate_from 0 ranks)
 
@@ -26,7 +26,7 @@ pub record IsOrder (ranks : List (Option ℕ)) (order : List ℕ) : Type 0 where
   pub rises : (p q : ℕ) → p < q → q < length order → goes_before ranks (slice_index order p) (slice_index order q)
       ≡ true
 
--- for each index its position in the order
+-- for each index, its position in the order
 pub record ArePositions (order positions : List ℕ) : Type 0 where
   pub all : length positions ≡ length order
   pub position : (p : ℕ) → p < length order → slice_index positions (slice_index order p) ≡ p

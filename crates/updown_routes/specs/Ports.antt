@@ -16,7 +16,7 @@ ports_to graph t = map (λ s. next_port (slopes_of graph) s t) (guids_of graph)
 abbrev pub ports_of : List SwitchEdges → List (List (Option ℕ))
 ports_of graph = map (ports_to graph) (guids_of graph)
 
--- the next port from the switch at index i to the one at index j, if there are such switches
+-- the next port from the switch at index i to the switch at index j; None if there is none, or no such switch
 abbrev pub next_port_at : List SwitchEdges → ℕ → ℕ → Option ℕ
 next_port_at graph i j =
     option_and_then (λ t. option_and_then (λ s. next_port (slopes_of graph) s t) (slice_get (guids_of graph) i))

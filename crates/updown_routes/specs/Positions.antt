@@ -19,10 +19,11 @@ by_position graph order e = record { port = e.port; to = switch_at_position grap
 abbrev pub at_position : List ℕ → Edge → Edge
 at_position positions e = record { port = e.port; to = slice_index positions e.to }
 
--- the edges to positions less than p; `downs_from` has the edges to greater ones
+-- the edges to positions less than p
 abbrev pub ups_from : ℕ → List Edge → List Edge
 ups_from p edges = filter (λ e. nat_lt e.to p) edges
 
+-- the edges to positions greater than p
 abbrev pub downs_from : ℕ → List Edge → List Edge
 downs_from p edges = filter (λ e. nat_lt p e.to) edges
 

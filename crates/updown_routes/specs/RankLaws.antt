@@ -13,7 +13,7 @@ pub record IsRoot (graph : List SwitchEdges) (a root : ℕ) : Type 0 where
   pub reached : (n : ℕ) × Walk (neighbors graph) a root n
   pub least : (b n : ℕ) → Walk (neighbors graph) a b n → root ≤ b
 
--- a switch's rank is the length of a shortest walk from its root
+-- n is the rank of switch a: the length of a shortest walk from its root
 abbrev pub HasRank : List SwitchEdges → ℕ → ℕ → Type 0
 HasRank graph a n = (root : ℕ) × IsRoot graph a root × IsShortest (neighbors graph) root a n
 
@@ -23,12 +23,12 @@ IsBefore graph a b = (m n : ℕ) → HasRank graph a m → HasRank graph b n →
 
 -- the laws: ------------------------------------------------------------------------
 
--- each switch has a rank, which satisfies the statement
+-- each switch has a rank, as `HasRank` states
 abbrev pub RankLaw : Type 0
 RankLaw = (graph : List SwitchEdges) → IsGraph graph → (a : ℕ) → IsSwitch graph a
     → MatchOption (rank_of graph a) ⊥ (HasRank graph a)
 
--- the test `is_before` agrees with the statement
+-- `is_before` agrees with `IsBefore`
 abbrev pub BeforeLaw : Type 0
 BeforeLaw = (graph : List SwitchEdges) → IsGraph graph → (a b : ℕ) → IsSwitch graph a → IsSwitch graph b
     → IsTrue (is_before graph a b) ↔ IsBefore graph a b

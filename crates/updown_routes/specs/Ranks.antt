@@ -6,7 +6,7 @@ use Rattle.subnet_view.specs.Graph.{guids_of}
 use Rattle.subnet_view.specs.GraphLaws.{IsGraph}
 use Rattle.subnet_view.specs.Components.{distance, root_of}
 
--- the fewest wires from the root of a's component to a
+-- the fewest wires from the root of a's component to a; None if a is no switch of the graph
 abbrev pub rank_of : List SwitchEdges → ℕ → Option ℕ
 rank_of graph a = option_and_then (λ root. distance graph root a) (root_of graph a)
 
@@ -24,6 +24,7 @@ slope_of graph c = record {
       filter (λ e. is_before graph c.guid e.to) c.edges;
 }
 
+-- the wires up and down of each switch
 abbrev pub slopes_of : List SwitchEdges → List Slope
 slopes_of graph = map (slope_of graph) graph
 

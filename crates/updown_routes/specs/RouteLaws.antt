@@ -21,13 +21,13 @@ CostLaw = (graph : List SwitchEdges) → IsGraph graph → (s t : ℕ) → IsSwi
     → MatchOption (cost (slopes_of graph) s t) ((n : ℕ) → IsRoute (slopes_of graph) s t n
     → ⊥) (IsCost (slopes_of graph) s t)
 
--- the next port satisfies the statement; None if no port does
+-- the next port is as `IsNextPort` states; None if there is no such port
 abbrev pub NextPortLaw : Type 0
 NextPortLaw = (graph : List SwitchEdges) → IsGraph graph → (s t : ℕ) → IsSwitch graph s
     → MatchOption (next_port (slopes_of graph) s t) ((p : ℕ) → IsNextPort (slopes_of graph) s t p
     → ⊥) (IsNextPort (slopes_of graph) s t)
 
--- the cost is the down distance if there is one, else one more than the least cost over the wires up
+-- the cost is the down distance if there is one, otherwise one more than the least cost over the wires up
 abbrev pub CostRecursion : Type 0
 CostRecursion = (graph : List SwitchEdges) → IsGraph graph → (s t : ℕ)
     → cost (slopes_of graph) s t
@@ -45,7 +45,7 @@ abbrev pub NoCostBetween : Type 0
 NoCostBetween = (graph : List SwitchEdges) → IsGraph graph → (s t : ℕ) → IsSwitch graph s → in_one_component graph s t
     ≡ false → (cost (slopes_of graph) s t ≡ None) × (next_port (slopes_of graph) s t ≡ None)
 
--- within a component each switch has a cost to each other one
+-- within a component, each switch has a cost to each other switch
 abbrev pub CostInComponent : Type 0
 CostInComponent = (graph : List SwitchEdges) → IsGraph graph → (s t : ℕ) → IsSwitch graph s → IsSwitch graph t
     → in_one_component graph s t ≡ true → (n : ℕ) × (cost (slopes_of graph) s t ≡ Some n)

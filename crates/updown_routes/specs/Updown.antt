@@ -7,7 +7,7 @@ use Rattle.subnet_view.specs.Routing.{Routing, IsRouting}
 use Rattle.updown_routes.specs.Ranks.{slopes_of}
 use Rattle.updown_routes.specs.Channels.{channel_number}
 
--- down if a walk down leads to the target, else up; by the least port, whatever the LID
+-- down if a walk down leads to the target, otherwise up; by the least port, whatever the LID
 abbrev pub updown : List SwitchEdges → Routing
 updown graph = record {
   next = λ lid s t. next_port (slopes_of graph) s t;

@@ -67,22 +67,22 @@ impl Graph {
         self.graph.into_switches()
     }
 
-    /// Returns the switch at an index, by rising GUID from 0 on. Takes one step.
+    /// Returns the switch at an index, by rising GUID from 0 on, or `None` if there is none. Takes one step.
     pub fn switch(&self, index: usize) -> Option<Guid>
         ensures { result ≡ slice_get (guids_of self.now) index }
     {
         self.graph.switch(index)
     }
 
-    /// Returns the index of a switch. Takes a search.
+    /// Returns the index of a switch, or `None` if the graph lacks it. Takes a search.
     pub fn index_of(&self, switch: Guid) -> Option<usize>
         ensures { IsIndexIn (guids_of self.now) switch result }
     {
         self.graph.index_of(switch)
     }
 
-    /// Returns the fewest wires from the root of a switch's component to the switch, or `None` for another GUID. Takes
-    /// a search.
+    /// Returns the fewest wires from the root of a switch's component to the switch, or `None` if the graph lacks the
+    /// switch. Takes a search.
     pub fn rank(&self, switch: Guid) -> Option<usize>
         ensures { result ≡ rank_of self.now switch }
     {

@@ -52,7 +52,7 @@ pub fn no_cost_between_components()
     ensures { NoCostBetween }
 {}
 
-/// Within a component each switch has a cost to every other.
+/// Within a component, each switch has a cost to every other switch.
 pub fn a_cost_within_a_component()
     ensures { CostInComponent }
 {}
@@ -63,7 +63,7 @@ pub fn channels_rise_along_ways()
     ensures { ChannelLaw }
 {}
 
-/// Up/down routing is a rule of routing: within a component it leads from each switch to each other one over as many
+/// Up/down routing is a rule of routing: within a component it leads from each switch to each other switch over as many
 /// wires as the cost, passes no switch twice, and its channels rise.
 pub fn up_and_down_is_a_routing()
     ensures { UpdownIsRouting }

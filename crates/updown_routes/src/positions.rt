@@ -20,7 +20,7 @@ fn indices(alloc: Global, ranked: &[(usize, usize)]) -> Result<Vec<usize>, Alloc
     ranked.iter().map(|(_, index)| *index).collect(alloc)
 }
 
-/// Returns each index, after its rank.
+/// Returns, for each index in order, a pair of its rank and the index. A missing rank counts as 0.
 fn ranked(alloc: Global, ranks: &[Option<usize>]) -> Result<Vec<(usize, usize)>, AllocError>
     ensures { IfOk result (λ pairs. pairs.items ≡ ranked ranks.now) }
 {

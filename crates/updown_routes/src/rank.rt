@@ -6,8 +6,8 @@ ghost use Rattle.updown_routes.specs.Ranks.{rank_of};
 use std::alloc::{AllocError, Global};
 use subnet_view::SwitchGraph;
 
-/// Computes each switch's rank, its distance from the root of its component. The root is the first switch that no
-/// earlier one reaches. Takes one breadth-first search for each component.
+/// Computes the rank of each switch: its distance from the root of its component. The root is the first switch that no
+/// earlier root reaches. Takes one breadth-first search for each component.
 pub(crate) fn ranks(alloc: Global, graph: &SwitchGraph) -> Result<Vec<Option<usize>>, AllocError>
     ensures { IfOk result (λ ranks. ranks.items ≡ map (rank_of graph.now) (guids_of graph.now)) }
 {

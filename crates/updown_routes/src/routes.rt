@@ -34,7 +34,7 @@ impl<'g> Model for Routes<'g> {
 }
 
 impl<'g> Routes<'g> {
-    /// Computes the routes of a graph. Takes one step for each switch and each wire, for each target.
+    /// Computes the routes of a graph. For each target, takes one step for each switch and each wire.
     pub fn of(alloc: Global, graph: &'g Graph) -> Result<Self, Refused>
         ensures { IfOk result (λ routes. routes ≡ graph.now) }
     {
@@ -66,7 +66,7 @@ impl<'g> Routes<'g> {
     }
 }
 
-/// Returns, for each target, the next port of each switch. `positions` gives the switches.
+/// Returns, for each target, the next port of each switch. `positions` has the position of each switch.
 fn towards(
     alloc: Global,
     slopes: &UpDownEdges,

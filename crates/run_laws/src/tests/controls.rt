@@ -1,4 +1,4 @@
-//! Tests of what a manager in each state answers to each control, and to other requests for SMInfo.
+//! Tests of how a manager in each state answers each control, and other requests for SMInfo.
 use super::*;
 
 /// The modifiers of controls.
@@ -10,7 +10,7 @@ const DISABLE: u32 = 3;
 
 const DISCOVER: u32 = 5;
 
-/// For each state, the next state by each modifier from 0 on; `None` if the control is refused.
+/// For each state, the next state by each modifier from 0 on, or `None` if the control is refused.
 const MOVES: [(SmState, [Option<SmState>; 7]); 4] = [
     (
         SmState::Discovering,
@@ -51,7 +51,7 @@ fn control(modifier: u32) -> Smp {
     Smp::lid_routed(Method::SET, AttributeId::SM_INFO, modifier, 7, &[0xA5; 64])
 }
 
-/// Returns whether a new manager is master once its only sweep met nobody.
+/// Returns whether a new manager is master once its only sweep has found nobody.
 pub(super) fn becomes_master(manager: &mut Manager) -> bool {
     if manager.begin_sweep().is_err() {
         return false;
@@ -62,7 +62,7 @@ pub(super) fn becomes_master(manager: &mut Manager) -> bool {
     manager.on_timeout(request.packet.transaction_id()).is_ok()
 }
 
-/// Returns whether a master gets to `state` by controls, with nothing left to send.
+/// Returns whether a master reaches `state` by controls and has nothing left to send.
 pub(super) fn comes_to(manager: &mut Manager, state: SmState) -> bool {
     let controls = match state {
         SmState::Master => [].as_slice(),
@@ -78,8 +78,8 @@ pub(super) fn comes_to(manager: &mut Manager, state: SmState) -> bool {
     manager.state() == state
 }
 
-/// Returns whether the next packet is the answer with `status`, and has what the manager says of itself, or what was
-/// asked.
+/// Returns whether the next packet is the answer with `status`. Its data must be the manager's SMInfo, or that of the
+/// request.
 fn answers(manager: &mut Manager, status: Status, to: Option<Lid>) -> bool {
     let state = manager.state();
     let Some(out) = manager.take_outgoing() else {
@@ -97,7 +97,7 @@ fn answers(manager: &mut Manager, status: Status, to: Option<Lid>) -> bool {
         && is_told
 }
 
-/// Returns whether the acknowledgement of a handover comes next, if it is wanted, and nothing after it.
+/// Returns whether the acknowledgement of a handover comes next if `is_wanted`, and nothing after it.
 fn acknowledges(manager: &mut Manager, is_wanted: bool) -> bool {
     if !is_wanted {
         return manager.take_outgoing().is_none();
@@ -112,8 +112,8 @@ fn acknowledges(manager: &mut Manager, is_wanted: bool) -> bool {
         && manager.take_outgoing().is_none()
 }
 
-/// Returns whether a manager obeys a control: it moves to the state `to`, or refuses the control and stays if that is
-/// `None`.
+/// Returns whether a manager obeys a control. It must move to the state `to` or, if that is `None`, refuse the control
+/// and stay.
 fn obeys(manager: &mut Manager, modifier: u32, to: Option<SmState>) -> bool {
     let state = to.unwrap_or(manager.state());
     let status = if to.is_some() { DONE } else { INVALID_FIELD };
@@ -169,7 +169,7 @@ const REQUESTS: [(Method, bool, Status); 5] = [
     (Method(0x05), false, NO_METHOD),
 ];
 
-/// Returns whether a manager in `state` answers the request of a row, and does nothing else.
+/// Returns whether a manager in `state` answers the request of `row`, and does nothing else.
 fn replies_in(alloc: Global, state: SmState, row: (Method, bool, Status)) -> bool {
     let (method, is_directed, status) = row;
     let to = if is_directed { None } else { Some(sender()) };

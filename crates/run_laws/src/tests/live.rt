@@ -1,4 +1,4 @@
-//! Tests of a manager by the live conduct beside another one that does as OpenSM does.
+//! Tests of a manager by the live conduct beside another manager that behaves like OpenSM.
 use super::controls::{ACKNOWLEDGE, HANDOVER, becomes_master, comes_to};
 use super::ranks::{other, sweeps};
 use super::*;
@@ -6,7 +6,7 @@ use super::*;
 /// The SM_Key of the manager.
 const KEY: u64 = 1;
 
-/// The methods of a trap, and of the packet that represses it.
+/// The methods of a trap and of the packet that represses it.
 const TRAP: Method = Method(0x05);
 
 const TRAP_REPRESS: Method = Method(0x07);
@@ -109,7 +109,7 @@ fn acknowledgements_come_from_standbys(rt: HostRuntime) {
     assert!(rt; acknowledges_as_standby(&mut live(rt.alloc())));
 }
 
-/// Returns whether an acknowledgement that comes to a standby is answered with status 0, and moves nothing.
+/// Returns whether an acknowledgement that reaches a standby is answered with status 0, and moves nothing.
 fn takes_late_acknowledgement(manager: &mut Manager) -> bool {
     becomes_master(manager)
         && comes_to(manager, SmState::Standby)
@@ -123,7 +123,7 @@ fn late_acknowledgements_are_taken(rt: HostRuntime) {
     assert!(rt; takes_late_acknowledgement(&mut live(rt.alloc())));
 }
 
-/// Returns whether a manager is in `state` once its sweep met a master of another SM_Key.
+/// Returns whether a manager is in `state` once its sweep has found a master of another SM_Key.
 fn is_beside(alloc: Global, key: u64, own: u64, state: SmState) -> bool {
     let mut manager = manager_by(alloc, Conduct::Live(own));
     let mut master = other(4, 0x1FF, SmState::Master);
@@ -144,7 +144,7 @@ fn other_keys_are_not_heard(rt: HostRuntime) {
     }
 }
 
-/// Returns whether a trap by LIDs is answered by what represses it, and nothing else goes out.
+/// Returns whether a trap by LIDs is answered by the packet that represses it, and nothing else is sent.
 fn represses(manager: &mut Manager) -> bool {
     let trap = Smp::lid_routed(TRAP, NOTICE, 0, 0x1234, &[0x5A; 64]);
     if !takes(manager, &trap) {

@@ -1,7 +1,8 @@
-//! Tests of which manager that a sweep saw outranks the one that swept, which has priority 3 and the port GUID 0x101.
+//! Tests of which manager, among those that a sweep saw, outranks the manager that swept. That has priority 3 and the
+//! port GUID 0x101.
 use super::*;
 
-/// The priority, port GUID and state of the other manager, and the state of the one that swept then.
+/// The priority, port GUID and state of the other manager, and the state of the manager that swept after its sweep.
 const ROWS: [(u8, u64, SmState, SmState); 12] = [
     // A manager that wins is Standby or Discovering.
     (4, 0x1FF, SmState::Standby, SmState::Standby),
@@ -14,7 +15,7 @@ const ROWS: [(u8, u64, SmState, SmState); 12] = [
     // The other manager does not win.
     (2, 0x100, SmState::Standby, SmState::Master),
     (3, 0x102, SmState::Discovering, SmState::Master),
-    // Neither of two of one priority and one port GUID wins.
+    // Neither of two managers with one priority and one port GUID wins.
     (3, 0x101, SmState::Standby, SmState::Master),
     (3, 0x101, SmState::Discovering, SmState::Master),
     // A master outranks, whether or not it wins.
@@ -22,8 +23,8 @@ const ROWS: [(u8, u64, SmState, SmState); 12] = [
     (2, 0x102, SmState::Master, SmState::Standby),
 ];
 
-/// Returns what an adapter with one port says, or the manager at it: NodeInfo, with the GUID 0x100 or 0x200, PortInfo,
-/// or the SMInfo of `other`.
+/// Returns the attribute that an adapter with one port, or the manager at it, reports: NodeInfo, with the GUID 0x100 or
+/// 0x200, PortInfo, or the SMInfo of `other`.
 fn told(attribute: AttributeId, is_far: bool, other: &SmInfo) -> [u8; 64] {
     if attribute == AttributeId::SM_INFO {
         return other.encode();
@@ -63,13 +64,13 @@ pub(super) fn sweeps(manager: &mut Manager, other: &SmInfo) -> bool {
     true
 }
 
-/// Returns whether a new manager is in `state` once its sweep met `other`.
+/// Returns whether a new manager is in `state` once its sweep has found `other`.
 fn is_then(alloc: Global, other: &SmInfo, state: SmState) -> bool {
     let mut manager = manager(alloc);
     sweeps(&mut manager, other) && manager.state() == state
 }
 
-/// Returns what the other manager says of itself.
+/// Returns the SMInfo of the other manager.
 pub(super) fn other(priority: u8, guid: u64, state: SmState) -> SmInfo {
     let mut info = info_in(state);
     info.guid = Guid::new(guid);

@@ -1,4 +1,4 @@
-//! Tests of what a sweep takes and refuses, how many bytes are read at a time, and a store's copy.
+//! Tests of what a sweep accepts and refuses, of how many bytes are read at a time, and of a store's copy.
 ghost use Rattle.std.specs.Prelude.{◌<◌, ◌≤◌};
 
 use super::*;
@@ -8,7 +8,7 @@ use record_file::absorb_by;
 use smp_bytes::Generation;
 use sweep::{Answer, Sweep, SweepFault};
 
-/// Starts a sweep by port 1, whose first request has the number `first`.
+/// Starts a sweep by port 1. Its first request has the number `first`.
 fn start(alloc: Global, first: u32) -> Option<Sweep> {
     let generation = Generation::new(1)?;
     Sweep::start(alloc, PortNum::new(1), generation, first, false).ok()
@@ -24,7 +24,7 @@ fn ten_ports() -> [u8; 64] {
     data
 }
 
-/// Returns whether a reply was taken, and is about the node at which the sweep began.
+/// Returns whether a reply was accepted, and is about the node at which the sweep began.
 fn is_of_start(answered: Result<Answer, SweepFault>) -> bool {
     match answered {
         Ok(Answer::Facts(Report { context, .. })) => context == Context::Start,
@@ -40,7 +40,7 @@ fn is_refused(answered: Result<Answer, SweepFault>, fault: SweepFault) -> bool {
     }
 }
 
-/// Returns whether a reply is taken, and refused after ten more requests.
+/// Returns whether a reply is accepted at first, and refused after ten more requests.
 fn takes_once(alloc: Global) -> Option<bool> {
     let mut sweep = start(alloc, 1)?;
     let reply = sweep.next_request()?.answer(DONE, &ten_ports());
@@ -51,7 +51,7 @@ fn takes_once(alloc: Global) -> Option<bool> {
     Some(is_taken && is_refused(sweep.on_reply(reply.bytes()), SweepFault::NotOutstanding))
 }
 
-/// Returns whether the reply to a request of the greatest number is refused, since it asks for more requests.
+/// Returns whether the reply to the request with the greatest number is refused, since it needs more requests.
 fn spends(alloc: Global) -> Option<bool> {
     let mut sweep = start(alloc, u32::MAX)?;
     let reply = sweep.next_request()?.answer(DONE, &ten_ports());
@@ -90,7 +90,7 @@ impl<'b> Source for AtMost<'b> {
     }
 }
 
-/// Returns a file of one report, of the first reply to a sweep.
+/// Returns a file with one report of the first reply to a sweep.
 fn file(alloc: Global) -> Option<[u8; 280]> {
     let reply = start(alloc, 1)?.next_request()?.answer(DONE, &ten_ports());
     let mut bytes = [0; 280];
@@ -100,7 +100,8 @@ fn file(alloc: Global) -> Option<[u8; 280]> {
     Some(bytes)
 }
 
-/// Returns how many facts a file tells that is read by at most `N` bytes at a time, and how many a copy of them has.
+/// Returns the number of facts that are read from a file by at most `N` bytes at a time, and the number of facts of a
+/// copy.
 fn told<const N: usize>(alloc: Global) -> Option<(usize, usize)>
     requires some { 0 < N }
     requires most { N ≤ 4096 }

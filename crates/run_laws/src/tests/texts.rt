@@ -1,4 +1,4 @@
-//! The text that `{}` gives for each fault whose text no clause names.
+//! The text that `{}` gives for each fault whose text no contract names.
 use byte_io::{ReadError, WriteFault};
 use fabric_sim::FabricFault;
 use fact_store::{IngestFault, Refused, ReportFault};
@@ -178,7 +178,7 @@ fn steps() -> [(StepFault, &'static str); 2] {
     ]
 }
 
-/// Returns the first text that is not what `{}` gives for the fault beside it.
+/// Returns the first text that differs from what `{}` gives for the fault beside it, or `None` if there is none.
 fn untold<T: Display>(alloc: Global, rows: &[(T, &'static str)]) -> Option<&'static str> {
     for (fault, text) in rows {
         match format!(in alloc; "{fault}") {

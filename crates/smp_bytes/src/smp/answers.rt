@@ -6,8 +6,8 @@ use crate::path::Path;
 use crate::smp::Smp;
 
 impl Smp {
-    /// Returns whether the packet has this TransactionID, attribute and modifier, and is directed over `path`, or LID
-    /// routed if `path` is `None`. Ignores the method and the status.
+    /// Returns whether the packet has this TransactionID, attribute and modifier, and is directed over `path` or, if
+    /// `path` is `None`, LID routed. Ignores the method and the status.
     pub fn answers(
         &self,
         transaction: u64,
@@ -24,7 +24,7 @@ impl Smp {
             && self.goes_by(path)
     }
 
-    /// Returns whether the packet is directed over `path`, or LID routed if `path` is `None`.
+    /// Returns whether the packet is directed over `path` or, if `path` is `None`, LID routed.
     fn goes_by(&self, path: Option<&Path<63>>) -> bool
         ensures { result ≡ goes_by self.now (option_copied path.entry) }
     {

@@ -47,8 +47,8 @@ impl Smp {
         Smp { bytes }
     }
 
-    /// Creates the answer to this request: method GetResp, `status`, and `payload` as the attribute; if the request is
-    /// directed, the D bit is set. Everything else stays as in the request.
+    /// Creates the answer to this request, with the method GetResp, the status `status`, and `payload` as the
+    /// attribute. If the request is directed, the D bit is set. Everything else is as in the request.
     pub fn answer(&self, status: Status, payload: &[u8; 64]) -> Smp
         requires { is_directed self.now ≡ true → status.0 < 2 ^ 15 }
         ensures { result ≡ answer_packet self.now status.0 payload.now }

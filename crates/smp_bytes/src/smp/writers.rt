@@ -1,4 +1,4 @@
-//! Writers of single fields: each writes the bits of its field and leaves every other bit as it is.
+//! Writers of single fields. Each writes the bits of its field and leaves every other bit unchanged.
 ghost use Rattle.std.specs.Prelude.{◌≡◌, ◌+◌, ◌≤◌, ◌<◌, ◌^◌, true};
 ghost use Rattle.smp_bytes.specs.Field.{number_in, with_bits, with_number};
 ghost use Rattle.smp_bytes.specs.Requests.{flag, word_with_status};
@@ -19,7 +19,7 @@ impl Smp {
         put_u8(&mut self.bytes, field::METHOD, to.0);
     }
 
-    /// Writes the status; the D bit of a directed packet stays.
+    /// Writes the status. The D bit of a directed packet stays.
     pub fn set_status(&mut self, status: Status)
         requires { is_directed self.old ≡ true → status.0 < 2 ^ 15 }
         ensures { self.new ≡ with_number status_word (word_with_status self.old status.0) self.old }
@@ -53,7 +53,7 @@ impl Smp {
         put_u64(&mut self.bytes, field::TRANSACTION_ID, to);
     }
 
-    /// Writes HopPointer; in a directed packet it is at most HopCount + 1.
+    /// Writes HopPointer. In a directed packet it must be at most HopCount + 1.
     pub fn set_hop_pointer(&mut self, to: u8)
         requires { is_directed self.old ≡ true → to ≤ number_in hop_count self.old + 1 }
         ensures { self.new ≡ with_number hop_pointer to self.old }
