@@ -15,7 +15,7 @@ ghost use Rattle.audit_report.specs.AuditText.{port_line, kind_text};
 ghost use Rattle.audit_report.specs.AuditText.{lost_text, missed_text, sent_text, switch_line, taken_text};
 ghost use Rattle.audit_report.specs.AuditText.{unmatched_text};
 
-use crate::report::Audit;
+use crate::findings::Audit;
 use audit_counts::{Causes, FirstFew, PacketTally, Pairs, SentPacket, Unmatched};
 use audit_ways::{Figures, WayFigures};
 use byte_io::{Sink, WriteFault, write_guid, write_number, write_port};

@@ -4,8 +4,8 @@
 
 mod audit_run;
 mod audit_text;
-mod report;
+mod findings;
 
 pub use audit_run::{AuditAsked, run_audit};
 pub use audit_text::{write_audit, write_cycle};
-pub use report::Audit;
+pub use findings::Audit;

@@ -38,7 +38,7 @@ use Rattle.packet_walks.specs.EndsBySwitch.{after}
 use Rattle.packet_walks.proofs.Judged.{at_is}
 use Rattle.packet_walks.proofs.PlanSteps.{contains_at, no_wire_at_0}
 use Rattle.next_tables.specs.Assembled.{most_blocks}
-use Rattle.next_tables.specs.ByOrder.{IsOrder, position_at, switch_at}
+use Rattle.next_tables.specs.EntriesByOrder.{IsOrder, position_at, switch_at}
 use Rattle.next_tables.specs.Next.{step_at}
 use Rattle.next_tables.proofs.Assembled.{greatest_at}
 use Rattle.next_tables.proofs.ByLid.{first_of}

@@ -30,7 +30,7 @@ use Rattle.packet_walks.specs.EndsBySwitch.{after}
 use Rattle.packet_walks.proofs.Ended.{after_ended}
 use Rattle.packet_walks.proofs.PlanSteps.{contains_at, leaves}
 use Rattle.subnet_view.specs.Reading.{port_count_of}
-use Rattle.next_tables.specs.ByOrder.{AreRight, IsOrder, Leads, position_at, switch_at}
+use Rattle.next_tables.specs.EntriesByOrder.{AreRight, IsOrder, Leads, position_at, switch_at}
 use Rattle.next_tables.specs.Next.{step_at}
 use Rattle.next_tables.proofs.Entries.{at_mapped, member}
 use Rattle.next_tables.proofs.Hops.{edge_at, leads_from, leads_within, none_taken, placed, to_within}

@@ -11,7 +11,7 @@ use Rattle.std.specs.List.{find}
 use Rattle.held_tables.specs.Tables.{entry_for}
 use Rattle.held_tables.proofs.HeldTables.{within_length}
 use Rattle.packet_walks.specs.declared.next_hop.NextHop.TheVariants.{To}
-use Rattle.next_tables.specs.ByOrder.{position_at, switch_at, tried}
+use Rattle.next_tables.specs.EntriesByOrder.{position_at, switch_at, tried}
 use Rattle.next_tables.specs.Next.{comes_to, step_at}
 use Rattle.next_tables.proofs.Hops.{none_to, to_same}
 use Rattle.next_tables.proofs.Steps.{at_index}

@@ -10,7 +10,7 @@ use Rattle.held_tables.specs.Tables.{entry_for, owners_of, top_of}
 use Rattle.packet_walks.specs.declared.packet_end.End.TheVariants.{Taken}
 use Rattle.packet_walks.specs.declared.next_hop.NextHop.TheVariants.{Ends}
 use Rattle.packet_walks.specs.HopsByTables.{switch_step}
-use Rattle.next_tables.specs.ByOrder.{AreRight, IsNextByOrder, IsOrder, position_at, switch_at}
+use Rattle.next_tables.specs.EntriesByOrder.{AreRight, IsNextByOrder, IsOrder, position_at, switch_at}
 use Rattle.next_tables.specs.Next.{step_at}
 use Rattle.next_tables.specs.NextTables.{IsKept, by_order, next_tables}
 use Rattle.ordered_steps.specs.StepLaws.{DeliverFrom, IsLineStep, IsStep}

@@ -3,6 +3,6 @@
 
 pub mod argument_names;
 mod arguments;
-mod options;
+mod command_line;
 
-pub use arguments::matches_of;
+pub use command_line::matches_of;

@@ -22,7 +22,7 @@ use Rattle.node_agents.proofs.Sets.{meant_fits}
 use Rattle.fabric_sim.specs.declared.flight.Flight.{Flight}
 use Rattle.fabric_sim.specs.Simulation.{Simulation, IsSimulation, agent_at, port_count, across, fabric_of, is_cable_port, port_of}
 use Rattle.fabric_sim.specs.Delivery.{answer_at}
-use Rattle.fabric_sim.specs.Tells.{IsUp, IsUpState, port_asked, SaysPort, SaysOf}
+use Rattle.fabric_sim.specs.ToldOfEnd.{IsUp, IsUpState, port_asked, SaysPort, SaysOf}
 use Rattle.fabric_sim.proofs.Courses.{AnySends, SaysSo}
 use Rattle.fabric_sim.proofs.Traced.{IsRequestFor}
 use Rattle.fabric_sim.proofs.TracedCalls.{IsAskedBy}

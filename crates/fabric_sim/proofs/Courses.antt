@@ -6,7 +6,7 @@ use Rattle.smp_bytes.specs.Header.{done}
 use Rattle.smp_bytes.specs.Packet.{status}
 use Rattle.fabric_sim.specs.declared.flight.Flight.{Flight}
 use Rattle.fabric_sim.specs.Simulation.{Simulation, fabric_of}
-use Rattle.fabric_sim.specs.Tells.{SaysOf}
+use Rattle.fabric_sim.specs.ToldOfEnd.{SaysOf}
 use Rattle.fabric_sim.proofs.Traced as traced
 use Rattle.fabric_sim.proofs.TracedCalls.{AreTraced}
 

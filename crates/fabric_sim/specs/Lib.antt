@@ -9,7 +9,7 @@ pub mod Outcome
 pub mod Ping
 pub mod SeenFabric
 pub mod Simulation
-pub mod Tells
+pub mod ToldOfEnd
 pub mod ThereAndBack
 pub mod TrapCalls
 pub mod TrapLaws

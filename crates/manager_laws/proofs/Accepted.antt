@@ -16,7 +16,7 @@ use Rattle.reply_facts.specs.declared.report.Report.{Report}
 use Rattle.reply_facts.specs.declared.report_fault.ReportFault.{ReportFault}
 use Rattle.reply_facts.specs.declared.report_fault.ReportFault.TheVariants as fault
 use Rattle.reply_facts.specs.Report.{or_else, answer_fault, are_ports_in_range, fits_node_info, kind_fault, node_info_of, node_info_fault, port_info_fault, about_fault, attribute_fault, packet_fault, report_fault}
-use Rattle.fabric_sim.specs.Tells.{path_of}
+use Rattle.fabric_sim.specs.ToldOfEnd.{path_of}
 use Rattle.sweep.specs.declared.answer.Answer.{Answer}
 use Rattle.sweep.specs.declared.fault.SweepFault.{SweepFault}
 use Rattle.sweep.specs.declared.fault.SweepFault.TheVariants.{SequenceSpent}

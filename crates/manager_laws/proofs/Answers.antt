@@ -24,7 +24,7 @@ use Rattle.fabric_sim.specs.ThereAndBack.{BeginsWith}
 use Rattle.attr_codec.specs.NodeInfo.{node_info_in}
 use Rattle.attr_codec.specs.PortInfo.{port_state}
 use Rattle.attr_codec.specs.SwitchInfo.{linear_fdb_cap}
-use Rattle.fabric_sim.specs.Tells.{path_of, port_asked, SaysNode, SaysPort, SaysSwitch, SaysOf, TellsOfEnd}
+use Rattle.fabric_sim.specs.ToldOfEnd.{path_of, port_asked, SaysNode, SaysPort, SaysSwitch, SaysOf, TellsOfEnd}
 use Rattle.fabric_sim.proofs.Carries.{Carries, deliveries_carry, deliveries_hand_up, injections_carry, copies_carry, losses_carry}
 use Rattle.fabric_sim.proofs.Courses.{AnySends, SaysSo, AreOnCourse, IsAnswerFor, IsOnCourse, IsForManager}
 use Rattle.fabric_sim.proofs.TripEnds.{few_ports, along_itself, agent_by_port}

@@ -28,7 +28,7 @@ use Rattle.sm_state.specs.declared.event.Message.{Message}
 use Rattle.sm_state.specs.declared.transition.Transition.{Transition}
 use Rattle.sm_state.specs.Controls.{control_of_message, modifier_of_control}
 use Rattle.sm_state.specs.declared.event.Event.TheVariants as event
-use Rattle.sm_state.specs.Steps.{status_of, stepped}
+use Rattle.sm_state.specs.Transitions.{status_of, stepped}
 use Rattle.sm_manager.specs.declared.outgoing.Outgoing.{Outgoing}
 use Rattle.sm_manager.specs.declared.pending.Pending.{Pending}
 use Rattle.sm_manager.specs.declared.pending.Purpose.{Purpose}

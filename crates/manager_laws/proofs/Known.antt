@@ -19,7 +19,7 @@ use Rattle.fact_store.specs.Seen.{IsCellIn, WasSighted}
 use Rattle.fact_store.specs.View.{view, cells_of, cell_for}
 use Rattle.fact_store.proofs.Views.{view_cells}
 use Rattle.fact_store.proofs.Entries.{known_by_cells}
-use Rattle.fabric_sim.specs.Tells.{IsUp}
+use Rattle.fabric_sim.specs.ToldOfEnd.{IsUp}
 use Rattle.manager_laws.specs.Truth.{HasNode, IsTrueOf, IsTrueSighting, AreGuidsDistinct}
 use Rattle.manager_laws.proofs.Lists.{Has, contained_has, all_contained}
 

@@ -20,7 +20,7 @@ use Rattle.reply_facts.specs.declared.report.Context.TheVariants.{Start, Via, Ab
 use Rattle.reply_facts.specs.Report.{guid_port, may_be_asked_by, node_info_of, payload_of}
 use Rattle.reply_facts.specs.Sighting.{is_cabled_port}
 use Rattle.fabric_sim.specs.ThereAndBack.{BeginsWith}
-use Rattle.fabric_sim.specs.Tells.{SaysNode, SaysOf}
+use Rattle.fabric_sim.specs.ToldOfEnd.{SaysNode, SaysOf}
 use Rattle.sweep.specs.declared.request.Question.{Question}
 use Rattle.sweep.specs.declared.request.Question.TheVariants as ask
 use Rattle.sweep.specs.declared.request.Request.{Request}

@@ -19,7 +19,7 @@ use Rattle.reply_facts.specs.declared.key.Key.TheVariants.{Node, PortGuid, Link}
 use Rattle.reply_facts.specs.declared.report.Context.{Context}
 use Rattle.reply_facts.specs.declared.report.Context.TheVariants.{Start, Via, About}
 use Rattle.reply_facts.specs.Report.{Sightings, guid_port, sightings_of_link, sightings_of_kind}
-use Rattle.fabric_sim.specs.Tells.{SaysNode}
+use Rattle.fabric_sim.specs.ToldOfEnd.{SaysNode}
 use Rattle.sweep.specs.declared.request.Question.TheVariants as ask
 use Rattle.sweep.specs.declared.request.Request.{Request}
 use Rattle.sweep.specs.declared.vertex.Vertex.{Vertex}

@@ -16,7 +16,7 @@ use Rattle.reply_facts.specs.declared.report.Context.{Context}
 use Rattle.reply_facts.specs.declared.report.Context.TheVariants.{Start, Via, About}
 use Rattle.reply_facts.specs.Report.{guid_port, is_up_state}
 use Rattle.fabric_sim.specs.ThereAndBack.{BeginsWith}
-use Rattle.fabric_sim.specs.Tells.{port_asked}
+use Rattle.fabric_sim.specs.ToldOfEnd.{port_asked}
 use Rattle.sweep.specs.declared.request.Question.{Question}
 use Rattle.sweep.specs.declared.request.Question.TheVariants as ask
 use Rattle.sweep.specs.declared.request.Request.{Request}

@@ -23,7 +23,7 @@ use Rattle.node_agents.proofs.Shapes.{is_port_at}
 use Rattle.fabric_sim.specs.Simulation.{Simulation, IsSimulation, AreCables, agent_at, is_seat_at, port_count, fabric_of}
 use Rattle.reply_facts.specs.declared.report.Context.TheVariants.{Start, Via, About}
 use Rattle.fabric_sim.specs.ThereAndBack.{BeginsWith, directed_packet}
-use Rattle.fabric_sim.specs.Tells.{SaysOf, TellsOfEnd}
+use Rattle.fabric_sim.specs.ToldOfEnd.{SaysOf, TellsOfEnd}
 use Rattle.fabric_sim.proofs.Courses.{IsForManager, IsOnCourse}
 use Rattle.fabric_sim.proofs.TripEnds.{few_ports, along_itself}
 use Rattle.fabric_sim.proofs.TripShapes.{agent_there}

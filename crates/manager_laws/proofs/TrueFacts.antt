@@ -20,7 +20,7 @@ use Rattle.reply_facts.specs.declared.report.Context.{Context}
 use Rattle.reply_facts.specs.declared.report.Context.TheVariants.{Start, Via, About}
 use Rattle.reply_facts.specs.Report.{Sightings, guid_port, may_be_asked_by, are_ports_in_range, node_info_of, payload_of, is_up_state, sightings_of_link, sightings_of_kind, sightings_by_node_info, sightings_by_port_info, sightings_by_switch_info}
 use Rattle.reply_facts.specs.Sighting.{is_cabled_port}
-use Rattle.fabric_sim.specs.Tells.{SaysNode, SaysPort, SaysOf, IsUpState, port_asked}
+use Rattle.fabric_sim.specs.ToldOfEnd.{SaysNode, SaysPort, SaysOf, IsUpState, port_asked}
 use Rattle.manager_laws.proofs.Ends.{end_before}
 use Rattle.sweep.specs.declared.request.Question.{Question}
 use Rattle.sweep.specs.declared.request.Question.TheVariants as ask

@@ -2,7 +2,7 @@
 use Rattle.std.specs.Prelude.{◌≡◌, true, List, All}
 use Rattle.smp_bytes.specs.Packet.{is_directed, is_returning}
 use Rattle.fabric_sim.specs.Simulation.{fabric_of}
-use Rattle.fabric_sim.specs.Tells.{TellsOfEnd}
+use Rattle.fabric_sim.specs.ToldOfEnd.{TellsOfEnd}
 use Rattle.manager_laws.specs.Scene.{Handed, Scene, Event, CanHappen, IsQuiet, after_events}
 
 -- the packet that was handed up is directed and on its way back

@@ -11,7 +11,7 @@ use Rattle.reply_facts.specs.declared.key.Key.{Key}
 use Rattle.reply_facts.specs.declared.key.Key.TheVariants.{Node, PortGuid, Link, Port, Claim, Cap}
 use Rattle.reply_facts.specs.declared.value.Value.{Value}
 use Rattle.reply_facts.specs.declared.value.Value.TheVariants.{Kind, Guid, Peer, Up, Lid, Count}
-use Rattle.fabric_sim.specs.Tells.{IsUp}
+use Rattle.fabric_sim.specs.ToldOfEnd.{IsUp}
 
 -- the node has this GUID and this id
 pub record HasNode (f : Fabric) (guid id : ℕ) (node : fabric.Node) : Type 0 where

@@ -11,7 +11,7 @@ use Rattle.lft_blocks.specs.Rules.{RuleValue}
 use Rattle.held_tables.specs.Held.{HeldPlan}
 use Rattle.held_tables.specs.PlanTables.{held_plan}
 use Rattle.tables_file.specs.TablesText.{next_text}
-use Rattle.next_tables.specs.ByOrder.{position_at}
+use Rattle.next_tables.specs.EntriesByOrder.{position_at}
 use Rattle.between_orders.specs.Between.{Goal, IsGoal}
 use Rattle.next_tables.specs.NextTables.{StepRuleValue, by_order, first_moved, next_tables, settled_first, value_of}
 use Rattle.ordered_steps.specs.Rightness.{are_right}
@@ -28,7 +28,7 @@ use Rattle.sm_cli.specs.declared.fault.Fault.{Fault}
 use Rattle.sm_cli.specs.declared.fault.Fault.TheVariants.{NoRoom, Text, Write, Memory}
 use Rattle.sm_cli.specs.declared.text_fault.TextFault.TheVariants.{Moves}
 use Rattle.next_run.specs.declared.run_step.StepAsked.{StepAsked}
-use Rattle.next_run.specs.declared.step_rule.StepChoice.{StepChoice}
+use Rattle.next_run.specs.declared.step_choice.StepChoice.{StepChoice}
 
 -- steps -----------------------------------------------------------------------------------------
 

@@ -3,7 +3,7 @@
 #![tactic(auto)]
 
 mod run_step;
+mod step_choice;
 mod step_loop;
-mod step_rule;
 
 pub use run_step::{StepAsked, run_next};

@@ -10,8 +10,8 @@ ghost use Rattle.next_tables.specs.NextTables.{first_moved, next_tables};
 ghost use Rattle.next_tables.specs.NextTables.{value_of as chosen_of};
 ghost use Rattle.held_tables.specs.PlanTables.{held_plan};
 
+use crate::step_choice::step_choice;
 use crate::step_loop::StepLoop;
-use crate::step_rule::step_choice;
 use attr_codec::Lmc;
 use byte_io::{Sink, Source};
 use fact_store::Store;

@@ -28,7 +28,7 @@ use Rattle.tables_file.proofs.Printed.{tables_are_read}
 use Rattle.tables_file.proofs.ReadRanges.{texts_are_in_range}
 use Rattle.held_tables.specs.Tables.{block_at, entry_at, entry_for, entry_in, entry_of, index_of, is_block_of, top_at, top_of}
 use Rattle.packet_walks.specs.declared.next_hop.NextHop.TheVariants.{To}
-use Rattle.next_tables.specs.ByOrder.{may_change, position_at, tried}
+use Rattle.next_tables.specs.EntriesByOrder.{may_change, position_at, tried}
 use Rattle.next_tables.specs.Next.{comes_to, delivers, leads_on, mends, next_entry, step_at}
 use Rattle.next_tables.specs.NextTables.{StepRuleValue, by_order, if_owned, index_at, keeper, next_at, next_block, next_for, next_switch, next_table, next_tables, next_top, ordered_for, settled_first}
 use Rattle.next_tables.specs.NextText.{NextTextsAreRead, StepTextsAreRead}

@@ -1,4 +1,4 @@
-pub mod ByOrder
+pub mod EntriesByOrder
 pub mod Assembled
 pub mod ChangingFabric
 pub mod Mixtures
@@ -7,4 +7,4 @@ pub mod NextTables
 pub mod NextText
 pub mod OrderedEntries
 pub mod StepLaws
-pub mod SwitchSteps
+pub mod SettledEntries

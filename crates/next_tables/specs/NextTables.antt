@@ -16,7 +16,7 @@ use Rattle.next_tables.specs.declared.fault.StepFault.{StepFault}
 use Rattle.next_tables.specs.declared.fault.StepFault.TheVariants.{Moves, Memory}
 use Rattle.next_tables.specs.declared.step_rule.StepRule.{StepRule}
 use Rattle.next_tables.specs.declared.step_rule.StepRule.TheVariants.{SettledFirst, ByOrder}
-use Rattle.next_tables.specs.ByOrder.{next_by_order, position_at}
+use Rattle.next_tables.specs.EntriesByOrder.{next_by_order, position_at}
 use Rattle.next_tables.specs.Next.{next_entry}
 
 -- an end port other than the line's holds the line's LID

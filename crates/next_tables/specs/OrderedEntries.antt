@@ -7,8 +7,8 @@ use Rattle.packet_walks.specs.declared.next_hop.NextHop.TheVariants.{To, Ends}
 use Rattle.packet_walks.specs.declared.next_hop.SwitchStep.{SwitchStep}
 use Rattle.packet_walks.specs.HopsByTables.{is_at}
 use Rattle.next_tables.specs.Next.{comes_to}
-use Rattle.next_tables.specs.ByOrder.{comes_down, goes_up, is_down, is_up, position_at}
-use Rattle.next_tables.specs.SwitchSteps.{Both, hops_of}
+use Rattle.next_tables.specs.EntriesByOrder.{comes_down, goes_up, is_down, is_up, position_at}
+use Rattle.next_tables.specs.SettledEntries.{Both, hops_of}
 
 -- the flag at index i, false past the end
 abbrev pub flag : List Bool → ℕ → Bool

@@ -14,7 +14,7 @@ use Rattle.packet_walks.specs.declared.next_hop.NextHop.TheVariants.{To}
 use Rattle.packet_walks.specs.Fabrics.{IsSeenIn}
 use Rattle.packet_walks.specs.HopsByTables.{next_hops_of}
 use Rattle.packet_walks.proofs.Told.{IsClosed, joined_closed}
-use Rattle.next_tables.specs.ByOrder.{switch_at, channel_number}
+use Rattle.next_tables.specs.EntriesByOrder.{switch_at, channel_number}
 use Rattle.next_tables.specs.Next.{step_at}
 use Rattle.next_tables.proofs.Changing.{MayDo, IsOnItsWay}
 use Rattle.next_tables.proofs.InChange.{arrives_in, by_at}

@@ -14,7 +14,7 @@ use Rattle.packet_walks.proofs.Ended.{after_ended}
 use Rattle.next_tables.specs.Next.{step_at, comes_to}
 use Rattle.next_tables.proofs.Entries.{at_mapped}
 use Rattle.next_tables.proofs.Mixtures.{at}
-use Rattle.next_tables.specs.ByOrder.{IsNextByOrder, Leads, switch_at, may_change, tried_entry, tried_at, tried}
+use Rattle.next_tables.specs.EntriesByOrder.{IsNextByOrder, Leads, switch_at, may_change, tried_entry, tried_at, tried}
 use Rattle.ordered_steps.specs.StepLaws.{AreStepsByOrder, DeliverFrom, EndRightByAny}
 use Rattle.next_tables.proofs.Hops.{leads_from, leads_same_at, leads_within, leads_at, none_taken, none_to, placed, taken_same, to_within}
 use Rattle.ordered_steps.proofs.Lost.{comes_made, comes_true, tried_is_choice}

@@ -14,7 +14,7 @@ use Rattle.packet_walks.specs.HopsByTables.{first_hop, next_hops_of}
 use Rattle.packet_walks.proofs.Ended.{after_ended}
 use Rattle.next_tables.specs.Next.{step_at}
 use Rattle.next_tables.proofs.Mixtures.{Comes, in_range}
-use Rattle.next_tables.specs.ByOrder.{switch_at}
+use Rattle.next_tables.specs.EntriesByOrder.{switch_at}
 use Rattle.ordered_steps.specs.StepLaws.{AreStepsByOrder, HealByOrder}
 use Rattle.ordered_steps.proofs.Goal.{end_in_twice_as_many, owned}
 use Rattle.next_tables.proofs.Hops.{placed}

@@ -9,7 +9,7 @@ use Rattle.held_tables.specs.Switches.{index_in}
 use Rattle.held_tables.specs.Tables.{owners_of}
 use Rattle.held_tables.proofs.HeldTables.{within_length}
 use Rattle.packet_walks.proofs.PlanSteps.{contains_at}
-use Rattle.next_tables.specs.ByOrder.{position_at}
+use Rattle.next_tables.specs.EntriesByOrder.{position_at}
 use Rattle.next_tables.specs.NextTables.{by_order, index_at, next_at, ordered_for}
 use Rattle.next_tables.proofs.Ordered.{index_own}
 use Rattle.next_tables.proofs.Steps.{at_index}

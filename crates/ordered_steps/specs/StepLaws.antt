@@ -20,7 +20,7 @@ use Rattle.packet_walks.specs.HopsByTables.{IsBrought, next_hops_of}
 use Rattle.next_tables.specs.Mixtures.{IsBroughtBy, IsLoose, IsMixed, RiseInStep, WaitOnMixed}
 use Rattle.next_tables.specs.Next.{step_at}
 use Rattle.next_tables.specs.NextTables.{IsKept, by_order, next_tables, ordered_for}
-use Rattle.next_tables.specs.ByOrder.{IsOrder, AreApart, IsWired, Leads, is_up, switch_at, TurnsWell, AreRight, IsChoice, IsNextByOrder, IsTriedByOrder, numbers_by, position_at}
+use Rattle.next_tables.specs.EntriesByOrder.{IsOrder, AreApart, IsWired, Leads, is_up, switch_at, TurnsWell, AreRight, IsChoice, IsNextByOrder, IsTriedByOrder, numbers_by, position_at}
 
 -- no packet makes a bad turn, whatever the mixture is when it reaches a switch and whatever it is when it leaves
 abbrev pub NoBadTurn : Type 0

@@ -20,7 +20,7 @@ use Rattle.packet_walks.specs.declared.next_hop.NextHop.TheVariants.{To, Ends}
 use Rattle.held_tables.specs.declared.owners.Owner.{Owner}
 use Rattle.held_tables.specs.declared.owners.Owner.TheVariants.{Several}
 use Rattle.held_tables.specs.declared.senders.Sender.{Sender}
-use Rattle.packet_walks.specs.BlockWalks.{AreDelivered, hops_for, target_at}
+use Rattle.packet_walks.specs.BlockDeliveries.{AreDelivered, hops_for, target_at}
 use Rattle.packet_walks.specs.Deliveries.{AreDeliveries, ComeToOwner}
 use Rattle.packet_walks.specs.LidSets.{has}
 use Rattle.held_tables.specs.Switches.{all_begin, first_by, first_switch, is_among, node_of, sender_of}

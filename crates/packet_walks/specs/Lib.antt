@@ -1,4 +1,4 @@
-pub mod BlockWalks
+pub mod BlockDeliveries
 pub mod Deliveries
 pub mod EndsBySender
 pub mod Edges

@@ -1,8 +1,8 @@
 //! The LIDs of a block whose packets arrive from every switch, by walks of the packets for all LIDs of the block at
 //! once.
 ghost use Rattle.std.specs.Prelude.{◌≡◌, ◌<◌, ◌+◌, ◌*◌, [], IfOk, IfSome, OnOk, length, replicate, slice_set};
-ghost use Rattle.packet_walks.specs.BlockWalks.{AreAfterRounds, AreDelivered, AreSeenBy, IsExit, IsWithExit, IsWithHop};
-ghost use Rattle.packet_walks.specs.BlockWalks.{arrived_more, back_by, from_each, lids_at};
+ghost use Rattle.packet_walks.specs.BlockDeliveries.{AreAfterRounds, AreDelivered, AreSeenBy, IsExit, IsWithExit, IsWithHop};
+ghost use Rattle.packet_walks.specs.BlockDeliveries.{arrived_more, back_by, from_each, lids_at};
 ghost use Rattle.packet_walks.specs.LidSets.{no_lids};
 ghost use Rattle.packet_walks.specs.Deliveries.{is_delivered};
 

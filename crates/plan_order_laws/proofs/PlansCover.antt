@@ -35,7 +35,7 @@ use Rattle.next_tables.specs.Next.{step_at}
 use Rattle.next_tables.proofs.Entries.{at_mapped, member}
 use Rattle.next_tables.proofs.Mixtures.{in_range}
 use Rattle.std.proofs.lemmas.List.{length-map}
-use Rattle.next_tables.specs.ByOrder.{IsWired, switch_at}
+use Rattle.next_tables.specs.EntriesByOrder.{IsWired, switch_at}
 use Rattle.ordered_steps.specs.StepLaws.{DeliverFrom}
 use Rattle.plan_order_laws.specs.PlanLaws.{PlansCover}
 use Rattle.next_tables.proofs.Hops.{none_taken, none_to, placed}

@@ -11,7 +11,7 @@ use Rattle.held_tables.specs.declared.held.HeldLid.{HeldLid}
 use Rattle.held_tables.specs.Held.{HeldPlan}
 use Rattle.held_tables.specs.PlanTables.{held_plan}
 use Rattle.held_tables.specs.Tables.{entry_for, owners_of}
-use Rattle.next_tables.specs.ByOrder.{AreApart, AreRight, IsNextByOrder, IsOrder, IsWired, Leads, numbers_by, position_at, switch_at}
+use Rattle.next_tables.specs.EntriesByOrder.{AreApart, AreRight, IsNextByOrder, IsOrder, IsWired, Leads, numbers_by, position_at, switch_at}
 use Rattle.next_tables.specs.Mixtures.{RiseInStep}
 use Rattle.ordered_steps.specs.StepLaws.{AreNextByOrder, DeliverFrom}
 

@@ -6,7 +6,7 @@ use Rattle.schedule_file.specs.declared.fault.ScheduleFault.TheVariants as sched
 use Rattle.schedule_file.specs.ScheduleFault as schedules
 use Rattle.text_words.specs.Faults as lines
 use Rattle.text_words.specs.declared.fault.LinesFault.TheVariants as line
-use Rattle.tables_file.specs.PlanTextFault as tables
+use Rattle.tables_file.specs.TablesTextFault as tables
 use Rattle.roots_file.specs.RootsTextFault as roots
 use Rattle.smp_bytes.specs.Text.{guid_text}
 use Rattle.sm_cli.specs.declared.text_fault.TextFault.{TextFault}

@@ -19,7 +19,7 @@ pub enum TextFault {
     Schedule(ScheduleFault),
     /// The text of tables has a fault, or memory ran out while it was checked.
     #[error("{0}")]
-    Tables(tables_file::PlanTextFault),
+    Tables(tables_file::TablesTextFault),
     /// The text of roots or of an order has a fault, or memory ran out while it was checked.
     #[error("{0}")]
     Roots(roots_file::RootsTextFault),
@@ -96,7 +96,7 @@ impl TextFault {
             self,
             TextFault::Topology(TopoFault::Memory)
                 | TextFault::Schedule(ScheduleFault::Memory)
-                | TextFault::Tables(tables_file::PlanTextFault::Memory)
+                | TextFault::Tables(tables_file::TablesTextFault::Memory)
                 | TextFault::Roots(roots_file::RootsTextFault::Memory)
         )
     }

@@ -8,7 +8,7 @@ use Rattle.sm_state.specs.declared.event.Event.TheVariants as event
 use Rattle.sm_state.specs.declared.event.Message.{Message}
 use Rattle.sm_state.specs.declared.transition.Transition.{Transition}
 use Rattle.sm_state.specs.Standing.{after_request_heard, moved_to}
-use Rattle.sm_state.specs.Steps.{status_of, stepped}
+use Rattle.sm_state.specs.Transitions.{status_of, stepped}
 use Rattle.sm_manager.specs.Election.{after_message, message_count, message_out, message_pending}
 use Rattle.sm_manager.specs.Manager.{Manager}
 use Rattle.sm_manager.specs.Packets.{done, refused, unless_spent}

@@ -16,7 +16,7 @@ use Rattle.sm_state.specs.declared.event.Message.{Message}
 use Rattle.sm_state.specs.declared.state.SmState.TheVariants.{Standby}
 use Rattle.sm_state.specs.declared.transition.Transition.{Transition}
 use Rattle.sm_state.specs.Controls.{control_of_message, modifier_of_control}
-use Rattle.sm_state.specs.Steps.{stepped}
+use Rattle.sm_state.specs.Transitions.{stepped}
 use Rattle.sm_manager.specs.declared.fault.ManagerFault.{ManagerFault}
 use Rattle.sm_manager.specs.declared.fault.ManagerFault.TheVariants as fault
 use Rattle.sm_manager.specs.declared.outgoing.Outgoing.{Outgoing}

@@ -8,7 +8,7 @@ use Rattle.smp_bytes.specs.Requests.{answer_packet}
 use Rattle.attr_codec.specs.SmInfo.{sm_info_bytes}
 use Rattle.sm_state.specs.declared.event.Event.TheVariants as event
 use Rattle.sm_state.specs.declared.transition.Transition.{Transition}
-use Rattle.sm_state.specs.Steps.{status_of, stepped}
+use Rattle.sm_state.specs.Transitions.{status_of, stepped}
 use Rattle.sm_manager.specs.declared.outgoing.Outgoing.{Outgoing}
 use Rattle.sm_state.specs.declared.standing.Standing.{Standing}
 use Rattle.sm_manager.specs.Election.{after_message}

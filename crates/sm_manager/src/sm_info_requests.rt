@@ -8,7 +8,7 @@ ghost use Rattle.sm_manager.specs.Served.{acknowledged_at, answer_data, answer_o
 ghost use Rattle.sm_manager.specs.Served.{replying, served};
 ghost use Rattle.sm_manager.specs.Served.{status_for};
 ghost use Rattle.sm_state.specs.Standing.{moved_to};
-ghost use Rattle.sm_state.specs.Steps.{status_of};
+ghost use Rattle.sm_state.specs.Transitions.{status_of};
 
 use crate::election::send_message;
 use crate::fault::ManagerFault;

@@ -12,7 +12,7 @@ use Rattle.sm_state.specs.declared.state.SmState.TheVariants.{NotActive, Discove
 use Rattle.smp_bytes.specs.Header.{done}
 use Rattle.sm_state.specs.Controls.{control_of_modifier}
 use Rattle.sm_state.specs.StateLaws.{HandoversAreTaken, Is, IsNamed, MastersStay, NothingElseMoves, OthersAreTold, StatesAreNumbered}
-use Rattle.sm_state.specs.Steps.{acknowledged_late, after_control, status_of}
+use Rattle.sm_state.specs.Transitions.{acknowledged_late, after_control, status_of}
 
 -- the control of a modifier, as the table reads it
 module _ (conduct : Conduct) (modifier : ℕ) where

@@ -5,4 +5,4 @@ pub mod Ranks
 pub mod Standing
 pub mod StateLaws
 pub mod States
-pub mod Steps
+pub mod Transitions

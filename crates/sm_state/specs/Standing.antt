@@ -12,7 +12,7 @@ use Rattle.sm_state.specs.declared.state.SmState.TheVariants.{Discovering, Stand
 use Rattle.sm_state.specs.Conducts.{is_live, key_of}
 use Rattle.sm_state.specs.Controls.{modifier_of_control}
 use Rattle.sm_state.specs.States.{number_of_state}
-use Rattle.sm_state.specs.Steps.{stepped}
+use Rattle.sm_state.specs.Transitions.{stepped}
 use Rattle.sm_state.specs.declared.standing.Standing.{Standing}
 
 -- a manager at the port with this GUID, before it did anything

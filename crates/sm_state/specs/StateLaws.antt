@@ -11,7 +11,7 @@ use Rattle.sm_state.specs.declared.state.SmState.TheVariants.{NotActive, Discove
 use Rattle.sm_state.specs.Controls.{control_of_modifier}
 use Rattle.sm_state.specs.States.{number_of_state, state_of_number}
 use Rattle.smp_bytes.specs.Header.{done}
-use Rattle.sm_state.specs.Steps.{status_of, stepped}
+use Rattle.sm_state.specs.Transitions.{status_of, stepped}
 
 -- the event `e` is the control `which`
 abbrev pub Is : Control → Event → Type 0

@@ -1,5 +1,5 @@
 ghost use Rattle.std.specs.Prelude.{◌≡◌};
-ghost use Rattle.sm_state.specs.Steps.{status_of};
+ghost use Rattle.sm_state.specs.Transitions.{status_of};
 
 use crate::event::Message;
 use crate::state::SmState;

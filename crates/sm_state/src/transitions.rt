@@ -1,5 +1,5 @@
 ghost use Rattle.std.specs.Prelude.{◌≡◌};
-ghost use Rattle.sm_state.specs.Steps.{acknowledged_late, after_control, refused, stepped, to};
+ghost use Rattle.sm_state.specs.Transitions.{acknowledged_late, after_control, refused, stepped, to};
 
 use crate::conduct::Conduct;
 use crate::control::Control;

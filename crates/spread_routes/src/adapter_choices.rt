@@ -6,7 +6,7 @@ ghost use Rattle.port_graph.specs.Heads.{LeadToVertices};
 ghost use Rattle.spread_labels.specs.Orders.{numbers_from};
 ghost use Rattle.balanced_choices.specs.BalancedChoices.{in_turn};
 ghost use Rattle.spread_routes.specs.AdapterChoices.{adapter_choices, adapter_of, choice_towards, counted_if_uneven};
-ghost use Rattle.spread_routes.specs.AdapterChoices.{destinations, end_number, first_at};
+ghost use Rattle.spread_routes.specs.AdapterChoices.{destinations, first_at, first_number};
 ghost use Rattle.balanced_choices.specs.RoundRobins.{IsTurn};
 
 use crate::adapters::most_adapters;
@@ -125,13 +125,12 @@ impl AdapterChoices {
         RoundRobin::first(self.weight_at(own), own, count)
     }
 
-    /// Returns the number of the end at `position` whose routes a LID with the number `number` takes.
-    pub(crate) fn end_number(&self, number: usize, position: usize) -> usize
-        ensures number { result ≡ end_number self.now number position }
-        ensures small { result < 2 ^ 33 }
+    /// Returns the number of the first end at `position`; 0 past the last position.
+    pub(crate) fn first_number(&self, position: usize) -> usize
+        ensures number { result ≡ first_number self.now.leaf_numbers self.now.adapters position }
+        ensures small { result < 2 ^ 32 }
     {
-        let first = self.leaf_number_at(position) * usize::from(self.most);
-        first + in_turn(self.count_at(position), number)
+        self.leaf_number_at(position) * usize::from(self.most)
     }
 
     /// Returns the number of the adapter at `position` whose choices a LID with the number `number` takes, but at most
@@ -145,7 +144,7 @@ impl AdapterChoices {
     }
 
     /// Returns the number of adapters at `position`, or 0 if there is no such position.
-    fn count_at(&self, position: usize) -> usize
+    pub(crate) fn count_at(&self, position: usize) -> usize
         ensures count { result ≡ slice_index self.now.adapters position }
         ensures small { result < 2 ^ 16 }
     {
@@ -178,7 +177,7 @@ impl AdapterChoices {
 }
 
 /// Returns `number` modulo `count`, or 0 if `count` is 0.
-fn in_turn(count: usize, number: usize) -> usize
+pub(crate) fn in_turn(count: usize, number: usize) -> usize
     ensures turn { result ≡ in_turn count number }
     ensures within { result ≤ count }
 {

@@ -9,7 +9,7 @@ ghost use Rattle.spread_routes.specs.AdapterChoices.{choice_towards};
 ghost use Rattle.spread_routes.specs.Spread.{number_by};
 ghost use Rattle.spread_routes.specs.Tables.{port_by, port_turn, with_entries};
 
-use crate::adapter_choices::AdapterChoices;
+use crate::adapter_choices::{AdapterChoices, in_turn};
 use crate::lid_digit::LidDigit;
 use port_graph::Edge;
 use smp_bytes::{Lid, PortNum};
@@ -196,10 +196,12 @@ fn write_in_turn(
         (λ lid. port_turn ports.now (choice_towards choices.now (slice_index numbers.now lid) own target))
         entries.old lids.now }
 {
+    let first = choices.first_number(target);
+    let count = choices.count_at(target);
     let mut turn = choices.turn(own, ports.len());
     for lid in lids {
         let lid = usize::from(lid.number());
-        turn.go_to(choices.end_number(number_of(numbers, lid), target));
+        turn.go_to(first + in_turn(count, number_of(numbers, lid)));
         entries[lid] = ports[turn.choice()].number();
     }
 }

@@ -8,7 +8,7 @@ use Rattle.port_graph.specs.declared.edge.Edge.{Edge}
 use Rattle.subnet_view.specs.Reading.{Cells}
 use Rattle.held_tables.specs.Held.{HeldPlan}
 use Rattle.plan_order.specs.PlanOrder.{positions_by}
-use Rattle.next_tables.specs.ByOrder.{position_at}
+use Rattle.next_tables.specs.EntriesByOrder.{position_at}
 use Rattle.ordered_steps.specs.Rightness.{are_right}
 use Rattle.told_order.specs.ToldOrder.{AreTaken, IsLast, MayBeLast, NoneFrom, all_left, is_left}
 use Rattle.two_orders.specs.Growth.{grown_by}

@@ -1,7 +1,7 @@
 -- Line after line: the lines so far and the lines to come together are what the text says.
 use Rattle.std.proofs.Common.{◌≡◌, ℕ, ◌+◌, ◌<◌, ◌≤◌, List, [], ◌∷◌, length, None, Some, Ok, Err, sym, ap, ◌∙◌, arith}
 use Rattle.text_words.specs.Text.{lines}
-use Rattle.tables_file.specs.PlanTextFault.{PlanLineFault}
+use Rattle.tables_file.specs.TablesTextFault.{TablesLineFault}
 use Rattle.held_tables.specs.declared.held_item.HeldItem.{HeldItem}
 use Rattle.tables_file.specs.declared.last_lines.LastLines.{LastLines}
 use Rattle.held_tables.specs.Held.{HeldPlan, nothing_held}
@@ -63,7 +63,7 @@ read_more text rest index held number line later item h e shorter is = record {
 }
 
 -- a faulty line
-pub fault_here : (text rest : List ℕ) (index : LastLines) (number : ℕ) (line later : List ℕ) (fault : PlanLineFault) → HasJudged text rest index number
+pub fault_here : (text rest : List ℕ) (index : LastLines) (number : ℕ) (line later : List ℕ) (fault : TablesLineFault) → HasJudged text rest index number
     → lines rest ≡ line ∷ lines later → Err fault ≡ item_of (number + 1) index (line_of line) → first_fault text ≡ Some fault
 fault_here text rest index number line later fault h e is =
     sym h.fault ∙ ap (first_fault_from (number + 1) index) e

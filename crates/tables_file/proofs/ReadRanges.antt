@@ -11,7 +11,7 @@ use Rattle.hex.specs.Hex.{decode_pairs}
 use Rattle.hex.proofs.HexLemmas.{decode_pairs-ok}
 use Rattle.text_words.specs.Text.{lines, words}
 use Rattle.text_words.specs.Number.{number_of}
-use Rattle.tables_file.specs.PlanTextFault.{PlanLineFault}
+use Rattle.tables_file.specs.TablesTextFault.{TablesLineFault}
 use Rattle.held_tables.specs.declared.held.HeldBlock.{HeldBlock}
 use Rattle.held_tables.specs.declared.held.HeldLid.{HeldLid}
 use Rattle.held_tables.specs.declared.held.HeldSwitch.{HeldSwitch}
@@ -111,7 +111,7 @@ IsItem (Lid range) = Unit {0}
 IsItem (Switch switch) = switch.top ≤ 0xBFFF
 IsItem (Block number entries) = IsBlock entries
 
-abbrev IsSaid : Result HeldItem PlanLineFault → Type 0
+abbrev IsSaid : Result HeldItem TablesLineFault → Type 0
 IsSaid (Ok item) = IsItem item
 IsSaid (Err fault) = Unit {0}
 
@@ -154,7 +154,7 @@ unfolding line_of
 line_is line = line_in_range (words line)
 
 -- all that lines say
-then_in_range : (r : Result HeldItem PlanLineFault) (next : HeldItem → List HeldItem) → IsSaid r → ((i : HeldItem) → AllByRecursion IsItem (next i))
+then_in_range : (r : Result HeldItem TablesLineFault) (next : HeldItem → List HeldItem) → IsSaid r → ((i : HeldItem) → AllByRecursion IsItem (next i))
     → AllByRecursion IsItem (then_or r (λ i. i ∷ next i) (λ fault. []))
 then_in_range (Ok item) next h later = (h, later item)
 then_in_range (Err fault) next h later = tt

@@ -4,5 +4,5 @@ pub mod Printed
 pub mod PrintedTables
 pub mod Reading
 pub mod Reads
-pub mod PlanTextFault
+pub mod TablesTextFault
 pub mod Words

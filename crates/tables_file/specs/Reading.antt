@@ -1,9 +1,9 @@
 -- What a text says: what its lines say in order, up to its first fault.
 use Rattle.std.specs.Prelude.{ℕ, ◌+◌, ◌^◌, ◌==◌, ◌||◌, ◌&&◌, Bool, List, [], ◌∷◌, Option, None, Some, Result, Ok, Err, nat_lt, if◌then◌else◌}
 use Rattle.text_words.specs.Text.{lines}
-use Rattle.tables_file.specs.declared.fault.PlanTextError.{PlanTextError}
-use Rattle.tables_file.specs.declared.fault.PlanTextError.TheVariants as wrong
-use Rattle.tables_file.specs.PlanTextFault.{PlanLineFault}
+use Rattle.tables_file.specs.declared.fault.TablesTextError.{TablesTextError}
+use Rattle.tables_file.specs.declared.fault.TablesTextError.TheVariants as wrong
+use Rattle.tables_file.specs.TablesTextFault.{TablesLineFault}
 use Rattle.tables_file.specs.declared.line.TextLine.{TextLine}
 use Rattle.tables_file.specs.declared.line.TextLine.TheVariants as line
 use Rattle.held_tables.specs.declared.held_item.HeldItem.{HeldItem}
@@ -27,7 +27,7 @@ last_lines_after last_lines (Switch switch) = record last_lines { switch = Some 
 last_lines_after last_lines (Block number entries) = record last_lines { block = number + 1 }
 
 -- the fault of the line `number`
-abbrev pub fault_at : {T : Type 0} → ℕ → PlanTextError → Result T PlanLineFault
+abbrev pub fault_at : {T : Type 0} → ℕ → TablesTextError → Result T TablesLineFault
 fault_at number what = Err (record { line = number; wrong = what })
 
 -- `held` comes after `last`: its LID, its node or, on the same node, its port is greater; its LID must not be less
@@ -37,24 +37,24 @@ is_behind last held =
     || (last.port.node == held.port.node && nat_lt last.port.port held.port.port)
 
 -- the LIDs of an end port, if they come after `last`, the first LID of the line before
-abbrev pub lid_behind : ℕ → HeldLid → LidRange → Result HeldItem PlanLineFault
+abbrev pub lid_behind : ℕ → HeldLid → LidRange → Result HeldItem TablesLineFault
 lid_behind number last range =
     if nat_lt range.first.lid last.lid then fault_at number wrong.Lid
     else if is_behind last range.first then Ok (Lid range)
     else fault_at number wrong.Port
 
 -- the LIDs of an end port, if they come after `last`, if there is such a line
-abbrev pub lid_after : ℕ → Option HeldLid → LidRange → Result HeldItem PlanLineFault
+abbrev pub lid_after : ℕ → Option HeldLid → LidRange → Result HeldItem TablesLineFault
 lid_after number None range = Ok (Lid range)
 lid_after number (Some last) range = lid_behind number last range
 
 -- the LIDs of an end port, if the last of them is at most 0xBFFF
-abbrev pub lid_in_room : ℕ → Option HeldLid → LidRange → Result HeldItem PlanLineFault
+abbrev pub lid_in_room : ℕ → Option HeldLid → LidRange → Result HeldItem TablesLineFault
 lid_in_room number last range =
     if nat_lt 0xC000 (range.first.lid + 2 ^ range.lmc) then fault_at number wrong.Lid else lid_after number last range
 
 -- the LIDs of an end port, by the numbers on its line; None stands for a number out of range
-abbrev pub lid_with : ℕ → Option HeldLid → Option ℕ → ℕ → Option ℕ → Option ℕ → Result HeldItem PlanLineFault
+abbrev pub lid_with : ℕ → Option HeldLid → Option ℕ → ℕ → Option ℕ → Option ℕ → Result HeldItem TablesLineFault
 lid_with number last None node port lmc = fault_at number wrong.Lid
 lid_with number last (Some lid) node None lmc = fault_at number wrong.Port
 lid_with number last (Some lid) node (Some port) None = fault_at number wrong.Lmc
@@ -66,32 +66,32 @@ lid_with number last (Some lid) node (Some port) (Some lmc) =
     })
 
 -- a switch, if its GUID is greater than that of the switch before
-abbrev pub switch_after : ℕ → Option ℕ → HeldSwitch → Result HeldItem PlanLineFault
+abbrev pub switch_after : ℕ → Option ℕ → HeldSwitch → Result HeldItem TablesLineFault
 switch_after number None switch = Ok (Switch switch)
 switch_after number (Some last) switch =
     if nat_lt last switch.guid then Ok (Switch switch) else fault_at number wrong.Switch
 
 -- a switch, by the GUID and the top on its line; None stands for a top out of range
-abbrev pub switch_with : ℕ → Option ℕ → ℕ → Option ℕ → Result HeldItem PlanLineFault
+abbrev pub switch_with : ℕ → Option ℕ → ℕ → Option ℕ → Result HeldItem TablesLineFault
 switch_with number last guid None = fault_at number wrong.Lid
 switch_with number last guid (Some top) = switch_after number last (record { guid = guid; top = top })
 
 -- a block, if its number is at least `next`
-abbrev pub block_after : ℕ → ℕ → Option ℕ → List ℕ → Result HeldItem PlanLineFault
+abbrev pub block_after : ℕ → ℕ → Option ℕ → List ℕ → Result HeldItem TablesLineFault
 block_after number next None entries = fault_at number wrong.Block
 block_after number next (Some block) entries =
     if nat_lt block next then fault_at number wrong.Block else Ok (Block block entries)
 
 -- a block, if there is a switch above it
-abbrev pub block_below : ℕ → Option ℕ → ℕ → Option ℕ → List ℕ → Result HeldItem PlanLineFault
+abbrev pub block_below : ℕ → Option ℕ → ℕ → Option ℕ → List ℕ → Result HeldItem TablesLineFault
 block_below number None next block entries = fault_at number wrong.Syntax
 block_below number (Some switch) next block entries = block_after number next block entries
 
-abbrev pub block_with : ℕ → LastLines → Option ℕ → List ℕ → Result HeldItem PlanLineFault
+abbrev pub block_with : ℕ → LastLines → Option ℕ → List ℕ → Result HeldItem TablesLineFault
 block_with number last_lines block entries = block_below number last_lines.switch last_lines.block block entries
 
 -- what the line `number` says, after the lines before it
-abbrev pub item_of : ℕ → LastLines → Option TextLine → Result HeldItem PlanLineFault
+abbrev pub item_of : ℕ → LastLines → Option TextLine → Result HeldItem TablesLineFault
 item_of number last_lines None = fault_at number wrong.Syntax
 item_of number last_lines (Some line.Empty) = Ok Nothing
 item_of number last_lines (Some (line.Lid l)) = lid_with number last_lines.lid l.lid l.node l.port l.lmc
@@ -99,12 +99,12 @@ item_of number last_lines (Some (line.Switch l)) = switch_with number last_lines
 item_of number last_lines (Some (line.Block l)) = block_with number last_lines l.number l.entries
 
 -- `next` of the item of a line, or `last` of its fault
-abbrev pub then_or : {T : Type 0} → Result HeldItem PlanLineFault → (HeldItem → T) → (PlanLineFault → T) → T
+abbrev pub then_or : {T : Type 0} → Result HeldItem TablesLineFault → (HeldItem → T) → (TablesLineFault → T) → T
 then_or (Ok item) next last = next item
 then_or (Err fault) next last = last fault
 
 -- the first fault of the lines; the first line has the number `number`
-abbrev pub first_fault_from : ℕ → LastLines → List (List ℕ) → Option PlanLineFault
+abbrev pub first_fault_from : ℕ → LastLines → List (List ℕ) → Option TablesLineFault
 first_fault_from number last_lines [] = None
 first_fault_from number last_lines (l ∷ later) =
     then_or (item_of number last_lines (line_of l)) (λ item. first_fault_from (number
@@ -123,7 +123,7 @@ held_by held [] = held
 held_by held (item ∷ items) = held_by (held_with held item) items
 
 -- the first fault of a text
-unfoldable pub first_fault : List ℕ → Option PlanLineFault
+unfoldable pub first_fault : List ℕ → Option TablesLineFault
 first_fault text = first_fault_from 1 start (lines text)
 
 -- what a text says up to its first fault

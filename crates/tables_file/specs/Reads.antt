@@ -1,12 +1,12 @@
 -- The result of reading the lines of a text.
 use Rattle.std.specs.Prelude.{◌≡◌, List, ℕ, None, Some, Result, Ok, Err}
-use Rattle.tables_file.specs.PlanTextFault.{PlanTextFault}
+use Rattle.tables_file.specs.TablesTextFault.{TablesTextFault}
 use Rattle.text_words.specs.declared.fault.LinesFault.TheVariants.{Line, Memory}
 use Rattle.held_tables.specs.Held.{HeldPlan}
 use Rattle.tables_file.specs.Reading.{first_fault, held_of}
 
 -- what the text says if it has no fault, otherwise its first fault; memory may run out for any text
-abbrev pub IsReadAs : List ℕ → Result HeldPlan PlanTextFault → Type 0
+abbrev pub IsReadAs : List ℕ → Result HeldPlan TablesTextFault → Type 0
 IsReadAs text (Ok held) = (first_fault text ≡ None) × (held ≡ held_of text)
 IsReadAs text (Err (Line fault)) = first_fault text ≡ Some fault
 IsReadAs text (Err Memory) = Unit {0}

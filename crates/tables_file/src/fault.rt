@@ -2,7 +2,7 @@ use text_words::{LineError, LineFault, LinesFault};
 
 /// What is wrong with a line of a plan's text.
 #[derive(Clone, Copy, Debug, PartialEq, Eq)]
-pub enum PlanTextError {
+pub enum TablesTextError {
     /// The grammar has no such line, or it is a block above all switches.
     Syntax,
     /// The LID is outside 1 to 49,151, the last LID of the end port or the top is above 49,151, or the LID is less than
@@ -18,25 +18,25 @@ pub enum PlanTextError {
     Block,
 }
 
-impl LineError for PlanTextError {
-    ghost use Rattle.tables_file.specs.PlanTextFault.{wrong_word};
+impl LineError for TablesTextError {
+    ghost use Rattle.tables_file.specs.TablesTextFault.{wrong_word};
 
     ghost word = { wrong_word };
 
     fn word(self) -> &'static str {
         match self {
-            PlanTextError::Syntax => "syntax",
-            PlanTextError::Lid => "lid",
-            PlanTextError::Port => "port",
-            PlanTextError::Lmc => "lmc",
-            PlanTextError::Switch => "switch",
-            PlanTextError::Block => "block",
+            TablesTextError::Syntax => "syntax",
+            TablesTextError::Lid => "lid",
+            TablesTextError::Port => "port",
+            TablesTextError::Lmc => "lmc",
+            TablesTextError::Switch => "switch",
+            TablesTextError::Block => "block",
         }
     }
 }
 
 /// The number of a text's first faulty line, from 1, and what is wrong with it.
-pub type PlanLineFault = LineFault<PlanTextError>;
+pub type TablesLineFault = LineFault<TablesTextError>;
 
 /// Why a text could not be read.
-pub type PlanTextFault = LinesFault<PlanTextError>;
+pub type TablesTextFault = LinesFault<TablesTextError>;

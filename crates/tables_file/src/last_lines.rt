@@ -3,7 +3,7 @@ ghost use Rattle.tables_file.specs.TextLine.{line_of};
 ghost use Rattle.tables_file.specs.Reading.{start, item_of, last_lines_after};
 ghost use Rattle.tables_file.specs.Reading.{lid_with, lid_after, lid_behind, is_behind, switch_with, block_with};
 
-use crate::fault::{PlanLineFault, PlanTextError};
+use crate::fault::{TablesLineFault, TablesTextError};
 use crate::line::{BlockLine, LidLine, SwitchLine, TextLine, read_line};
 use held_tables::{HeldItem, HeldLid, HeldRange, HeldSwitch};
 use smp_bytes::{Guid, Lid};
@@ -36,11 +36,11 @@ impl LastLines {
     }
 
     /// Returns what the line numbered `number` says, or what is wrong with it.
-    pub(crate) fn item(&self, number: usize, line: &[u8]) -> Result<HeldItem, PlanLineFault>
+    pub(crate) fn item(&self, number: usize, line: &[u8]) -> Result<HeldItem, TablesLineFault>
         ensures { result ≡ item_of number self.now (line_of line.now) }
     {
         match read_line(line) {
-            None => wrong(number, PlanTextError::Syntax),
+            None => wrong(number, TablesTextError::Syntax),
             Some(TextLine::Empty) => Ok(HeldItem::Nothing),
             Some(TextLine::Lid(line)) => lid(number, self.lid, line),
             Some(TextLine::Switch(line)) => switch(number, self.switch, line),
@@ -49,18 +49,18 @@ impl LastLines {
     }
 
     /// Returns what a `block` line numbered `number` says, or what is wrong with it.
-    fn block(&self, number: usize, line: BlockLine) -> Result<HeldItem, PlanLineFault>
+    fn block(&self, number: usize, line: BlockLine) -> Result<HeldItem, TablesLineFault>
         ensures { result ≡ block_with number self.now line.number line.entries }
     {
         if self.switch.is_none() {
-            return wrong(number, PlanTextError::Syntax);
+            return wrong(number, TablesTextError::Syntax);
         }
         match line.number {
             Some(block) if u32::from(block) >= self.block => Ok(HeldItem::Block(
                 block,
                 line.entries,
             )),
-            _ => wrong(number, PlanTextError::Block),
+            _ => wrong(number, TablesTextError::Block),
         }
     }
 
@@ -88,28 +88,28 @@ impl LastLines {
 }
 
 /// Returns the fault `wrong` of the line numbered `line`.
-fn wrong(line: usize, wrong: PlanTextError) -> Result<HeldItem, PlanLineFault>
+fn wrong(line: usize, wrong: TablesTextError) -> Result<HeldItem, TablesLineFault>
     ensures { result ≡ Err (record { line = line; wrong = wrong }) }
 {
-    Err(PlanLineFault { line, wrong })
+    Err(TablesLineFault { line, wrong })
 }
 
 /// Returns what a `lid` line numbered `number` says, or what is wrong with it. `last` is the first LID of the `lid`
 /// line before, if there is one.
-fn lid(number: usize, last: Option<HeldLid>, line: LidLine) -> Result<HeldItem, PlanLineFault>
+fn lid(number: usize, last: Option<HeldLid>, line: LidLine) -> Result<HeldItem, TablesLineFault>
     ensures { result ≡ lid_with number last line.lid line.node line.port line.lmc }
 {
     let Some(lid) = line.lid else {
-        return wrong(number, PlanTextError::Lid);
+        return wrong(number, TablesTextError::Lid);
     };
     let Some(port) = line.port else {
-        return wrong(number, PlanTextError::Port);
+        return wrong(number, TablesTextError::Port);
     };
     let Some(lmc) = line.lmc else {
-        return wrong(number, PlanTextError::Lmc);
+        return wrong(number, TablesTextError::Lmc);
     };
     if LID_END < u32::from(lid) + u32::from(lmc.width()) {
-        return wrong(number, PlanTextError::Lid);
+        return wrong(number, TablesTextError::Lid);
     }
     let node = line.node;
     let first = HeldLid {
@@ -125,7 +125,7 @@ fn lid_after(
     number: usize,
     last: Option<HeldLid>,
     range: HeldRange,
-) -> Result<HeldItem, PlanLineFault>
+) -> Result<HeldItem, TablesLineFault>
     ensures { result ≡ lid_after number last range }
 {
     match last {
@@ -136,16 +136,16 @@ fn lid_after(
 
 /// Returns what a `lid` line numbered `number` says if it comes after the `lid` line of `last`, otherwise what is wrong
 /// with it.
-fn lid_behind(number: usize, last: HeldLid, range: HeldRange) -> Result<HeldItem, PlanLineFault>
+fn lid_behind(number: usize, last: HeldLid, range: HeldRange) -> Result<HeldItem, TablesLineFault>
     ensures { result ≡ lid_behind number last range }
 {
     let held = range.first;
     if held.lid < last.lid {
-        wrong(number, PlanTextError::Lid)
+        wrong(number, TablesTextError::Lid)
     } else if is_behind(last, held) {
         Ok(HeldItem::Lid(range))
     } else {
-        wrong(number, PlanTextError::Port)
+        wrong(number, TablesTextError::Port)
     }
 }
 
@@ -162,16 +162,16 @@ fn is_behind(last: HeldLid, held: HeldLid) -> bool
 
 /// Returns what a `switch` line numbered `number` says, or what is wrong with it. `last` is the switch before, if there
 /// is one.
-fn switch(number: usize, last: Option<Guid>, line: SwitchLine) -> Result<HeldItem, PlanLineFault>
+fn switch(number: usize, last: Option<Guid>, line: SwitchLine) -> Result<HeldItem, TablesLineFault>
     ensures { result ≡ switch_with number last line.guid line.top }
 {
     let Some(top) = line.top else {
-        return wrong(number, PlanTextError::Lid);
+        return wrong(number, TablesTextError::Lid);
     };
     let guid = line.guid;
     let top = Lid::new(top);
     match last {
-        Some(last) if guid <= last => wrong(number, PlanTextError::Switch),
+        Some(last) if guid <= last => wrong(number, TablesTextError::Switch),
         _ => Ok(HeldItem::Switch(HeldSwitch { guid, top })),
     }
 }

@@ -9,6 +9,6 @@ mod tables_text;
 mod text;
 mod words;
 
-pub use fault::{PlanLineFault, PlanTextError, PlanTextFault};
+pub use fault::{TablesLineFault, TablesTextError, TablesTextFault};
 pub use tables_text::{write_next, write_tables};
 pub use text::parse;

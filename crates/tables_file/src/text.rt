@@ -4,7 +4,7 @@ ghost use Rattle.tables_file.specs.Reading.{first_fault, held_of};
 ghost use Rattle.tables_file.specs.Reads.{IsReadAs};
 ghost use Rattle.text_words.specs.Faults.{is_memory};
 
-use crate::fault::{PlanLineFault, PlanTextFault};
+use crate::fault::{TablesLineFault, TablesTextFault};
 use crate::last_lines::LastLines;
 use held_tables::Held;
 use std::alloc::Global;
@@ -26,23 +26,23 @@ use text_words::{LinesFault, split_line};
 /// # Errors
 ///
 /// Returns the first fault of the lines. Returns `Memory` only if they have none.
-pub fn parse(alloc: Global, text: &[u8]) -> Result<Held, PlanTextFault>
+pub fn parse(alloc: Global, text: &[u8]) -> Result<Held, TablesTextFault>
     ensures judged { JudgesButFor is_memory result (option_map LinesFault.Line (first_fault text.now)) }
     ensures held { IfOk result (λ held. held ≡ held_of text.now) }
 {
     match read_lines(alloc, text) {
         Ok(held) => Ok(held),
-        Err(PlanTextFault::Line(fault)) => Err(PlanTextFault::Line(fault)),
-        Err(PlanTextFault::Memory) => match first_fault(text) {
-            Some(fault) => Err(PlanTextFault::Line(fault)),
-            None => Err(PlanTextFault::Memory),
+        Err(TablesTextFault::Line(fault)) => Err(TablesTextFault::Line(fault)),
+        Err(TablesTextFault::Memory) => match first_fault(text) {
+            Some(fault) => Err(TablesTextFault::Line(fault)),
+            None => Err(TablesTextFault::Memory),
         },
     }
 }
 
 /// Reads the lines of a text.
 #[tactic(auto, using(crate::proofs::Folds::reading))]
-fn read_lines(alloc: Global, text: &[u8]) -> Result<Held, PlanTextFault>
+fn read_lines(alloc: Global, text: &[u8]) -> Result<Held, TablesTextFault>
     ensures { IsReadAs text.now result }
 {
     let mut held = Held::new(alloc);
@@ -61,7 +61,7 @@ fn read_lines(alloc: Global, text: &[u8]) -> Result<Held, PlanTextFault>
 
 /// Returns the first fault of a text. Takes no memory.
 #[tactic(auto, using(crate::proofs::Folds::judging))]
-fn first_fault(text: &[u8]) -> Option<PlanLineFault>
+fn first_fault(text: &[u8]) -> Option<TablesLineFault>
     ensures { result ≡ first_fault text.now }
 {
     let mut last_lines = LastLines::start();

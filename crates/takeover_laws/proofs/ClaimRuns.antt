@@ -21,7 +21,7 @@ use Rattle.reply_facts.specs.declared.report.Context.TheVariants.{Start, Via, Ab
 use Rattle.reply_facts.specs.Report.{sightings_of_link, sightings_of_kind, sightings_by_node_info, sightings_by_port_info, sightings_by_switch_info, node_info_of}
 use Rattle.attr_codec.specs.NodeTypeNumber.{type_of_number}
 use Rattle.fabric_sim.specs.Simulation.{Simulation, AreCables, port_count, fabric_of}
-use Rattle.fabric_sim.specs.Tells.{port_asked}
+use Rattle.fabric_sim.specs.ToldOfEnd.{port_asked}
 use Rattle.fabric_sim.specs.ThereAndBack.{directed_packet}
 use Rattle.fabric_sim.proofs.Courses as courses
 use Rattle.fabric_sim.proofs.Courses.{AnySends}

@@ -20,7 +20,7 @@ use Rattle.node_agents.specs.Answers.{after_answer}
 use Rattle.fabric_sim.specs.declared.packet.Packet.{Packet}
 use Rattle.fabric_sim.specs.Simulation.{Simulation, AreCables, agent_at, port_count, port_of, fabric_of, is_seat_at}
 use Rattle.fabric_sim.specs.Delivery.{answer_at, after_deliver}
-use Rattle.fabric_sim.specs.Tells.{port_asked}
+use Rattle.fabric_sim.specs.ToldOfEnd.{port_asked}
 use Rattle.fabric_sim.specs.declared.flight.Flight.{Flight}
 use Rattle.fabric_sim.proofs.AgentLists.{changed_at_id}
 use Rattle.fabric_sim.proofs.Courses.{AnySends}

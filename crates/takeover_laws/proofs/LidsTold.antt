@@ -21,7 +21,7 @@ use Rattle.node_agents.proofs.Outcomes.{answers_hold, get_of-port_info}
 use Rattle.node_agents.proofs.Says.{is_told}
 use Rattle.node_agents.proofs.Shapes.{Keeps, keeps_same, keeps-set_of, is_port_at}
 use Rattle.node_agents.proofs.Told.{answered-agent}
-use Rattle.fabric_sim.specs.Tells.{port_asked}
+use Rattle.fabric_sim.specs.ToldOfEnd.{port_asked}
 
 -- a port's information has its LID
 lid_written : (port : Port) (arrival : ℕ) → port.base_lid < 2 ^ 16 → number_in base_lid (port_info_of port arrival) ≡ port.base_lid

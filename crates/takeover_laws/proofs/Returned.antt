@@ -10,7 +10,7 @@ use Rattle.smp_bytes.proofs.BitLaws.{byte-number_in}
 use Rattle.smp_bytes.proofs.OffsetLaws.{bytes_in-alike}
 use Rattle.dr_forward.proofs.Trips.{field_kept}
 use Rattle.fabric_sim.specs.Simulation.{Simulation, fabric_of}
-use Rattle.fabric_sim.specs.Tells.{path_of}
+use Rattle.fabric_sim.specs.ToldOfEnd.{path_of}
 use Rattle.fabric_sim.proofs.Traced.{IsAnswerFor, IsForManager}
 
 module _ (Sends : NodePort → List ℕ → Type 0) (Tells : NodePort → NodePort → List ℕ → Type 0) (start : Simulation) (at : NodePort) (bytes : List ℕ) where

@@ -112,10 +112,10 @@ const PEER: TopoFault = TopoFault::Peer { line: 3 };
 
 const SEAT: ScheduleFault = ScheduleFault::Seat { line: 3 };
 
-const LID: tables_file::PlanTextFault = tables_file::PlanTextFault::Line(
-    tables_file::PlanLineFault {
+const LID: tables_file::TablesTextFault = tables_file::TablesTextFault::Line(
+    tables_file::TablesLineFault {
         line: 3,
-        wrong: tables_file::PlanTextError::Lid,
+        wrong: tables_file::TablesTextError::Lid,
     },
 );
 

@@ -1,7 +1,7 @@
 -- A LID more, and all of them.
 use Rattle.std.proofs.Common.{◌≡◌, ◌∙◌, ◌<◌, refl, sym, ap, arith}
 use Rattle.fact_store.specs.View.{cells_of}
-use Rattle.next_tables.specs.ByOrder.{position_at}
+use Rattle.next_tables.specs.EntriesByOrder.{position_at}
 use Rattle.ordered_steps.specs.Rightness.{is_right_column}
 use Rattle.ordered_steps.proofs.ToldRight.{all_right, one_wrong, right_more}
 use Rattle.ordered_steps.proofs.rightness.are_right.Goals as goal

@@ -1,6 +1,6 @@
 -- The LIDs so far are right.
 use Rattle.fact_store.specs.View.{cells_of}
-use Rattle.next_tables.specs.ByOrder.{position_at}
+use Rattle.next_tables.specs.EntriesByOrder.{position_at}
 use Rattle.ordered_steps.proofs.ToldRight.{RightSoFar}
 use Rattle.ordered_steps.proofs.rightness.are_right.Given as goal
 

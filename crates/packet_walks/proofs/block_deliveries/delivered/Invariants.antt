@@ -1,4 +1,4 @@
-use Rattle.packet_walks.specs.BlockWalks.{AreSeenBy}
+use Rattle.packet_walks.specs.BlockDeliveries.{AreSeenBy}
 use Rattle.packet_walks.proofs.block_deliveries.delivered.Given as goal
 
 -- what is seen at the switches so far

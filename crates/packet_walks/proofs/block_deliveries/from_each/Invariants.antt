@@ -1,5 +1,5 @@
 use Rattle.std.proofs.Common.{◌≡◌, drop}
-use Rattle.packet_walks.specs.BlockWalks.{in_each}
+use Rattle.packet_walks.specs.BlockDeliveries.{in_each}
 use Rattle.packet_walks.proofs.block_deliveries.from_each.Given as goal
 
 -- by the sets that are left

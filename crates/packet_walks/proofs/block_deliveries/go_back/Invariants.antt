@@ -1,5 +1,5 @@
 use Rattle.std.proofs.Common.{◌≡◌}
-use Rattle.packet_walks.specs.BlockWalks.{back_times}
+use Rattle.packet_walks.specs.BlockDeliveries.{back_times}
 use Rattle.packet_walks.proofs.block_deliveries.go_back.Given as goal
 
 -- after the rounds so far

@@ -1,5 +1,5 @@
 use Rattle.std.proofs.Common.{◌≡◌, drop}
-use Rattle.packet_walks.specs.BlockWalks.{back_by}
+use Rattle.packet_walks.specs.BlockDeliveries.{back_by}
 use Rattle.packet_walks.proofs.block_deliveries.go_back_once.Given as goal
 
 -- by the exits that are left

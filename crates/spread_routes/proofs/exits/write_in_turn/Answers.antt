@@ -4,7 +4,7 @@ use Rattle.std.proofs.lemmas.Grind.{get_or_default_zero}
 use Rattle.std.proofs.lemmas.List.{at_drop_more, length-set}
 use Rattle.std.proofs.Math.Nat.{mod-lt}
 use Rattle.std.specs.Prelude.{max, slice_set}
-use Rattle.balanced_choices.specs.BalancedChoices.{digits_from}
+use Rattle.balanced_choices.specs.BalancedChoices.{digits_from, in_turn}
 use Rattle.spread_routes.specs.AdapterChoices.{choice_towards, choice_with, end_number}
 use Rattle.spread_routes.specs.Tables.{port_turn, with_entries}
 use Rattle.balanced_choices.proofs.Counting.{turn_of}
@@ -29,7 +29,8 @@ loop-lid-preserved c =
     let n = c.number_of.result in
     let first : towards n ≡ digits_from (get_or choices.weights own 0) (end_number choices n target) + own =
     ap (λ counted. choice_with counted choices n own target) c.requires.counted in
-    let end : c.end_number.result ≡ end_number choices n target = c.end_number.ensures.number in
+    let end : c.first_number-first.result + c.in_turn.result ≡ end_number choices n target =
+    (λ i. c.first_number-first.ensures.number i + (c.in_turn.ensures.turn ∙ ap (λ m. in_turn m n) c.count_at-count.ensures.count) i) in
     let choice : c.choice.result ≡ towards n % length ports =
     c.choice.ensures ∙ c.go_to.ensures.choice ∙ (λ i. (end i / so_far.weight i + so_far.offset i) % so_far.count i)
     ∙ turn_of (get_or choices.weights own 0) (end_number choices n target) own (length ports)

@@ -4,7 +4,7 @@ use Rattle.std.specs.Prelude.{slice_index_or}
 use Rattle.std.proofs.lemmas.List.{get_or-map}
 use Rattle.packet_walks.specs.declared.next_hop.NextHop.TheVariants.{To}
 use Rattle.held_tables.specs.declared.owners.Owner.TheVariants.{Several}
-use Rattle.packet_walks.specs.BlockWalks.{hops_at, hops_for, target_at}
+use Rattle.packet_walks.specs.BlockDeliveries.{hops_at, hops_for, target_at}
 use Rattle.packet_walks.specs.HopsByTables.{next_hop_of}
 use Rattle.held_tables.specs.Owners.{sole_among}
 use Rattle.packet_walks.specs.EndsBySwitch.{onward}

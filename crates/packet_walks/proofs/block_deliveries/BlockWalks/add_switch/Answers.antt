@@ -3,7 +3,7 @@ use Rattle.std.proofs.Common.{◌≡◌, ◌∙◌, ◌+◌, ◌*◌, ℕ, lengt
 use Rattle.std.proofs.lemmas.List.{get_or-map}
 use Rattle.packet_walks.specs.declared.block_deliveries.BlockWalks.{BlockWalks}
 use Rattle.packet_walks.specs.declared.next_hop.NextHop.TheVariants.{To}
-use Rattle.packet_walks.specs.BlockWalks.{AreSeenBy, hops_at, owners_in, target_at}
+use Rattle.packet_walks.specs.BlockDeliveries.{AreSeenBy, hops_at, owners_in, target_at}
 use Rattle.packet_walks.specs.Edges.{switch_by}
 use Rattle.packet_walks.specs.HopsByTables.{next_hop_of, node_entry}
 use Rattle.packet_walks.specs.EndsBySwitch.{onward}

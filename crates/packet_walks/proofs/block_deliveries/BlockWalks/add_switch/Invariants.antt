@@ -1,4 +1,4 @@
-use Rattle.packet_walks.specs.BlockWalks.{AreSeenBy}
+use Rattle.packet_walks.specs.BlockDeliveries.{AreSeenBy}
 use Rattle.packet_walks.proofs.block_deliveries.BlockWalks.add_switch.Given as goal
 
 -- what is seen of the LIDs so far

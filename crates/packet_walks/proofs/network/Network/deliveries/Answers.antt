@@ -3,7 +3,7 @@ use Rattle.std.proofs.Common.{ℕ, List, sym, subst}
 use Rattle.fact_store.specs.View.{cells_of}
 use Rattle.held_tables.specs.declared.audited_switch.AuditedSwitch.{AuditedSwitch}
 use Rattle.held_tables.specs.declared.owners.Owner.{Owner}
-use Rattle.packet_walks.specs.BlockWalks.{AreDelivered}
+use Rattle.packet_walks.specs.BlockDeliveries.{AreDelivered}
 use Rattle.packet_walks.specs.Deliveries.{AreDeliveries}
 use Rattle.packet_walks.specs.Network.{Seen}
 use Rattle.held_tables.specs.declared.held.HeldLid.{HeldLid}

@@ -1,0 +1,458 @@
+//! The command line.
+ghost use Rattle.std.specs.Prelude.{◌≡◌, ◌∷◌, IfOk, codes, false, if◌then◌else◌, is_some, map};
+ghost use Rattle.std.specs.Char.{is_ascii_hexdigit};
+ghost use Rattle.std.specs.List.{list_all};
+ghost use Rattle.std.specs.Str.{bytes_eq};
+ghost use Rattle.clap.specs.Matches.{first_value, found_of};
+ghost use Rattle.clap.specs.Simple.{App, Shape, subcommand_rows_of, with_subcommand};
+ghost use Rattle.clap.specs.Values.{kind_of};
+ghost use Rattle.cli_arguments.specs.CommandLine.{AddsRules, AreRoutings, IsApp, IsOf, IsReadAs};
+ghost use Rattle.cli_arguments.specs.CommandLine.{audit_shape, facts_shape, join_shape, next_shape, order_of_shape};
+ghost use Rattle.cli_arguments.specs.CommandLine.{order_shape};
+ghost use Rattle.cli_arguments.specs.CommandLine.{command_line, of_files, of_order, of_planning, of_routing, of_seat};
+ghost use Rattle.cli_arguments.specs.CommandLine.{plan_shape, program_app, run_shape, serve_shape};
+ghost use Rattle.cli_arguments.specs.CommandLine.{of_report};
+ghost use Rattle.cli_arguments.specs.CommandLine.{text_rule};
+ghost use Rattle.cli_arguments.specs.WellFormed.{IsWellFormed};
+ghost use Rattle.cli_arguments.specs.Words.{has_conflict, has_conflict_behind, is_guid, is_guid_word, is_key};
+ghost use Rattle.cli_arguments.specs.Words.{is_wrong_seat, lacks_rule, order_rule};
+ghost use Rattle.cli_arguments.specs.Words.{planning_conflict};
+
+use crate::argument_names::{
+    AUDIT, BALANCE, FACTS, FILE, GUID, JOIN, LMC, NEXT, ORDER, ORDER_OF, PLAN, ROOTS, ROUTING, RUN,
+    SCHEDULE, SERVE, SM_KEY, SPREAD, TABLES, TOPOLOGY, UPDOWN,
+};
+use crate::arguments::{
+    all, files, floor, lmc, max_load, order_file, port, priority, roots, routing, sm_key, text,
+    told_order,
+};
+use clap::error::ErrorKind;
+use clap::{ArgMatches, Command, Error};
+use std::alloc::{AllocError, Global};
+
+const RULES: [&str; 3] = [UPDOWN, SPREAD, BALANCE];
+
+const VERSION: &str = "0.1.0";
+
+/// The end of a subcommand's help: its exit statuses and an example.
+const FACTS_END: &str = "Exit status:\n  0  done\n  2  the command line is wrong\n  \
+     3  a file is refused\n  4  a file cannot be opened or read, or the output takes no more\n  \
+     5  out of memory\n\nExample:\n  ibsm facts --floor 2 monday.reports tuesday.reports";
+
+const JOIN_END: &str = "Exit status:\n  0  done\n  2  the command line is wrong\n  \
+     3  a file is refused\n  4  a file cannot be opened or read, or the output takes no more\n  \
+     5  out of memory\n\nExample:\n  ibsm join monday.reports tuesday.reports > both.store";
+
+const PLAN_END: &str = "Exit status:\n  0  done\n  2  the command line is wrong\n  \
+     3  a file is refused, or there is no room for the LIDs\n  \
+     4  a file cannot be opened or read, or the output takes no more\n  \
+     5  out of memory\n\nExample:\n  ibsm plan --lmc 1 fabric.reports > fabric.plan";
+
+const ORDER_END: &str = "Exit status:\n  0  done\n  2  the command line is wrong\n  \
+     3  a file is refused\n  4  a file cannot be opened or read, or the output takes no more\n  \
+     5  out of memory\n\nExample:\n  ibsm order fabric.reports > fabric.order";
+
+const AUDIT_END: &str =
+    "Exit status:\n  0  the tables pass, and no channel is busier than --max-load\n  \
+     1  they do not pass, or a channel is busier, and what was printed says why\n  \
+     2  the command line is wrong\n  3  a file is refused\n  \
+     4  a file cannot be opened or read, or the output takes no more\n  \
+     5  out of memory\n\nExample:\n  ibsm audit held.tables fabric.reports";
+
+const ORDER_OF_END: &str = "Exit status:\n  0  done\n  \
+     1  done, and there is no such order, so nothing is printed\n  \
+     2  the command line is wrong\n  3  a file is refused\n  \
+     4  a file cannot be opened or read, or the output takes no more\n  \
+     5  out of memory\n\nExample:\n  ibsm order-of held.tables fabric.reports > fabric.order";
+
+const NEXT_END: &str =
+    "Exit status:\n  0  done, and no mixture of both tables can make a credit loop\n  \
+     1  done, and the credit loop on standard error can come about while they are written\n  \
+     2  the command line is wrong\n  3  a file is refused, a LID moves, or there is no room for the LIDs\n  \
+     4  a file cannot be opened or read, or the output takes no more\n  \
+     5  out of memory\n\nExample:\n  ibsm next held.tables fabric.reports > next.tables";
+
+const RUN_END: &str = "Exit status:\n  0  done\n  2  the command line is wrong\n  \
+     3  a file is refused\n  4  a file cannot be opened or read, or the output takes no more\n  \
+     5  out of memory\n\nExample:\n  ibsm run triangle.topology bring_up.schedule";
+
+const SERVE_END: &str =
+    "It is no subnet administration: it has no path records and no multicast groups, and knows no partitions \
+     and no lanes.\n\n\
+     Exit status:\n  0  done\n  2  the command line is wrong\n  3  a file is refused\n  \
+     4  a file or standard input cannot be opened or read, or the output takes no more\n  \
+     5  out of memory\n\nExample:\n  ibsm serve 0000000000000101 1 5";
+
+/// Parses the words of a command line, the program's name first.
+///
+/// # Errors
+///
+/// Returns `Ok(Err(..))` if `command_line` refuses the words, if options contradict each other, if a manager's GUID or
+/// SM_Key is not hex digits, or if memory ran out. Returns an outer `Err` if memory ran out.
+pub fn matches_of<'a>(
+    alloc: Global,
+    words: &'a [String],
+) -> Result<Result<ArgMatches<'a>, Error>, AllocError>
+    ensures read { IfOk result (λ parsed. (routings : _) × AreRoutings routings
+        × IsReadAs (command_line routings) (map (λ word. word.bytes.items) words.now) parsed) }
+    ensures well_formed { IfOk result (λ parsed. IfOk parsed IsWellFormed) }
+{
+    let command = command_line(alloc, RULES.as_slice())?;
+    let matches = match command.try_get_matches_from(words) {
+        Ok(matches) => matches,
+        Err(error) => return Ok(Err(error)),
+    };
+    if has_conflict(&matches) {
+        let error = conflict(alloc, &matches)?;
+        return Ok(Err(error));
+    }
+    Ok(Ok(matches))
+}
+
+/// Builds the command with all subcommands and their arguments. `routings` are the words for rules of routing.
+fn command_line<'a>(alloc: Global, routings: &'a [&'a str]) -> Result<Command<'a>, AllocError>
+    ensures { IfOk result (IsApp (command_line routings.entry)) }
+{
+    let command = with(Ok(program(alloc)), facts(alloc));
+    let command = with(command, join(alloc));
+    let command = with(command, plan(alloc, routings));
+    let command = with(command, order(alloc, routings));
+    let command = with(command, audit(alloc));
+    let command = with(command, order_of(alloc));
+    let command = with(command, next(alloc, routings));
+    let command = with(command, run(alloc, routings));
+    with(command, serve(alloc, routings))
+}
+
+/// Adds `subcommand` to `command`.
+fn with<'a>(
+    command: Result<Command<'a>, AllocError>,
+    subcommand: Result<Command<'a>, AllocError>,
+) -> Result<Command<'a>, AllocError>
+    ensures { (app : App) (shape : Shape) → IfOk command.entry (IsApp app) → IfOk subcommand.entry (IsOf shape)
+        → IfOk result (IsApp (with_subcommand app shape)) }
+{
+    let subcommand = subcommand?;
+    command?.subcommand(subcommand)
+}
+
+/// Builds the program without its subcommands. It requires one.
+fn program<'a>(alloc: Global) -> Command<'a>
+    ensures { IsApp program_app result }
+{
+    Command::new(alloc, "ibsm")
+        .about("InfiniBand subnet managers")
+        .version(VERSION)
+        .subcommand_required(true)
+}
+
+fn facts<'a>(alloc: Global) -> Result<Command<'a>, AllocError>
+    ensures { IfOk result (IsOf facts_shape) }
+{
+    let command = Command::new(alloc, FACTS)
+        .about("Prints the facts that all the files tell together")
+        .after_help(FACTS_END);
+    of_files(alloc, command)
+}
+
+fn join<'a>(alloc: Global) -> Result<Command<'a>, AllocError>
+    ensures { IfOk result (IsOf join_shape) }
+{
+    let command = Command::new(alloc, JOIN)
+        .about(
+            "Writes the facts that all the files tell together to standard output, as a store file",
+        )
+        .after_help(JOIN_END);
+    of_files(alloc, command)
+}
+
+fn plan<'a>(alloc: Global, routings: &'a [&'a str]) -> Result<Command<'a>, AllocError>
+    ensures { IfOk result (IsOf (plan_shape routings.entry)) }
+{
+    let command = Command::new(alloc, PLAN)
+        .about(
+            "Prints the LIDs and the forwarding blocks that follow from the facts of all the files",
+        )
+        .after_help(PLAN_END);
+    with_planning(alloc, routings, of_files(alloc, command)?)
+}
+
+fn order<'a>(alloc: Global, routings: &'a [&'a str]) -> Result<Command<'a>, AllocError>
+    ensures { IfOk result (IsOf (order_shape routings.entry)) }
+{
+    let command = Command::new(alloc, ORDER)
+        .about(
+            "Prints the switches in the order by which a plan goes, by spread if no rule is named, a GUID a line, for --order",
+        )
+        .after_help(ORDER_END);
+    with_routing(alloc, routings, of_files(alloc, command)?)
+}
+
+fn audit<'a>(alloc: Global) -> Result<Command<'a>, AllocError>
+    ensures { IfOk result (IsOf audit_shape) }
+{
+    let command = Command::new(alloc, AUDIT)
+        .about(
+            "Prints how packets fare by the tables that switches hold, in the subnet of the facts of all the \
+             files",
+        )
+        .after_help(AUDIT_END);
+    with_report(alloc, of_tables(alloc, command)?)
+}
+
+fn order_of<'a>(alloc: Global) -> Result<Command<'a>, AllocError>
+    ensures { IfOk result (IsOf order_of_shape) }
+{
+    let command = Command::new(alloc, ORDER_OF)
+        .about(
+            "Prints the switches in an order by which the tables that switches hold lead packets up and then \
+             down, a GUID a line, for --order",
+        )
+        .after_help(ORDER_OF_END);
+    of_tables(alloc, command)
+}
+
+fn next<'a>(alloc: Global, routings: &'a [&'a str]) -> Result<Command<'a>, AllocError>
+    ensures { IfOk result (IsOf (next_shape routings.entry)) }
+{
+    let command = Command::new(alloc, NEXT)
+        .about(
+            "Prints the tables to write next, from those that switches hold towards the plan of the facts of \
+             all the files, so that no packet for a LID that stays is lost meanwhile",
+        )
+        .after_help(NEXT_END);
+    with_planning(alloc, routings, of_tables(alloc, command)?)?.arg(told_order(alloc))
+}
+
+fn run<'a>(alloc: Global, routings: &'a [&'a str]) -> Result<Command<'a>, AllocError>
+    ensures { IfOk result (IsOf (run_shape routings.entry)) }
+{
+    let command = Command::new(alloc, RUN)
+        .about(
+            "Runs a schedule in the simulated fabric of a topology, and prints what its commands print",
+        )
+        .after_help(RUN_END)
+        .arg(text(
+            alloc,
+            TOPOLOGY,
+            "The nodes of the fabric and the links between them",
+        ))?
+        .arg(text(
+            alloc,
+            SCHEDULE,
+            "The managers and the commands that are run",
+        ))?;
+    with_planning(alloc, routings, command)
+}
+
+fn serve<'a>(alloc: Global, routings: &'a [&'a str]) -> Result<Command<'a>, AllocError>
+    ensures { IfOk result (IsOf (serve_shape routings.entry)) }
+{
+    let command = Command::new(alloc, SERVE)
+        .about(
+            "Serves a subnet manager by the lines on standard input, and prints what it sends and tells",
+        )
+        .after_help(SERVE_END);
+    with_planning(alloc, routings, of_seat(alloc, command)?)
+}
+
+/// Adds the arguments of a manager at a port: GUID, port and priority, and the option for its SM_Key.
+fn of_seat<'a>(alloc: Global, command: Command<'a>) -> Result<Command<'a>, AllocError>
+    ensures { IfOk result (AddsRules of_seat command.entry) }
+{
+    command
+        .arg(text(alloc, GUID, "The GUID of the port, 1 to 16 hex digits"))?
+        .arg(port(alloc))?
+        .arg(priority(alloc))?
+        .arg(sm_key(alloc))
+}
+
+/// Adds the files and the option for a floor.
+fn of_files<'a>(alloc: Global, command: Command<'a>) -> Result<Command<'a>, AllocError>
+    ensures { IfOk result (AddsRules of_files command.entry) }
+{
+    command.arg(files(alloc))?.arg(floor(alloc))
+}
+
+/// Adds the text of tables, the files and the option for a floor.
+fn of_tables<'a>(alloc: Global, command: Command<'a>) -> Result<Command<'a>, AllocError>
+    ensures { IfOk result (AddsRules (text_rule (codes "TABLES") ∷ of_files) command.entry) }
+{
+    let command = command.arg(text(
+        alloc,
+        TABLES,
+        "The LIDs that ports hold and the forwarding tables of switches, as plan prints them",
+    ))?;
+    of_files(alloc, command)
+}
+
+/// Adds the options of an audit: how much it prints, and which load passes.
+fn with_report<'a>(alloc: Global, command: Command<'a>) -> Result<Command<'a>, AllocError>
+    ensures { IfOk result (AddsRules of_report command.entry) }
+{
+    command.arg(all(alloc))?.arg(max_load(alloc))
+}
+
+/// Adds the options of a plan: its LMC, its rule of routing, and the roots or the order.
+fn with_planning<'a>(
+    alloc: Global,
+    routings: &'a [&'a str],
+    command: Command<'a>,
+) -> Result<Command<'a>, AllocError>
+    ensures { IfOk result (AddsRules (of_planning routings.entry) command.entry) }
+{
+    let command = command.arg(lmc(alloc))?;
+    with_routing(alloc, routings, command)
+}
+
+/// Adds the options for a rule of routing, and for its roots or its order.
+fn with_routing<'a>(
+    alloc: Global,
+    routings: &'a [&'a str],
+    command: Command<'a>,
+) -> Result<Command<'a>, AllocError>
+    ensures { IfOk result (AddsRules (of_routing routings.entry) command.entry) }
+{
+    let command = command.arg(routing(alloc, routings))?;
+    with_order(alloc, command)
+}
+
+/// Adds the options for the order of switches: roots, or an order.
+fn with_order<'a>(alloc: Global, command: Command<'a>) -> Result<Command<'a>, AllocError>
+    ensures { IfOk result (AddsRules of_order command.entry) }
+{
+    command.arg(roots(alloc))?.arg(order_file(alloc))
+}
+
+/// Returns whether options contradict each other: roots and an order are both named, or one of them is named without a
+/// rule of routing that takes it. Also returns true if a manager's GUID or SM_Key is not hex digits.
+fn has_conflict(matches: &ArgMatches<'_>) -> bool
+    ensures { result ≡ has_conflict_behind (subcommand_rows_of matches.now) }
+{
+    match matches.subcommand() {
+        Some((name, words)) => has_conflict_in(name, words),
+        None => false,
+    }
+}
+
+/// Returns whether the options of the subcommand `name` contradict each other, or it serves a manager and its GUID or
+/// SM_Key is not hex digits.
+fn has_conflict_in(name: &str, words: &ArgMatches<'_>) -> bool
+    ensures { result ≡ has_conflict name.now (first_value (found_of words.now)) }
+{
+    match name {
+        SERVE => planning_conflict(name, words) || has_wrong_seat(words),
+        _ => planning_conflict(name, words),
+    }
+}
+
+/// Returns whether options of a plan or an order contradict each other.
+fn planning_conflict(name: &str, words: &ArgMatches<'_>) -> bool
+    ensures { result ≡ planning_conflict name.now (first_value (found_of words.now)) }
+{
+    let rooted = is_named(words, ROOTS);
+    let ordered = is_named(words, ORDER);
+    (rooted && ordered) || lacks_rule(name, words, rooted, ordered)
+}
+
+/// Returns whether the GUID of a manager's port or its SM_Key is not 1 to 16 hex digits.
+fn has_wrong_seat(words: &ArgMatches<'_>) -> bool
+    ensures { result ≡ is_wrong_seat (first_value (found_of words.now)) }
+{
+    !has_guid(words) || !has_key(words)
+}
+
+/// Returns whether an SM_Key, if a word names one, is 1 to 16 hex digits.
+fn has_key(words: &ArgMatches<'_>) -> bool
+    ensures { result ≡ is_key (first_value (found_of words.now) (codes "sm-key")) }
+{
+    match words.get_str(SM_KEY) {
+        Some(word) => is_guid_word(word.as_bytes()),
+        None => true,
+    }
+}
+
+/// Returns whether there is a word for the GUID, and it is 1 to 16 hex digits.
+fn has_guid(words: &ArgMatches<'_>) -> bool
+    ensures { result ≡ is_guid (first_value (found_of words.now) (codes "GUID")) }
+{
+    match words.get_str(GUID) {
+        Some(word) => is_guid_word(word.as_bytes()),
+        None => false,
+    }
+}
+
+/// Returns whether `word` is 1 to 16 hex digits.
+fn is_guid_word(word: &[u8]) -> bool
+    ensures { result ≡ is_guid_word word.now }
+{
+    !word.is_empty() && word.len() <= 16 && are_hex_digits(word)
+}
+
+/// Returns whether all of `bytes` are hex digits.
+fn are_hex_digits(bytes: &[u8]) -> bool
+    ensures { result ≡ list_all is_ascii_hexdigit bytes.now }
+{
+    bytes.iter().all(|byte| byte.is_ascii_hexdigit())
+}
+
+/// Returns whether roots are named (`rooted`) without the rule that takes them, or an order is named (`ordered`)
+/// without a rule that takes it. For the subcommand that prints an order, `spread` need not be named.
+fn lacks_rule(name: &str, words: &ArgMatches<'_>, rooted: bool, ordered: bool) -> bool
+    ensures { result ≡ lacks_rule (if bytes_eq name.now (codes "order")
+        then order_rule (first_value (found_of words.now) (codes "routing"))
+        else first_value (found_of words.now) (codes "routing")) rooted ordered }
+{
+    match (name, words.get_str(ROUTING)) {
+        (_, Some(SPREAD)) | (ORDER, None) => false,
+        (_, Some(BALANCE)) => rooted,
+        _ => rooted || ordered,
+    }
+}
+
+/// Returns whether the option `name` has a word.
+fn is_named(words: &ArgMatches<'_>, name: &str) -> bool
+    ensures { result ≡ is_some (first_value (found_of words.now) name.now) }
+{
+    words.get_str(name).is_some()
+}
+
+/// Returns the error for options that contradict each other.
+fn conflict(alloc: Global, matches: &ArgMatches<'_>) -> Result<Error, AllocError>
+    ensures { IfOk result (λ error. kind_of error ≡ ErrorKind.ArgumentConflict) }
+{
+    let mut command = subcommand(alloc, matches.subcommand_name())?;
+    command.error(ErrorKind::ArgumentConflict, conflict_text(matches))
+}
+
+/// Returns the text of the error for options that contradict each other, or for a GUID or an SM_Key that is not hex
+/// digits.
+fn conflict_text(matches: &ArgMatches<'_>) -> &'static str {
+    let Some((_, words)) = matches.subcommand() else {
+        return "";
+    };
+    if is_named(words, GUID) && !has_guid(words) {
+        return "invalid value for '<GUID>': 1 to 16 hex digits are wanted";
+    }
+    if !has_key(words) {
+        return "invalid value for '--sm-key <HEX>': 1 to 16 hex digits are wanted";
+    }
+    match (is_named(words, ROOTS), is_named(words, ORDER)) {
+        (true, true) => "the argument '--roots <FILE>' cannot be used with '--order <FILE>'",
+        (true, false) => "the argument '--roots <FILE>' cannot be used without '--routing spread'",
+        (false, _) => {
+            "the argument '--order <FILE>' cannot be used without '--routing spread' or '--routing balance'"
+        }
+    }
+}
+
+/// Builds the subcommand `name`: `next`, `run`, `order` or `serve`, and `plan` for any other name.
+fn subcommand<'a>(alloc: Global, name: Option<&str>) -> Result<Command<'a>, AllocError> {
+    match name {
+        Some(NEXT) => next(alloc, RULES.as_slice())?.bin_name("ibsm next"),
+        Some(RUN) => run(alloc, RULES.as_slice())?.bin_name("ibsm run"),
+        Some(ORDER) => order(alloc, RULES.as_slice())?.bin_name("ibsm order"),
+        Some(SERVE) => serve(alloc, RULES.as_slice())?.bin_name("ibsm serve"),
+        _ => plan(alloc, RULES.as_slice())?.bin_name("ibsm plan"),
+    }
+}
