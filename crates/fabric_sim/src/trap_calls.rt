@@ -33,7 +33,7 @@ impl Fabric {
     }
 
     /// Tells the agent of a node that the state of one of its ports has changed. If the node is a switch and switches
-    /// send traps, a new trap waits there, and is sent.
+    /// send traps, a new trap waits there. It is sent if it can leave.
     ///
     /// # Errors
     ///

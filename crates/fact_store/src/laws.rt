@@ -41,7 +41,7 @@ pub fn merge_is_least_above_both()
     ensures { MergeLaw }
 {}
 
-/// Only the merge is above both facts and below all facts that are above both.
+/// Two stores have only one merge: no other facts are above both and below everything that is above both.
 pub fn merge_is_unique()
     ensures { MergeIsUnique }
 {}

@@ -25,7 +25,7 @@ pub struct AuditedSwitch {
     pub ports: u8,
 }
 
-/// Returns the usable switches of the view, by rising GUID.
+/// Returns the switches `guids`, the usable ones of the view, with where their wires lead and what `held` says of them.
 pub fn nodes(
     alloc: Global,
     wires: &Wires,

@@ -83,7 +83,7 @@ impl TableRow {
     }
 }
 
-/// Writes the entries for `lids` at the switch that they are attached to.
+/// Sets the entry for each of `lids` to the port of its attachment, or to 255 if it has none.
 fn write_own(entries: &mut [u8], attachments: &[Option<Attachment>], lids: &[Lid])
     requires lids { All (λ lid. lid < length entries.old) lids.now }
     requires attachments { length entries.old ≡ length attachments.now }

@@ -14,7 +14,7 @@ use smp_bytes::Lid;
 use std::alloc::{AllocError, Global};
 use step_loops::{loop_lids, step_order};
 
-/// Channels that wait for each other in a step; empty if there is no credit loop.
+/// A shortest credit loop in a step. Both lists are empty if there is none.
 #[derive(Drop)]
 pub(crate) struct StepLoop {
     pub channels: Vec<usize>,

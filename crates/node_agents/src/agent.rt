@@ -115,7 +115,7 @@ impl Agent {
         }
     }
 
-    /// Returns a port; if the node does not have it, a Down port to which nothing was written.
+    /// Returns the port `port`. If the node has no such port, returns a Down port to which nothing was written.
     pub(crate) fn port(&self, port: PortNum) -> Port
         ensures { result ≡ port_at self.now port }
     {

@@ -1,4 +1,4 @@
--- The ports by which usable switches forward packets for a LID to each other.
+-- The ports by which usable switches forward packets for a LID to usable switches.
 use Rattle.std.specs.Prelude.{ℕ, ◌==◌, List, Option, None, Some, map, slice_index_or, if◌then◌else◌}
 use Rattle.port_graph.specs.declared.edge.Edge.{Edge}
 use Rattle.subnet_view.specs.Reading.{Cells, switches}

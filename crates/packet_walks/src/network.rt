@@ -271,8 +271,8 @@ impl<'a> Network<'a> {
         }
     }
 
-    /// Returns, for each usable switch by rising GUID, the port by which it forwards packets for `lid` to another
-    /// usable switch, and the index of that switch; `None` if it does not. Takes a step for each switch.
+    /// Returns, for each usable switch by rising GUID, the port by which it forwards packets for `lid` to a usable switch,
+    /// possibly itself, and the index of that switch; `None` if it forwards them to none. Takes a step for each switch.
     pub fn edges(
         &self,
         alloc: Global,

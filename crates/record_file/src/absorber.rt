@@ -41,7 +41,7 @@ impl Absorber {
         }
     }
 
-    /// Adds to the store what the header and the records that `piece` completes contain.
+    /// Adds to `store` the contents of the header and of the records that `piece` completes.
     ///
     /// # Errors
     ///

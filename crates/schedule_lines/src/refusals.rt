@@ -40,7 +40,7 @@ pub fn refuse_manager<W: Sink>(sink: &mut W, fault: ManagerFault) -> Result<(), 
     Ok(())
 }
 
-/// Prints `refused` and `name`, the name of a fault.
+/// Prints the line of a refused call: `refused`, and `name`, the name of the fault.
 fn write_refusal<W: Sink>(sink: &mut W, name: &str) -> Result<(), WriteFault>
     ensures writes { Writes W.written W.has_failed result sink.old sink.new
         (refusal_line name.now) }

@@ -28,7 +28,7 @@ pub(crate) struct Setting {
     pub(crate) schedule: Schedule,
 }
 
-/// The reader of both texts, which knows the switches of the topology.
+/// Reads the text of a topology and then that of a schedule. Finds switches in the topology that was read.
 #[derive(Clone, Copy, Debug, PartialEq, Eq)]
 pub(crate) struct TopologyAndSchedule;
 

@@ -29,7 +29,7 @@ impl SmState {
         STATES.iter().copied().find(|state| number == state.code())
     }
 
-    /// Returns the number as in SMInfo.
+    /// Returns the number of the state, as SMInfo spells it.
     pub fn number(self) -> SmStateNumber
         ensures { result ≡ number_of_state self }
     {

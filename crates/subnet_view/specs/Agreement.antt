@@ -26,14 +26,14 @@ pub record IsEndPortIn (part : Part) (f : Fabric) (port : NodePort) (node : fabr
   pub end_port : fabric.IsEndPort f port
   pub in_part : part port
 
--- `port` is the port p of the node with the GUID g
+-- `port` is port p of a node with the GUID g
 pub record IsPortNamed (f : Fabric) (g p : ℕ) (port : NodePort) : Type 0 where
   pub node : fabric.Node
   pub node_there : IsNodeAt f port.node node
   pub guid_is : node.guid ≡ g
   pub port_is : port.port ≡ p
 
--- the port p of the node with the GUID g is an end port of the part
+-- port p of a node with the GUID g is an end port of the part
 pub record HasEndPort (part : Part) (f : Fabric) (g p : ℕ) : Type 0 where
   pub port : NodePort
   pub named : IsPortNamed f g p port
