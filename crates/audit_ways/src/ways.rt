@@ -87,8 +87,8 @@ fn tally_of(alloc: Global, network: &Network, told: &[bool]) -> Result<WayTally,
     Ok(tally)
 }
 
-/// Returns whether all packets for the LID of the line at `index` are known to arrive, by `told`. Returns false if `told`
-/// has no such entry.
+/// Returns whether all packets for the LID of the line at `index` are known to arrive, by `told`. Returns false if
+/// `told` has no such entry.
 fn is_told(told: &[bool], index: usize) -> bool
     ensures { result ≡ slice_index_or told.now index false }
 {

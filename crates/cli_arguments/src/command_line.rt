@@ -417,8 +417,8 @@ fn is_named(words: &ArgMatches<'_>, name: &str) -> bool
     words.get_str(name).is_some()
 }
 
-/// Returns the error for command lines for which `has_conflict` returns true: options contradict each other, or a GUID or
-/// an SM_Key is not hex digits.
+/// Returns the error for command lines for which `has_conflict` returns true: options contradict each other, or a GUID
+/// or an SM_Key is not hex digits.
 fn conflict(alloc: Global, matches: &ArgMatches<'_>) -> Result<Error, AllocError>
     ensures { IfOk result (λ error. kind_of error ≡ ErrorKind.ArgumentConflict) }
 {

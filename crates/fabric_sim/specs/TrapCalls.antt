@@ -76,8 +76,8 @@ after_send_trap s id = leaving_just (option_map_or (trap_sent s id) (trap_at s.t
 abbrev pub sends_traps : Simulation → ℕ → Bool
 sends_traps s id = nat_lt id (length s.traps.waiting) && is_switch_at (fabric_of s) id
 
--- the fabric after the state of a port of a node has changed: at a switch that sends traps, a new trap waits, and is sent
--- if it can leave
+-- the fabric after the state of a port of a node has changed: at a switch that sends traps, a new trap waits, and is
+-- sent if it can leave
 unfoldable pub after_port_change : Simulation → ℕ → Called (Unit {0})
 after_port_change s id =
     leaving_just (if sends_traps s id then with_traps (trap_sent s id (next_trap s.traps)) (with_new_trap s.traps id) else s)

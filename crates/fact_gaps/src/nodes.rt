@@ -119,8 +119,8 @@ fn is_known_node(store: &Store, node: Guid) -> bool
     }
 }
 
-/// Returns the far port that `sighting` reports. Returns `None` if it is not the cell of a link, or if the far port is not
-/// known.
+/// Returns the far port that `sighting` reports. Returns `None` if it is not the cell of a link, or if the far port is
+/// not known.
 pub(crate) fn far_port(sighting: &Sighting) -> Option<(Guid, PortNum)>
     ensures { result ≡ far_port sighting.now }
 {

@@ -271,8 +271,9 @@ impl<'a> Network<'a> {
         }
     }
 
-    /// Returns, for each usable switch by rising GUID, the port by which it forwards packets for `lid` to a usable switch,
-    /// possibly itself, and the index of that switch; `None` if it forwards them to none. Takes a step for each switch.
+    /// Returns, for each usable switch by rising GUID, the port by which it forwards packets for `lid` to a usable
+    /// switch, possibly itself, and the index of that switch; `None` if it forwards them to none. Takes a step for
+    /// each switch.
     pub fn edges(
         &self,
         alloc: Global,

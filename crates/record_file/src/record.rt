@@ -12,8 +12,8 @@ use crate::store_file::cell_of;
 use fact_store::{Cell, IngestFault, Key, ReportFault, Store, Value};
 use smp_bytes::Generation;
 
-/// Adds the contents of the record `bytes` to `store`. Returns the key of the record's cell, or `None` if it is a report.
-/// `index` is the number of the record in its file, and `last` the key of the cell before it, if there is one.
+/// Adds the contents of the record `bytes` to `store`. Returns the key of the record's cell, or `None` if it is a
+/// report. `index` is the number of the record in its file, and `last` the key of the cell before it, if there is one.
 pub(crate) fn absorb_record(
     format: Format,
     last: Option<Key>,

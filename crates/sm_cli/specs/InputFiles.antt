@@ -16,8 +16,8 @@ use Rattle.sm_cli.specs.declared.fault.Fault.TheVariants.{File}
 abbrev pub floor_among : ℕ → List (List ℕ) → ℕ
 floor_among floor files = fold max floor (map floor_in files)
 
--- what the files say together, by their records before the first bad one, at the greatest of `floor` and the floors of the
--- files
+-- what the files say together, by their records before the first bad one, at the greatest of `floor` and the floors of
+-- the files
 abbrev pub facts_of : ℕ → List (List ℕ) → Facts
 facts_of floor files = view_at (floor_among floor files) (flat_map kept files)
 

@@ -49,8 +49,8 @@ is_control s packet = number_in method packet == set && (is_live s.conduct || no
 abbrev pub acknowledged_at : List ℕ → Option ℕ → Option ℕ
 acknowledged_at packet from = if is_directed packet then None else from
 
--- the manager once its state has moved and the answer is queued; then the message of the transition, if it has one and the
--- packet came by LIDs
+-- the manager once its state has moved and the answer is queued; then the message of the transition, if it has one and
+-- the packet came by LIDs
 abbrev pub moved_on : Manager → List ℕ → Option ℕ → Transition → Manager
 moved_on m packet from move =
     after_message (answering (record m { standing = moved_to move.state m.standing }) packet from (status_of move))

@@ -53,8 +53,8 @@ impl Manager {
         Ok(())
     }
 
-    /// Moves the state by the table of states, and queues the answer to the control `smp`. If the transition has a message
-    /// and the control came by LIDs, queues the message to `from`.
+    /// Moves the state by the table of states, and queues the answer to the control `smp`. If the transition has a
+    /// message and the control came by LIDs, queues the message to `from`.
     fn answer_control(&mut self, smp: &Smp, from: Option<Lid>) -> Result<(), ManagerFault>
         ensures judged { JudgesButFor is_memory result
             (unless_spent self.old (controlled self.old smp.now from)).fault }

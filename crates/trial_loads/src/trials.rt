@@ -54,8 +54,8 @@ pub(crate) fn trial_loads(
     loads_by(alloc, &graph, &adapters)
 }
 
-/// Returns how many packets each channel carries if each adapter sends 65,536 packets to each adapter. `adapters` has the
-/// number of adapters at each vertex of `graph`. Counts the packets to 64 targets at a time.
+/// Returns how many packets each channel carries if each adapter sends 65,536 packets to each adapter. `adapters` has
+/// the number of adapters at each vertex of `graph`. Counts the packets to 64 targets at a time.
 fn loads_by(alloc: Global, graph: &Adjacency, adapters: &[u16]) -> Result<Vec<usize>, AllocError>
     requires lead { LeadToVertices graph.now }
     requires adapters { length adapters.now ≡ length graph.now }

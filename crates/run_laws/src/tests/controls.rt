@@ -123,8 +123,8 @@ fn obeys(manager: &mut Manager, modifier: u32, to: Option<SmState>) -> bool {
         && acknowledges(manager, to.is_some() && modifier == HANDOVER)
 }
 
-/// Returns whether a manager in the state `from` moves to `to` by the control `modifier`. If `to` is `None`, the manager
-/// must refuse the control and stay.
+/// Returns whether a manager in the state `from` moves to `to` by the control `modifier`. If `to` is `None`, the
+/// manager must refuse the control and stay.
 fn obeys_in(alloc: Global, from: SmState, modifier: u32, to: Option<SmState>) -> bool {
     let mut manager = manager(alloc);
     becomes_master(&mut manager)
