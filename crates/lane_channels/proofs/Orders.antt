@@ -1,0 +1,32 @@
+-- The order of channels by lane, in terms of packets.
+use Rattle.std.proofs.Common.{◌<◌, ℕ, List, [], ◌∷◌, Bool}
+use Rattle.std.specs.Prelude.{slice_index_or}
+use Rattle.audit_channels.specs.Orders.{GoesOn, IsCycle, IsOrder, IsShortest}
+use Rattle.audit_channels.specs.declared.order.ChannelOrder.{ChannelOrder}
+use Rattle.audit_channels.specs.declared.order.ChannelOrder.TheVariants.{Rises, Cycle}
+use Rattle.lane_channels.specs.LaneNetwork.{SeenByLane}
+use Rattle.lane_channels.specs.Waiting.{AreLaneWaits, IsLaneCycle, NoneShorter, RiseByLane, WaitOn, WaitInCycle}
+
+module _ (s : SeenByLane) (answers : Bool) (waits : List (List ℕ)) (are : AreLaneWaits s answers waits) where
+  on : (channel last : ℕ) (later : List ℕ) → GoesOn waits channel later last → WaitOn s answers channel later last
+  on channel last [] h = (are.follows channel last).0 h
+  on channel last (next ∷ later) h = ((are.follows channel next).0 h.0, on next last later h.1)
+
+  pub cycle_is : (channels : List ℕ) → IsCycle waits channels → IsLaneCycle s answers channels
+  cycle_is [] h = absurd h
+  cycle_is (channel ∷ later) h = on channel channel later h
+
+  goes_on : (channel last : ℕ) (later : List ℕ) → WaitOn s answers channel later last → GoesOn waits channel later last
+  goes_on channel last [] h = (are.follows channel last).1 h
+  goes_on channel last (next ∷ later) h = ((are.follows channel next).1 h.0, goes_on next last later h.1)
+
+  is_cycle : (channels : List ℕ) → WaitInCycle s answers channels → IsCycle waits channels
+  is_cycle [] h = h
+  is_cycle (channel ∷ later) h = goes_on channel channel later h
+
+  pub shortest_is : (channels : List ℕ) → ((cycle : List ℕ) → IsCycle waits cycle → length channels ≤ length cycle)
+      → NoneShorter s answers channels
+  shortest_is channels h other waiting = h other (is_cycle other waiting)
+
+  pub rises : (numbers : List ℕ) → IsOrder waits (Rises numbers) → RiseByLane s answers
+  rises numbers h = record { number = λ c. slice_index_or numbers c 0; rises = λ a b w. h.rises a b ((are.follows a b).1 w) }

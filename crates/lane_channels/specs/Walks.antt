@@ -1,0 +1,133 @@
+-- Packets for one LID followed from stop to stop. `column` has the LID's edges. A mark says from which stops packets of
+-- which level were followed; 4096 marks belong to each switch.
+use Rattle.std.specs.Prelude.{◌≡◌, ◌⊎◌, ◌↔◌, ◌<◌, ◌≤◌, ◌+◌, ◌*◌, ℕ, ◌==◌, ◌||◌, Bool, List, Option, None, Some, length, nat_le, option_and_then, slice_index_or, slice_set, if◌then◌else◌}
+use Rattle.port_graph.specs.declared.edge.Edge.{Edge}
+use Rattle.subnet_view.specs.Reading.{Cells}
+use Rattle.audit_channels.specs.Orders.{Follows}
+use Rattle.lanes_file.specs.Lanes.{LanesSaid}
+use Rattle.lane_channels.specs.declared.stop.Stop.{Stop}
+use Rattle.lane_channels.specs.declared.stop.Dropped.{Dropped}
+use Rattle.lane_channels.specs.Stops.{next_stop, stop_after}
+use Rattle.lane_channels.specs.LaneTurns.{DropsBefore, DropsNone, TakesByLane}
+use Rattle.lane_channels.specs.declared.walk.Walks.{Walks}
+
+-- the number of the mark of a stop and a level
+abbrev pub mark_number : ℕ → Stop → ℕ
+mark_number level stop = 16 * (256 * stop.at + stop.into) + level
+
+-- packets for `lid` of `level` were followed from the stop
+abbrev pub IsMarked : ℕ → List ℕ → ℕ → Stop → Type 0
+IsMarked lid marks level stop = slice_index_or marks (mark_number level stop) 0 ≡ lid
+
+-- nothing is left to follow from the stop, since there is no such switch among `count`, or packets were followed
+abbrev pub is_done : ℕ → ℕ → List ℕ → ℕ → Stop → Bool
+is_done count lid marks level stop =
+    nat_le count stop.at || slice_index_or marks (mark_number level stop) 0 == lid
+
+abbrev pub IsDone : ℕ → ℕ → List ℕ → ℕ → Stop → Type 0
+IsDone count lid marks level stop = IsMarked lid marks level stop ⊎ (count ≤ stop.at)
+
+-- packets that were followed to a stop were followed from there
+abbrev pub IsClosed : LanesSaid → Cells → List (Option Edge) → ℕ → List ℕ → Type 0
+IsClosed said cells column lid marks =
+    (level : ℕ) (stop next : Stop) → level < 16 → stop.into < 256 → IsMarked lid marks level stop
+    → next_stop said cells column level stop ≡ Some next
+    → (next.into < 256) × IsDone (length column) lid marks level next
+
+-- the channels that followed packets take in turn follow each other in `waits`
+abbrev pub AreRecorded : LanesSaid → Cells → List (Option Edge) → ℕ → List ℕ → List (List ℕ) → Type 0
+AreRecorded said cells column lid marks waits =
+    (level : ℕ) (stop : Stop) (a b : ℕ) → level < 16 → stop.into < 256 → IsMarked lid marks level stop
+    → TakesByLane said cells column level stop a b → Follows waits a b
+
+-- if no dropped packet is noted, no followed packet is dropped
+abbrev pub IsNoted : LanesSaid → Cells → List (Option Edge) → ℕ → List ℕ → Option Dropped → Type 0
+IsNoted said cells column lid marks dropped =
+    dropped ≡ None → (level : ℕ) (stop : Stop) (out : ℕ) → level < 16 → stop.into < 256 → IsMarked lid marks level stop
+    → DropsBefore said cells column level stop out → ⊥
+
+-- packets of a level that begin at a stop, or nowhere
+abbrev pub Beginnings : Type 1
+Beginnings = ℕ → Option Stop → Type 0
+
+-- a packet of `level`, one of these, comes to the stop
+pub record Reaches (said : LanesSaid) (cells : Cells) (column : List (Option Edge)) (these : Beginnings) (level : ℕ)
+    (stop : Stop) : Type 0 where
+  pub first : Option Stop
+  pub begins : these level first
+  pub count : ℕ
+  pub is_there : stop_after said cells column level count first ≡ Some stop
+
+-- one of these packets takes `channel` and then `next`
+pub record OneTakes (said : LanesSaid) (cells : Cells) (column : List (Option Edge)) (these : Beginnings)
+    (channel next : ℕ) : Type 0 where
+  pub level : ℕ
+  pub stop : Stop
+  pub reaches : Reaches said cells column these level stop
+  pub takes : TakesByLane said cells column level stop channel next
+
+-- one of these packets, for `lid`, is dropped for want of a lane
+pub record IsDroppedOne (said : LanesSaid) (cells : Cells) (column : List (Option Edge)) (these : Beginnings) (lid : ℕ)
+    (dropped : Dropped) : Type 0 where
+  pub lid_is : dropped.lid ≡ lid
+  pub reaches : Reaches said cells column these dropped.level dropped.stop
+  pub drops : DropsBefore said cells column dropped.level dropped.stop dropped.out
+
+-- what is kept of packets that were followed
+pub record Walked : Type 0 where
+  pub marks : List ℕ
+  pub waits : List (List ℕ)
+  pub dropped : Option Dropped
+
+-- followed packets are followed to their ends, with what they take in turn and whether one is dropped
+pub record IsWhole (said : LanesSaid) (cells : Cells) (column : List (Option Edge)) (lid : ℕ) (w : Walked) : Type 0 where
+  pub closed : IsClosed said cells column lid w.marks
+  pub recorded : AreRecorded said cells column lid w.marks w.waits
+  pub noted : IsNoted said cells column lid w.marks w.dropped
+
+-- these packets for `lid` were also followed
+pub record AreFollowed (said : LanesSaid) (cells : Cells) (column : List (Option Edge)) (lid : ℕ) (these : Beginnings)
+    (old new : Walked) : Type 0 where
+  pub as_many : length new.waits ≡ length old.waits
+  pub as_many_marks : length new.marks ≡ length old.marks
+  pub no_later : ((i : ℕ) → slice_index_or old.marks i 0 ≤ lid) → (i : ℕ) → slice_index_or new.marks i 0 ≤ lid
+  pub kept : (level : ℕ) (stop : Stop) → IsMarked lid old.marks level stop → IsMarked lid new.marks level stop
+  pub begun : (level : ℕ) (first : Option Stop) (stop : Stop) → these level first → first ≡ Some stop
+      → IsDone (length column) lid new.marks level stop
+  pub whole : IsWhole said cells column lid old → IsWhole said cells column lid new
+  pub waits_kept : (a b : ℕ) → Follows old.waits a b → Follows new.waits a b
+  pub waits_only : (a b : ℕ) → Follows new.waits a b
+      → Follows old.waits a b ⊎ OneTakes said cells column these a b
+  pub dropped_only : (d : Dropped) → new.dropped ≡ Some d
+      → (old.dropped ≡ Some d) ⊎ IsDroppedOne said cells column these lid d
+
+-- packets of `level` that begin at `first`
+abbrev pub Begins : ℕ → Option Stop → Beginnings
+Begins level first l f = (l ≡ level) × (f ≡ first)
+
+-- what is kept, as specified
+abbrev pub walked : Walks → Walked
+walked walks = record { marks = walks.marks.items; waits = walks.waits; dropped = walks.dropped }
+
+-- the stop, unless nothing is left to follow from there
+abbrev pub if_not_done : ℕ → ℕ → List ℕ → ℕ → Stop → Option Stop
+if_not_done count lid marks level stop = if is_done count lid marks level stop then None else Some stop
+
+abbrev pub not_done : ℕ → ℕ → List ℕ → ℕ → Option Stop → Option Stop
+not_done count lid marks level next = option_and_then (if_not_done count lid marks level) next
+
+-- `new` is `noted`, or else the packet of `level` at the stop if it is dropped there
+pub record IsDroppedNow (said : LanesSaid) (cells : Cells) (column : List (Option Edge)) (lid level : ℕ) (stop : Stop)
+    (noted new : Option Dropped) : Type 0 where
+  pub none : new ≡ None → (noted ≡ None) × DropsNone said cells column level stop
+  pub some : (d : Dropped) → new ≡ Some d
+      → (noted ≡ Some d) ⊎ ((d.lid ≡ lid) × (d.level ≡ level) × (d.stop ≡ stop) × DropsBefore said cells column level stop d.out)
+
+-- the stop is marked, and what a packet of `level` takes from there in turn, and whether it is dropped, is kept
+pub record IsVisit (said : LanesSaid) (cells : Cells) (column : List (Option Edge)) (lid level : ℕ) (stop : Stop)
+    (old new : Walked) : Type 0 where
+  pub as_many : length new.waits ≡ length old.waits
+  pub marks : new.marks ≡ slice_set old.marks (mark_number level stop) lid
+  pub follows : (a b : ℕ) → Follows new.waits a b
+      ↔ (Follows old.waits a b ⊎ TakesByLane said cells column level stop a b)
+  pub dropped : IsDroppedNow said cells column lid level stop old.dropped new.dropped

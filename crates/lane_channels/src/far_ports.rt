@@ -1,0 +1,89 @@
+//! The ports at the far ends of wires.
+ghost use Rattle.std.specs.Prelude.{◌≡◌, ◌*◌, ◌/◌, ◌%◌, IfOk, length, map, slice_index_or};
+ghost use Rattle.std.specs.List.{range_with_len};
+ghost use Rattle.fact_store.specs.View.{cells_of};
+ghost use Rattle.subnet_view.specs.Reading.{switches};
+ghost use Rattle.lane_channels.specs.Stops.{far_port, far_port_by, first_stop, stop_from};
+ghost use Rattle.held_tables.specs.Switches.{sender_of};
+
+use crate::stop::Stop;
+use held_tables::{Far, Sender};
+use packet_walks::Network;
+use smp_bytes::{Guid, PortNum};
+use std::alloc::{AllocError, Global};
+use subnet_view::Wires;
+
+/// Returns, for each port of each usable switch, the port at the far end of its wire, or 0 if it has none. The port p
+/// of the switch at index i is at 256 * i + p.
+pub(crate) fn far_ports(
+    alloc: Global,
+    network: &Network,
+    wires: &Wires,
+) -> Result<Vec<PortNum>, AllocError>
+    requires { cells_of wires.now ≡ cells_of network.now.facts }
+    ensures { IfOk result (λ ports. ports.items ≡ map (far_port_by (cells_of network.now.facts))
+        (range_with_len 0 (256 * length (switches (cells_of network.now.facts))))) }
+{
+    let count = network.switch_count().checked_mul(256).ok_or(AllocError)?;
+    let mut ports = Vec::with_capacity(alloc, count)?;
+    for number in 0..count {
+        ports.push(far_port_by(network, wires, number))?;
+    }
+    Ok(ports)
+}
+
+/// Returns the port at the far end of the wire in a port of a usable switch, or 0 if there is none. `number` is 256
+/// times the switch's index, plus the port.
+fn far_port_by(network: &Network, wires: &Wires, number: usize) -> PortNum
+    requires { cells_of wires.now ≡ cells_of network.now.facts }
+    ensures { result ≡ far_port_by (cells_of network.now.facts) number }
+{
+    match network.switch(number / 256) {
+        Some(guid) => far_port(wires, guid, PortNum::new((number % 256) as u8)),
+        None => PortNum::new(0),
+    }
+}
+
+/// Returns the port at the far end of the wire in `port` of `node`, or 0 if there is none.
+fn far_port(wires: &Wires, node: Guid, port: PortNum) -> PortNum
+    ensures { result ≡ far_port (cells_of wires.now) node port }
+{
+    match wires.across(node, port) {
+        Some((_, far)) => far,
+        None => PortNum::new(0),
+    }
+}
+
+/// Returns, for each sender, where its packets first reach a usable switch, or `None` if they reach none.
+pub(crate) fn first_stops(
+    alloc: Global,
+    network: &Network,
+    wires: &Wires,
+) -> Result<Vec<Option<Stop>>, AllocError>
+    requires { cells_of wires.now ≡ cells_of network.now.facts }
+    ensures { IfOk result (λ firsts. firsts.items ≡ map (first_stop (cells_of network.now.facts))
+        (Rattle.subnet_view.specs.EndPorts.end_ports (cells_of network.now.facts))) }
+{
+    let mut firsts = Vec::with_capacity(alloc, network.sources().len())?;
+    for source in network.sources() {
+        firsts.push(first_stop(wires, source))?;
+    }
+    Ok(firsts)
+}
+
+/// Returns where the packets of `source` first reach a usable switch, or `None` if they reach none.
+fn first_stop(wires: &Wires, source: &Sender) -> Option<Stop>
+    ensures { result ≡ stop_from source.now (far_port (cells_of wires.now) source.now.port.node source.now.port.port) }
+{
+    match (source.switch, source.far) {
+        (Some(index), _) => Some(Stop {
+            at: index,
+            into: PortNum::new(0),
+        }),
+        (None, Far::Switch(index)) => Some(Stop {
+            at: index,
+            into: far_port(wires, source.port.node, source.port.port),
+        }),
+        (None, _) => None,
+    }
+}

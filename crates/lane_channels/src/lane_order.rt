@@ -1,0 +1,42 @@
+ghost use Rattle.std.specs.Prelude.{IfOk};
+ghost use Rattle.lane_channels.specs.Waiting.{IsLaneCycle, IsSomeDrop, NoneShorter};
+
+use crate::lane_network::LaneNetwork;
+use crate::lane_waits::lane_waits;
+use crate::stop::Dropped;
+use audit_channels::{ChannelOrder, order_channels};
+use std::alloc::{AllocError, Global};
+
+/// What packets do by lane.
+#[derive(Drop)]
+pub struct LaneOrder {
+    /// A shortest credit loop; empty if there is none. The number of a channel is 16 times its number on one lane, plus
+    /// the lane.
+    pub cycle: Vec<usize>,
+    /// A packet that is dropped for want of a lane, or `None` if there is none.
+    pub dropped: Option<Dropped>,
+}
+
+/// Finds a shortest credit loop of channels by lane, and a packet that is dropped for want of a lane. If `answers` is
+/// set, packets that answer others also have the level of what they answer. Takes what `lane_waits` and
+/// `order_channels` take.
+#[tactic(auto, using(crate::proofs::Orders::cycle_is, crate::proofs::Orders::shortest_is))]
+pub fn lane_order(
+    alloc: Global,
+    by_lane: &LaneNetwork,
+    answers: bool,
+) -> Result<LaneOrder, AllocError>
+    ensures cycle { IfOk result (λ found. IsLaneCycle by_lane.now answers found.cycle.items) }
+    ensures shortest { IfOk result (λ found. NoneShorter by_lane.now answers found.cycle.items) }
+    ensures dropped { IfOk result (λ found. IsSomeDrop by_lane.now answers found.dropped) }
+{
+    let found = lane_waits(alloc, by_lane, answers)?;
+    let cycle = match order_channels(alloc, &found.waits)? {
+        ChannelOrder::Rises(_) => Vec::new(alloc),
+        ChannelOrder::Cycle(channels) => channels,
+    };
+    Ok(LaneOrder {
+        cycle,
+        dropped: found.dropped,
+    })
+}

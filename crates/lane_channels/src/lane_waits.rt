@@ -1,0 +1,176 @@
+//! The channels by lane that packets take one after the other.
+ghost use Rattle.std.specs.Prelude.{◌≡◌, ◌<◌, ◌≤◌, ◌*◌, ◌^◌, IfOk, OnOk, length};
+ghost use Rattle.fact_store.specs.View.{cells_of};
+ghost use Rattle.subnet_view.specs.EndPorts.{end_ports};
+ghost use Rattle.subnet_view.specs.Reading.{switches};
+ghost use Rattle.held_tables.specs.Tables.{owners_of};
+ghost use Rattle.lane_channels.specs.Senders.{AnswersOf, AnswersTo, IsNothing, SentFor, SentFrom};
+ghost use Rattle.lane_channels.specs.Waiting.{AreLaneWaits, IsSomeDrop};
+ghost use Rattle.lane_channels.specs.Walks.{AreFollowed, walked};
+
+use crate::lane_network::LaneNetwork;
+use crate::stop::{Dropped, Stop};
+use crate::walk::{Column, Walks, walk};
+use audit_channels::Waits;
+use smp_bytes::Lid;
+use std::alloc::{AllocError, Global};
+use subnet_view::EndPort;
+
+/// The channels by lane that packets take one after the other, and whether a packet is dropped for want of a lane.
+#[derive(Drop)]
+pub struct LaneWaits {
+    /// For each channel by lane, the channels that packets take next.
+    pub waits: Waits,
+    /// A packet that is dropped for want of a lane, or `None` if there is none.
+    pub dropped: Option<Dropped>,
+}
+
+/// Follows the packets of each service level that end ports send, for each LID. If `answers` is set, packets that answer
+/// others also have the level of what they answer.
+///
+/// Takes a step for each port of each switch, and what `Network::blocks` takes for each 64 LIDs up to the greatest top
+/// of a usable switch. For each of these LIDs, it takes a step for each switch, a search for each end port, and a few
+/// searches for each port of a switch and each level by which packets come in there. If `answers` is set, it also takes
+/// a search for each LID of an end port and each end port that holds the LID.
+pub fn lane_waits(
+    alloc: Global,
+    by_lane: &LaneNetwork,
+    answers: bool,
+) -> Result<LaneWaits, AllocError>
+    ensures waits { IfOk result (λ found. AreLaneWaits by_lane.now answers found.waits) }
+    ensures dropped { IfOk result (λ found. IsSomeDrop by_lane.now answers found.dropped) }
+{
+    let network = by_lane.network();
+    let count = network.switch_count().checked_mul(4096).ok_or(AllocError)?;
+    let mut walks = nothing_followed(alloc, count)?;
+    let mut blocks = network.blocks(alloc, 0)?;
+    // No switch forwards packets above the greatest top.
+    for below in 0..network.greatest_top().number() {
+        let lid = Lid::new(below + 1);
+        blocks = network.blocks_for(alloc, blocks, lid)?;
+        let edges = network.edges(alloc, &blocks, lid)?;
+        let column = Column { lid, edges };
+        let owners = network.owners(alloc, lid)?;
+        follow_lid(by_lane, answers, &column, &owners, &mut walks)?;
+    }
+    Ok(LaneWaits {
+        waits: walks.waits,
+        dropped: walks.dropped,
+    })
+}
+
+/// Returns what is kept before a packet is followed, for `count` channels by lane.
+fn nothing_followed(alloc: Global, count: usize) -> Result<Walks, AllocError>
+    ensures { IfOk result (λ walks. IsNothing count (walked walks)) }
+{
+    let waits = Waits::new(alloc, count)?;
+    let marks = vec![in alloc; 0; count]?;
+    Ok(Walks {
+        waits,
+        marks,
+        dropped: None,
+    })
+}
+
+/// Follows the packets for a LID that end ports send. `owners` are the end ports that hold the LID.
+fn follow_lid(
+    by_lane: &LaneNetwork,
+    answers: bool,
+    column: &Column,
+    owners: &[EndPort],
+    walks: &mut Walks,
+) -> Result<(), AllocError>
+    requires column { length column.now.edges.items ≡ length (switches (cells_of by_lane.now.seen.facts)) }
+    requires room { 4096 * length column.now.edges.items < 2 ^ 64 }
+    requires lid { 1 ≤ column.now.lid }
+    requires owners { owners.now ≡ owners_of by_lane.now.seen.held column.now.lid }
+    requires waits { length walks.old.waits ≡ 4096 * length column.now.edges.items }
+    requires marks { length walks.old.marks.items ≡ 4096 * length column.now.edges.items }
+    ensures { OnOk result (AreFollowed by_lane.now.said (cells_of by_lane.now.seen.facts) column.now.edges.items
+        column.now.lid (SentFor by_lane.now answers column.now.lid) (walked walks.old) (walked walks.new)) }
+{
+    for index in 0..by_lane.network().sources().len() {
+        follow_sender(by_lane, answers, column, owners, index, walks)?;
+    }
+    Ok(())
+}
+
+/// Follows the packets for a LID that the end port at `index` sends. `owners` are the end ports that hold the LID.
+fn follow_sender(
+    by_lane: &LaneNetwork,
+    answers: bool,
+    column: &Column,
+    owners: &[EndPort],
+    index: usize,
+    walks: &mut Walks,
+) -> Result<(), AllocError>
+    requires column { length column.now.edges.items ≡ length (switches (cells_of by_lane.now.seen.facts)) }
+    requires room { 4096 * length column.now.edges.items < 2 ^ 64 }
+    requires lid { 1 ≤ column.now.lid }
+    requires owners { owners.now ≡ owners_of by_lane.now.seen.held column.now.lid }
+    requires index { index < length (end_ports (cells_of by_lane.now.seen.facts)) }
+    requires waits { length walks.old.waits ≡ 4096 * length column.now.edges.items }
+    requires marks { length walks.old.marks.items ≡ 4096 * length column.now.edges.items }
+    ensures { OnOk result (AreFollowed by_lane.now.said (cells_of by_lane.now.seen.facts) column.now.edges.items
+        column.now.lid (SentFrom by_lane.now answers column.now.lid index) (walked walks.old) (walked walks.new)) }
+{
+    let port = by_lane.network().sources()[index].port;
+    let first = by_lane.firsts()[index];
+    if let Some(level) = by_lane.lanes().level(port.node, port.port, column.lid) {
+        walk(by_lane, column, level, first, walks)?;
+    }
+    if !answers {
+        return Ok(());
+    }
+    follow_answers(by_lane, column, owners, &by_lane.held_by()[index], first, walks)
+}
+
+/// Follows packets from `first` on that answer packets which one of `owners` sends for one of `lids`.
+fn follow_answers(
+    by_lane: &LaneNetwork,
+    column: &Column,
+    owners: &[EndPort],
+    lids: &[Lid],
+    first: Option<Stop>,
+    walks: &mut Walks,
+) -> Result<(), AllocError>
+    requires column { length column.now.edges.items ≡ length (switches (cells_of by_lane.now.seen.facts)) }
+    requires room { 4096 * length column.now.edges.items < 2 ^ 64 }
+    requires lid { 1 ≤ column.now.lid }
+    requires waits { length walks.old.waits ≡ 4096 * length column.now.edges.items }
+    requires marks { length walks.old.marks.items ≡ 4096 * length column.now.edges.items }
+    ensures { OnOk result (AreFollowed by_lane.now.said (cells_of by_lane.now.seen.facts) column.now.edges.items
+        column.now.lid (AnswersTo by_lane.now.said owners.now lids.now first) (walked walks.old)
+        (walked walks.new)) }
+{
+    for nth in 0..owners.len() {
+        follow_answers_to(by_lane, column, owners[nth], lids, first, walks)?;
+    }
+    Ok(())
+}
+
+/// Follows packets from `first` on that answer packets which `asker` sends for one of `lids`.
+fn follow_answers_to(
+    by_lane: &LaneNetwork,
+    column: &Column,
+    asker: EndPort,
+    lids: &[Lid],
+    first: Option<Stop>,
+    walks: &mut Walks,
+) -> Result<(), AllocError>
+    requires column { length column.now.edges.items ≡ length (switches (cells_of by_lane.now.seen.facts)) }
+    requires room { 4096 * length column.now.edges.items < 2 ^ 64 }
+    requires lid { 1 ≤ column.now.lid }
+    requires waits { length walks.old.waits ≡ 4096 * length column.now.edges.items }
+    requires marks { length walks.old.marks.items ≡ 4096 * length column.now.edges.items }
+    ensures { OnOk result (AreFollowed by_lane.now.said (cells_of by_lane.now.seen.facts) column.now.edges.items
+        column.now.lid (AnswersOf by_lane.now.said asker lids.now (length lids.now) first) (walked walks.old)
+        (walked walks.new)) }
+{
+    for index in 0..lids.len() {
+        if let Some(level) = by_lane.lanes().level(asker.node, asker.port, lids[index]) {
+            walk(by_lane, column, level, first, walks)?;
+        }
+    }
+    Ok(())
+}
