@@ -24,7 +24,7 @@ impl<T> Model for FirstFew<T> {
 
 impl<T: Drop> FirstFew<T> {
     /// Creates an empty list that keeps the first `most` items.
-    pub(crate) fn new(alloc: Global, most: usize) -> Self
+    pub fn new(alloc: Global, most: usize) -> Self
         ensures { result ≡ record { most = most; first = []; count = 0 } }
     {
         FirstFew {
@@ -35,7 +35,7 @@ impl<T: Drop> FirstFew<T> {
     }
 
     /// Counts `item`, and keeps it if fewer than `most` items are kept.
-    pub(crate) fn add(&mut self, item: T) -> Result<(), AllocError>
+    pub fn add(&mut self, item: T) -> Result<(), AllocError>
         ensures { OnOk result (self.new ≡ listed self.old item) }
     {
         self.count = self.count.checked_add(1).ok_or(AllocError)?;

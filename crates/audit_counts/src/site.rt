@@ -242,7 +242,7 @@ fn switch_of(wires: &Wires, port: &EndPort) -> Option<Guid>
 
 /// Returns the index of the site of `port`, or an index beyond the end if there is none. Takes a step or two if the
 /// site is at `index` or the next index; otherwise walks the sites.
-pub(crate) fn index_of(sites: &[Site], index: usize, port: &EndPort) -> usize
+pub fn index_of(sites: &[Site], index: usize, port: &EndPort) -> usize
     ensures { IsSiteOf sites.now port.now (slice_get sites.now result) }
 {
     if is_site_at(sites, index, port) {
@@ -266,7 +266,7 @@ fn is_site_at(sites: &[Site], index: usize, port: &EndPort) -> bool
 }
 
 /// Returns the site at `index`, or `None` if there is none.
-pub(crate) fn site_in(sites: &[Site], index: usize) -> Option<Site>
+pub fn site_in(sites: &[Site], index: usize) -> Option<Site>
     ensures { result ≡ slice_get sites.now index }
 {
     sites.get(index).copied()

@@ -146,6 +146,19 @@ sound_is most seen tally unmatched count ways cycle b found is =
           (eq-eqb (length cycle) 0 (no_cycle cells held cycle found.waits p.rise)),
     )
 
+pub arrive_is : (most : ℕ) (seen : Seen) (tally : PacketTally) (unmatched : Unmatched) (count : ℕ) (ways : WayFigures) (cycle : List ℕ) (b : Bool)
+    → IsFound most seen tally unmatched count ways cycle → b ≡ (tally.all.arrived == tally.all.sent)
+    → IsTrue b ↔ EachArrives (cells_of seen.facts) seen.held
+arrive_is most seen tally unmatched count ways cycle b found is =
+    let cells = cells_of seen.facts in
+    let held = seen.held in
+    let counted = found.counted.all in (
+      λ t.
+          let same : tally.all.arrived ≡ tally.all.sent = eqb-true tally.all.arrived tally.all.sent (sym is ∙ t) in
+          arrive_all cells held (sym counted.arrived ∙ same ∙ counted.sent),
+      λ p. is ∙ eq-eqb tally.all.arrived tally.all.sent (counted.arrived ∙ count_all cells held p ∙ sym counted.sent),
+    )
+
 -- no channels are the fewest
 pub none_is_shorter : (cells : Cells) (held : HeldPlan) (channels : List ℕ) → channels ≡ [] → NoneShorter cells held channels
 none_is_shorter cells held channels e = λ other waiting. omega (arith, ap length e)

@@ -214,13 +214,16 @@ unmatched_told most cells held =
 abbrev pub ways_told : Cells → HeldPlan → List ℕ
 ways_told cells held = ways_text (figures_of (hops_of cells held)) (figures_of (loads_of cells held))
 
--- the text of an audit: packets, differences between tables and facts, disputed facts, routes and loads, and the credit
--- loop
-abbrev pub text_of : ℕ → Cells → HeldPlan → List ℕ → List ℕ
-text_of most cells held cycle =
+-- the text of an audit without its credit loop: packets, differences between tables and facts, disputed facts, routes
+-- and loads
+abbrev pub findings_text : ℕ → Cells → HeldPlan → List ℕ
+findings_text most cells held =
     packets_told most cells held (packets_of cells held) ++ unmatched_told most cells held ++ disputed_line (disputed cells)
     ++ ways_told cells held
-    ++ cycle_line cells cycle
+
+-- the text of an audit with the credit loop `cycle`
+abbrev pub text_of : ℕ → Cells → HeldPlan → List ℕ → List ℕ
+text_of most cells held cycle = findings_text most cells held ++ cycle_line cells cycle
 
 -- the text of an audit, with the credit loop that it found
 unfoldable pub audit_text : Audited → List ℕ

@@ -97,6 +97,13 @@ pub record PassesWithin (bound : Option ℕ) (cells : Cells) (held : HeldPlan) :
   pub passes : Passes cells held
   pub within : is_within bound (figures_of (loads_of cells held)) ≡ true
 
+-- nothing is missing, each packet arrives, and no channel carries more than `bound` pairs of adapter ports, if there is
+-- a bound
+pub record DeliversWithin (bound : Option ℕ) (cells : Cells) (held : HeldPlan) : Type 0 where
+  pub whole : IsWholeFor cells held
+  pub arrive : EachArrives cells held
+  pub within : is_within bound (figures_of (loads_of cells held)) ≡ true
+
 -- channels that wait for each other in a credit loop; empty if channels can be numbered so that the numbers rise
 abbrev pub IsCycle : Cells → HeldPlan → List ℕ → Type 0
 IsCycle cells held [] = CanRise cells held

@@ -80,7 +80,7 @@ fn answer<W: Sink>(
 }
 
 /// Returns the maximum number of lines of each kind that are written.
-fn most_told(all: bool) -> usize
+pub fn most_told(all: bool) -> usize
     ensures { result ≡ most_told all }
 {
     if all { usize::MAX } else { MOST_TOLD }

@@ -6,7 +6,7 @@ ghost use Rattle.subnet_view.specs.Reading.{switches};
 ghost use Rattle.byte_io.specs.Writes.{Writes};
 ghost use Rattle.lft_blocks.specs.WritesPart.{WritesPart};
 ghost use Rattle.audit_report.specs.AuditText.{audit_text, channel_text, channels_text, cycle_line, disputed_line};
-ghost use Rattle.audit_report.specs.AuditText.{cause_text, causes_text, count_text, counts_line, listed_text};
+ghost use Rattle.audit_report.specs.AuditText.{cause_text, causes_text, count_text, counts_line, findings_text, listed_text};
 ghost use Rattle.audit_report.specs.AuditText.{missed_line};
 ghost use Rattle.audit_report.specs.AuditText.{more_line, others_text, pairs_text, tally_text};
 ghost use Rattle.audit_report.specs.AuditText.{figures_line, figures_text, hundredths_text, ways_text};
@@ -40,13 +40,21 @@ pub fn write_audit<W: Sink>(sink: &mut W, audit: &Audit) -> Result<(), WriteFaul
     ensures writes { Writes W.written W.has_failed result sink.old sink.new (audit_text audit.now) }
     ensures flushed { OnOk result (IsTrue (W.is_flushed sink.new)) }
 {
+    write_findings(sink, audit)?;
+    write_cycle(sink, &audit.network, &audit.findings.cycle)?;
+    sink.flush()
+}
+
+/// Writes an audit without its credit loop, as `write_audit` does. Takes no memory.
+pub fn write_findings<W: Sink>(sink: &mut W, audit: &Audit) -> Result<(), WriteFault>
+    ensures { WritesPart W.written W.has_failed result sink.old sink.new
+        (findings_text audit.now.most (cells_of audit.now.facts) audit.now.held) }
+{
     let findings = &audit.findings;
     write_tally(sink, &audit.network, &findings.tally)?;
     write_unmatched(sink, &findings.unmatched)?;
     write_disputed(sink, findings.disputed)?;
-    write_ways(sink, &findings.ways)?;
-    write_cycle(sink, &audit.network, &findings.cycle)?;
-    sink.flush()
+    write_ways(sink, &findings.ways)
 }
 
 /// Writes the counts of packets, and the first of each kind that do not arrive.
@@ -390,7 +398,7 @@ fn write_end_port<W: Sink>(sink: &mut W, word: &str, port: &EndPort) -> Result<(
 }
 
 /// Writes that `count` more items of the kind `word` are not listed, or nothing if `count` is 0.
-fn write_more<W: Sink>(sink: &mut W, word: &str, count: u64) -> Result<(), WriteFault>
+pub fn write_more<W: Sink>(sink: &mut W, word: &str, count: u64) -> Result<(), WriteFault>
     ensures { WritesPart W.written W.has_failed result sink.old sink.new (more_line word.now count) }
 {
     if count == 0 {

@@ -6,7 +6,8 @@ ghost use Rattle.audit_ways.specs.Ways.{AreTold, IsToldOfWays, loads_of};
 ghost use Rattle.audit_counts.specs.Packets.{packets_of};
 ghost use Rattle.audit_counts.specs.PacketTally.{IsTally};
 ghost use Rattle.audit_counts.specs.Unmatched.{IsUnmatched};
-ghost use Rattle.audit_report.specs.Passing.{EachHasTables, EachHoldsLid, EachNodeIsKnown, IsCycle, IsFound};
+ghost use Rattle.audit_report.specs.Passing.{DeliversWithin, EachArrives, EachHasTables, EachHoldsLid, EachNodeIsKnown};
+ghost use Rattle.audit_report.specs.Passing.{IsCycle, IsFound};
 ghost use Rattle.audit_report.specs.Passing.{IsSound, IsWholeFor, Passes, PassesWithin, is_within};
 
 use audit_channels::{ChannelOrder, channel_order};
@@ -141,6 +142,29 @@ impl<'a> Audit<'a> {
     {
         self.findings.tally.all.arrived == self.findings.tally.all.sent
             && self.findings.cycle.is_empty()
+    }
+
+    /// Returns whether nothing is missing, each packet arrives, and no channel carries more pairs of adapter ports than
+    /// `bound`, if there is a bound. Credit loops do not matter.
+    pub fn delivers_within(&self, bound: Option<u64>) -> bool
+        ensures { IsTrue result ↔ DeliversWithin bound (cells_of self.now.facts) self.now.held }
+    {
+        self.is_whole() && self.all_arrive() && self.is_within(bound)
+    }
+
+    /// Returns whether each packet arrives.
+    fn all_arrive(&self) -> bool
+        ensures { IsTrue result ↔ EachArrives (cells_of self.now.facts) self.now.held }
+    {
+        self.findings.tally.all.arrived == self.findings.tally.all.sent
+    }
+
+    /// Returns the network of the audit.
+    pub fn network(&self) -> &Network<'a>
+        ensures facts { result.now.facts ≡ self.now.facts }
+        ensures held { result.now.held ≡ self.now.held }
+    {
+        &self.network
     }
 }
 

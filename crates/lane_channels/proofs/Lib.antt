@@ -1,1 +1,4 @@
+pub mod LidWaits
 pub mod Orders
+pub mod Senders
+pub mod Walks

@@ -75,4 +75,4 @@ next_stop said cells column level stop =
 abbrev pub stop_after : LanesSaid → Cells → List (Option Edge) → ℕ → ℕ → Option Stop → Option Stop
 stop_after said cells column level zero stop = stop
 stop_after said cells column level (suc count) stop =
-    stop_after said cells column level count (option_and_then (next_stop said cells column level) stop)
+    option_and_then (next_stop said cells column level) (stop_after said cells column level count stop)

@@ -92,12 +92,14 @@ pub record AreFollowed (said : LanesSaid) (cells : Cells) (column : List (Option
   pub as_many_marks : length new.marks ≡ length old.marks
   pub no_later : ((i : ℕ) → slice_index_or old.marks i 0 ≤ lid) → (i : ℕ) → slice_index_or new.marks i 0 ≤ lid
   pub kept : (level : ℕ) (stop : Stop) → IsMarked lid old.marks level stop → IsMarked lid new.marks level stop
+  pub small : (level : ℕ) (first : Option Stop) → these level first → level < 16
   pub begun : (level : ℕ) (first : Option Stop) (stop : Stop) → these level first → first ≡ Some stop
-      → IsDone (length column) lid new.marks level stop
+      → (stop.into < 256) × IsDone (length column) lid new.marks level stop
   pub whole : IsWhole said cells column lid old → IsWhole said cells column lid new
   pub waits_kept : (a b : ℕ) → Follows old.waits a b → Follows new.waits a b
   pub waits_only : (a b : ℕ) → Follows new.waits a b
       → Follows old.waits a b ⊎ OneTakes said cells column these a b
+  pub dropped_kept : (d : Dropped) → old.dropped ≡ Some d → new.dropped ≡ None → ⊥
   pub dropped_only : (d : Dropped) → new.dropped ≡ Some d
       → (old.dropped ≡ Some d) ⊎ IsDroppedOne said cells column these lid d
 

@@ -93,7 +93,7 @@ impl<'a> LaneNetwork<'a> {
     /// Returns the two channels that a packet of `level` takes from `stop` on, by `column`, the edges of its LID.
     /// Returns `None` if it does not take two. Takes two searches.
     pub fn turn(&self, column: &[Option<Edge>], level: u8, stop: Stop) -> Option<LaneTurn>
-        requires { length column.now ≡ length (switches (cells_of self.now.seen.facts)) }
+        requires column { length column.now ≡ length (switches (cells_of self.now.seen.facts)) }
         requires room { 4096 * length column.now < 2 ^ 64 }
         ensures { MatchOption result
             (TakesNone self.now.said (cells_of self.now.seen.facts) column.now level stop)
@@ -121,8 +121,9 @@ impl<'a> LaneNetwork<'a> {
     /// Returns the next stop of a packet of `level` at `stop`, by `column`, the edges of its LID. Returns `None` if it
     /// goes to no other switch. Takes a search.
     pub fn next_stop(&self, column: &[Option<Edge>], level: u8, stop: Stop) -> Option<Stop>
-        requires { length column.now ≡ length (switches (cells_of self.now.seen.facts)) }
-        ensures { result ≡ next_stop self.now.said (cells_of self.now.seen.facts) column.now level stop }
+        requires column { length column.now ≡ length (switches (cells_of self.now.seen.facts)) }
+        requires room { 4096 * length column.now < 2 ^ 64 }
+        ensures is { result ≡ next_stop self.now.said (cells_of self.now.seen.facts) column.now level stop }
     {
         let edge = edge_of(column, stop.at)?;
         self.lane(level, stop, edge)?;

@@ -1,0 +1,10 @@
+-- The senders so far.
+use Rattle.fact_store.specs.View.{cells_of}
+use Rattle.lane_channels.specs.Walks.{AreFollowed, walked}
+use Rattle.lane_channels.proofs.Senders.{SentBySome}
+use Rattle.lane_channels.proofs.lane_waits.follow_lid.Given as goal
+
+abbrev pub invariant-loop-index : goal.invariant-loop-index
+invariant-loop-index l =
+    AreFollowed l.by_lane.said (cells_of l.by_lane.seen.facts) l.column.edges.items l.column.lid (SentBySome l.by_lane l.answers l.column.lid l.index)
+    (walked l.fn.walks) (walked l.walks)

@@ -1,0 +1,36 @@
+-- Packets without a service level.
+use Rattle.std.specs.Prelude.{Bool, not, ◌&&◌, List, [], Option, None, Some, filter, map, is_some, if◌then◌else◌}
+use Rattle.std.specs.List.{flat_map}
+use Rattle.subnet_view.specs.Reading.{Cells}
+use Rattle.subnet_view.specs.EndPorts.{end_ports}
+use Rattle.held_tables.specs.declared.held.HeldLid.{HeldLid}
+use Rattle.held_tables.specs.Held.{HeldPlan}
+use Rattle.held_tables.specs.Tables.{is_owner, is_same_end, lines_of}
+use Rattle.audit_counts.specs.declared.site.Site.{Site}
+use Rattle.audit_counts.specs.Sites.{are_joined, site_of}
+use Rattle.lanes_file.specs.Lanes.{LanesSaid, level_of}
+use Rattle.lane_report.specs.declared.levels_missing.PacketPair.{PacketPair}
+
+-- the end port of `site` lies in the component of `owner`, is another end port, and its packets for the LID of `line`
+-- have no service level
+abbrev pub lacks_level : LanesSaid → HeldLid → Site → Site → Bool
+lacks_level said line owner site =
+    are_joined site owner && not (is_same_end site.port owner.port)
+    && not (is_some (level_of said site.port.node site.port.port line.lid))
+
+abbrev pub pair_of : HeldLid → Site → PacketPair
+pair_of line site = record { source = site.port; lid = line.lid }
+
+-- the packets without a service level for the LID of `line`, which the end port of `owner` holds
+abbrev pub missing_for : LanesSaid → List Site → HeldLid → Site → List PacketPair
+missing_for said sites line owner = map (pair_of line) (filter (lacks_level said line owner) sites)
+
+-- those for the LID of `line`; none if its end port is not one of the facts
+abbrev pub missing_at : LanesSaid → Cells → HeldLid → List PacketPair
+missing_at said cells line =
+    if is_owner (end_ports cells) line.port
+    then missing_for said (map (site_of cells) (end_ports cells)) line (site_of cells line.port) else []
+
+-- the packets without a service level for all held LIDs
+abbrev pub missing_levels : LanesSaid → Cells → HeldPlan → List PacketPair
+missing_levels said cells held = flat_map (missing_at said cells) (lines_of held)

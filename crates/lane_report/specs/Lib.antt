@@ -1,0 +1,3 @@
+pub mod LaneText
+pub mod LevelsMissing
+pub mod RunLaneAudit

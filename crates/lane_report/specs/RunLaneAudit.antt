@@ -1,0 +1,88 @@
+-- What an audit by lane of lanes, tables and files does: it reads all of them and writes what happens to packets, or
+-- returns the fault of an input.
+use Rattle.std.specs.Prelude.{◌≡◌, ◌↔◌, ◌⊎◌, ◌++◌, ℕ, Bool, List, [], Option, None, IsTrue}
+use Rattle.byte_io.specs.Source.{SourceState}
+use Rattle.fact_store.specs.View.{Facts, cells_of}
+use Rattle.held_tables.specs.Held.{HeldPlan}
+use Rattle.packet_walks.specs.Network.{Seen}
+use Rattle.audit_counts.specs.FirstFew.{Listed, all_listed}
+use Rattle.audit_report.specs.AuditText.{findings_text}
+use Rattle.audit_report.specs.Passing.{DeliversWithin}
+use Rattle.audit_report.specs.RunAudit.{IsAnswerFault, most_told}
+use Rattle.lanes_file.specs.Lanes.{LanesSaid}
+use Rattle.lane_channels.specs.declared.stop.Dropped.{Dropped}
+use Rattle.lane_channels.specs.LaneNetwork.{SeenByLane}
+use Rattle.lane_channels.specs.Waiting.{IsDroppedByLane, IsLaneCycle, IsSomeDrop, NoneShorter, RiseByLane}
+use Rattle.lane_report.specs.declared.levels_missing.PacketPair.{PacketPair}
+use Rattle.lane_report.specs.declared.lane_run.LaneAuditAsked.{LaneAuditAsked}
+use Rattle.lane_report.specs.LaneText.{lanes_text}
+use Rattle.lane_report.specs.LevelsMissing.{missing_levels}
+use Rattle.sm_cli.specs.declared.fault.Fault.{Fault}
+use Rattle.sm_cli.specs.InputLanes.{AreLanesAndFiles, AreNoLanesAndFiles}
+use Rattle.sm_cli.specs.declared.input_lanes.LanesAndFiles.{LanesAndFiles}
+
+-- facts, tables and lanes
+abbrev pub seen_by : Seen → LanesSaid → SeenByLane
+seen_by seen said = record { seen = seen; said = said }
+
+abbrev pub seen_of : Facts → HeldPlan → LanesSaid → SeenByLane
+seen_of facts held said = seen_by (record { facts = facts; held = held }) said
+
+-- what is found by lane: packets without a service level, at most `most` of them listed, a packet that is dropped for
+-- want of a lane, if one is, and a shortest credit loop, if there is one
+pub record IsFoundByLane (most : ℕ) (s : SeenByLane) (answers : Bool) (missing : Listed PacketPair)
+    (dropped : Option Dropped) (cycle : List ℕ) : Type 0 where
+  pub missing_are : missing ≡ all_listed most (missing_levels s.said (cells_of s.seen.facts) s.seen.held)
+  pub drop : IsSomeDrop s answers dropped
+  pub waits : IsLaneCycle s answers cycle
+  pub shortest : NoneShorter s answers cycle
+
+-- nothing was found that is wrong
+pub record IsSoundByLane (missing : Listed PacketPair) (dropped : Option Dropped) (cycle : List ℕ) : Type 0 where
+  pub none_missing : missing.count ≡ 0
+  pub none_dropped : dropped ≡ None
+  pub no_cycle : cycle ≡ []
+
+-- the tables pass by lane: packets arrive, each has a service level and is carried by a lane, and channels by lane can be
+-- numbered so that the numbers rise along the route of every packet; no channel carries more than `bound` pairs of
+-- adapter ports, if there is a bound
+pub record PassesByLane (bound : Option ℕ) (s : SeenByLane) (answers : Bool) : Type 0 where
+  pub delivers : DeliversWithin bound (cells_of s.seen.facts) s.seen.held
+  pub leveled : missing_levels s.said (cells_of s.seen.facts) s.seen.held ≡ []
+  pub carried : (dropped : Dropped) → IsDroppedByLane s answers dropped → ⊥
+  pub rise : RiseByLane s answers
+
+-- `prints` holds of the text of an audit with what was found by lane; `passed` says whether the tables pass by lane
+pub record IsTold (asked : LaneAuditAsked) (most : ℕ) (s : SeenByLane) (missing : Listed PacketPair)
+    (dropped : Option Dropped) (cycle : List ℕ) (prints : List ℕ → Type 0) (passed : Bool) : Type 0 where
+  pub answered : prints (findings_text most (cells_of s.seen.facts) s.seen.held
+      ++ lanes_text (cells_of s.seen.facts) missing dropped cycle)
+  pub judged : IsTrue passed ↔ PassesByLane asked.audit.max_load s asked.answers
+
+-- the audit by lane was written, with a shortest credit loop if there is one
+pub record IsAuditedByLane (asked : LaneAuditAsked) (facts : Facts) (held : HeldPlan) (said : LanesSaid)
+    (prints : List ℕ → Type 0) (passed : Bool) : Type 0 where
+  pub missing : Listed PacketPair
+  pub dropped : Option Dropped
+  pub cycle : List ℕ
+  pub found : IsFoundByLane (most_told asked.audit.all) (seen_of facts held said) asked.answers missing dropped cycle
+  pub told : IsTold asked (most_told asked.audit.all) (seen_of facts held said) missing dropped cycle prints passed
+
+-- the lanes, the tables and then the files were read, and their audit was written
+pub record HasAuditedByLane {S : Type 0} (state : S → SourceState) (asked : LaneAuditAsked) (olds news : List S)
+    (prints : List ℕ → Type 0) (passed : Bool) : Type 0 where
+  pub told : LanesAndFiles
+  pub read : AreLanesAndFiles state asked.audit.floor olds news told
+  pub audited : IsAuditedByLane asked told.read.store told.read.held told.lanes prints passed
+
+-- the inputs were read, and their audit failed
+pub record FailsToAuditByLane {S : Type 0} (state : S → SourceState) (floor : ℕ) (olds news : List S)
+    (sink_failed : Bool) (fault : Fault) : Type 0 where
+  pub told : LanesAndFiles
+  pub read : AreLanesAndFiles state floor olds news told
+  pub why : IsAnswerFault sink_failed fault
+
+-- why an audit by lane over open inputs fails: the inputs are not read, or their audit fails
+abbrev pub IsLaneAuditFault : {S : Type 0} → (S → SourceState) → ℕ → List S → List S → Bool → Fault → Type 0
+IsLaneAuditFault state floor olds news sink_failed fault =
+    AreNoLanesAndFiles state olds news fault ⊎ FailsToAuditByLane state floor olds news sink_failed fault

@@ -1,0 +1,172 @@
+//! An audit by lane of a text of lanes, of tables and of files of records.
+ghost use Rattle.std.specs.Prelude.{◌≡◌, ◌≤◌, ◌↔◌, ◌⊎◌, ◌++◌, Err, IfErr, IfOk, IsTrue, OnErr, OnOk, false, length};
+ghost use Rattle.std.specs.Io.KnownBytes.{Appends};
+ghost use Rattle.fact_store.specs.View.{cells_of};
+ghost use Rattle.audit_report.specs.AuditText.{findings_text};
+ghost use Rattle.audit_report.specs.RunAudit.{IsAnswerFault};
+ghost use Rattle.lane_report.specs.LaneText.{lanes_text};
+ghost use Rattle.lane_report.specs.RunLaneAudit.{HasAuditedByLane, IsAuditedByLane, IsFoundByLane, IsLaneAuditFault};
+ghost use Rattle.lane_report.specs.RunLaneAudit.{IsSoundByLane, IsTold, seen_by, seen_of};
+ghost use Rattle.byte_io.specs.Writes.{Writes};
+
+use crate::lane_text::{write_dropped, write_lane_cycle, write_missing};
+use crate::levels_missing::{PacketPair, pairs_without_level};
+use audit_counts::{FirstFew, sites};
+use audit_report::{Audit, AuditAsked, most_told, write_findings};
+use byte_io::{Sink, Source, WriteFault};
+use fact_store::{Refused, Store};
+use held_tables::Held;
+use lane_channels::{LaneNetwork, LaneOrder, lane_order};
+use lanes_file::Lanes;
+use packet_walks::Network;
+use sm_cli::{Fault, read_lanes_and_files};
+use std::alloc::Global;
+
+/// The options of an audit by lane.
+#[derive(Clone, Copy, Debug, PartialEq, Eq)]
+pub struct LaneAuditAsked {
+    /// The options of an audit.
+    pub audit: AuditAsked,
+    /// Whether packets that answer others also have the service level of what they answer.
+    pub answers: bool,
+}
+
+/// What an audit finds by lane.
+#[derive(Drop)]
+struct LaneFindings {
+    /// The packets without a service level.
+    missing: FirstFew<PacketPair>,
+    /// A credit loop and a packet that is dropped, if there are any.
+    order: LaneOrder,
+}
+
+/// Reads the lanes from the first input, the tables from the second and then the files in order. Writes what these
+/// tables do with the packets of the subnet that the files describe together, with credit loops by lane. Returns
+/// whether the tables pass by lane and no channel carries more pairs than `asked.audit.max_load`.
+///
+/// # Errors
+///
+/// Returns the first fault. If an input is refused or memory runs out, nothing is written. If a write fails, how much
+/// was written before is unspecified.
+pub fn run_lane_audit<S: Source, W: Sink>(
+    alloc: Global,
+    inputs: &mut [S],
+    asked: LaneAuditAsked,
+    sink: &mut W,
+) -> Result<bool, Fault>
+    requires { 2 ≤ length inputs.old }
+    ensures done { IfOk result (HasAuditedByLane S.state asked inputs.old inputs.new
+        (Appends (W.written sink.old) (W.written sink.new))) }
+    ensures flushed { OnOk result (IsTrue (W.is_flushed sink.new)) }
+    ensures sink_works { OnOk result (W.has_failed sink.new ≡ false) }
+    ensures refused { IfErr result (IsLaneAuditFault S.state asked.audit.floor
+        inputs.old inputs.new (W.has_failed sink.new)) }
+    ensures nothing_written { OnErr result ((result ≡ Err Fault.Write) ⊎ (sink.new ≡ sink.old)) }
+{
+    match read_lanes_and_files(alloc, inputs, asked.audit.floor) {
+        Ok(told) => answer(
+            alloc,
+            sink,
+            asked,
+            &told.read.store,
+            &told.read.held,
+            &told.lanes,
+        ),
+        Err(fault) => Err(fault),
+    }
+}
+
+/// Writes the audit of `held` in the subnet of `store` by `lanes`, and flushes. Returns whether the tables pass by lane
+/// and no channel carries more pairs than `asked.audit.max_load`.
+fn answer<W: Sink>(
+    alloc: Global,
+    sink: &mut W,
+    asked: LaneAuditAsked,
+    store: &Store,
+    held: &Held,
+    lanes: &Lanes,
+) -> Result<bool, Fault>
+    ensures audited { IfOk result (IsAuditedByLane asked store.now held.now lanes.now
+        (Appends (W.written sink.old) (W.written sink.new))) }
+    ensures flushed { OnOk result (IsTrue (W.is_flushed sink.new)) }
+    ensures sink_works { OnOk result (W.has_failed sink.new ≡ false) }
+    ensures refused { IfErr result (IsAnswerFault (W.has_failed sink.new)) }
+    ensures nothing_written { OnErr result ((result ≡ Err Fault.Write) ⊎ (sink.new ≡ sink.old)) }
+{
+    let most = most_told(asked.audit.all);
+    let Ok(audit) = Audit::of(alloc, most, store, held) else {
+        return Err(Fault::Memory);
+    };
+    let Ok(found) = findings(alloc, most, audit.network(), lanes, asked.answers) else {
+        return Err(Fault::Memory);
+    };
+    tell(sink, asked, &audit, lanes, &found)
+}
+
+/// Finds what packets do by lane: which have no service level, whether one is dropped, and a credit loop. Keeps the
+/// first `most` packets without a service level.
+fn findings(
+    alloc: Global,
+    most: usize,
+    network: &Network,
+    lanes: &Lanes,
+    answers: bool,
+) -> Result<LaneFindings, Refused>
+    ensures { IfOk result (λ found. IsFoundByLane most (seen_by network.now lanes.now) answers found.missing
+        found.order.dropped found.order.cycle.items) }
+{
+    let sites = sites(alloc, network.store())?;
+    let missing = pairs_without_level(alloc, most, network, &sites, lanes)?;
+    let by_lane = LaneNetwork::of(alloc, network, lanes)?;
+    let order = lane_order(alloc, &by_lane, answers)?;
+    Ok(LaneFindings { missing, order })
+}
+
+/// Writes what an audit found, and flushes. Returns whether the tables pass by lane and no channel carries more pairs
+/// than `asked.audit.max_load`.
+fn tell<W: Sink>(
+    sink: &mut W,
+    asked: LaneAuditAsked,
+    audit: &Audit,
+    lanes: &Lanes,
+    found: &LaneFindings,
+) -> Result<bool, Fault>
+    requires { IsFoundByLane audit.now.most (seen_of audit.now.facts audit.now.held lanes.now)
+        asked.answers found.now.missing found.now.order.dropped found.now.order.cycle.items }
+    ensures told { IfOk result (λ passed. IsTold asked audit.now.most
+        (seen_of audit.now.facts audit.now.held lanes.now) found.now.missing found.now.order.dropped found.now.order.cycle.items
+        (Appends (W.written sink.old) (W.written sink.new)) passed) }
+    ensures flushed { OnOk result (IsTrue (W.is_flushed sink.new)) }
+    ensures sink_works { OnOk result (W.has_failed sink.new ≡ false) }
+    ensures refused { IfErr result (IsAnswerFault (W.has_failed sink.new)) }
+    ensures nothing_written { OnErr result ((result ≡ Err Fault.Write) ⊎ (sink.new ≡ sink.old)) }
+{
+    let passed = audit.delivers_within(asked.audit.max_load) && is_sound(found);
+    write_all(sink, audit, found)?;
+    Ok(passed)
+}
+
+/// Returns whether each packet has a service level, none is dropped for want of a lane, and there is no credit loop.
+fn is_sound(found: &LaneFindings) -> bool
+    ensures { IsTrue result ↔ IsSoundByLane found.now.missing found.now.order.dropped found.now.order.cycle.items }
+{
+    found.missing.count() == 0 && found.order.dropped.is_none() && found.order.cycle.is_empty()
+}
+
+/// Writes an audit with what was found by lane in place of its credit loop, and flushes.
+fn write_all<W: Sink>(
+    sink: &mut W,
+    audit: &Audit,
+    found: &LaneFindings,
+) -> Result<(), WriteFault>
+    ensures writes { Writes W.written W.has_failed result sink.old sink.new
+        (findings_text audit.now.most (cells_of audit.now.facts) audit.now.held
+        ++ lanes_text (cells_of audit.now.facts) found.now.missing found.now.order.dropped found.now.order.cycle.items) }
+    ensures flushed { OnOk result (IsTrue (W.is_flushed sink.new)) }
+{
+    write_findings(sink, audit)?;
+    write_missing(sink, &found.missing)?;
+    write_dropped(sink, audit.network(), found.order.dropped)?;
+    write_lane_cycle(sink, audit.network(), &found.order.cycle)?;
+    sink.flush()
+}

@@ -1,0 +1,151 @@
+//! What an audit finds by lane, as text.
+ghost use Rattle.std.specs.Prelude.{◌≡◌, OnOk, slice_index_or};
+ghost use Rattle.std.specs.List.{flat_map};
+ghost use Rattle.fact_store.specs.View.{cells_of};
+ghost use Rattle.byte_io.specs.Writes.{Writes};
+ghost use Rattle.lft_blocks.specs.WritesPart.{WritesPart};
+ghost use Rattle.lane_channels.specs.Stops.{guid_at};
+ghost use Rattle.lane_report.specs.LaneText.{channel_text, channels_text, cycle_line, drop_line, dropped_text};
+ghost use Rattle.lane_report.specs.LaneText.{missing_text, pair_line};
+
+use crate::levels_missing::PacketPair;
+use audit_counts::FirstFew;
+use audit_report::write_more;
+use byte_io::{Sink, WriteFault, write_guid, write_number, write_port};
+use lane_channels::Dropped;
+use packet_walks::Network;
+use smp_bytes::{Guid, PortNum};
+
+/// Writes the first packets without a service level, and how many more there are.
+pub(crate) fn write_missing<W: Sink>(
+    sink: &mut W,
+    few: &FirstFew<PacketPair>,
+) -> Result<(), WriteFault>
+    ensures { WritesPart W.written W.has_failed result sink.old sink.new (missing_text few.now) }
+{
+    write_pairs(sink, few.first())?;
+    write_more(sink, "no-level", few.more())
+}
+
+/// Writes a line for each packet without a service level.
+fn write_pairs<W: Sink>(sink: &mut W, pairs: &[PacketPair]) -> Result<(), WriteFault>
+    ensures { WritesPart W.written W.has_failed result sink.old sink.new (flat_map pair_line pairs.now) }
+{
+    for pair in pairs {
+        write_pair(sink, pair)?;
+    }
+    Ok(())
+}
+
+/// Writes the line of a packet without a service level: the end port that sends it, and its LID.
+fn write_pair<W: Sink>(sink: &mut W, pair: &PacketPair) -> Result<(), WriteFault>
+    ensures { Writes W.written W.has_failed result sink.old sink.new (pair_line pair.now) }
+{
+    sink.write(b"no-level ")?;
+    write_port(sink, pair.source.node, pair.source.port)?;
+    sink.write(b" ")?;
+    write_number(sink, u64::from(pair.lid.number()))?;
+    sink.write(b"\n")
+}
+
+/// Writes the packet that is dropped for want of a lane, or nothing if there is none.
+pub(crate) fn write_dropped<W: Sink>(
+    sink: &mut W,
+    network: &Network,
+    dropped: Option<Dropped>,
+) -> Result<(), WriteFault>
+    ensures { WritesPart W.written W.has_failed result sink.old sink.new
+        (dropped_text (cells_of network.now.facts) dropped) }
+{
+    match dropped {
+        None => Ok(()),
+        Some(dropped) => write_drop(sink, network, dropped),
+    }
+}
+
+/// Writes the line of a packet that is dropped for want of a lane: its LID, the switch, the ports by which it comes in
+/// and would leave, and its service level.
+fn write_drop<W: Sink>(
+    sink: &mut W,
+    network: &Network,
+    dropped: Dropped,
+) -> Result<(), WriteFault>
+    ensures { Writes W.written W.has_failed result sink.old sink.new
+        (drop_line (cells_of network.now.facts) dropped) }
+{
+    sink.write(b"dropped ")?;
+    write_number(sink, u64::from(dropped.lid.number()))?;
+    sink.write(b" at ")?;
+    write_guid(sink, switch_at(network, dropped.stop.at))?;
+    sink.write(b" ")?;
+    write_number(sink, u64::from(dropped.stop.into.number()))?;
+    sink.write(b" ")?;
+    write_number(sink, u64::from(dropped.out.number()))?;
+    sink.write(b" level ")?;
+    write_number(sink, u64::from(dropped.level))?;
+    sink.write(b"\n")
+}
+
+/// Writes the line of a credit loop by lane, or that there is none.
+pub(crate) fn write_lane_cycle<W: Sink>(
+    sink: &mut W,
+    network: &Network,
+    cycle: &[usize],
+) -> Result<(), WriteFault>
+    ensures { WritesPart W.written W.has_failed result sink.old sink.new
+        (cycle_line (cells_of network.now.facts) cycle.now) }
+{
+    sink.write(b"credit loop")?;
+    write_channels(sink, network, cycle)?;
+    sink.write(b"\n")
+}
+
+/// Writes the channels of a credit loop, or that there is none.
+fn write_channels<W: Sink>(
+    sink: &mut W,
+    network: &Network,
+    cycle: &[usize],
+) -> Result<(), WriteFault>
+    ensures { WritesPart W.written W.has_failed result sink.old sink.new
+        (channels_text (cells_of network.now.facts) cycle.now) }
+{
+    if cycle.is_empty() {
+        return sink.write(b" none");
+    }
+    sink.write(b" by lane")?;
+    write_each_channel(sink, network, cycle)
+}
+
+/// Writes each channel.
+fn write_each_channel<W: Sink>(
+    sink: &mut W,
+    network: &Network,
+    channels: &[usize],
+) -> Result<(), WriteFault>
+    ensures { WritesPart W.written W.has_failed result sink.old sink.new
+        (flat_map (channel_text (cells_of network.now.facts)) channels.now) }
+{
+    for channel in channels {
+        write_channel(sink, network, *channel)?;
+    }
+    Ok(())
+}
+
+/// Writes the switch, the port and the lane of `channel`.
+fn write_channel<W: Sink>(sink: &mut W, network: &Network, channel: usize) -> Result<(), WriteFault>
+    ensures { Writes W.written W.has_failed result sink.old sink.new
+        (channel_text (cells_of network.now.facts) channel) }
+{
+    sink.write(b" ")?;
+    let port = PortNum::new((channel / 16 % 256) as u8);
+    write_port(sink, switch_at(network, channel / 4096), port)?;
+    sink.write(b" vl ")?;
+    write_number(sink, channel as u64 % 16)
+}
+
+/// Returns the GUID of the usable switch at `index`, or 0 if there is none.
+fn switch_at(network: &Network, index: usize) -> Guid
+    ensures { result ≡ guid_at (cells_of network.now.facts) index }
+{
+    network.switch(index).unwrap_or(Guid::new(0))
+}
