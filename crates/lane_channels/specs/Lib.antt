@@ -1,3 +1,5 @@
+pub mod Fabrics
+pub mod LaneLaws
 pub mod LaneNetwork
 pub mod LaneTurns
 pub mod Levels

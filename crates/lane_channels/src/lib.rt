@@ -7,6 +7,7 @@ mod held_by;
 mod lane_network;
 mod lane_order;
 mod lane_waits;
+pub mod laws;
 
 mod stop;
 mod walk;

@@ -1,0 +1,41 @@
+-- Numbers of channels by lane.
+use Rattle.std.proofs.Common.{◌≡◌, ◌<◌, ◌+◌, ◌*◌, ◌/◌, ℕ, Bool, List, [], ◌∷◌, sym, ap, ◌∙◌, subst, arith}
+use Rattle.std.specs.Prelude.{slice_index_or}
+use Rattle.fact_store.specs.View.{cells_of}
+use Rattle.audit_channels.specs.Columns.{TakesAcross, number_of}
+use Rattle.audit_channels.specs.Waiting.{RiseOnWays}
+use Rattle.lane_channels.specs.LaneNetwork.{SeenByLane}
+use Rattle.lane_channels.specs.LaneLaws.{NeverBothByLane, OneLaneSuffices}
+use Rattle.lane_channels.specs.Stops.{across_edge, lane_by}
+use Rattle.lane_channels.specs.Waiting.{RiseByLane, WaitOn, WaitsByLane, column_for}
+
+-- the channel without its lane
+without_lane : (channel n lane : ℕ) → channel ≡ 16 * n + lane → lane < 15 → channel / 16 ≡ n
+without_lane channel n lane e less = omega arith
+
+pub one_lane_suffices : OneLaneSuffices
+one_lane_suffices s answers numbers rise = record { number = λ c. slice_index_or numbers (c / 16) 0; rises = rises }
+  where
+    rises : (a b : ℕ) → WaitsByLane s answers a b → slice_index_or numbers (a / 16) 0 < slice_index_or numbers (b / 16) 0
+    rises a b w =
+        let one = w.takes in
+        let t = one.takes in
+        let cells = cells_of s.seen.facts in
+        let a_is : a / 16 ≡ number_of one.stop.at t.first =
+        without_lane a (number_of one.stop.at t.first) (lane_by s.said cells one.level one.stop t.first) t.channel_is t.lane_is in
+        let b_is : b / 16 ≡ number_of t.first.to t.second =
+        without_lane b (number_of t.first.to t.second) (lane_by s.said cells one.level (across_edge cells one.stop.at t.first) t.second) t.next_is
+        t.lane_there_is in
+        let takes : TakesAcross (column_for s w.lid) (column_for s w.lid) one.stop.at (a / 16) (b / 16) =
+        record { first = t.first; second = t.second; leaves = t.leaves; leaves_there = t.leaves_there; channel_is = a_is; next_is = b_is } in
+        rise.rises (a / 16) (b / 16) (record { lid = w.lid; is_lid = w.is_lid; switch = one.stop.at; takes = takes })
+
+rise_along : (s : SeenByLane) (answers : Bool) (r : RiseByLane s answers) (channel last : ℕ) (later : List ℕ) → WaitOn s answers channel later last
+    → r.number channel < r.number last
+rise_along s answers r channel last [] h = r.rises channel last h
+rise_along s answers r channel last (next ∷ later) h =
+    let one = r.rises channel next h.0 in let more = rise_along s answers r next last later h.1 in omega arith
+
+pub never_both_by_lane : NeverBothByLane
+never_both_by_lane s answers [] r h = h
+never_both_by_lane s answers (channel ∷ later) r h = let more = rise_along s answers r channel channel later h in omega arith

@@ -1,0 +1,78 @@
+-- The lanes that packets take in a fabric, and the numbers of their channels. InfiniBand Architecture Specification,
+-- Volume 1: link layer, virtual lanes, service level and SL-to-VL mapping, flow control by credits.
+use Rattle.std.specs.Prelude.{◌≡◌, ◌<◌, ◌≤◌, ◌+◌, ◌*◌, ℕ, zero, suc, Bool, List, Some, IsTrue, slice_get}
+use Rattle.std.specs.Option.{option_map_or}
+use Rattle.fabric_model.specs.declared.cable.NodePort.{NodePort}
+use Rattle.smp_bytes.specs.NodeType.{is_switch}
+use Rattle.fabric_model.specs.Fabric.{Node, Fabric, IsEndPort}
+use Rattle.fabric_model.specs.FabricWalks.{IsJoinedTo}
+use Rattle.fabric_model.specs.Forwarding.{Standing, sent_from, Hop, Goes}
+use Rattle.fact_store.specs.View.{cells_of}
+use Rattle.subnet_view.specs.Reading.{Cells}
+use Rattle.subnet_view.specs.Agreement.{Part, IsEndPortIn}
+use Rattle.packet_walks.specs.Fabrics.{IsSeenIn}
+use Rattle.audit_channels.specs.Fabrics.{IsChannel}
+use Rattle.lanes_file.specs.Lanes.{LanesSaid, lane_of}
+use Rattle.lane_channels.specs.LaneNetwork.{SeenByLane}
+use Rattle.lane_channels.specs.Levels.{HasLevel}
+use Rattle.lane_channels.specs.Waiting.{RiseByLane}
+
+-- the lane of packets of a service level that come in at a node by one port and leave by another
+abbrev pub LaneMaps : Type 0
+LaneMaps = ℕ → ℕ → ℕ → ℕ → ℕ
+
+-- the switches of `part` map service levels to lanes as the text says; a switch's own packets come in by port 0
+abbrev pub HoldLanes : Part → LanesSaid → Fabric → LaneMaps → Type 0
+HoldLanes part said f vl =
+    (port : NodePort) (node : Node) (into out level : ℕ) → IsEndPortIn part f port node → IsTrue (is_switch node.kind)
+    → vl port.node into out level ≡ lane_of said node.guid into out level
+
+-- the port by which a packet came in where it takes the hop at this index; 0 if it was sent there
+abbrev pub came_by : ℕ → List Hop → ℕ
+came_by zero hops = 0
+came_by (suc nth) hops = option_map_or (λ (h : Hop). h.into.port) (slice_get hops nth) 0
+
+-- the lane by which a packet of `level` takes `hop`, the one at index `nth`
+abbrev pub lane_at : LaneMaps → ℕ → List Hop → ℕ → Hop → ℕ
+lane_at vl level hops nth hop = vl hop.out.node (came_by nth hops) hop.out.port level
+
+-- the hop at index `nth` goes from one switch to another, and `channel` is its channel by lane
+pub record IsLaneChannel (cells : Cells) (f : Fabric) (vl : LaneMaps) (level : ℕ) (hops : List Hop) (nth channel : ℕ)
+    : Type 0 where
+  pub hop : Hop
+  pub hop_is : slice_get hops nth ≡ Some hop
+  pub one_lane : ℕ
+  pub is : IsChannel cells f hop one_lane
+  pub channel_is : channel ≡ 16 * one_lane + lane_at vl level hops nth hop
+
+-- a packet of `level` is dropped on none of the first `count` of these hops that go from one switch to another
+abbrev pub IsCarried : Cells → Fabric → LaneMaps → ℕ → List Hop → ℕ → Type 0
+IsCarried cells f vl level hops count =
+    (nth : ℕ) (hop : Hop) (one_lane : ℕ) → nth < count → slice_get hops nth ≡ Some hop → IsChannel cells f hop one_lane
+    → lane_at vl level hops nth hop < 15
+
+-- a packet of `level` that an end port of the part sends for some LID takes these hops
+pub record TravelsAt (s : SeenByLane) (answers : Bool) (part : Part) (f : Fabric) (level : ℕ) (hops : List Hop) : Type 0
+  where
+    pub source : NodePort
+    pub node : Node
+    pub is_source : IsEndPortIn part f source node
+    pub lid : ℕ
+    pub is_lid : 1 ≤ lid
+    pub has_level : HasLevel s.said answers s.seen.held (record { node = node.guid; port = source.port }) lid level
+    pub end : Standing
+    pub goes : Goes f lid (sent_from source) hops end
+
+-- if numbers rise by facts, tables and lanes, the facts describe all that is joined to an end port, and the end ports
+-- and switches there hold the tables and the lanes, then the channels by lane that a packet takes, and is dropped on
+-- none, have rising numbers
+abbrev pub LaneChannelsRise : Type 0
+LaneChannelsRise =
+    (s : SeenByLane) (answers : Bool) (f : Fabric) (origin : NodePort) (vl : LaneMaps) → IsEndPort f origin
+    → IsSeenIn (IsJoinedTo f origin) (cells_of s.seen.facts) s.seen.held f
+    → HoldLanes (IsJoinedTo f origin) s.said f vl → (r : RiseByLane s answers) (level : ℕ) (hops : List Hop)
+    → TravelsAt s answers (IsJoinedTo f origin) f level hops → (nth channel next : ℕ)
+    → IsCarried (cells_of s.seen.facts) f vl level hops (nth + 2)
+    → IsLaneChannel (cells_of s.seen.facts) f vl level hops nth channel
+    → IsLaneChannel (cells_of s.seen.facts) f vl level hops (nth + 1) next
+    → r.number channel < r.number next
