@@ -6,7 +6,7 @@ use Rattle.audit_channels.specs.Columns.{TakesAcross, number_of}
 use Rattle.audit_channels.specs.Waiting.{RiseOnWays}
 use Rattle.lane_channels.specs.LaneNetwork.{SeenByLane}
 use Rattle.lane_channels.specs.LaneLaws.{NeverBothByLane, OneLaneSuffices}
-use Rattle.lane_channels.specs.Stops.{across_edge, lane_by}
+use Rattle.lane_channels.specs.Stops.{lane_between, lane_by, port_across}
 use Rattle.lane_channels.specs.Waiting.{RiseByLane, WaitOn, WaitsByLane, column_for}
 
 -- the channel without its lane
@@ -21,14 +21,14 @@ one_lane_suffices s answers numbers rise = record { number = λ c. slice_index_o
         let one = w.takes in
         let t = one.takes in
         let cells = cells_of s.seen.facts in
-        let a_is : a / 16 ≡ number_of one.stop.at t.first =
-        without_lane a (number_of one.stop.at t.first) (lane_by s.said cells one.level one.stop t.first) t.channel_is t.lane_is in
+        let a_is : a / 16 ≡ number_of (one.stop / 256) t.first =
+        without_lane a (number_of (one.stop / 256) t.first) (lane_by s.said cells one.level one.stop t.first) t.channel_is t.lane_is in
         let b_is : b / 16 ≡ number_of t.first.to t.second =
-        without_lane b (number_of t.first.to t.second) (lane_by s.said cells one.level (across_edge cells one.stop.at t.first) t.second) t.next_is
+        without_lane b (number_of t.first.to t.second) (lane_between s.said cells one.level t.first.to (port_across cells (one.stop / 256) t.first.port) t.second.port) t.next_is
         t.lane_there_is in
-        let takes : TakesAcross (column_for s w.lid) (column_for s w.lid) one.stop.at (a / 16) (b / 16) =
+        let takes : TakesAcross (column_for s w.lid) (column_for s w.lid) (one.stop / 256) (a / 16) (b / 16) =
         record { first = t.first; second = t.second; leaves = t.leaves; leaves_there = t.leaves_there; channel_is = a_is; next_is = b_is } in
-        rise.rises (a / 16) (b / 16) (record { lid = w.lid; is_lid = w.is_lid; switch = one.stop.at; takes = takes })
+        rise.rises (a / 16) (b / 16) (record { lid = w.lid; is_lid = w.is_lid; switch = (one.stop / 256); takes = takes })
 
 rise_along : (s : SeenByLane) (answers : Bool) (r : RiseByLane s answers) (channel last : ℕ) (later : List ℕ) → WaitOn s answers channel later last
     → r.number channel < r.number last

@@ -1,5 +1,5 @@
 -- All packets for a LID followed, and then LID by LID up to the greatest top.
-use Rattle.std.proofs.Common.{◌≡◌, ◌<◌, ◌≤◌, ◌+◌, ◌*◌, ℕ, zero, suc, Bool, List, [], ◌∷◌, length, replicate, length-replicate, refl, sym, ap, ◌∙◌, subst, arith, inl, inr, ◌⊎◌}
+use Rattle.std.proofs.Common.{◌≡◌, ◌<◌, ◌≤◌, ◌+◌, ◌*◌, ◌/◌, ℕ, zero, suc, Bool, List, [], ◌∷◌, length, replicate, length-replicate, refl, sym, ap, ◌∙◌, subst, arith, inl, inr, ◌⊎◌}
 use Rattle.std.specs.Prelude.{Contains, Option, None, Some, option_and_then, slice_index_or, ◌↔◌}
 use Rattle.std.proofs.lemmas.Bool.{cases_lt}
 use Rattle.port_graph.specs.declared.edge.Edge.{Edge}
@@ -13,7 +13,6 @@ use Rattle.audit_channels.specs.Orders.{Follows}
 use Rattle.audit_channels.proofs.Columns.{within}
 use Rattle.audit_channels.proofs.Waiting.{blank}
 use Rattle.lanes_file.specs.Lanes.{LanesSaid}
-use Rattle.lane_channels.specs.declared.stop.Stop.{Stop}
 use Rattle.lane_channels.specs.declared.stop.Dropped.{Dropped}
 use Rattle.lane_channels.specs.LaneNetwork.{SeenByLane}
 use Rattle.lane_channels.specs.Senders.{IsNothing, SentFor}
@@ -29,30 +28,30 @@ no_edge (x ∷ column) (suc vertex) past = no_edge column vertex (omega arith)
 
 module _ (said : LanesSaid) (cells : Cells) (column : List (Option Edge)) (lid : ℕ) (these : Beginnings) (old new : Walked)
     (f : AreFollowed said cells column lid these old new) (fresh : (i : ℕ) → slice_index_or old.marks i 0 < lid) where
-  unmarked : (level : ℕ) (stop : Stop) → IsMarked lid old.marks level stop → ⊥
-  unmarked level stop m = let less = fresh (16 * (256 * stop.at + stop.into) + level) in omega arith
+  unmarked : (level : ℕ) (stop : ℕ) → IsMarked lid old.marks level stop → ⊥
+  unmarked level stop m = let less = fresh (16 * stop + level) in omega arith
 
   whole : IsWhole said cells column lid new
   whole = f.whole (record {
-    closed = λ level stop next a b m. absurd (unmarked level stop m);
-    recorded = λ level stop a b c d m. absurd (unmarked level stop m);
-    noted = λ e level stop out a b m. absurd (unmarked level stop m);
+    closed = λ level stop next a m. absurd (unmarked level stop m);
+    recorded = λ level stop a b c m. absurd (unmarked level stop m);
+    noted = λ e level stop out a m. absurd (unmarked level stop m);
   })
 
-  done_along : (count level : ℕ) (first : Option Stop) (stop : Stop) → these level first
-      → stop_after said cells column level count first ≡ Some stop → (stop.into < 256) × IsDone (length column) lid new.marks level stop
+  done_along : (count level : ℕ) (first : Option ℕ) (stop : ℕ) → these level first
+      → stop_after said cells column level count first ≡ Some stop → IsDone (length column) lid new.marks level stop
   done_along zero level first stop begins there = f.begun level first stop begins there
   done_along (suc count) level first stop begins there =
       elim (stop_after said cells column level count first) as (λ o. stop_after said cells column level count first ≡ o
-      → option_and_then (next_stop said cells column level) o ≡ Some stop → (stop.into < 256) × IsDone (length column) lid new.marks level stop) [
+      → option_and_then (next_stop said cells column level) o ≡ Some stop → IsDone (length column) lid new.marks level stop) [
         | None ↦ λ e n. absurd (cc)
         | Some before ↦ λ e n.
             let d = done_along count level first before begins e in
-            (elim d.1 [
-              | inl m ↦ whole.closed level before stop (f.small level first begins) d.0 m n
+            (elim d [
+              | inl m ↦ whole.closed level before stop (f.small level first begins) m n
               | inr past ↦
                   let none : next_stop said cells column level before ≡ None =
-                  ap (option_and_then (carried said cells level before)) (no_edge column before.at past) in
+                  ap (option_and_then (carried said cells level before)) (no_edge column (before / 256) (omega arith)) in
                   absurd (cc)
             ])
       ] refl there
@@ -61,18 +60,18 @@ module _ (said : LanesSaid) (cells : Cells) (column : List (Option Edge)) (lid :
   takes_follow a b t =
       let r = t.reaches in
       let d = done_along r.count t.level r.first t.stop r.begins r.is_there in
-      elim d.1 [
-        | inl m ↦ whole.recorded t.level t.stop a b (f.small t.level r.first r.begins) d.0 m t.takes
-        | inr past ↦ let takes = t.takes in let less = within column t.stop.at takes.first takes.leaves in absurd (omega arith)
+      elim d [
+        | inl m ↦ whole.recorded t.level t.stop a b (f.small t.level r.first r.begins) m t.takes
+        | inr past ↦ let takes = t.takes in let less = within column (t.stop / 256) takes.first takes.leaves in absurd (omega arith)
       ]
 
   pub none_dropped : new.dropped ≡ None → (d : Dropped) → IsDroppedOne said cells column these lid d → ⊥
   none_dropped none d one =
       let r = one.reaches in
       let e = done_along r.count d.level r.first d.stop r.begins r.is_there in
-      elim e.1 [
-        | inl m ↦ whole.noted none d.level d.stop d.out (f.small d.level r.first r.begins) e.0 m one.drops
-        | inr past ↦ let drops = one.drops in let less = within column d.stop.at drops.edge drops.leaves in absurd (omega arith)
+      elim e [
+        | inl m ↦ whole.noted none d.level d.stop d.out (f.small d.level r.first r.begins) m one.drops
+        | inr past ↦ let drops = one.drops in let less = within column (d.stop / 256) drops.edge drops.leaves in absurd (omega arith)
       ]
 
 module _ (s : SeenByLane) (answers : Bool) where
@@ -195,7 +194,7 @@ module _ (s : SeenByLane) (answers : Bool) where
     back : (a b : ℕ) → WaitsByLane s answers a b → TakesBy count a b
     back a b t =
         elim (cases_lt count t.lid) [
-          | inl above ↦ let takes = t.takes.takes in absurd (nowhere t.lid t.takes.stop.at takes.first above takes.leaves)
+          | inl above ↦ let takes = t.takes.takes in absurd (nowhere t.lid (t.takes.stop / 256) takes.first above takes.leaves)
           | inr most ↦ record { lid = t.lid; low = t.is_lid; most = most; takes = t.takes }
         ]
 
@@ -209,7 +208,7 @@ module _ (s : SeenByLane) (answers : Bool) where
     none_at_all : w.dropped ≡ None → (d : Dropped) → IsDroppedByLane s answers d → ⊥
     none_at_all none d one =
         elim (cases_lt count d.lid) [
-          | inl above ↦ let drops = one.one.drops in nowhere d.lid d.stop.at drops.edge above drops.leaves
+          | inl above ↦ let drops = one.one.drops in nowhere d.lid (d.stop / 256) drops.edge above drops.leaves
           | inr most ↦ h.none_dropped none d one most
         ]
 

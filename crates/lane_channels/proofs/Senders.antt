@@ -10,13 +10,12 @@ use Rattle.subnet_view.specs.EndPorts.{end_ports}
 use Rattle.subnet_view.specs.declared.end_port.EndPort.{EndPort}
 use Rattle.held_tables.specs.Tables.{owners_of}
 use Rattle.lanes_file.specs.Lanes.{LanesSaid, level_of}
-use Rattle.lane_channels.specs.declared.stop.Stop.{Stop}
 use Rattle.lane_channels.specs.LaneNetwork.{SeenByLane}
 use Rattle.lane_channels.specs.Levels.{HasLevel, IsAsked, lids_held}
 use Rattle.lane_channels.specs.Senders.{AnswersOf, AnswersTo, SentFor, SentFrom}
 use Rattle.lane_channels.specs.Stops.{first_stop}
-use Rattle.lane_channels.specs.Walks.{AreFollowed, Begins, Walked}
-use Rattle.lane_channels.proofs.Walks.{followed_as, followed_then, none_followed}
+use Rattle.lane_channels.specs.Walks.{AreFollowed, BeginsIf, Walked}
+use Rattle.lane_channels.proofs.Walks.{followed_as, followed_then}
 
 -- an index in a list is below its length
 pub below_length : {X : Type 0} (xs : List X) (i : ℕ) (x : X) → slice_get xs i ≡ Some x → i < length xs
@@ -25,8 +24,8 @@ below_length (y ∷ xs) zero x e = omega arith
 below_length (y ∷ xs) (suc i) x e = let less = below_length xs i x e in omega arith
 
 -- the packets from `first` on that answer those which one of the first `count` of `owners` sends for one of `lids`
-pub record AnswersToSome (said : LanesSaid) (owners : List EndPort) (lids : List ℕ) (count : ℕ) (first : Option Stop) (level : ℕ)
-    (begin : Option Stop) : Type 0 where
+pub record AnswersToSome (said : LanesSaid) (owners : List EndPort) (lids : List ℕ) (count : ℕ) (first : Option ℕ) (level : ℕ)
+    (begin : Option ℕ) : Type 0 where
   pub nth : ℕ
   pub below : nth < count
   pub asker : EndPort
@@ -34,22 +33,23 @@ pub record AnswersToSome (said : LanesSaid) (owners : List EndPort) (lids : List
   pub answers : AnswersOf said asker lids (length lids) first level begin
 
 -- the packets that one of the first `count` end ports sends for `lid`
-pub record SentBySome (s : SeenByLane) (answers : Bool) (lid count level : ℕ) (begin : Option Stop) : Type 0 where
+pub record SentBySome (s : SeenByLane) (answers : Bool) (lid count level : ℕ) (begin : Option ℕ) : Type 0 where
   pub index : ℕ
   pub below : index < count
   pub sent : SentFrom s answers lid index level begin
 
 module _ (said : LanesSaid) (cells : Cells) (column : List (Option Edge)) (lid : ℕ) (old w new : Walked) where
-  -- one LID more, for which there is a level
-  pub one_asked : (asker : EndPort) (lids : List ℕ) (index asked level : ℕ) (first : Option Stop)
+  -- one LID more
+  pub one_asked : (asker : EndPort) (lids : List ℕ) (index asked : ℕ) (level first : Option ℕ)
       → AreFollowed said cells column lid (AnswersOf said asker lids index first) old w → slice_get lids index ≡ Some asked
-      → level_of said asker.node asker.port asked ≡ Some level → AreFollowed said cells column lid (Begins level first) w new
+      → level ≡ level_of said asker.node asker.port asked → AreFollowed said cells column lid (BeginsIf level first) w new
       → AreFollowed said cells column lid (AnswersOf said asker lids (index + 1) first) old new
   one_asked asker lids index asked level first h is level_is one =
-      followed_then said cells column lid (AnswersOf said asker lids index first) (Begins level first) (AnswersOf said asker lids (index + 1) first) old w new
+      followed_then said cells column lid (AnswersOf said asker lids index first) (BeginsIf level first) (AnswersOf said asker lids (index + 1) first) old w new
       h one either earlier this
     where
-      either : (l : ℕ) (b : Option Stop) → AnswersOf said asker lids (index + 1) first l b → AnswersOf said asker lids index first l b ⊎ Begins level first l b
+      either : (l : ℕ) (b : Option ℕ) → AnswersOf said asker lids (index + 1) first l b
+          → AnswersOf said asker lids index first l b ⊎ BeginsIf level first l b
       either l b a =
           elim (cases_lt a.index index) [
             | inl less ↦ inl (record { begins = a.begins; asked = a.asked; index = a.index; below = less; asked_is = a.asked_is; level_is = a.level_is })
@@ -57,52 +57,26 @@ module _ (said : LanesSaid) (cells : Cells) (column : List (Option Edge)) (lid :
                 let below = a.below in
                 let at : a.index ≡ index = omega arith in
                 let same : a.asked ≡ asked = same_Some a.asked asked (sym a.asked_is ∙ ap (slice_get lids) at ∙ is) in
-                inr (same_Some l level (sym a.level_is ∙ ap (level_of said asker.node asker.port) same ∙ level_is), a.begins)
+                inr (level_is ∙ ap (level_of said asker.node asker.port) (sym same) ∙ a.level_is, a.begins)
           ]
 
-      earlier : (l : ℕ) (b : Option Stop) → AnswersOf said asker lids index first l b → AnswersOf said asker lids (index + 1) first l b
+      earlier : (l : ℕ) (b : Option ℕ) → AnswersOf said asker lids index first l b → AnswersOf said asker lids (index + 1) first l b
       earlier l b a =
           let below = a.below in
           record { begins = a.begins; asked = a.asked; index = a.index; below = omega arith; asked_is = a.asked_is; level_is = a.level_is }
 
-      this : (l : ℕ) (b : Option Stop) → Begins level first l b → AnswersOf said asker lids (index + 1) first l b
+      this : (l : ℕ) (b : Option ℕ) → BeginsIf level first l b → AnswersOf said asker lids (index + 1) first l b
       this l b a = record {
         begins = a.1;
         asked = asked;
         index = index;
         below = omega arith;
         asked_is = is;
-        level_is = level_is ∙ ap Some (sym a.0);
+        level_is = sym level_is ∙ a.0;
       }
 
-  -- one for which there is none
-  pub none_asked : (asker : EndPort) (lids : List ℕ) (index asked : ℕ) (first : Option Stop)
-      → AreFollowed said cells column lid (AnswersOf said asker lids index first) old w → slice_get lids index ≡ Some asked
-      → level_of said asker.node asker.port asked ≡ None
-      → AreFollowed said cells column lid (AnswersOf said asker lids (index + 1) first) old w
-  none_asked asker lids index asked first h is none =
-      followed_as said cells column lid (AnswersOf said asker lids index first) (AnswersOf said asker lids (index + 1) first) old w h back more
-    where
-      back : (l : ℕ) (b : Option Stop) → AnswersOf said asker lids (index + 1) first l b → AnswersOf said asker lids index first l b
-      back l b a =
-          elim (cases_lt a.index index) [
-            | inl less ↦ record { begins = a.begins; asked = a.asked; index = a.index; below = less; asked_is = a.asked_is; level_is = a.level_is }
-            | inr past ↦
-                let below = a.below in
-                let at : a.index ≡ index = omega arith in
-                let same : a.asked ≡ asked = same_Some a.asked asked (sym a.asked_is ∙ ap (slice_get lids) at ∙ is) in
-                let its : level_of said asker.node asker.port asked ≡ Some l =
-                subst (λ (k : ℕ). level_of said asker.node asker.port k ≡ Some l) same a.level_is in
-                absurd (cc)
-          ]
-
-      more : (l : ℕ) (b : Option Stop) → AnswersOf said asker lids index first l b → AnswersOf said asker lids (index + 1) first l b
-      more l b a =
-          let below = a.below in
-          record { begins = a.begins; asked = a.asked; index = a.index; below = omega arith; asked_is = a.asked_is; level_is = a.level_is }
-
   -- one owner more
-  pub one_owner : (owners : List EndPort) (lids : List ℕ) (nth : ℕ) (asker : EndPort) (first : Option Stop)
+  pub one_owner : (owners : List EndPort) (lids : List ℕ) (nth : ℕ) (asker : EndPort) (first : Option ℕ)
       → AreFollowed said cells column lid (AnswersToSome said owners lids nth first) old w → slice_get owners nth ≡ Some asker
       → AreFollowed said cells column lid (AnswersOf said asker lids (length lids) first) w new
       → AreFollowed said cells column lid (AnswersToSome said owners lids (nth + 1) first) old new
@@ -110,7 +84,7 @@ module _ (said : LanesSaid) (cells : Cells) (column : List (Option Edge)) (lid :
       followed_then said cells column lid (AnswersToSome said owners lids nth first) (AnswersOf said asker lids (length lids) first)
       (AnswersToSome said owners lids (nth + 1) first) old w new h one either earlier this
     where
-      either : (l : ℕ) (b : Option Stop) → AnswersToSome said owners lids (nth + 1) first l b
+      either : (l : ℕ) (b : Option ℕ) → AnswersToSome said owners lids (nth + 1) first l b
           → AnswersToSome said owners lids nth first l b ⊎ AnswersOf said asker lids (length lids) first l b
       either l b a =
           elim (cases_lt a.nth nth) [
@@ -122,21 +96,21 @@ module _ (said : LanesSaid) (cells : Cells) (column : List (Option Edge)) (lid :
                 inr (subst (λ (e : EndPort). AnswersOf said e lids (length lids) first l b) same a.answers)
           ]
 
-      earlier : (l : ℕ) (b : Option Stop) → AnswersToSome said owners lids nth first l b → AnswersToSome said owners lids (nth + 1) first l b
+      earlier : (l : ℕ) (b : Option ℕ) → AnswersToSome said owners lids nth first l b → AnswersToSome said owners lids (nth + 1) first l b
       earlier l b a =
           let below = a.below in record { nth = a.nth; below = omega arith; asker = a.asker; asker_is = a.asker_is; answers = a.answers }
 
-      this : (l : ℕ) (b : Option Stop) → AnswersOf said asker lids (length lids) first l b → AnswersToSome said owners lids (nth + 1) first l b
+      this : (l : ℕ) (b : Option ℕ) → AnswersOf said asker lids (length lids) first l b → AnswersToSome said owners lids (nth + 1) first l b
       this l b a = record { nth = nth; below = omega arith; asker = asker; asker_is = is; answers = a }
 
   -- all owners
-  pub all_owners : (owners : List EndPort) (lids : List ℕ) (first : Option Stop)
+  pub all_owners : (owners : List EndPort) (lids : List ℕ) (first : Option ℕ)
       → AreFollowed said cells column lid (AnswersToSome said owners lids (length owners) first) old w
       → AreFollowed said cells column lid (AnswersTo said owners lids first) old w
   all_owners owners lids first h =
       followed_as said cells column lid (AnswersToSome said owners lids (length owners) first) (AnswersTo said owners lids first) old w h back to
     where
-      back : (l : ℕ) (b : Option Stop) → AnswersTo said owners lids first l b → AnswersToSome said owners lids (length owners) first l b
+      back : (l : ℕ) (b : Option ℕ) → AnswersTo said owners lids first l b → AnswersToSome said owners lids (length owners) first l b
       back l b a =
           let k = a.1 in
           record {
@@ -154,7 +128,7 @@ module _ (said : LanesSaid) (cells : Cells) (column : List (Option Edge)) (lid :
             };
           }
 
-      to : (l : ℕ) (b : Option Stop) → AnswersToSome said owners lids (length owners) first l b → AnswersTo said owners lids first l b
+      to : (l : ℕ) (b : Option ℕ) → AnswersToSome said owners lids (length owners) first l b → AnswersTo said owners lids first l b
       to l b a =
           let k = a.answers in
           (k.begins, record {
@@ -179,7 +153,7 @@ module _ (s : SeenByLane) (answers : Bool) (column : List (Option Edge)) (lid : 
       followed_then s.said cells column lid (SentBySome s answers lid index) (SentFrom s answers lid index) (SentBySome s answers lid (index + 1)) old w new h one
       either earlier (λ l b a. record { index = index; below = omega arith; sent = a })
     where
-      either : (l : ℕ) (b : Option Stop) → SentBySome s answers lid (index + 1) l b → SentBySome s answers lid index l b ⊎ SentFrom s answers lid index l b
+      either : (l : ℕ) (b : Option ℕ) → SentBySome s answers lid (index + 1) l b → SentBySome s answers lid index l b ⊎ SentFrom s answers lid index l b
       either l b a =
           elim (cases_lt a.index index) [
             | inl less ↦ inl (record { index = a.index; below = less; sent = a.sent })
@@ -188,7 +162,7 @@ module _ (s : SeenByLane) (answers : Bool) (column : List (Option Edge)) (lid : 
                 let at : a.index ≡ index = omega arith in inr (subst (λ (k : ℕ). SentFrom s answers lid k l b) at a.sent)
           ]
 
-      earlier : (l : ℕ) (b : Option Stop) → SentBySome s answers lid index l b → SentBySome s answers lid (index + 1) l b
+      earlier : (l : ℕ) (b : Option ℕ) → SentBySome s answers lid index l b → SentBySome s answers lid (index + 1) l b
       earlier l b a = let below = a.below in record { index = a.index; below = omega arith; sent = a.sent }
 
   -- all senders
@@ -198,7 +172,7 @@ module _ (s : SeenByLane) (answers : Bool) (column : List (Option Edge)) (lid : 
       followed_as s.said cells column lid (SentBySome s answers lid (length (end_ports cells))) (SentFor s answers lid) old w h
       (λ l b a. record { index = a.0; below = below_length (end_ports cells) a.0 a.1.source a.1.source_is; sent = a.1 }) (λ l b a. (a.index, a.sent))
 
-  module _ (index : ℕ) (source : EndPort) (first : Option Stop) (source_is : slice_get (end_ports cells) index ≡ Some source)
+  module _ (index : ℕ) (source : EndPort) (first : Option ℕ) (source_is : slice_get (end_ports cells) index ≡ Some source)
       (first_is : first ≡ first_stop cells source) where
     abbrev own : Option ℕ
     own = level_of s.said source.node source.port lid
@@ -206,10 +180,10 @@ module _ (s : SeenByLane) (answers : Bool) (column : List (Option Edge)) (lid : 
     same_source : (e : EndPort) → slice_get (end_ports cells) index ≡ Some e → e ≡ source
     same_source e is = same_Some e source (sym is ∙ source_is)
 
-    from : (l : ℕ) (b : Option Stop) → HasLevel s.said answers s.seen.held source lid l → b ≡ first → SentFrom s answers lid index l b
+    from : (l : ℕ) (b : Option ℕ) → HasLevel s.said answers s.seen.held source lid l → b ≡ first → SentFrom s answers lid index l b
     from l b has begins = record { source = source; source_is = source_is; has_level = has; begins = begins ∙ first_is }
 
-    has_level : (l : ℕ) (b : Option Stop) → SentFrom s answers lid index l b → HasLevel s.said answers s.seen.held source lid l × (b ≡ first)
+    has_level : (l : ℕ) (b : Option ℕ) → SentFrom s answers lid index l b → HasLevel s.said answers s.seen.held source lid l × (b ≡ first)
     has_level l b a =
         let same = same_source a.source a.source_is in
         (
@@ -217,39 +191,27 @@ module _ (s : SeenByLane) (answers : Bool) (column : List (Option Edge)) (lid : 
           a.begins ∙ ap (first_stop cells) same ∙ sym first_is,
         )
 
-    -- the packets of the level of their own
-    pub own_followed : (level : ℕ) → own ≡ Some level → AreFollowed s.said cells column lid (Begins level first) old w
-        → AreFollowed s.said cells column lid (λ l b. (own ≡ Some l) × (b ≡ first)) old w
-    own_followed level is h =
-        followed_as s.said cells column lid (Begins level first) (λ l b. (own ≡ Some l) × (b ≡ first)) old w h
-        (λ l b a. (same_Some l level (sym a.0 ∙ is), a.1)) (λ l b a. (is ∙ ap Some (sym a.0), a.1))
-
-    pub none_own : own ≡ None → AreFollowed s.said cells column lid (λ l b. (own ≡ Some l) × (b ≡ first)) old old
-    none_own none =
-        none_followed s.said cells column lid (λ l b. (own ≡ Some l) × (b ≡ first)) old (λ l b a. (let some = a.0 in
-            cc))
-
-    pub no_answers : answers ≡ false → AreFollowed s.said cells column lid (λ l b. (own ≡ Some l) × (b ≡ first)) old w
+    pub no_answers : answers ≡ false → AreFollowed s.said cells column lid (BeginsIf own first) old w
         → AreFollowed s.said cells column lid (SentFrom s answers lid index) old w
     no_answers no h =
-        followed_as s.said cells column lid (λ l b. (own ≡ Some l) × (b ≡ first)) (SentFrom s answers lid index) old w h back
+        followed_as s.said cells column lid (BeginsIf own first) (SentFrom s answers lid index) old w h back
         (λ l b a. from l b (inl a.0) a.1)
       where
-        back : (l : ℕ) (b : Option Stop) → SentFrom s answers lid index l b → (own ≡ Some l) × (b ≡ first)
+        back : (l : ℕ) (b : Option ℕ) → SentFrom s answers lid index l b → BeginsIf own first l b
         back l b a =
             let h = has_level l b a in
             (elim h.0 [ inl e ↦ e | inr t ↦ (let yes = t.0 in absurd (cc)) ], h.1)
 
-    pub with_answers : answers ≡ true → AreFollowed s.said cells column lid (λ l b. (own ≡ Some l) × (b ≡ first)) old w
+    pub with_answers : answers ≡ true → AreFollowed s.said cells column lid (BeginsIf own first) old w
         → AreFollowed s.said cells column lid (AnswersTo s.said (owners_of s.seen.held lid) (lids_held s.seen.held source) first) w new
         → AreFollowed s.said cells column lid (SentFrom s answers lid index) old new
     with_answers yes h one =
-        followed_then s.said cells column lid (λ l b. (own ≡ Some l) × (b ≡ first))
+        followed_then s.said cells column lid (BeginsIf own first)
         (AnswersTo s.said (owners_of s.seen.held lid) (lids_held s.seen.held source) first) (SentFrom s answers lid index) old w new h one either
         (λ l b a. from l b (inl a.0) a.1) (λ l b a. from l b (inr (yes, a.1)) a.0)
       where
-        either : (l : ℕ) (b : Option Stop) → SentFrom s answers lid index l b
-            → ((own ≡ Some l) × (b ≡ first)) ⊎ AnswersTo s.said (owners_of s.seen.held lid) (lids_held s.seen.held source) first l b
+        either : (l : ℕ) (b : Option ℕ) → SentFrom s answers lid index l b
+            → (BeginsIf own first l b) ⊎ AnswersTo s.said (owners_of s.seen.held lid) (lids_held s.seen.held source) first l b
         either l b a =
             let h = has_level l b a in
             elim h.0 [ inl e ↦ inl (e, h.1) | inr t ↦ inr (h.1, t.1) ]

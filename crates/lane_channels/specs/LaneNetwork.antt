@@ -8,7 +8,6 @@ use Rattle.subnet_view.specs.EndPorts.{end_ports}
 use Rattle.packet_walks.specs.Network.{Seen, seen_code}
 use Rattle.lanes_file.specs.contracts.lanes.Lanes as lanes
 use Rattle.lanes_file.specs.Lanes.{LanesSaid}
-use Rattle.lane_channels.specs.declared.stop.Stop.{Stop}
 use Rattle.held_tables.specs.Held.{HeldPlan}
 use Rattle.lane_channels.specs.Levels.{lids_held}
 use Rattle.lane_channels.specs.Stops.{far_port_by, first_stop}
@@ -29,7 +28,7 @@ lists_of = map (λ lids. lids.items)
 
 -- the ports at the far ends of the wires of usable switches, and where the packets of end ports first
 -- reach a switch and which LIDs end ports hold
-pub record IsLaneNetwork (cells : Cells) (held : HeldPlan) (far_ports : List ℕ) (firsts : List (Option Stop))
+pub record IsLaneNetwork (cells : Cells) (held : HeldPlan) (far_ports : List ℕ) (firsts : List (Option ℕ))
     (held_by : List (List ℕ)) : Type 0 where
   pub far_ports_are : far_ports ≡ map (far_port_by cells) (range_with_len 0 (256 * length (switches cells)))
   pub firsts_are : firsts ≡ map (first_stop cells) (end_ports cells)

@@ -6,15 +6,14 @@ use Rattle.subnet_view.specs.EndPorts.{end_ports}
 use Rattle.subnet_view.specs.declared.end_port.EndPort.{EndPort}
 use Rattle.held_tables.specs.Held.{HeldPlan}
 use Rattle.lanes_file.specs.Lanes.{LanesSaid, level_of}
-use Rattle.lane_channels.specs.declared.stop.Stop.{Stop}
 use Rattle.lane_channels.specs.LaneNetwork.{SeenByLane}
 use Rattle.lane_channels.specs.Levels.{HasLevel, IsAsked}
 use Rattle.lane_channels.specs.Stops.{first_stop}
 use Rattle.lane_channels.specs.Walks.{Walked}
 
 -- the packets from `first` on that answer those which `asker` sends for one of the first `count` of `lids`
-pub record AnswersOf (said : LanesSaid) (asker : EndPort) (lids : List ℕ) (count : ℕ) (first : Option Stop) (level : ℕ)
-    (begin : Option Stop) : Type 0 where
+pub record AnswersOf (said : LanesSaid) (asker : EndPort) (lids : List ℕ) (count : ℕ) (first : Option ℕ) (level : ℕ)
+    (begin : Option ℕ) : Type 0 where
   pub begins : begin ≡ first
   pub asked : ℕ
   pub index : ℕ
@@ -23,18 +22,18 @@ pub record AnswersOf (said : LanesSaid) (asker : EndPort) (lids : List ℕ) (cou
   pub level_is : level_of said asker.node asker.port asked ≡ Some level
 
 -- the packets from `first` on that answer those which one of `owners` sends for one of `lids`
-abbrev pub AnswersTo : LanesSaid → List EndPort → List ℕ → Option Stop → ℕ → Option Stop → Type 0
+abbrev pub AnswersTo : LanesSaid → List EndPort → List ℕ → Option ℕ → ℕ → Option ℕ → Type 0
 AnswersTo said owners lids first level begin = (begin ≡ first) × IsAsked said owners lids level
 
 -- the packets that the end port at `index` sends for `lid`
-pub record SentFrom (s : SeenByLane) (answers : Bool) (lid index level : ℕ) (begin : Option Stop) : Type 0 where
+pub record SentFrom (s : SeenByLane) (answers : Bool) (lid index level : ℕ) (begin : Option ℕ) : Type 0 where
   pub source : EndPort
   pub source_is : slice_get (end_ports (cells_of s.seen.facts)) index ≡ Some source
   pub has_level : HasLevel s.said answers s.seen.held source lid level
   pub begins : begin ≡ first_stop (cells_of s.seen.facts) source
 
 -- the packets that end ports send for `lid`
-abbrev pub SentFor : SeenByLane → Bool → ℕ → ℕ → Option Stop → Type 0
+abbrev pub SentFor : SeenByLane → Bool → ℕ → ℕ → Option ℕ → Type 0
 SentFor s answers lid level begin = (index : ℕ) × SentFrom s answers lid index level begin
 
 -- nothing was followed

@@ -5,55 +5,54 @@ use Rattle.port_graph.specs.declared.edge.Edge.{Edge}
 use Rattle.subnet_view.specs.Reading.{Cells}
 use Rattle.audit_channels.specs.Orders.{Follows}
 use Rattle.lanes_file.specs.Lanes.{LanesSaid}
-use Rattle.lane_channels.specs.declared.stop.Stop.{Stop}
 use Rattle.lane_channels.specs.declared.stop.Dropped.{Dropped}
 use Rattle.lane_channels.specs.Stops.{next_stop, stop_after}
 use Rattle.lane_channels.specs.LaneTurns.{DropsBefore, DropsNone, TakesByLane}
 use Rattle.lane_channels.specs.declared.walk.Walks.{Walks}
 
 -- the number of the mark of a stop and a level
-abbrev pub mark_number : ℕ → Stop → ℕ
-mark_number level stop = 16 * (256 * stop.at + stop.into) + level
+abbrev pub mark_number : ℕ → ℕ → ℕ
+mark_number level stop = 16 * stop + level
 
 -- packets for `lid` of `level` were followed from the stop
-abbrev pub IsMarked : ℕ → List ℕ → ℕ → Stop → Type 0
+abbrev pub IsMarked : ℕ → List ℕ → ℕ → ℕ → Type 0
 IsMarked lid marks level stop = slice_index_or marks (mark_number level stop) 0 ≡ lid
 
 -- nothing is left to follow from the stop, since there is no such switch among `count`, or packets were followed
-abbrev pub is_done : ℕ → ℕ → List ℕ → ℕ → Stop → Bool
+abbrev pub is_done : ℕ → ℕ → List ℕ → ℕ → ℕ → Bool
 is_done count lid marks level stop =
-    nat_le count stop.at || slice_index_or marks (mark_number level stop) 0 == lid
+    nat_le (256 * count) stop || slice_index_or marks (mark_number level stop) 0 == lid
 
-abbrev pub IsDone : ℕ → ℕ → List ℕ → ℕ → Stop → Type 0
-IsDone count lid marks level stop = IsMarked lid marks level stop ⊎ (count ≤ stop.at)
+abbrev pub IsDone : ℕ → ℕ → List ℕ → ℕ → ℕ → Type 0
+IsDone count lid marks level stop = IsMarked lid marks level stop ⊎ (256 * count ≤ stop)
 
 -- packets that were followed to a stop were followed from there
 abbrev pub IsClosed : LanesSaid → Cells → List (Option Edge) → ℕ → List ℕ → Type 0
 IsClosed said cells column lid marks =
-    (level : ℕ) (stop next : Stop) → level < 16 → stop.into < 256 → IsMarked lid marks level stop
+    (level : ℕ) (stop next : ℕ) → level < 16 → IsMarked lid marks level stop
     → next_stop said cells column level stop ≡ Some next
-    → (next.into < 256) × IsDone (length column) lid marks level next
+    → IsDone (length column) lid marks level next
 
 -- the channels that followed packets take in turn follow each other in `waits`
 abbrev pub AreRecorded : LanesSaid → Cells → List (Option Edge) → ℕ → List ℕ → List (List ℕ) → Type 0
 AreRecorded said cells column lid marks waits =
-    (level : ℕ) (stop : Stop) (a b : ℕ) → level < 16 → stop.into < 256 → IsMarked lid marks level stop
+    (level stop : ℕ) (a b : ℕ) → level < 16 → IsMarked lid marks level stop
     → TakesByLane said cells column level stop a b → Follows waits a b
 
 -- if no dropped packet is noted, no followed packet is dropped
 abbrev pub IsNoted : LanesSaid → Cells → List (Option Edge) → ℕ → List ℕ → Option Dropped → Type 0
 IsNoted said cells column lid marks dropped =
-    dropped ≡ None → (level : ℕ) (stop : Stop) (out : ℕ) → level < 16 → stop.into < 256 → IsMarked lid marks level stop
+    dropped ≡ None → (level stop : ℕ) (out : ℕ) → level < 16 → IsMarked lid marks level stop
     → DropsBefore said cells column level stop out → ⊥
 
 -- packets of a level that begin at a stop, or nowhere
 abbrev pub Beginnings : Type 1
-Beginnings = ℕ → Option Stop → Type 0
+Beginnings = ℕ → Option ℕ → Type 0
 
 -- a packet of `level`, one of these, comes to the stop
 pub record Reaches (said : LanesSaid) (cells : Cells) (column : List (Option Edge)) (these : Beginnings) (level : ℕ)
-    (stop : Stop) : Type 0 where
-  pub first : Option Stop
+    (stop : ℕ) : Type 0 where
+  pub first : Option ℕ
   pub begins : these level first
   pub count : ℕ
   pub is_there : stop_after said cells column level count first ≡ Some stop
@@ -62,7 +61,7 @@ pub record Reaches (said : LanesSaid) (cells : Cells) (column : List (Option Edg
 pub record OneTakes (said : LanesSaid) (cells : Cells) (column : List (Option Edge)) (these : Beginnings)
     (channel next : ℕ) : Type 0 where
   pub level : ℕ
-  pub stop : Stop
+  pub stop : ℕ
   pub reaches : Reaches said cells column these level stop
   pub takes : TakesByLane said cells column level stop channel next
 
@@ -91,10 +90,10 @@ pub record AreFollowed (said : LanesSaid) (cells : Cells) (column : List (Option
   pub as_many : length new.waits ≡ length old.waits
   pub as_many_marks : length new.marks ≡ length old.marks
   pub no_later : ((i : ℕ) → slice_index_or old.marks i 0 ≤ lid) → (i : ℕ) → slice_index_or new.marks i 0 ≤ lid
-  pub kept : (level : ℕ) (stop : Stop) → IsMarked lid old.marks level stop → IsMarked lid new.marks level stop
-  pub small : (level : ℕ) (first : Option Stop) → these level first → level < 16
-  pub begun : (level : ℕ) (first : Option Stop) (stop : Stop) → these level first → first ≡ Some stop
-      → (stop.into < 256) × IsDone (length column) lid new.marks level stop
+  pub kept : (level stop : ℕ) → IsMarked lid old.marks level stop → IsMarked lid new.marks level stop
+  pub small : (level : ℕ) (first : Option ℕ) → these level first → level < 16
+  pub begun : (level : ℕ) (first : Option ℕ) (stop : ℕ) → these level first → first ≡ Some stop
+      → IsDone (length column) lid new.marks level stop
   pub whole : IsWhole said cells column lid old → IsWhole said cells column lid new
   pub waits_kept : (a b : ℕ) → Follows old.waits a b → Follows new.waits a b
   pub waits_only : (a b : ℕ) → Follows new.waits a b
@@ -104,29 +103,33 @@ pub record AreFollowed (said : LanesSaid) (cells : Cells) (column : List (Option
       → (old.dropped ≡ Some d) ⊎ IsDroppedOne said cells column these lid d
 
 -- packets of `level` that begin at `first`
-abbrev pub Begins : ℕ → Option Stop → Beginnings
+abbrev pub Begins : ℕ → Option ℕ → Beginnings
 Begins level first l f = (l ≡ level) × (f ≡ first)
+
+-- packets of `level`, if there is one, that begin at `first`
+abbrev pub BeginsIf : Option ℕ → Option ℕ → Beginnings
+BeginsIf level first l f = (level ≡ Some l) × (f ≡ first)
 
 -- what is kept, as specified
 abbrev pub walked : Walks → Walked
 walked walks = record { marks = walks.marks.items; waits = walks.waits; dropped = walks.dropped }
 
 -- the stop, unless nothing is left to follow from there
-abbrev pub if_not_done : ℕ → ℕ → List ℕ → ℕ → Stop → Option Stop
+abbrev pub if_not_done : ℕ → ℕ → List ℕ → ℕ → ℕ → Option ℕ
 if_not_done count lid marks level stop = if is_done count lid marks level stop then None else Some stop
 
-abbrev pub not_done : ℕ → ℕ → List ℕ → ℕ → Option Stop → Option Stop
+abbrev pub not_done : ℕ → ℕ → List ℕ → ℕ → Option ℕ → Option ℕ
 not_done count lid marks level next = option_and_then (if_not_done count lid marks level) next
 
 -- `new` is `noted`, or else the packet of `level` at the stop if it is dropped there
-pub record IsDroppedNow (said : LanesSaid) (cells : Cells) (column : List (Option Edge)) (lid level : ℕ) (stop : Stop)
+pub record IsDroppedNow (said : LanesSaid) (cells : Cells) (column : List (Option Edge)) (lid level : ℕ) (stop : ℕ)
     (noted new : Option Dropped) : Type 0 where
   pub none : new ≡ None → (noted ≡ None) × DropsNone said cells column level stop
   pub some : (d : Dropped) → new ≡ Some d
       → (noted ≡ Some d) ⊎ ((d.lid ≡ lid) × (d.level ≡ level) × (d.stop ≡ stop) × DropsBefore said cells column level stop d.out)
 
 -- the stop is marked, and what a packet of `level` takes from there in turn, and whether it is dropped, is kept
-pub record IsVisit (said : LanesSaid) (cells : Cells) (column : List (Option Edge)) (lid level : ℕ) (stop : Stop)
+pub record IsVisit (said : LanesSaid) (cells : Cells) (column : List (Option Edge)) (lid level : ℕ) (stop : ℕ)
     (old new : Walked) : Type 0 where
   pub as_many : length new.waits ≡ length old.waits
   pub marks : new.marks ≡ slice_set old.marks (mark_number level stop) lid

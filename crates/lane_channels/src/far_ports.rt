@@ -1,12 +1,12 @@
 //! The ports at the far ends of wires.
-ghost use Rattle.std.specs.Prelude.{◌≡◌, ◌*◌, ◌/◌, ◌%◌, IfOk, length, map, slice_index_or};
+ghost use Rattle.std.specs.Prelude.{◌≡◌, ◌<◌, ◌+◌, ◌*◌, ◌^◌, IfOk, length, map};
 ghost use Rattle.std.specs.List.{range_with_len};
 ghost use Rattle.fact_store.specs.View.{cells_of};
+ghost use Rattle.subnet_view.specs.EndPorts.{end_ports};
 ghost use Rattle.subnet_view.specs.Reading.{switches};
-ghost use Rattle.lane_channels.specs.Stops.{far_port, far_port_by, first_stop, stop_from};
+ghost use Rattle.lane_channels.specs.Stops.{far_port, far_port_by, first_stop, stop_at, stop_from};
 ghost use Rattle.held_tables.specs.Switches.{sender_of};
 
-use crate::stop::Stop;
 use held_tables::{Far, Sender};
 use packet_walks::Network;
 use smp_bytes::{Guid, PortNum};
@@ -54,15 +54,15 @@ fn far_port(wires: &Wires, node: Guid, port: PortNum) -> PortNum
     }
 }
 
-/// Returns, for each sender, where its packets first reach a usable switch, or `None` if they reach none.
+/// Returns, for each sender, the stop at which its packets first reach a usable switch, or `None` if they reach none.
 pub(crate) fn first_stops(
     alloc: Global,
     network: &Network,
     wires: &Wires,
-) -> Result<Vec<Option<Stop>>, AllocError>
+) -> Result<Vec<Option<usize>>, AllocError>
     requires { cells_of wires.now ≡ cells_of network.now.facts }
     ensures { IfOk result (λ firsts. firsts.items ≡ map (first_stop (cells_of network.now.facts))
-        (Rattle.subnet_view.specs.EndPorts.end_ports (cells_of network.now.facts))) }
+        (end_ports (cells_of network.now.facts))) }
 {
     let mut firsts = Vec::with_capacity(alloc, network.sources().len())?;
     for source in network.sources() {
@@ -71,19 +71,22 @@ pub(crate) fn first_stops(
     Ok(firsts)
 }
 
-/// Returns where the packets of `source` first reach a usable switch, or `None` if they reach none.
-fn first_stop(wires: &Wires, source: &Sender) -> Option<Stop>
+/// Returns the stop at which the packets of `source` first reach a usable switch, or `None` if they reach none.
+fn first_stop(wires: &Wires, source: &Sender) -> Option<usize>
     ensures { result ≡ stop_from source.now (far_port (cells_of wires.now) source.now.port.node source.now.port.port) }
 {
+    let port = far_port(wires, source.port.node, source.port.port);
     match (source.switch, source.far) {
-        (Some(index), _) => Some(Stop {
-            at: index,
-            into: PortNum::new(0),
-        }),
-        (None, Far::Switch(index)) => Some(Stop {
-            at: index,
-            into: far_port(wires, source.port.node, source.port.port),
-        }),
+        (Some(index), _) => Some(stop_at(index, PortNum::new(0))),
+        (None, Far::Switch(index)) => Some(stop_at(index, port)),
         (None, _) => None,
     }
+}
+
+/// Returns the number of the stop at `port` of the usable switch at `index`.
+pub(crate) fn stop_at(index: usize, port: PortNum) -> usize
+    requires { 256 * index + 256 < 2 ^ 64 + 1 }
+    ensures { result ≡ stop_at index port }
+{
+    256 * index + usize::from(port.number())
 }

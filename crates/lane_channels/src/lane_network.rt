@@ -1,17 +1,17 @@
-ghost use Rattle.std.specs.Prelude.{◌≡◌, ◌<◌, ◌+◌, ◌*◌, ◌^◌, IfOk, MatchOption, length, map, slice_index_or};
+ghost use Rattle.std.specs.Prelude.{◌≡◌, ◌<◌, ◌+◌, ◌*◌, ◌%◌, ◌^◌, IfOk, MatchOption, length, map, slice_index_or};
 ghost use Rattle.fact_store.specs.View.{cells_of};
 ghost use Rattle.subnet_view.specs.EndPorts.{end_ports};
 ghost use Rattle.subnet_view.specs.Reading.{switches};
-ghost use Rattle.lane_channels.specs.Stops.{across_edge, first_stop, guid_at, lane_by, lane_if_carried, lane_number};
-ghost use Rattle.lane_channels.specs.Stops.{next_stop};
+ghost use Rattle.lane_channels.specs.Stops.{first_stop, guid_at, lane_between, lane_if_carried, lane_number};
+ghost use Rattle.lane_channels.specs.Stops.{next_stop, port_across};
 ghost use Rattle.lane_channels.specs.LaneNetwork.{lists_of};
 ghost use Rattle.lane_channels.specs.Levels.{lids_held};
 ghost use Rattle.lane_channels.specs.LaneTurns.{DropsBefore, DropsNone, IsLaneTurn, TakesNone};
 
 use audit_channels::edge_of;
-use crate::far_ports::{far_ports, first_stops};
+use crate::far_ports::{far_ports, first_stops, stop_at};
 use crate::held_by::held_by;
-use crate::stop::{LaneTurn, Stop};
+use crate::stop::LaneTurn;
 use fact_store::Refused;
 use lanes_file::Lanes;
 use packet_walks::Network;
@@ -29,7 +29,7 @@ pub struct LaneNetwork<'a> {
     /// For each port of each usable switch, the port at the far end of its wire.
     far_ports: Vec<PortNum>,
     /// For each sender, where its packets first reach a switch.
-    firsts: Vec<Option<Stop>>,
+    firsts: Vec<Option<usize>>,
     /// For each sender, the LIDs that it holds.
     held_by: Vec<Vec<Lid>>,
 }
@@ -84,7 +84,7 @@ impl<'a> LaneNetwork<'a> {
 
     /// Returns, for each end port in order, where its packets first reach a usable switch, or `None` if they reach
     /// none.
-    pub fn firsts(&self) -> &[Option<Stop>]
+    pub fn firsts(&self) -> &[Option<usize>]
         ensures { result.now ≡ map (first_stop (cells_of self.now.seen.facts)) (end_ports (cells_of self.now.seen.facts)) }
     {
         &self.firsts
@@ -92,22 +92,26 @@ impl<'a> LaneNetwork<'a> {
 
     /// Returns the two channels that a packet of `level` takes from `stop` on, by `column`, the edges of its LID.
     /// Returns `None` if it does not take two. Takes two searches.
-    pub fn turn(&self, column: &[Option<Edge>], level: u8, stop: Stop) -> Option<LaneTurn>
+    pub fn turn(&self, column: &[Option<Edge>], level: u8, stop: usize) -> Option<LaneTurn>
         requires column { length column.now ≡ length (switches (cells_of self.now.seen.facts)) }
         requires room { 4096 * length column.now < 2 ^ 64 }
         ensures { MatchOption result
             (TakesNone self.now.said (cells_of self.now.seen.facts) column.now level stop)
             (IsLaneTurn self.now.said (cells_of self.now.seen.facts) column.now level stop) }
     {
-        let first = edge_of(column, stop.at)?;
-        let lane = self.lane(level, stop, first)?;
-        let there = self.across(stop.at, first);
-        let second = edge_of(column, there.at)?;
-        let lane_there = self.lane(level, there, second)?;
-        Some(LaneTurn {
-            channel: lane_number(stop.at, first, lane),
-            next: lane_number(there.at, second, lane_there),
-        })
+        let at = stop / 256;
+        let into = port_of(stop);
+        let first = edge_of(column, at)?;
+        let out = first.port;
+        let to = first.to;
+        let lane = self.lane(level, at, into, out)?;
+        let second = edge_of(column, to)?;
+        let out_there = second.port;
+        let into_there = self.port_across(at, out);
+        let lane_there = self.lane(level, to, into_there, out_there)?;
+        let channel = lane_number(at, out, lane);
+        let next = lane_number(to, out_there, lane_there);
+        Some(LaneTurn { channel, next })
     }
 
     /// Returns the LIDs that each end port holds, in the order of the end ports.
@@ -120,55 +124,69 @@ impl<'a> LaneNetwork<'a> {
 
     /// Returns the next stop of a packet of `level` at `stop`, by `column`, the edges of its LID. Returns `None` if it
     /// goes to no other switch. Takes a search.
-    pub fn next_stop(&self, column: &[Option<Edge>], level: u8, stop: Stop) -> Option<Stop>
+    pub fn next_stop(&self, column: &[Option<Edge>], level: u8, stop: usize) -> Option<usize>
         requires column { length column.now ≡ length (switches (cells_of self.now.seen.facts)) }
         requires room { 4096 * length column.now < 2 ^ 64 }
         ensures is { result ≡ next_stop self.now.said (cells_of self.now.seen.facts) column.now level stop }
     {
-        let edge = edge_of(column, stop.at)?;
-        self.lane(level, stop, edge)?;
-        Some(self.across(stop.at, edge))
+        let at = stop / 256;
+        let into = port_of(stop);
+        let edge = edge_of(column, at)?;
+        let out = edge.port;
+        let to = edge.to;
+        self.lane(level, at, into, out)?;
+        let port = self.port_across(at, out);
+        Some(stop_at(to, port))
     }
 
     /// Returns the port by which the switch at `stop` would forward a packet of `level`, if it drops the packet for want
     /// of a lane. Returns `None` if it does not. Takes a search.
-    pub fn dropped_before(&self, column: &[Option<Edge>], level: u8, stop: Stop) -> Option<PortNum>
+    pub fn dropped_before(&self, column: &[Option<Edge>], level: u8, stop: usize) -> Option<PortNum>
         ensures { MatchOption result
             (DropsNone self.now.said (cells_of self.now.seen.facts) column.now level stop)
             (DropsBefore self.now.said (cells_of self.now.seen.facts) column.now level stop) }
     {
-        let edge = edge_of(column, stop.at)?;
-        match self.lane(level, stop, edge) {
-            Some(_) => None,
-            None => Some(edge.port),
+        let at = stop / 256;
+        let into = port_of(stop);
+        let edge = edge_of(column, at)?;
+        let out = edge.port;
+        if self.lane(level, at, into, out).is_some() {
+            return None;
         }
+        Some(out)
     }
 
-    /// Returns the lane by which a packet of `level` at `stop` leaves along `edge`, or `None` if it is dropped there.
-    /// Takes a search.
-    fn lane(&self, level: u8, stop: Stop, edge: Edge) -> Option<u8>
-        ensures { result ≡ lane_if_carried (lane_by self.now.said (cells_of self.now.seen.facts) level stop edge) }
+    /// Returns the lane of packets of `level` that come in at the switch at `index` by port `into` and leave it by
+    /// port `out`, or `None` if they are dropped there. Takes a search.
+    fn lane(&self, level: u8, index: usize, into: PortNum, out: PortNum) -> Option<u8>
+        ensures { result
+            ≡ lane_if_carried (lane_between self.now.said (cells_of self.now.seen.facts) level index into out) }
     {
-        let guid = switch_at(self.network, stop.at);
-        let lane = self.lanes.lane(guid, stop.into, edge.port, level);
+        let guid = switch_at(self.network, index);
+        let lane = self.lanes.lane(guid, into, out, level);
         if lane < DROPPED { Some(lane) } else { None }
     }
 
-    /// Returns where `edge` leads from the switch at `index`. Takes one step.
-    fn across(&self, index: usize, edge: Edge) -> Stop
+    /// Returns the port at the far end of the wire in port `out` of the switch at `index`, or 0 if there is none. Takes
+    /// one step.
+    fn port_across(&self, index: usize, out: PortNum) -> PortNum
         requires { 256 * index + 256 < 2 ^ 64 + 1 }
-        ensures { result ≡ across_edge (cells_of self.now.seen.facts) index edge }
+        ensures { result ≡ port_across (cells_of self.now.seen.facts) index out }
     {
-        let number = 256 * index + usize::from(edge.port.number());
-        Stop {
-            at: edge.to,
-            into: far_port_at(&self.far_ports, number),
-        }
+        let number = 256 * index + usize::from(out.number());
+        far_port_at(&self.far_ports, number)
     }
 }
 
 /// The lane of packets that are dropped.
 const DROPPED: u8 = 15;
+
+/// Returns the port of `stop`.
+fn port_of(stop: usize) -> PortNum
+    ensures { result ≡ stop % 256 }
+{
+    PortNum::new((stop % 256) as u8)
+}
 
 /// Returns the GUID of the usable switch at `index`, or 0 if there is none.
 fn switch_at(network: &Network, index: usize) -> Guid
@@ -184,12 +202,12 @@ fn far_port_at(far_ports: &[PortNum], number: usize) -> PortNum
     far_ports.get(number).copied().unwrap_or(PortNum::new(0))
 }
 
-/// Returns the number of the channel of `edge`, an edge of the switch at `index`, on `lane`.
-fn lane_number(index: usize, edge: Edge, lane: u8) -> usize
+/// Returns the number of the channel by port `out` of the switch at `index`, on `lane`.
+fn lane_number(index: usize, out: PortNum, lane: u8) -> usize
     requires within { lane < 15 }
     requires room { 4096 * index + 4096 < 2 ^ 64 + 1 }
-    ensures is { result ≡ lane_number index edge lane }
+    ensures is { result ≡ lane_number index out lane }
     ensures within { result < 4096 * index + 4096 }
 {
-    16 * (256 * index + usize::from(edge.port.number())) + usize::from(lane)
+    16 * (256 * index + usize::from(out.number())) + usize::from(lane)
 }

@@ -5,20 +5,13 @@
 mod far_ports;
 mod held_by;
 mod lane_network;
-mod lane_order;
-mod lane_waits;
 pub mod laws;
-
+mod loops_by_lane;
 mod stop;
+mod waits_by_lane;
 mod walk;
 
 pub use lane_network::LaneNetwork;
-pub use lane_order::{LaneOrder, lane_order};
-pub use lane_waits::{LaneWaits, lane_waits};
-pub use stop::{Dropped, LaneTurn, Stop};
-
-#[cfg(test)]
-mod tests {
-    #[test]
-    fn nothing() {}
-}
+pub use loops_by_lane::{LaneOrder, lane_order};
+pub use stop::{Dropped, LaneTurn};
+pub use waits_by_lane::{LaneWaits, lane_waits};

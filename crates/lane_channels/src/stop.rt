@@ -1,14 +1,8 @@
-//! A packet at a switch, and what becomes of it there.
+//! Where packets come in at switches, and what becomes of them there.
+//!
+//! A *stop* is a port by which packets come in at a usable switch. Its number is 256 times the index of the switch among
+//! the usable switches, by rising GUID, plus the port; the port is 0 for packets that the switch itself sends.
 use smp_bytes::{Lid, PortNum};
-
-/// A packet at a usable switch.
-#[derive(Clone, Copy, Debug, PartialEq, Eq)]
-pub struct Stop {
-    /// The index of the switch among the usable switches, by rising GUID.
-    pub at: usize,
-    /// The port by which the packet came in; 0 if the switch itself sent it.
-    pub into: PortNum,
-}
 
 /// Two channels that a packet takes one after the other, by lane. The number of a channel is 16 times its number on one
 /// lane, plus the lane.
@@ -24,7 +18,8 @@ pub struct Dropped {
     pub lid: Lid,
     /// The service level, up to 15.
     pub level: u8,
-    pub stop: Stop,
+    /// The number of the stop: 256 times the index of the switch, plus the port by which the packet comes in.
+    pub stop: usize,
     /// The port by which the switch forwards packets for the LID.
     pub out: PortNum,
 }

@@ -1,11 +1,11 @@
 //! Packets followed from stop to stop.
-ghost use Rattle.std.specs.Prelude.{◌≡◌, ◌<◌, ◌≤◌, ◌+◌, ◌*◌, ◌^◌, IfSome, OnOk, length};
+ghost use Rattle.std.specs.Prelude.{◌≡◌, ◌<◌, ◌≤◌, ◌+◌, ◌*◌, ◌^◌, OnOk, length, slice_index_or};
 ghost use Rattle.fact_store.specs.View.{cells_of};
 ghost use Rattle.subnet_view.specs.Reading.{switches};
 ghost use Rattle.lane_channels.specs.Walks.{AreFollowed, Begins, IsDroppedNow, IsVisit, is_done, mark_number, not_done, walked};
 
 use crate::lane_network::LaneNetwork;
-use crate::stop::{Dropped, Stop};
+use crate::stop::Dropped;
 use audit_channels::Waits;
 use port_graph::Edge;
 use smp_bytes::Lid;
@@ -38,7 +38,7 @@ pub(crate) fn walk(
     by_lane: &LaneNetwork,
     column: &Column,
     level: u8,
-    first: Option<Stop>,
+    first: Option<usize>,
     walks: &mut Walks,
 ) -> Result<(), AllocError>
     requires column { length column.now.edges.items ≡ length (switches (cells_of by_lane.now.seen.facts)) }
@@ -68,13 +68,13 @@ fn visit(
     by_lane: &LaneNetwork,
     column: &Column,
     level: u8,
-    stop: Stop,
+    stop: usize,
     walks: &mut Walks,
 ) -> Result<(), AllocError>
     requires column { length column.now.edges.items ≡ length (switches (cells_of by_lane.now.seen.facts)) }
     requires room { 4096 * length column.now.edges.items < 2 ^ 64 }
     requires level { level < 16 }
-    requires stop { stop.at < length column.now.edges.items }
+    requires stop { stop < 256 * length column.now.edges.items }
     requires waits { length walks.old.waits ≡ 4096 * length column.now.edges.items }
     requires marks { length walks.old.marks.items ≡ 4096 * length column.now.edges.items }
     ensures { OnOk result (IsVisit by_lane.now.said (cells_of by_lane.now.seen.facts) column.now.edges.items
@@ -93,7 +93,7 @@ fn dropped_now(
     by_lane: &LaneNetwork,
     column: &Column,
     level: u8,
-    stop: Stop,
+    stop: usize,
     noted: Option<Dropped>,
 ) -> Option<Dropped>
     ensures { IsDroppedNow by_lane.now.said (cells_of by_lane.now.seen.facts) column.now.edges.items column.now.lid
@@ -113,7 +113,7 @@ fn dropped_now(
 
 /// Returns `next` if there is such a switch and packets for the LID of `level` were not followed from there, otherwise
 /// `None`.
-fn not_done(column: &Column, marks: &[u16], level: u8, next: Option<Stop>) -> Option<Stop>
+fn not_done(column: &Column, marks: &[u16], level: u8, next: Option<usize>) -> Option<usize>
     requires level { level < 16 }
     requires room { 4096 * length column.now.edges.items < 2 ^ 64 }
     ensures { result ≡ not_done (length column.now.edges.items) column.now.lid marks.now level next }
@@ -128,27 +128,28 @@ fn not_done(column: &Column, marks: &[u16], level: u8, next: Option<Stop>) -> Op
 
 /// Returns whether nothing is left to follow from `stop`: there is no such switch, or packets for the LID of `level`
 /// were followed from there.
-fn is_done(column: &Column, marks: &[u16], level: u8, stop: Stop) -> bool
+fn is_done(column: &Column, marks: &[u16], level: u8, stop: usize) -> bool
     requires level { level < 16 }
     requires room { 4096 * length column.now.edges.items < 2 ^ 64 }
     ensures { result ≡ is_done (length column.now.edges.items) column.now.lid marks.now level stop }
 {
-    column.edges.len() <= stop.at || mark_at(marks, mark_number(level, stop)) == column.lid.number()
+    256 * column.edges.len() <= stop
+        || mark_at(marks, mark_number(level, stop)) == column.lid.number()
 }
 
 /// Returns the mark at `number`, or 0 if there is none.
 fn mark_at(marks: &[u16], number: usize) -> u16
-    ensures { result ≡ Rattle.std.specs.Prelude.slice_index_or marks.now number 0 }
+    ensures { result ≡ slice_index_or marks.now number 0 }
 {
     marks.get(number).copied().unwrap_or(0)
 }
 
 /// Returns the number of the mark of `stop` and `level`.
-fn mark_number(level: u8, stop: Stop) -> usize
+fn mark_number(level: u8, stop: usize) -> usize
     requires level { level < 16 }
-    requires room { 4096 * stop.at + 4096 < 2 ^ 64 + 1 }
+    requires room { 16 * stop + 16 < 2 ^ 64 + 1 }
     ensures is { result ≡ mark_number level stop }
-    ensures within { result < 4096 * stop.at + 4096 }
+    ensures within { result < 16 * stop + 16 }
 {
-    16 * (256 * stop.at + usize::from(stop.into.number())) + usize::from(level)
+    16 * stop + usize::from(level)
 }

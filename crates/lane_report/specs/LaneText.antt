@@ -22,8 +22,8 @@ missing_text few = flat_map pair_line few.first ++ more_line (codes "no-level") 
 -- service level
 abbrev pub drop_line : Cells → Dropped → List ℕ
 drop_line cells d =
-    codes "dropped " ++ decimal d.lid ++ codes " at " ++ guid_text (guid_at cells d.stop.at) ++ codes " "
-    ++ decimal d.stop.into ++ codes " " ++ decimal d.out ++ codes " level " ++ decimal d.level ++ codes "\n"
+    codes "dropped " ++ decimal d.lid ++ codes " at " ++ guid_text (guid_at cells (d.stop / 256)) ++ codes " "
+    ++ decimal (d.stop % 256) ++ codes " " ++ decimal d.out ++ codes " level " ++ decimal d.level ++ codes "\n"
 
 -- the packet that is dropped, if one is
 abbrev pub dropped_text : Cells → Option Dropped → List ℕ

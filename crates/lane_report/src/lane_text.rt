@@ -76,9 +76,9 @@ fn write_drop<W: Sink>(
     sink.write(b"dropped ")?;
     write_number(sink, u64::from(dropped.lid.number()))?;
     sink.write(b" at ")?;
-    write_guid(sink, switch_at(network, dropped.stop.at))?;
+    write_guid(sink, switch_at(network, dropped.stop / 256))?;
     sink.write(b" ")?;
-    write_number(sink, u64::from(dropped.stop.into.number()))?;
+    write_number(sink, (dropped.stop % 256) as u64)?;
     sink.write(b" ")?;
     write_number(sink, u64::from(dropped.out.number()))?;
     sink.write(b" level ")?;

@@ -1,2 +1,4 @@
 pub mod BareGuids
+pub mod Folds
 pub mod KeySearch
+pub mod WellFormed

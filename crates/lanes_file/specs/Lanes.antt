@@ -1,5 +1,5 @@
 -- What a text of lanes says, and the lane and the service level of packets.
-use Rattle.std.specs.Prelude.{ℕ, ◌/◌, ◌%◌, ◌==◌, ◌&&◌, Bool, List, [], Option, None, Some, find, nat_lt, option_map, slice_index, slice_index_or, if◌then◌else◌}
+use Rattle.std.specs.Prelude.{ℕ, ◌/◌, ◌%◌, ◌==◌, ◌&&◌, Bool, List, [], Option, None, Some, find, nat_lt, slice_index, slice_index_or, if◌then◌else◌}
 use Rattle.lanes_file.specs.declared.lanes.LaneMap.{LaneMap}
 use Rattle.lanes_file.specs.declared.lanes.LevelBlock.{LevelBlock}
 
@@ -22,6 +22,10 @@ lanes_or_none (Some lanes) = lanes
 abbrev pub said_in : Option (List ℕ) → List LaneMap → Option ℕ → List LevelBlock → LanesSaid
 said_in lanes maps level levels = record { lanes = lanes_or_none lanes; maps = maps; level = level; levels = levels }
 
+-- what a text without lines says
+abbrev pub nothing_said : LanesSaid
+nothing_said = said_in None [] None []
+
 -- the map is for packets that come into `node` by port `into` and leave by port `out`
 abbrev pub is_map : ℕ → ℕ → ℕ → LaneMap → Bool
 is_map node into out map = map.node == node && map.into == into && map.out == out
@@ -43,7 +47,7 @@ lane_of said node into out level = slice_index_or (lanes_between said node into 
 abbrev pub is_block : ℕ → ℕ → ℕ → LevelBlock → Bool
 is_block node port number block = block.node == node && block.port == port && block.number == number
 
--- the byte for a LID, the one at `index` of its block, as a service level: `level` if the byte is over 15 or there is no block
+-- the byte at `index` of a block as a service level; `level` if the byte is over 15 or there is no block
 abbrev pub level_by : Option ℕ → ℕ → Option LevelBlock → Option ℕ
 level_by level index None = level
 level_by level index (Some block) =

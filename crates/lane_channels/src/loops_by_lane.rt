@@ -2,7 +2,7 @@ ghost use Rattle.std.specs.Prelude.{IfOk};
 ghost use Rattle.lane_channels.specs.Waiting.{IsLaneCycle, IsSomeDrop, NoneShorter};
 
 use crate::lane_network::LaneNetwork;
-use crate::lane_waits::lane_waits;
+use crate::waits_by_lane::lane_waits;
 use crate::stop::Dropped;
 use audit_channels::{ChannelOrder, order_channels};
 use std::alloc::{AllocError, Global};

@@ -2,7 +2,7 @@
 use Rattle.fact_store.specs.View.{cells_of}
 use Rattle.lane_channels.specs.Walks.{AreFollowed, walked}
 use Rattle.lane_channels.proofs.Senders.{AnswersToSome}
-use Rattle.lane_channels.proofs.lane_waits.follow_answers.Given as goal
+use Rattle.lane_channels.proofs.waits_by_lane.follow_answers.Given as goal
 
 abbrev pub invariant-loop-nth : goal.invariant-loop-nth
 invariant-loop-nth l =

@@ -1,17 +1,19 @@
 //! The channels by lane that packets take one after the other.
-ghost use Rattle.std.specs.Prelude.{◌≡◌, ◌<◌, ◌≤◌, ◌*◌, ◌^◌, IfOk, OnOk, length};
+ghost use Rattle.std.specs.Prelude.{◌≡◌, ◌<◌, ◌≤◌, ◌*◌, ◌^◌, IfOk, IfSome, OnOk, length};
 ghost use Rattle.fact_store.specs.View.{cells_of};
 ghost use Rattle.subnet_view.specs.EndPorts.{end_ports};
 ghost use Rattle.subnet_view.specs.Reading.{switches};
 ghost use Rattle.held_tables.specs.Tables.{owners_of};
 ghost use Rattle.lane_channels.specs.Senders.{AnswersOf, AnswersTo, IsNothing, SentFor, SentFrom};
+ghost use Rattle.lanes_file.specs.Lanes.{level_of};
 ghost use Rattle.lane_channels.specs.Waiting.{AreLaneWaits, IsSomeDrop};
-ghost use Rattle.lane_channels.specs.Walks.{AreFollowed, walked};
+ghost use Rattle.lane_channels.specs.Walks.{AreFollowed, BeginsIf, walked};
 
 use crate::lane_network::LaneNetwork;
-use crate::stop::{Dropped, Stop};
+use crate::stop::Dropped;
 use crate::walk::{Column, Walks, walk};
 use audit_channels::Waits;
+use lanes_file::Lanes;
 use smp_bytes::Lid;
 use std::alloc::{AllocError, Global};
 use subnet_view::EndPort;
@@ -114,15 +116,38 @@ fn follow_sender(
     ensures { OnOk result (AreFollowed by_lane.now.said (cells_of by_lane.now.seen.facts) column.now.edges.items
         column.now.lid (SentFrom by_lane.now answers column.now.lid index) (walked walks.old) (walked walks.new)) }
 {
-    let port = by_lane.network().sources()[index].port;
     let first = by_lane.firsts()[index];
-    if let Some(level) = by_lane.lanes().level(port.node, port.port, column.lid) {
-        walk(by_lane, column, level, first, walks)?;
-    }
+    let port = &by_lane.network().sources()[index].port;
+    let level = level_from(by_lane.lanes(), port, column.lid);
+    walk_at_level(by_lane, column, level, first, walks)?;
     if !answers {
         return Ok(());
     }
-    follow_answers(by_lane, column, owners, &by_lane.held_by()[index], first, walks)
+    let lids = &by_lane.held_by()[index];
+    follow_answers(by_lane, column, owners, lids, first, walks)
+}
+
+/// Follows a packet of `level` from `first` on, or none if there is no level.
+fn walk_at_level(
+    by_lane: &LaneNetwork,
+    column: &Column,
+    level: Option<u8>,
+    first: Option<usize>,
+    walks: &mut Walks,
+) -> Result<(), AllocError>
+    requires column { length column.now.edges.items ≡ length (switches (cells_of by_lane.now.seen.facts)) }
+    requires room { 4096 * length column.now.edges.items < 2 ^ 64 }
+    requires level { IfSome level (λ l. l < 16) }
+    requires lid { 1 ≤ column.now.lid }
+    requires waits { length walks.old.waits ≡ 4096 * length column.now.edges.items }
+    requires marks { length walks.old.marks.items ≡ 4096 * length column.now.edges.items }
+    ensures { OnOk result (AreFollowed by_lane.now.said (cells_of by_lane.now.seen.facts) column.now.edges.items
+        column.now.lid (BeginsIf level first) (walked walks.old) (walked walks.new)) }
+{
+    match level {
+        Some(level) => walk(by_lane, column, level, first, walks),
+        None => Ok(()),
+    }
 }
 
 /// Follows packets from `first` on that answer packets which one of `owners` sends for one of `lids`.
@@ -131,7 +156,7 @@ fn follow_answers(
     column: &Column,
     owners: &[EndPort],
     lids: &[Lid],
-    first: Option<Stop>,
+    first: Option<usize>,
     walks: &mut Walks,
 ) -> Result<(), AllocError>
     requires column { length column.now.edges.items ≡ length (switches (cells_of by_lane.now.seen.facts)) }
@@ -144,18 +169,27 @@ fn follow_answers(
         (walked walks.new)) }
 {
     for nth in 0..owners.len() {
-        follow_answers_to(by_lane, column, owners[nth], lids, first, walks)?;
+        let asker = &owners[nth];
+        follow_answers_to(by_lane, column, asker, lids, first, walks)?;
     }
     Ok(())
+}
+
+/// Returns the service level of packets from `port` to `lid`, or `None` if they have none. Takes a search.
+fn level_from(lanes: &Lanes, port: &EndPort, lid: Lid) -> Option<u8>
+    ensures is { result ≡ level_of lanes.now port.now.node port.now.port lid }
+    ensures within { IfSome result (λ l. l < 16) }
+{
+    lanes.level(port.node, port.port, lid)
 }
 
 /// Follows packets from `first` on that answer packets which `asker` sends for one of `lids`.
 fn follow_answers_to(
     by_lane: &LaneNetwork,
     column: &Column,
-    asker: EndPort,
+    asker: &EndPort,
     lids: &[Lid],
-    first: Option<Stop>,
+    first: Option<usize>,
     walks: &mut Walks,
 ) -> Result<(), AllocError>
     requires column { length column.now.edges.items ≡ length (switches (cells_of by_lane.now.seen.facts)) }
@@ -164,13 +198,12 @@ fn follow_answers_to(
     requires waits { length walks.old.waits ≡ 4096 * length column.now.edges.items }
     requires marks { length walks.old.marks.items ≡ 4096 * length column.now.edges.items }
     ensures { OnOk result (AreFollowed by_lane.now.said (cells_of by_lane.now.seen.facts) column.now.edges.items
-        column.now.lid (AnswersOf by_lane.now.said asker lids.now (length lids.now) first) (walked walks.old)
+        column.now.lid (AnswersOf by_lane.now.said asker.now lids.now (length lids.now) first) (walked walks.old)
         (walked walks.new)) }
 {
     for index in 0..lids.len() {
-        if let Some(level) = by_lane.lanes().level(asker.node, asker.port, lids[index]) {
-            walk(by_lane, column, level, first, walks)?;
-        }
+        let level = level_from(by_lane.lanes(), asker, lids[index]);
+        walk_at_level(by_lane, column, level, first, walks)?;
     }
     Ok(())
 }

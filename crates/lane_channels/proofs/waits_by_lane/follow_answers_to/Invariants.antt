@@ -2,7 +2,7 @@
 use Rattle.fact_store.specs.View.{cells_of}
 use Rattle.lane_channels.specs.Senders.{AnswersOf}
 use Rattle.lane_channels.specs.Walks.{AreFollowed, walked}
-use Rattle.lane_channels.proofs.lane_waits.follow_answers_to.Given as goal
+use Rattle.lane_channels.proofs.waits_by_lane.follow_answers_to.Given as goal
 
 abbrev pub invariant-loop-index : goal.invariant-loop-index
 invariant-loop-index l =
