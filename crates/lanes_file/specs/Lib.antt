@@ -1,0 +1,3 @@
+pub mod Keys
+pub mod Lanes
+pub mod Order
