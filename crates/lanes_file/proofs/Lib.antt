@@ -1,1 +1,2 @@
+pub mod BareGuids
 pub mod KeySearch
