@@ -19,7 +19,7 @@ use Rattle.lanes_file.specs.Lanes.{is_block, is_map}
 use Rattle.lanes_file.specs.declared.lanes.LaneMap.{LaneMap}
 use Rattle.lanes_file.specs.declared.lanes.LevelBlock.{LevelBlock}
 
-key_total : IsTotalOrder key_cmp
+pub key_total : IsTotalOrder key_cmp
 key_total =
     then_total (then_total (on_total (λ (k : Key). k.0.0) nat_cmp_total) (on_total (λ (k : Key). k.0.1) nat_cmp_total))
     (on_total (λ (k : Key). k.1) nat_cmp_total)

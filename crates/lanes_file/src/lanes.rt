@@ -1,7 +1,7 @@
 //! What a text of lanes says.
 ghost use Rattle.std.specs.Prelude.{◌≡◌, ◌<◌, IfSome, find, option_copied, slice_index_or};
 ghost use Rattle.lanes_file.specs.Lanes.{is_block, is_map, lane_of, lanes_between, level_of};
-ghost use Rattle.lanes_file.specs.Order.{IsInOrder};
+ghost use Rattle.lanes_file.specs.WellFormed.{IsWellFormed};
 
 use crate::lanes_builder::LanesBuilder;
 use smp_bytes::{Guid, Lid, PortNum};
@@ -48,19 +48,19 @@ pub struct Lanes {
 
 impl Model for Lanes {
     ghost use Rattle.lanes_file.specs.Lanes.{LanesSaid, said_in};
-    ghost use Rattle.lanes_file.specs.Order.{IsInOrder};
+    ghost use Rattle.lanes_file.specs.WellFormed.{IsWellFormed};
 
     ghost Value = { LanesSaid };
 
     ghost view = { λ a. said_in a.lanes a.maps.items a.level a.levels.items };
 
-    ghost invariant = { λ a. IsInOrder (said_in a.lanes a.maps.items a.level a.levels.items) };
+    ghost invariant = { λ a. IsWellFormed (said_in a.lanes a.maps.items a.level a.levels.items) };
 }
 
 impl Lanes {
     /// Returns what the lines of a text say.
     pub(crate) fn of(said: LanesBuilder) -> Self
-        requires { IsInOrder said }
+        requires { IsWellFormed said }
         ensures { result ≡ said }
     {
         let LanesBuilder {
