@@ -64,7 +64,7 @@ planning_conflict name word =
     has_conflict_of (if bytes_eq name (codes "order") then order_rule (word (codes "routing")) else word (codes "routing"))
     (is_some (word (codes "roots"))) (is_some (word (codes "order")))
 
--- a flag is set
+-- whether a flag is set: its word is `true`, which the parser of words sets
 abbrev pub is_set : Option (List ℕ) → Bool
 is_set None = false
 is_set (Some word) = bytes_eq word (codes "true")

@@ -371,8 +371,8 @@ fn lacks_lanes(words: &ArgMatches<'_>) -> bool
     is_set(words, ANSWERS_AS_ASKED) && !is_named(words, LANES)
 }
 
-/// Returns whether the flag `name` is set.
-fn is_set(words: &ArgMatches<'_>, name: &str) -> bool
+/// Returns whether `words`, after a subcommand, set the flag `name`.
+pub fn is_set(words: &ArgMatches<'_>, name: &str) -> bool
     ensures { result ≡ is_set (first_value (found_of words.now) name.now) }
 {
     match words.get_str(name) {

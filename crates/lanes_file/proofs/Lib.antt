@@ -1,0 +1,2 @@
+pub mod BareGuids
+pub mod KeySearch

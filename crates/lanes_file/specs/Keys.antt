@@ -1,0 +1,19 @@
+-- The keys of the lines that rise: a node's GUID and two numbers.
+use Rattle.std.specs.Prelude.{ℕ}
+use Rattle.std.specs.declared.cmp.Ordering.{Ordering}
+use Rattle.std.specs.Ordering.{nat_cmp, ordering_then}
+use Rattle.lanes_file.specs.declared.lanes.LaneMap.{LaneMap}
+use Rattle.lanes_file.specs.declared.lanes.LevelBlock.{LevelBlock}
+
+abbrev pub Key : Type 0
+Key = (ℕ × ℕ) × ℕ
+
+-- the order of keys: by the GUID, then by the first number, then by the second
+abbrev pub key_cmp : Key → Key → Ordering
+key_cmp a b = ordering_then (ordering_then (nat_cmp a.0.0 b.0.0) (nat_cmp a.0.1 b.0.1)) (nat_cmp a.1 b.1)
+
+abbrev pub map_key : LaneMap → Key
+map_key map = ((map.node, map.into), map.out)
+
+abbrev pub block_key : LevelBlock → Key
+block_key block = ((block.node, block.port), block.number)

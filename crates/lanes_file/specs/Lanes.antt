@@ -1,0 +1,54 @@
+-- What a text of lanes says, and the lane and the service level of packets.
+use Rattle.std.specs.Prelude.{ℕ, ◌/◌, ◌%◌, ◌==◌, ◌&&◌, Bool, List, [], Option, None, Some, find, nat_lt, option_map, slice_index, slice_index_or, if◌then◌else◌}
+use Rattle.lanes_file.specs.declared.lanes.LaneMap.{LaneMap}
+use Rattle.lanes_file.specs.declared.lanes.LevelBlock.{LevelBlock}
+
+pub record LanesSaid : Type 0 where
+  -- for each service level the lane of packets that no map is for; [] without a line `lanes`
+  pub lanes : List ℕ
+  -- by rising node, then by the port that packets come in by, then by the port that they leave by
+  pub maps : List LaneMap
+  -- the service level of packets that no block gives one
+  pub level : Option ℕ
+  -- by rising node, then by port, then by number
+  pub levels : List LevelBlock
+
+-- the lanes of a line `lanes`; [] without one
+abbrev pub lanes_or_none : Option (List ℕ) → List ℕ
+lanes_or_none None = []
+lanes_or_none (Some lanes) = lanes
+
+-- what is said, by its parts
+abbrev pub said_in : Option (List ℕ) → List LaneMap → Option ℕ → List LevelBlock → LanesSaid
+said_in lanes maps level levels = record { lanes = lanes_or_none lanes; maps = maps; level = level; levels = levels }
+
+-- the map is for packets that come into `node` by port `into` and leave by port `out`
+abbrev pub is_map : ℕ → ℕ → ℕ → LaneMap → Bool
+is_map node into out map = map.node == node && map.into == into && map.out == out
+
+-- the lanes that a map gives, or `lanes` if there is no map
+abbrev pub lanes_by : List ℕ → Option LaneMap → List ℕ
+lanes_by lanes None = lanes
+lanes_by lanes (Some map) = map.lanes
+
+-- for each service level the lane of packets from port `into` to port `out` of `node`
+abbrev pub lanes_between : LanesSaid → ℕ → ℕ → ℕ → List ℕ
+lanes_between said node into out = lanes_by said.lanes (find (is_map node into out) said.maps)
+
+-- the lane of packets of service level `level` from port `into` to port `out` of `node`; 15 if the text says none
+abbrev pub lane_of : LanesSaid → ℕ → ℕ → ℕ → ℕ → ℕ
+lane_of said node into out level = slice_index_or (lanes_between said node into out) level 15
+
+-- the block has the levels of packets from `port` of `node` to the LIDs from 64 times `number` on
+abbrev pub is_block : ℕ → ℕ → ℕ → LevelBlock → Bool
+is_block node port number block = block.node == node && block.port == port && block.number == number
+
+-- the byte for a LID, the one at `index` of its block, as a service level: `level` if the byte is over 15 or there is no block
+abbrev pub level_by : Option ℕ → ℕ → Option LevelBlock → Option ℕ
+level_by level index None = level
+level_by level index (Some block) =
+    if nat_lt (slice_index block.levels index) 16 then Some (slice_index block.levels index) else level
+
+-- the service level of packets from `port` of `node` to `lid`; None if the text says none
+abbrev pub level_of : LanesSaid → ℕ → ℕ → ℕ → Option ℕ
+level_of said node port lid = level_by said.level (lid % 64) (find (is_block node port (lid / 64)) said.levels)

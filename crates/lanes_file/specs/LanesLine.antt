@@ -1,0 +1,63 @@
+-- What a line says: nothing, or lanes, a map, a level or a block of levels.
+use Rattle.std.specs.Prelude.{ℕ, List, [], ◌∷◌, Option, None, Some, option_map, option_and_then, codes, if◌then◌else◌}
+use Rattle.std.specs.Str.{bytes_eq}
+use Rattle.text_words.specs.Text.{words}
+use Rattle.lanes_file.specs.declared.line.LanesLine.{LanesLine}
+use Rattle.lanes_file.specs.declared.line.LanesLine.TheVariants.{Empty, Lanes, Map, Level, Block}
+use Rattle.lanes_file.specs.declared.line.MapLine.{MapLine}
+use Rattle.lanes_file.specs.declared.line.LevelsLine.{LevelsLine}
+use Rattle.lanes_file.specs.Words.{small_of, bare_guid_of, port_of, bytes_of}
+
+-- the word of a list; None if it has more or none
+abbrev pub alone : List (List ℕ) → Option (List ℕ)
+alone (word ∷ []) = Some word
+alone _ = None
+
+-- reads the part of a `lanes` line after its first word: 16 bytes
+abbrev pub lanes_line : List (List ℕ) → Option (List ℕ)
+lanes_line words = option_and_then (bytes_of 16) (alone words)
+
+-- a `sl2vl` line with these words after its first
+abbrev pub map_of : List ℕ → List ℕ → List ℕ → List ℕ → Option MapLine
+map_of node into out lanes =
+    option_and_then (λ g. option_and_then (λ i. option_and_then (λ o. option_map
+    (λ h. record { node = g; into = i; out = o; lanes = h }) (bytes_of 16 lanes)) (small_of 254 out))
+    (small_of 254 into)) (bare_guid_of node)
+
+-- reads the part of a `sl2vl` line after its first word: a GUID, two ports and 16 bytes
+abbrev pub map_line : List (List ℕ) → Option MapLine
+map_line [] = None
+map_line (node ∷ []) = None
+map_line (node ∷ into ∷ []) = None
+map_line (node ∷ into ∷ out ∷ rest) = option_and_then (map_of node into out) (alone rest)
+
+-- reads the part of a `level` line after its first word; the inner value is None if the level is above 15
+abbrev pub level_line : List (List ℕ) → Option (Option ℕ)
+level_line words = option_and_then (small_of 15) (alone words)
+
+-- a `levels` line with these words after its first
+abbrev pub block_of : List ℕ → List ℕ → List ℕ → Option LevelsLine
+block_of port number levels =
+    option_and_then (λ p. option_and_then (λ n. option_map
+    (λ h. record { node = p.0; port = p.1; number = n; levels = h }) (bytes_of 64 levels)) (small_of 767 number))
+    (port_of port)
+
+-- reads the part of a `levels` line after its first word: a node with a port, a number and 64 bytes
+abbrev pub block_line : List (List ℕ) → Option LevelsLine
+block_line [] = None
+block_line (port ∷ []) = None
+block_line (port ∷ number ∷ rest) = option_and_then (block_of port number) (alone rest)
+
+-- the line with these words; None if the grammar has no such line
+abbrev pub line_in : List (List ℕ) → Option LanesLine
+line_in [] = Some Empty
+line_in (word ∷ rest) =
+    if bytes_eq word (codes "lanes") then option_map Lanes (lanes_line rest)
+    else if bytes_eq word (codes "sl2vl") then option_map Map (map_line rest)
+    else if bytes_eq word (codes "level") then option_map Level (level_line rest)
+    else if bytes_eq word (codes "levels") then option_map Block (block_line rest)
+    else None
+
+-- what a line says; None if the grammar has no such line
+unfoldable pub line_of : List ℕ → Option LanesLine
+line_of line = line_in (words line)

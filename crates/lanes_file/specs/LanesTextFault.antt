@@ -1,0 +1,21 @@
+-- The faults of a text of lanes.
+use Rattle.std.specs.Prelude.{ℕ, List, codes}
+use Rattle.text_words.specs.declared.fault.LineFault.{LineFault}
+use Rattle.text_words.specs.declared.fault.LinesFault.{LinesFault}
+use Rattle.lanes_file.specs.declared.fault.LanesTextError.{LanesTextError}
+use Rattle.lanes_file.specs.declared.fault.LanesTextError.TheVariants.{Syntax, Port, Block, Lane, Level, Repeated}
+
+abbrev pub LanesLineFault : Type 0
+LanesLineFault = LineFault LanesTextError
+
+abbrev pub LanesTextFault : Type 0
+LanesTextFault = LinesFault LanesTextError
+
+-- the word for a fault
+abbrev pub wrong_word : LanesTextError → List ℕ
+wrong_word Syntax = codes "syntax"
+wrong_word Port = codes "port"
+wrong_word Block = codes "block"
+wrong_word Lane = codes "lane"
+wrong_word Level = codes "level"
+wrong_word Repeated = codes "repeated"

@@ -1,0 +1,42 @@
+use text_words::{LineError, LineFault, LinesFault};
+
+/// What is wrong with a line of a text of lanes.
+#[derive(Clone, Copy, Debug, PartialEq, Eq)]
+pub enum LanesTextError {
+    /// The grammar has no such line.
+    Syntax,
+    /// A port is above 254.
+    Port,
+    /// The number of the block is above 767.
+    Block,
+    /// A lane is above 15.
+    Lane,
+    /// A service level is above 15, and is not `ff` of a block.
+    Level,
+    /// It is a second line `lanes` or `level`, or its GUID and the two numbers after it are not greater than those of
+    /// the line of its kind before it.
+    Repeated,
+}
+
+impl LineError for LanesTextError {
+    ghost use Rattle.lanes_file.specs.LanesTextFault.{wrong_word};
+
+    ghost word = { wrong_word };
+
+    fn word(self) -> &'static str {
+        match self {
+            LanesTextError::Syntax => "syntax",
+            LanesTextError::Port => "port",
+            LanesTextError::Block => "block",
+            LanesTextError::Lane => "lane",
+            LanesTextError::Level => "level",
+            LanesTextError::Repeated => "repeated",
+        }
+    }
+}
+
+/// The number of a text's first faulty line, from 1, and what is wrong with it.
+pub type LanesLineFault = LineFault<LanesTextError>;
+
+/// Why a text could not be read.
+pub type LanesTextFault = LinesFault<LanesTextError>;

@@ -1,0 +1,131 @@
+//! What a text of lanes says.
+ghost use Rattle.std.specs.Prelude.{◌≡◌, ◌<◌, IfSome, find, option_copied, slice_index_or};
+ghost use Rattle.lanes_file.specs.Lanes.{is_block, is_map, lane_of, lanes_between, level_of};
+ghost use Rattle.lanes_file.specs.Order.{IsInOrder};
+
+use smp_bytes::{Guid, Lid, PortNum};
+use std::marker::Model;
+
+/// The lane of packets that the text says nothing of.
+const NO_LANE: u8 = 15;
+
+/// The first number above all service levels.
+const LEVEL_END: u8 = 16;
+
+/// The lanes of packets from one port of a switch to another.
+#[derive(Clone, Copy, Debug, PartialEq, Eq)]
+pub struct LaneMap {
+    pub node: Guid,
+    /// The port by which packets come in, up to 254; 0 is the switch itself.
+    pub into: PortNum,
+    /// The port by which packets leave, up to 254.
+    pub out: PortNum,
+    /// The lane of each service level, up to 15.
+    pub lanes: [u8; 16],
+}
+
+/// The service levels of packets from an end port to 64 LIDs.
+#[derive(Clone, Copy, Debug, PartialEq, Eq)]
+pub struct LevelBlock {
+    pub node: Guid,
+    /// Up to 254.
+    pub port: PortNum,
+    /// Up to 767: the block has the levels of the LIDs from 64 times this number on.
+    pub number: u16,
+    /// The service level for each LID, up to 15, or 255 if the LID has no level of its own.
+    pub levels: [u8; 64],
+}
+
+/// What a text of lanes says: the lanes of packets in each switch, and their service levels.
+#[derive(Drop)]
+pub struct Lanes {
+    lanes: Option<[u8; 16]>,
+    maps: Vec<LaneMap>,
+    level: Option<u8>,
+    levels: Vec<LevelBlock>,
+}
+
+impl Model for Lanes {
+    ghost use Rattle.lanes_file.specs.Lanes.{LanesSaid, said_in};
+    ghost use Rattle.lanes_file.specs.Order.{IsInOrder};
+
+    ghost Value = { LanesSaid };
+
+    ghost view = { λ a. said_in a.lanes a.maps.items a.level a.levels.items };
+
+    ghost invariant = { λ a. IsInOrder (said_in a.lanes a.maps.items a.level a.levels.items) };
+}
+
+impl Lanes {
+    /// Returns the lane of packets of service level `level` that come into the switch `node` by port `into` and leave
+    /// by port `out`. Returns 15 if the text says none. Takes a search among the maps.
+    pub fn lane(&self, node: Guid, into: PortNum, out: PortNum, level: u8) -> u8
+        ensures is { result ≡ lane_of self.now node into out level }
+    {
+        lane_at(self.lanes_between(node, into, out), level)
+    }
+
+    /// Returns the service level of packets from `port` of `node` to `lid`, or `None` if the text says none. Takes a
+    /// search among the blocks.
+    pub fn level(&self, node: Guid, port: PortNum, lid: Lid) -> Option<u8>
+        ensures is { result ≡ level_of self.now node port lid }
+        ensures within { IfSome result (λ s. s < 16) }
+    {
+        let Some(block) = self.block(node, port, lid.block()) else {
+            return self.level;
+        };
+        let level = block.levels[lid.in_block()];
+        if level < LEVEL_END {
+            Some(level)
+        } else {
+            self.level
+        }
+    }
+
+    /// Returns the lane of each service level from port `into` to port `out` of `node`; none if the text says none.
+    fn lanes_between(&self, node: Guid, into: PortNum, out: PortNum) -> &[u8]
+        ensures { result.now ≡ lanes_between self.now node into out }
+    {
+        match self.map(node, into, out) {
+            Some(map) => &map.lanes,
+            None => match &self.lanes {
+                Some(lanes) => lanes,
+                None => &[],
+            },
+        }
+    }
+
+    /// Returns the map for packets from port `into` to port `out` of `node`, if there is one.
+    fn map(&self, node: Guid, into: PortNum, out: PortNum) -> Option<&LaneMap>
+        ensures { option_copied result ≡ find (is_map node into out) self.now.maps }
+    {
+        let index = self
+            .maps
+            .binary_search_by_key(&((node, into), out), |map| ((map.node, map.into), map.out))
+            .ok()?;
+        Some(&self.maps[index])
+    }
+
+    /// Returns the block `number` of the levels of `port` of `node`, if there is one.
+    fn block(&self, node: Guid, port: PortNum, number: u16) -> Option<&LevelBlock>
+        ensures { option_copied result ≡ find (is_block node port number) self.now.levels }
+    {
+        let index = self
+            .levels
+            .binary_search_by_key(&((node, port), number), |block| {
+                ((block.node, block.port), block.number)
+            })
+            .ok()?;
+        Some(&self.levels[index])
+    }
+}
+
+/// Returns the lane of a service level, or 15 if there are fewer.
+fn lane_at(lanes: &[u8], level: u8) -> u8
+    ensures { result ≡ slice_index_or lanes.now level 15 }
+{
+    match lanes.get(usize::from(level)) {
+        Some(lane) => *lane,
+        None => NO_LANE,
+    }
+}

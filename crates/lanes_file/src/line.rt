@@ -1,0 +1,123 @@
+ghost use Rattle.std.specs.Prelude.{◌≡◌, option_map};
+ghost use Rattle.text_words.specs.Text.{words};
+ghost use Rattle.lanes_file.specs.LanesLine.{alone, block_line, lanes_line, level_line, line_of, map_line};
+
+use crate::words::{bare_guid, block_number, bytes, node_port, port, small};
+use smp_bytes::{Guid, PortNum};
+use text_words::{is_word, split_word};
+
+/// What a line says.
+#[derive(Clone, Copy)]
+pub(crate) enum LanesLine {
+    Empty,
+    Lanes([u8; 16]),
+    Map(MapLine),
+    /// Up to 15; `None` if it is greater.
+    Level(Option<u8>),
+    Block(LevelsLine),
+}
+
+/// A map of a switch, as a line gives it. A port is `None` if it is above 254.
+#[derive(Clone, Copy)]
+pub(crate) struct MapLine {
+    pub(crate) node: Guid,
+    pub(crate) into: Option<PortNum>,
+    pub(crate) out: Option<PortNum>,
+    pub(crate) lanes: [u8; 16],
+}
+
+/// A block of the levels of an end port, as a line gives it. A number is `None` if it is out of range.
+#[derive(Clone, Copy)]
+pub(crate) struct LevelsLine {
+    pub(crate) node: Guid,
+    /// Up to 254.
+    pub(crate) port: Option<PortNum>,
+    /// Up to 767.
+    pub(crate) number: Option<u16>,
+    pub(crate) levels: [u8; 64],
+}
+
+/// Returns what a line says, or `None` if the grammar has no such line.
+#[tactic(auto, unfolding(crate::specs::LanesLine::line_of))]
+pub(crate) fn read_line(line: &[u8]) -> Option<LanesLine>
+    ensures { result ≡ line_of line.now }
+{
+    let Some((word, rest)) = split_word(line) else {
+        return Some(LanesLine::Empty);
+    };
+    if is_word(word, "lanes") {
+        Some(LanesLine::Lanes(lanes_line(rest)?))
+    } else if is_word(word, "sl2vl") {
+        Some(LanesLine::Map(map_line(rest)?))
+    } else if is_word(word, "level") {
+        Some(LanesLine::Level(level_line(rest)?))
+    } else if is_word(word, "levels") {
+        Some(LanesLine::Block(block_line(rest)?))
+    } else {
+        None
+    }
+}
+
+/// Returns the word of a line, or `None` if it has more or none.
+fn alone(line: &[u8]) -> Option<&[u8]>
+    ensures { option_map (λ x. x.now) result ≡ alone (words line.now) }
+{
+    let (word, line) = split_word(line)?;
+    if split_word(line).is_some() {
+        return None;
+    }
+    Some(word)
+}
+
+/// Parses the part of a `lanes` line after its first word. Returns `None` if the grammar has no such line.
+fn lanes_line(line: &[u8]) -> Option<[u8; 16]>
+    ensures { result ≡ lanes_line (words line.now) }
+{
+    bytes(alone(line)?)
+}
+
+/// Parses the part of a `sl2vl` line after its first word. Returns `None` if the grammar has no such line.
+fn map_line(line: &[u8]) -> Option<MapLine>
+    ensures { result ≡ map_line (words line.now) }
+{
+    let (node, line) = split_word(line)?;
+    let (into, line) = split_word(line)?;
+    let (out, line) = split_word(line)?;
+    let lanes = alone(line)?;
+    let node = bare_guid(node)?;
+    let into = port(into)?;
+    let out = port(out)?;
+    let lanes = bytes(lanes)?;
+    Some(MapLine {
+        node,
+        into,
+        out,
+        lanes,
+    })
+}
+
+/// Parses the part of a `level` line after its first word. The inner value is `None` if the level is above 15. Returns
+/// `None` if the grammar has no such line.
+fn level_line(line: &[u8]) -> Option<Option<u8>>
+    ensures { result ≡ level_line (words line.now) }
+{
+    small(alone(line)?, 15)
+}
+
+/// Parses the part of a `levels` line after its first word. Returns `None` if the grammar has no such line.
+fn block_line(line: &[u8]) -> Option<LevelsLine>
+    ensures { result ≡ block_line (words line.now) }
+{
+    let (port, line) = split_word(line)?;
+    let (number, line) = split_word(line)?;
+    let levels = alone(line)?;
+    let (node, port) = node_port(port)?;
+    let number = block_number(number)?;
+    let levels = bytes(levels)?;
+    Some(LevelsLine {
+        node,
+        port,
+        number,
+        levels,
+    })
+}
