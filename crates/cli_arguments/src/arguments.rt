@@ -136,7 +136,7 @@ pub(crate) fn answers_as_asked<'a>(alloc: Global) -> Arg<'a>
     Arg::new(alloc, ANSWERS_AS_ASKED)
         .long(ANSWERS_AS_ASKED)
         .help(
-            "With --lanes, also counts answers that go at the service level of the packets that they answer",
+            "With --lanes, also follows answers that go at the service level of the packets that they answer",
         )
         .action(ArgAction::SetTrue)
 }

@@ -1,2 +1,3 @@
 pub mod BareGuids
+pub mod Folds
 pub mod KeySearch

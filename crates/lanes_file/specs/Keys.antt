@@ -1,7 +1,7 @@
 -- The keys of the lines that rise: a node's GUID and two numbers.
-use Rattle.std.specs.Prelude.{ℕ}
+use Rattle.std.specs.Prelude.{ℕ, Bool, true, Option, None, Some}
 use Rattle.std.specs.declared.cmp.Ordering.{Ordering}
-use Rattle.std.specs.Ordering.{nat_cmp, ordering_then}
+use Rattle.std.specs.Ordering.{is_lt, nat_cmp, ordering_then}
 use Rattle.lanes_file.specs.declared.lanes.LaneMap.{LaneMap}
 use Rattle.lanes_file.specs.declared.lanes.LevelBlock.{LevelBlock}
 
@@ -11,6 +11,11 @@ Key = (ℕ × ℕ) × ℕ
 -- the order of keys: by the GUID, then by the first number, then by the second
 abbrev pub key_cmp : Key → Key → Ordering
 key_cmp a b = ordering_then (ordering_then (nat_cmp a.0.0 b.0.0) (nat_cmp a.0.1 b.0.1)) (nat_cmp a.1 b.1)
+
+-- the key is greater than `last`, if there is such
+abbrev pub is_after : Option Key → Key → Bool
+is_after None key = true
+is_after (Some last) key = is_lt (key_cmp last key)
 
 abbrev pub map_key : LaneMap → Key
 map_key map = ((map.node, map.into), map.out)

@@ -22,6 +22,10 @@ lanes_or_none (Some lanes) = lanes
 abbrev pub said_in : Option (List ℕ) → List LaneMap → Option ℕ → List LevelBlock → LanesSaid
 said_in lanes maps level levels = record { lanes = lanes_or_none lanes; maps = maps; level = level; levels = levels }
 
+-- what a text without lines says
+abbrev pub nothing_said : LanesSaid
+nothing_said = said_in None [] None []
+
 -- the map is for packets that come into `node` by port `into` and leave by port `out`
 abbrev pub is_map : ℕ → ℕ → ℕ → LaneMap → Bool
 is_map node into out map = map.node == node && map.into == into && map.out == out

@@ -1,6 +1,9 @@
 pub mod Keys
 pub mod Lanes
+pub mod LanesItem
 pub mod LanesLine
 pub mod LanesTextFault
 pub mod Order
+pub mod Reading
+pub mod Reads
 pub mod Words

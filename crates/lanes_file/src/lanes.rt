@@ -3,6 +3,7 @@ ghost use Rattle.std.specs.Prelude.{◌≡◌, ◌<◌, IfSome, find, option_cop
 ghost use Rattle.lanes_file.specs.Lanes.{is_block, is_map, lane_of, lanes_between, level_of};
 ghost use Rattle.lanes_file.specs.Order.{IsInOrder};
 
+use crate::lanes_builder::LanesBuilder;
 use smp_bytes::{Guid, Lid, PortNum};
 use std::marker::Model;
 
@@ -57,6 +58,25 @@ impl Model for Lanes {
 }
 
 impl Lanes {
+    /// Returns what the lines of a text say.
+    pub(crate) fn of(said: LanesBuilder) -> Self
+        requires { IsInOrder said }
+        ensures { result ≡ said }
+    {
+        let LanesBuilder {
+            lanes,
+            maps,
+            level,
+            levels,
+        } = said;
+        Lanes {
+            lanes,
+            maps,
+            level,
+            levels,
+        }
+    }
+
     /// Returns the lane of packets of service level `level` that come into the switch `node` by port `into` and leave
     /// by port `out`. Returns 15 if the text says none. Takes a search among the maps.
     pub fn lane(&self, node: Guid, into: PortNum, out: PortNum, level: u8) -> u8

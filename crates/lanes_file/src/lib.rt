@@ -3,8 +3,13 @@
 
 mod fault;
 mod lanes;
+mod lanes_builder;
+mod lanes_item;
 mod line;
+mod lines_before;
+mod text;
 mod words;
 
 pub use fault::{LanesLineFault, LanesTextError, LanesTextFault};
 pub use lanes::{LaneMap, Lanes, LevelBlock};
+pub use text::parse;

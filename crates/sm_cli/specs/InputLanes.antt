@@ -3,7 +3,7 @@ use Rattle.std.specs.Prelude.{◌≡◌, ◌⊎◌, ℕ, List, None, Some}
 use Rattle.byte_io.specs.Source.{SourceState}
 use Rattle.record_file.specs.Whole.{IsReadWhole, FailsToRead}
 use Rattle.lanes_file.specs.Lanes.{LanesSaid}
-use Rattle.lanes_file.specs.Reading.{first_fault, said_of}
+use Rattle.lanes_file.specs.Reading.{first_fault, lanes_said}
 use Rattle.lanes_file.specs.LanesTextFault.{LanesTextFault as LanesFault}
 use Rattle.text_words.specs.declared.fault.LinesFault.TheVariants as wrong
 use Rattle.sm_cli.specs.declared.fault.Fault.{Fault}
@@ -19,7 +19,7 @@ pub record IsLanes {S : Type 0} (state : S → SourceState) (old new : S) (said 
   pub text : List ℕ
   pub read : IsReadWhole state old new text
   pub sound : first_fault text ≡ None
-  pub told : said ≡ said_of text
+  pub told : said ≡ lanes_said text
 
 -- there is one source, and it was read as `said`
 abbrev pub AreLanes : {S : Type 0} → (S → SourceState) → List S → List S → LanesSaid → Type 0

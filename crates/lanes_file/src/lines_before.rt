@@ -1,0 +1,255 @@
+ghost use Rattle.std.specs.Prelude.{◌≡◌, Err};
+ghost use Rattle.std.specs.List.{list_any};
+ghost use Rattle.lanes_file.specs.Keys.{Key, is_after};
+ghost use Rattle.lanes_file.specs.LanesLine.{line_of};
+ghost use Rattle.lanes_file.specs.Reading.{block_after, block_with, is_no_lane, is_no_level, item_of, lanes_with};
+ghost use Rattle.lanes_file.specs.Reading.{level_with, lines_after, map_after, map_with, start};
+
+use crate::fault::{LanesLineFault, LanesTextError};
+use crate::lanes::{LaneMap, LevelBlock};
+use crate::lanes_item::LanesItem;
+use crate::line::{LanesLine, LevelsLine, MapLine, read_line};
+use smp_bytes::{Guid, PortNum};
+
+/// The greatest lane, and the greatest service level.
+const MAX_LANE: u8 = 15;
+
+/// The byte of a LID that has no service level of its own.
+const NO_LEVEL: u8 = 0xFF;
+
+/// What must be kept of the lines so far to check later ones.
+#[derive(Clone, Copy)]
+pub(crate) struct LinesBefore {
+    /// There is a line `lanes`.
+    pub(crate) has_lanes: bool,
+    /// The node and the two ports of the last line `sl2vl`.
+    pub(crate) map: Option<((Guid, PortNum), PortNum)>,
+    /// There is a line `level`.
+    pub(crate) has_level: bool,
+    /// The node, the port and the number of the last line `levels`.
+    pub(crate) block: Option<((Guid, PortNum), u16)>,
+}
+
+impl LinesBefore {
+    /// Returns the state before the first line.
+    pub(crate) fn start() -> Self
+        ensures { result ≡ start }
+    {
+        LinesBefore {
+            has_lanes: false,
+            map: None,
+            has_level: false,
+            block: None,
+        }
+    }
+
+    /// Returns what the line numbered `number` says, or what is wrong with it.
+    pub(crate) fn item(&self, number: usize, line: &[u8]) -> Result<LanesItem, LanesLineFault>
+        ensures { result ≡ item_of number self.now (line_of line.now) }
+    {
+        match read_line(line) {
+            None => wrong(number, LanesTextError::Syntax),
+            Some(LanesLine::Empty) => Ok(LanesItem::Nothing),
+            Some(LanesLine::Lanes(lanes)) => lanes_item(number, self.has_lanes, lanes),
+            Some(LanesLine::Map(line)) => map_item(number, self.map, line),
+            Some(LanesLine::Level(level)) => level_item(number, self.has_level, level),
+            Some(LanesLine::Block(line)) => block_item(number, self.block, line),
+        }
+    }
+
+    /// Returns the state after a line that says `item`.
+    pub(crate) fn after(&self, item: &LanesItem) -> Self
+        ensures { result ≡ lines_after self.now item.now }
+    {
+        match item {
+            LanesItem::Nothing => *self,
+            LanesItem::Lanes(_) => LinesBefore {
+                has_lanes: true,
+                ..*self
+            },
+            LanesItem::Map(map) => LinesBefore {
+                map: Some(((map.node, map.into), map.out)),
+                ..*self
+            },
+            LanesItem::Level(_) => LinesBefore {
+                has_level: true,
+                ..*self
+            },
+            LanesItem::Block(block) => LinesBefore {
+                block: Some(((block.node, block.port), block.number)),
+                ..*self
+            },
+        }
+    }
+}
+
+/// Returns the fault `wrong` of the line numbered `line`.
+fn wrong(line: usize, wrong: LanesTextError) -> Result<LanesItem, LanesLineFault>
+    ensures { result ≡ Err (record { line = line; wrong = wrong }) }
+{
+    Err(LanesLineFault { line, wrong })
+}
+
+/// Returns what a `lanes` line numbered `number` says, or what is wrong with it. `is_second` says whether there is a
+/// `lanes` line before it.
+fn lanes_item(
+    number: usize,
+    is_second: bool,
+    lanes: [u8; 16],
+) -> Result<LanesItem, LanesLineFault>
+    ensures { result ≡ lanes_with number is_second lanes }
+{
+    if has_no_lane(&lanes) {
+        wrong(number, LanesTextError::Lane)
+    } else if is_second {
+        wrong(number, LanesTextError::Repeated)
+    } else {
+        Ok(LanesItem::Lanes(lanes))
+    }
+}
+
+/// Returns whether one of `lanes` is above 15.
+fn has_no_lane(lanes: &[u8]) -> bool
+    ensures { result ≡ list_any is_no_lane lanes.now }
+{
+    lanes.iter().any(|lane| *lane > MAX_LANE)
+}
+
+/// Returns what a `sl2vl` line numbered `number` says, or what is wrong with it. `last` has the node and the ports of
+/// the `sl2vl` line before, if there is one.
+fn map_item(
+    number: usize,
+    last: Option<((Guid, PortNum), PortNum)>,
+    line: MapLine,
+) -> Result<LanesItem, LanesLineFault>
+    ensures { result ≡ map_with number last line.node line.into line.out line.lanes }
+{
+    let (Some(into), Some(out)) = (line.into, line.out) else {
+        return wrong(number, LanesTextError::Port);
+    };
+    let MapLine { node, lanes, .. } = line;
+    map_after(
+        number,
+        last,
+        LaneMap {
+            node,
+            into,
+            out,
+            lanes,
+        },
+    )
+}
+
+/// Returns what a `sl2vl` line numbered `number` says if its lanes are up to 15 and it comes after the `sl2vl` line of
+/// `last`, if there is one.
+fn map_after(
+    number: usize,
+    last: Option<((Guid, PortNum), PortNum)>,
+    map: LaneMap,
+) -> Result<LanesItem, LanesLineFault>
+    ensures { result ≡ map_after number last map }
+{
+    if has_no_lane(&map.lanes) {
+        wrong(number, LanesTextError::Lane)
+    } else if is_map_after(last, ((map.node, map.into), map.out)) {
+        Ok(LanesItem::Map(map))
+    } else {
+        wrong(number, LanesTextError::Repeated)
+    }
+}
+
+/// Returns whether a node and two ports come after `last`, if there are such.
+fn is_map_after(
+    last: Option<((Guid, PortNum), PortNum)>,
+    key: ((Guid, PortNum), PortNum),
+) -> bool
+    ensures { result ≡ is_after last key }
+{
+    match last {
+        Some(last) => last < key,
+        None => true,
+    }
+}
+
+/// Returns what a `level` line numbered `number` says, or what is wrong with it. `is_second` says whether there is a
+/// `level` line before it.
+fn level_item(
+    number: usize,
+    is_second: bool,
+    level: Option<u8>,
+) -> Result<LanesItem, LanesLineFault>
+    ensures { result ≡ level_with number is_second level }
+{
+    let Some(level) = level else {
+        return wrong(number, LanesTextError::Level);
+    };
+    if is_second {
+        wrong(number, LanesTextError::Repeated)
+    } else {
+        Ok(LanesItem::Level(level))
+    }
+}
+
+/// Returns what a `levels` line numbered `number` says, or what is wrong with it. `last` has the node, the port and the
+/// number of the `levels` line before, if there is one.
+fn block_item(
+    number: usize,
+    last: Option<((Guid, PortNum), u16)>,
+    line: LevelsLine,
+) -> Result<LanesItem, LanesLineFault>
+    ensures { result ≡ block_with number last line.node line.port line.number line.levels }
+{
+    let Some(port) = line.port else {
+        return wrong(number, LanesTextError::Port);
+    };
+    let Some(block) = line.number else {
+        return wrong(number, LanesTextError::Block);
+    };
+    block_after(
+        number,
+        last,
+        LevelBlock {
+            node: line.node,
+            port,
+            number: block,
+            levels: line.levels,
+        },
+    )
+}
+
+/// Returns what a `levels` line numbered `number` says if its levels are in range and it comes after the `levels` line
+/// of `last`, if there is one.
+fn block_after(
+    number: usize,
+    last: Option<((Guid, PortNum), u16)>,
+    block: LevelBlock,
+) -> Result<LanesItem, LanesLineFault>
+    ensures { result ≡ block_after number last block }
+{
+    if has_no_level(&block.levels) {
+        wrong(number, LanesTextError::Level)
+    } else if is_block_after(last, ((block.node, block.port), block.number)) {
+        Ok(LanesItem::Block(block))
+    } else {
+        wrong(number, LanesTextError::Repeated)
+    }
+}
+
+/// Returns whether one of `levels` is above 15 and is not `ff`.
+fn has_no_level(levels: &[u8]) -> bool
+    ensures { result ≡ list_any is_no_level levels.now }
+{
+    levels
+        .iter()
+        .any(|level| *level > MAX_LANE && *level != NO_LEVEL)
+}
+
+/// Returns whether a node, a port and a number come after `last`, if there are such.
+fn is_block_after(last: Option<((Guid, PortNum), u16)>, key: ((Guid, PortNum), u16)) -> bool
+    ensures { result ≡ is_after last key }
+{
+    match last {
+        Some(last) => last < key,
+        None => true,
+    }
+}
