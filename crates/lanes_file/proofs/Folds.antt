@@ -6,8 +6,8 @@ use Rattle.lanes_file.specs.declared.lanes_item.LanesItem.{LanesItem}
 use Rattle.lanes_file.specs.declared.lines_before.LinesBefore.{LinesBefore}
 use Rattle.lanes_file.specs.Lanes.{LanesSaid, nothing_said}
 use Rattle.lanes_file.specs.LanesLine.{line_of}
-use Rattle.lanes_file.specs.Reading.{start, lines_after, item_of, then_or, first_fault_from, items_from, said_by, first_fault, lanes_said}
-use Rattle.lanes_file.specs.LanesItem.{said_with}
+use Rattle.lanes_file.specs.Reading.{start, lines_after, item_of, then_or, first_fault_from, items_from, first_fault, lanes_said}
+use Rattle.lanes_file.specs.LanesItem.{said_by, said_with}
 
 -- the first fault is that of the lines to come
 pub record HasJudged (text rest : List ℕ) (before : LinesBefore) (number : ℕ) : Type 0 where

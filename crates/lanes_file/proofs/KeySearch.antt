@@ -1,13 +1,13 @@
 -- What a search by key finds in a list whose keys rise.
-use Rattle.std.proofs.Common.{◌≡◌, ℕ, zero, suc, ◌+◌, ◌<◌, ◌≤◌, ◌==◌, ◌&&◌, Bool, true, false, List, [], ◌∷◌, get_or, length, inl, inr, refl, sym, ap, subst, ◌∙◌, arith}
-use Rattle.std.specs.Prelude.{Option, None, Some, map, find}
+use Rattle.std.proofs.Common.{◌≡◌, ℕ, zero, suc, ◌+◌, ◌<◌, ◌==◌, ◌&&◌, Bool, true, false, List, [], ◌∷◌, get_or, length, inl, inr, refl, sym, ap, subst, ◌∙◌, arith}
+use Rattle.std.specs.Prelude.{None, Some, map, find}
 use Rattle.std.specs.Result.{result_ok}
 use Rattle.std.specs.Cmp.{IsTotalOrder, both_tied, unsigned_tied}
 use Rattle.std.specs.FinMap.{nat_cmp-IsAntisymmetric}
 use Rattle.std.specs.List.{AllByRecursion}
-use Rattle.std.specs.List.Sorted.{IsBinarySearchResult, IsNonDecreasingBy, IsSearchInRange, IsSortedBy, IsStrictlySortedBy}
+use Rattle.std.specs.List.Sorted.{IsBinarySearchResult, IsNonDecreasingBy, IsSearchInRange, IsStrictlySortedBy}
 use Rattle.std.specs.Ordering.{is_eq, is_lt, ordering_index, ordering_reverse}
-use Rattle.std.specs.declared.cmp.Ordering.TheVariants.{Less, Equal, Greater}
+use Rattle.std.specs.declared.cmp.Ordering.TheVariants.{Less, Equal}
 use Rattle.std.specs.declared.result.Result.{Result}
 use Rattle.std.specs.declared.result.Result.TheVariants.{Ok, Err}
 use Rattle.std.proofs.lemmas.Bool.{cases_lt}
@@ -19,7 +19,7 @@ use Rattle.lanes_file.specs.Lanes.{is_block, is_map}
 use Rattle.lanes_file.specs.declared.lanes.LaneMap.{LaneMap}
 use Rattle.lanes_file.specs.declared.lanes.LevelBlock.{LevelBlock}
 
-key_total : IsTotalOrder key_cmp
+pub key_total : IsTotalOrder key_cmp
 key_total =
     then_total (then_total (on_total (λ (k : Key). k.0.0) nat_cmp_total) (on_total (λ (k : Key). k.0.1) nat_cmp_total))
     (on_total (λ (k : Key). k.1) nat_cmp_total)

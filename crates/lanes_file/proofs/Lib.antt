@@ -1,3 +1,4 @@
 pub mod BareGuids
 pub mod Folds
 pub mod KeySearch
+pub mod WellFormed

@@ -2,7 +2,7 @@
 use Rattle.std.specs.Prelude.{List, [], ◌∷◌, ◌++◌, Some}
 use Rattle.lanes_file.specs.declared.lanes_item.LanesItem.{LanesItem}
 use Rattle.lanes_file.specs.declared.lanes_item.LanesItem.TheVariants.{Nothing, Lanes, Map, Level, Block}
-use Rattle.lanes_file.specs.Lanes.{LanesSaid, nothing_said}
+use Rattle.lanes_file.specs.Lanes.{LanesSaid}
 
 -- what is said after a line that says this item
 abbrev pub said_with : LanesSaid → LanesItem → LanesSaid

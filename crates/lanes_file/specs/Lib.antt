@@ -3,7 +3,7 @@ pub mod Lanes
 pub mod LanesItem
 pub mod LanesLine
 pub mod LanesTextFault
-pub mod Order
 pub mod Reading
 pub mod Reads
+pub mod WellFormed
 pub mod Words

@@ -1,7 +1,7 @@
 //! What a text of lanes says.
 ghost use Rattle.std.specs.Prelude.{◌≡◌, ◌<◌, IfSome, find, option_copied, slice_index_or};
 ghost use Rattle.lanes_file.specs.Lanes.{is_block, is_map, lane_of, lanes_between, level_of};
-ghost use Rattle.lanes_file.specs.Order.{IsInOrder};
+ghost use Rattle.lanes_file.specs.WellFormed.{AreLanes, HasLanes, IsWellFormed};
 
 use crate::lanes_builder::LanesBuilder;
 use smp_bytes::{Guid, Lid, PortNum};
@@ -48,19 +48,19 @@ pub struct Lanes {
 
 impl Model for Lanes {
     ghost use Rattle.lanes_file.specs.Lanes.{LanesSaid, said_in};
-    ghost use Rattle.lanes_file.specs.Order.{IsInOrder};
+    ghost use Rattle.lanes_file.specs.WellFormed.{IsWellFormed};
 
     ghost Value = { LanesSaid };
 
     ghost view = { λ a. said_in a.lanes a.maps.items a.level a.levels.items };
 
-    ghost invariant = { λ a. IsInOrder (said_in a.lanes a.maps.items a.level a.levels.items) };
+    ghost invariant = { λ a. IsWellFormed (said_in a.lanes a.maps.items a.level a.levels.items) };
 }
 
 impl Lanes {
     /// Returns what the lines of a text say.
     pub(crate) fn of(said: LanesBuilder) -> Self
-        requires { IsInOrder said }
+        requires { IsWellFormed said }
         ensures { result ≡ said }
     {
         let LanesBuilder {
@@ -81,6 +81,7 @@ impl Lanes {
     /// by port `out`. Returns 15 if the text says none. Takes a search among the maps.
     pub fn lane(&self, node: Guid, into: PortNum, out: PortNum, level: u8) -> u8
         ensures is { result ≡ lane_of self.now node into out level }
+        ensures within { result < 16 }
     {
         lane_at(self.lanes_between(node, into, out), level)
     }
@@ -104,7 +105,8 @@ impl Lanes {
 
     /// Returns the lane of each service level from port `into` to port `out` of `node`; none if the text says none.
     fn lanes_between(&self, node: Guid, into: PortNum, out: PortNum) -> &[u8]
-        ensures { result.now ≡ lanes_between self.now node into out }
+        ensures is { result.now ≡ lanes_between self.now node into out }
+        ensures lanes { AreLanes result.now }
     {
         match self.map(node, into, out) {
             Some(map) => &map.lanes,
@@ -117,7 +119,8 @@ impl Lanes {
 
     /// Returns the map for packets from port `into` to port `out` of `node`, if there is one.
     fn map(&self, node: Guid, into: PortNum, out: PortNum) -> Option<&LaneMap>
-        ensures { option_copied result ≡ find (is_map node into out) self.now.maps }
+        ensures is { option_copied result ≡ find (is_map node into out) self.now.maps }
+        ensures lanes { IfSome result (λ map. HasLanes map.now) }
     {
         let index = self
             .maps
@@ -142,7 +145,9 @@ impl Lanes {
 
 /// Returns the lane of a service level, or 15 if there are fewer.
 fn lane_at(lanes: &[u8], level: u8) -> u8
-    ensures { result ≡ slice_index_or lanes.now level 15 }
+    requires { AreLanes lanes.now }
+    ensures is { result ≡ slice_index_or lanes.now level 15 }
+    ensures within { result < 16 }
 {
     match lanes.get(usize::from(level)) {
         Some(lane) => *lane,

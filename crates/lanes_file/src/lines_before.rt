@@ -202,17 +202,18 @@ fn block_item(
     let Some(port) = line.port else {
         return wrong(number, LanesTextError::Port);
     };
-    let Some(block) = line.number else {
+    let Some(block_number) = line.number else {
         return wrong(number, LanesTextError::Block);
     };
+    let LevelsLine { node, levels, .. } = line;
     block_after(
         number,
         last,
         LevelBlock {
-            node: line.node,
+            node,
             port,
-            number: block,
-            levels: line.levels,
+            number: block_number,
+            levels,
         },
     )
 }

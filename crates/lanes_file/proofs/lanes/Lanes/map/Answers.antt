@@ -9,8 +9,8 @@ use Rattle.lanes_file.specs.declared.lanes.LaneMap.{LaneMap}
 use Rattle.lanes_file.proofs.KeySearch.{none_found, one_found, tied_map}
 use Rattle.lanes_file.proofs.lanes.Lanes.map.Goals as goal
 
-pub returns-in_err-index : goal.returns-in_err-index
-returns-in_err-index c =
+pub returns-in_err-index-clause-is : goal.returns-in_err-index-clause-is
+returns-in_err-index-clause-is c =
     let found = c.binary_search_by_key.ensures.position map_key (answers_always _ _ _ (λ f a r g called. search rules)) in
     let are = c.deref.ensures.value in
     let rise = subst (λ (xs : List LaneMap). IsStrictlySortedBy key_cmp (map map_key xs)) (sym are) c.self.invariant.maps in
@@ -19,8 +19,8 @@ returns-in_err-index c =
     c.binary_search_by_key.result rise found (sym c.ok.ensures.value ∙ c.in_err-index.was))
     ∙ ap (λ (xs : List LaneMap). find (is_map c.args.node c.args.into c.args.out) xs) are ∙ ap (λ (said : LanesSaid). find (is_map c.args.node c.args.into c.args.out) said.maps) c.self.view_is
 
-pub returns : goal.returns
-returns c =
+pub returns-clause-is : goal.returns-clause-is
+returns-clause-is c =
     let found = c.binary_search_by_key.ensures.position map_key (answers_always _ _ _ (λ f a r g called. search rules)) in
     let are = c.deref.ensures.value in
     let rise = subst (λ (xs : List LaneMap). IsStrictlySortedBy key_cmp (map map_key xs)) (sym are) c.self.invariant.maps in

@@ -1,0 +1,21 @@
+-- What holds of all that a text can say: lanes and levels are up to 15, and the maps and the blocks rise by their keys.
+use Rattle.std.specs.Prelude.{ℕ, ◌<◌, List, map, IfSome}
+use Rattle.std.specs.List.{AllByRecursion}
+use Rattle.std.specs.List.Sorted.{IsStrictlySortedBy}
+use Rattle.lanes_file.specs.declared.lanes.LaneMap.{LaneMap}
+use Rattle.lanes_file.specs.Keys.{key_cmp, map_key, block_key}
+use Rattle.lanes_file.specs.Lanes.{LanesSaid}
+
+-- each is up to 15
+abbrev pub AreLanes : List ℕ → Type 0
+AreLanes lanes = AllByRecursion (λ lane. lane < 16) lanes
+
+abbrev pub HasLanes : LaneMap → Type 0
+HasLanes map = AreLanes map.lanes
+
+pub record IsWellFormed (said : LanesSaid) : Type 0 where
+  pub lanes : AreLanes said.lanes
+  pub map_lanes : AllByRecursion HasLanes said.maps
+  pub maps : IsStrictlySortedBy key_cmp (map map_key said.maps)
+  pub level : IfSome said.level (λ s. s < 16)
+  pub levels : IsStrictlySortedBy key_cmp (map block_key said.levels)
