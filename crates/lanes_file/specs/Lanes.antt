@@ -47,7 +47,7 @@ lane_of said node into out level = slice_index_or (lanes_between said node into 
 abbrev pub is_block : ℕ → ℕ → ℕ → LevelBlock → Bool
 is_block node port number block = block.node == node && block.port == port && block.number == number
 
--- the byte for a LID, the one at `index` of its block, as a service level: `level` if the byte is over 15 or there is no block
+-- the byte at `index` of a block as a service level; `level` if the byte is over 15 or there is no block
 abbrev pub level_by : Option ℕ → ℕ → Option LevelBlock → Option ℕ
 level_by level index None = level
 level_by level index (Some block) =

@@ -92,11 +92,7 @@ fn wrong(line: usize, wrong: LanesTextError) -> Result<LanesItem, LanesLineFault
 
 /// Returns what a `lanes` line numbered `number` says, or what is wrong with it. `is_second` says whether there is a
 /// `lanes` line before it.
-fn lanes_item(
-    number: usize,
-    is_second: bool,
-    lanes: [u8; 16],
-) -> Result<LanesItem, LanesLineFault>
+fn lanes_item(number: usize, is_second: bool, lanes: [u8; 16]) -> Result<LanesItem, LanesLineFault>
     ensures { result ≡ lanes_with number is_second lanes }
 {
     if has_no_lane(&lanes) {
@@ -159,10 +155,7 @@ fn map_after(
 }
 
 /// Returns whether a node and two ports come after `last`, if there are such.
-fn is_map_after(
-    last: Option<((Guid, PortNum), PortNum)>,
-    key: ((Guid, PortNum), PortNum),
-) -> bool
+fn is_map_after(last: Option<((Guid, PortNum), PortNum)>, key: ((Guid, PortNum), PortNum)) -> bool
     ensures { result ≡ is_after last key }
 {
     match last {
