@@ -164,13 +164,13 @@ module _ (word : List ℕ → Option (List ℕ)) (files : Option (List (List ℕ
       rw (rule.1, floor.1) (both_there (texts_of_rule word rule.0) (followed_by (Some []) files) (rule.2 word refl refl) (both_there (Some []) files refl h.named))
 
   -- an audit, by lane if a file of lanes is named, names its texts and its files
-  asks_by : (audit : AuditAsked) (lanes : Option (List ℕ)) (answers : Bool) → word (codes "lanes") ≡ lanes → (answers && not (is_some lanes)) ≡ false
+  asks_by : (asked : AuditAsked) (lanes : Option (List ℕ)) (answers : Bool) → word (codes "lanes") ≡ lanes → (answers && not (is_some lanes)) ≡ false
       → IsGiven (word (codes "TABLES")) → NamesFiles word files
-      → is_some (option_and_then (names_in word files) (audit_by (is_some lanes) answers audit)) ≡ true
-  asks_by audit (Some lanes) answers is apart t h =
+      → is_some (option_and_then (names_in word files) (audit_by (is_some lanes) answers asked)) ≡ true
+  asks_by asked (Some lanes) answers is apart t h =
       both_there (Some []) _ refl (both_there _ files (two_there (word (codes "lanes")) (word (codes "TABLES")) (ap is_some is) t) h.named)
-  asks_by audit None false is apart t h = both_there (Some []) _ refl (both_there _ files (one_there (word (codes "TABLES")) t) h.named)
-  asks_by audit None true is apart t h = absurd (cc)
+  asks_by asked None false is apart t h = both_there (Some []) _ refl (both_there _ files (one_there (word (codes "TABLES")) t) h.named)
+  asks_by asked None true is apart t h = absurd (cc)
 
   audit_asks : IsGiven (word (codes "TABLES")) → NamesFiles word files → IsNumberWithin 0 4294967295 (word (codes "max-load")) → lacks_lanes word ≡ false
       → Asks (codes "audit")
