@@ -300,6 +300,13 @@ def remarked(costs: Costs, count: int) -> str:
     return costs.put(f"remarked{count}", lambda: ("#" * 63 + "\n").encode() * count + tree_of(8, 10).plan())
 
 
+def one_lane(costs: Costs, maps: int) -> str:
+    """Makes a text of lanes by which all packets have one level and one lane, with `maps` maps that say the same."""
+    lanes = "00" * 16
+    said = "".join(f"sl2vl {0x8000 + it // 200:x} 1 {it % 200} {lanes}\n" for it in range(maps))
+    return costs.put(f"lanes{maps}", lambda: f"lanes {lanes}\nlevel 0\n{said}")
+
+
 def scheduled(costs: Costs, hosts: int, line: str, times: int) -> tuple[str, str, str]:
     """Makes a run in a tree of four switches with `hosts` adapters each: manager A, which writes, standby B, and then
     `line` repeated `times` times."""
@@ -350,6 +357,15 @@ GROWING = (
     Row("audit by switches", lambda c, n: ("audit", planned(c, n, 4), known(c, n, 4)), 60, SQUARED),
     Row("audit of links alone", lambda c, n: ("audit", remarks(c, 1), strangers(c, n)), 2000, LINEAR, 1),
     Row("audit of switches in a row", lambda c, n: ("audit", row_planned(c, n, 4), row(c, n, 4)), 40, SQUARED),
+    Row("audit by lane by adapters",
+        lambda c, n: ("audit", "--lanes", one_lane(c, 1), planned(c, 8, n), known(c, 8, n)), 50, SQUARED),
+    Row("audit by lane by adapters, answers",
+        lambda c, n: ("audit", "--lanes", one_lane(c, 1), "--answers-as-asked", planned(c, 8, n), known(c, 8, n)),
+        50, SQUARED),
+    Row("audit by lane by switches",
+        lambda c, n: ("audit", "--lanes", one_lane(c, 1), planned(c, n, 4), known(c, n, 4)), 60, SQUARED),
+    Row("audit by lane by maps",
+        lambda c, n: ("audit", "--lanes", one_lane(c, n), planned(c, 8, 10), known(c, 8, 10)), 5000, LINEAR),
     Row("order-of by adapters", lambda c, n: ("order-of", planned(c, 8, n), known(c, 8, n)), 100, LINEAR),
     Row("order-of by switches", lambda c, n: ("order-of", planned(c, n, 4), known(c, n, 4)), 60, SQUARED),
     Row("next by adapters", lambda c, n: ("next", planned(c, 8, n), known(c, 8, n)), 100, LINEAR),

@@ -10,7 +10,7 @@ COMMANDS = {
     "join": FLOOR,
     "plan": f"{FLOOR} {PLANS}",
     "order": f"{FLOOR} {ORDERS}",
-    "audit": f"{FLOOR} --all --max-load",
+    "audit": f"{FLOOR} --all --max-load --lanes --answers-as-asked",
     "order-of": FLOOR,
     "next": f"{FLOOR} {PLANS} --told-order",
     "run": PLANS,

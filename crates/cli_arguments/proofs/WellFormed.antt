@@ -156,7 +156,7 @@ all_plain routings = (
       (
         ((refl, refl), ((refl, refl), ((refl, refl), ((refl, refl), ((refl, refl), ((refl, refl), tt)))))),
         (
-          ((refl, refl), ((refl, refl), ((refl, refl), ((refl, refl), ((refl, refl), ((refl, refl), tt)))))),
+          ((refl, refl), ((refl, refl), ((refl, refl), ((refl, refl), ((refl, refl), ((refl, refl), ((refl, refl), ((refl, refl), tt)))))))),
           (
             ((refl, refl), ((refl, refl), ((refl, refl), ((refl, refl), tt)))),
             (
@@ -194,7 +194,7 @@ all_fit routings known = (
         (
           λ other differs is rows t e apart. audit refl (text_given routings known _ (codes "audit") rows t (codes "TABLES") _ refl refl (given_first _ _ e).0)
               (names_files routings known _ (codes "audit") rows t _ refl refl (given_first _ _ (given_first _ _ e).1).0)
-              (names_load routings known _ (codes "audit") rows t _ refl refl),
+              (names_load routings known _ (codes "audit") rows t _ refl refl) apart,
           (
             λ other differs is rows t e apart. order_of refl (text_given routings known _ (codes "order-of") rows t (codes "TABLES") _ refl refl (given_first _ _ e).0)
                 (names_files routings known _ (codes "order-of") rows t _ refl refl (given_first _ _ (given_first _ _ e).1).0),

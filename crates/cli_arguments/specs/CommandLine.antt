@@ -51,6 +51,13 @@ max_load_rule = record (option_rule (codes "max-load")) { parser = Some (Signed 
 abbrev pub of_report : List Rule
 of_report = all_rule ∷ max_load_rule ∷ []
 
+abbrev pub answers_rule : Rule
+answers_rule = record (new_rule (codes "answers-as-asked")) { long = Some (codes "answers-as-asked"); action = Some SetTrue }
+
+-- the options of an audit by lane: the file of lanes, and which service levels answers have
+abbrev pub of_lanes : List Rule
+of_lanes = option_rule (codes "lanes") ∷ answers_rule ∷ []
+
 abbrev pub lmc_rule : Rule
 lmc_rule = record (option_rule (codes "lmc")) { parser = Some (Signed (pos 0) (pos 7)) }
 
@@ -104,7 +111,7 @@ abbrev pub order_shape : Bor (List (Bor Text)) → Shape
 order_shape words = subcommand_shape (codes "order") (of_files ++ of_routing words)
 
 abbrev pub audit_shape : Shape
-audit_shape = subcommand_shape (codes "audit") (text_rule (codes "TABLES") ∷ of_files ++ of_report)
+audit_shape = subcommand_shape (codes "audit") (text_rule (codes "TABLES") ∷ of_files ++ of_report ++ of_lanes)
 
 abbrev pub order_of_shape : Shape
 order_of_shape = subcommand_shape (codes "order-of") (text_rule (codes "TABLES") ∷ of_files)

@@ -64,11 +64,20 @@ planning_conflict name word =
     has_conflict_of (if bytes_eq name (codes "order") then order_rule (word (codes "routing")) else word (codes "routing"))
     (is_some (word (codes "roots"))) (is_some (word (codes "order")))
 
+-- whether a flag is set: its word is `true`, which the parser of words sets
+abbrev pub is_set : Option (List ℕ) → Bool
+is_set None = false
+is_set (Some word) = bytes_eq word (codes "true")
+
+-- the flag about the service levels of answers is set, but no file of lanes is named
+abbrev pub lacks_lanes : (List ℕ → Option (List ℕ)) → Bool
+lacks_lanes word = is_set (word (codes "answers-as-asked")) && not (is_some (word (codes "lanes")))
+
 -- options contradict each other in the subcommand `name`, or it is `serve` and its GUID or SM_Key is not hex digits
 abbrev pub has_conflict : List ℕ → (List ℕ → Option (List ℕ)) → Bool
 has_conflict name word =
     if bytes_eq name (codes "serve") then planning_conflict name word || is_wrong_seat word
-    else planning_conflict name word
+    else (if bytes_eq name (codes "audit") then lacks_lanes word else planning_conflict name word)
 
 -- options contradict each other in the subcommand, or its GUID or SM_Key is not hex digits, if a subcommand was named
 abbrev pub has_conflict_behind : Option (List ℕ × List Row) → Bool

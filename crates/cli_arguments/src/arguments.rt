@@ -2,13 +2,13 @@
 ghost use Rattle.std.specs.Prelude.{◌≡◌, codes, false};
 ghost use Rattle.clap.specs.Walk.{rule_of};
 ghost use Rattle.cli_arguments.specs.CommandLine.{port_rule, priority_rule};
-ghost use Rattle.cli_arguments.specs.CommandLine.{all_rule, files_rule, floor_rule, lmc_rule, max_load_rule};
+ghost use Rattle.cli_arguments.specs.CommandLine.{all_rule, answers_rule, files_rule, floor_rule, lmc_rule, max_load_rule};
 ghost use Rattle.cli_arguments.specs.CommandLine.{option_rule, routing_rule, told_order_rule};
 ghost use Rattle.cli_arguments.specs.CommandLine.{text_rule};
 
 use crate::argument_names::{
-    ALL, FILE, FLOOR, GUID, LMC, MAX_LOAD, ORDER, PORT, PRIORITY, ROOTS, ROUTING, SM_KEY,
-    TOLD_ORDER,
+    ALL, ANSWERS_AS_ASKED, FILE, FLOOR, GUID, LANES, LMC, MAX_LOAD, ORDER, PORT, PRIORITY, ROOTS,
+    ROUTING, SM_KEY, TOLD_ORDER,
 };
 use clap::{Arg, ArgAction, value_parser};
 use std::alloc::Global;
@@ -112,6 +112,33 @@ pub(crate) fn max_load<'a>(alloc: Global) -> Arg<'a>
         )
         .value_parser(value_parser!(u32).range(0..))
         .action(ArgAction::Set)
+}
+
+/// Builds the option for the file of lanes.
+pub(crate) fn lanes<'a>(alloc: Global) -> Arg<'a>
+    ensures rule { rule_of result ≡ option_rule (codes "lanes") }
+    ensures own { result.global ≡ false }
+{
+    Arg::new(alloc, LANES)
+        .long(LANES)
+        .value_name("FILE")
+        .help(
+            "Judges credit loops lane by lane, by the virtual lanes and service levels that FILE gives",
+        )
+        .action(ArgAction::Set)
+}
+
+/// Builds the flag by which answers may also have the service level of what they answer.
+pub(crate) fn answers_as_asked<'a>(alloc: Global) -> Arg<'a>
+    ensures rule { rule_of result ≡ answers_rule }
+    ensures own { result.global ≡ false }
+{
+    Arg::new(alloc, ANSWERS_AS_ASKED)
+        .long(ANSWERS_AS_ASKED)
+        .help(
+            "With --lanes, also follows answers that go at the service level of the packets that they answer",
+        )
+        .action(ArgAction::SetTrue)
 }
 
 /// Builds the option for the LMC.

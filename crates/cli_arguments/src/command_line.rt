@@ -11,20 +11,20 @@ ghost use Rattle.cli_arguments.specs.CommandLine.{audit_shape, facts_shape, join
 ghost use Rattle.cli_arguments.specs.CommandLine.{order_shape};
 ghost use Rattle.cli_arguments.specs.CommandLine.{command_line, of_files, of_order, of_planning, of_routing, of_seat};
 ghost use Rattle.cli_arguments.specs.CommandLine.{plan_shape, program_app, run_shape, serve_shape};
-ghost use Rattle.cli_arguments.specs.CommandLine.{of_report};
+ghost use Rattle.cli_arguments.specs.CommandLine.{of_lanes, of_report};
 ghost use Rattle.cli_arguments.specs.CommandLine.{text_rule};
 ghost use Rattle.cli_arguments.specs.WellFormed.{IsWellFormed};
 ghost use Rattle.cli_arguments.specs.Words.{has_conflict, has_conflict_behind, is_guid, is_guid_word, is_key};
-ghost use Rattle.cli_arguments.specs.Words.{is_wrong_seat, lacks_rule, order_rule};
+ghost use Rattle.cli_arguments.specs.Words.{is_set, is_wrong_seat, lacks_lanes, lacks_rule, order_rule};
 ghost use Rattle.cli_arguments.specs.Words.{planning_conflict};
 
 use crate::argument_names::{
-    AUDIT, BALANCE, FACTS, FILE, GUID, JOIN, LMC, NEXT, ORDER, ORDER_OF, PLAN, ROOTS, ROUTING, RUN,
-    SCHEDULE, SERVE, SM_KEY, SPREAD, TABLES, TOPOLOGY, UPDOWN,
+    ANSWERS_AS_ASKED, AUDIT, BALANCE, FACTS, FILE, GUID, JOIN, LANES, LMC, NEXT, ORDER, ORDER_OF,
+    PLAN, ROOTS, ROUTING, RUN, SCHEDULE, SERVE, SM_KEY, SPREAD, TABLES, TOPOLOGY, UPDOWN,
 };
 use crate::arguments::{
-    all, files, floor, lmc, max_load, order_file, port, priority, roots, routing, sm_key, text,
-    told_order,
+    all, answers_as_asked, files, floor, lanes, lmc, max_load, order_file, port, priority, roots,
+    routing, sm_key, text, told_order,
 };
 use clap::error::ErrorKind;
 use clap::{ArgMatches, Command, Error};
@@ -197,7 +197,7 @@ fn audit<'a>(alloc: Global) -> Result<Command<'a>, AllocError>
              files",
         )
         .after_help(AUDIT_END);
-    with_report(alloc, of_tables(alloc, command)?)
+    with_lanes(alloc, with_report(alloc, of_tables(alloc, command)?)?)
 }
 
 fn order_of<'a>(alloc: Global) -> Result<Command<'a>, AllocError>
@@ -293,6 +293,13 @@ fn with_report<'a>(alloc: Global, command: Command<'a>) -> Result<Command<'a>, A
     command.arg(all(alloc))?.arg(max_load(alloc))
 }
 
+/// Adds the options of an audit by lane: the file of lanes, and which service levels answers have.
+fn with_lanes<'a>(alloc: Global, command: Command<'a>) -> Result<Command<'a>, AllocError>
+    ensures { IfOk result (AddsRules of_lanes command.entry) }
+{
+    command.arg(lanes(alloc))?.arg(answers_as_asked(alloc))
+}
+
 /// Adds the options of a plan: its LMC, its rule of routing, and the roots or the order.
 fn with_planning<'a>(
     alloc: Global,
@@ -325,7 +332,8 @@ fn with_order<'a>(alloc: Global, command: Command<'a>) -> Result<Command<'a>, Al
 }
 
 /// Returns whether options contradict each other: roots and an order are both named, or one of them is named without a
-/// rule of routing that takes it. Also returns true if a manager's GUID or SM_Key is not hex digits.
+/// rule of routing that takes it, or a flag about lanes is set without a file of lanes. Also returns true if a
+/// manager's GUID or SM_Key is not hex digits.
 fn has_conflict(matches: &ArgMatches<'_>) -> bool
     ensures { result ≡ has_conflict_behind (subcommand_rows_of matches.now) }
 {
@@ -342,6 +350,7 @@ fn has_conflict_in(name: &str, words: &ArgMatches<'_>) -> bool
 {
     match name {
         SERVE => planning_conflict(name, words) || has_wrong_seat(words),
+        AUDIT => lacks_lanes(words),
         _ => planning_conflict(name, words),
     }
 }
@@ -353,6 +362,23 @@ fn planning_conflict(name: &str, words: &ArgMatches<'_>) -> bool
     let rooted = is_named(words, ROOTS);
     let ordered = is_named(words, ORDER);
     (rooted && ordered) || lacks_rule(name, words, rooted, ordered)
+}
+
+/// Returns whether the flag about the service levels of answers is set, but no file of lanes is named.
+fn lacks_lanes(words: &ArgMatches<'_>) -> bool
+    ensures { result ≡ lacks_lanes (first_value (found_of words.now)) }
+{
+    is_set(words, ANSWERS_AS_ASKED) && !is_named(words, LANES)
+}
+
+/// Returns whether `words`, after a subcommand, set the flag `name`.
+pub fn is_set(words: &ArgMatches<'_>, name: &str) -> bool
+    ensures { result ≡ is_set (first_value (found_of words.now) name.now) }
+{
+    match words.get_str(name) {
+        Some(word) => word == "true",
+        None => false,
+    }
 }
 
 /// Returns whether the GUID of a manager's port or its SM_Key is not 1 to 16 hex digits.
@@ -438,6 +464,9 @@ fn conflict_text(matches: &ArgMatches<'_>) -> &'static str {
     if !has_key(words) {
         return "invalid value for '--sm-key <HEX>': 1 to 16 hex digits are wanted";
     }
+    if lacks_lanes(words) {
+        return "the argument '--answers-as-asked' cannot be used without '--lanes <FILE>'";
+    }
     match (is_named(words, ROOTS), is_named(words, ORDER)) {
         (true, true) => "the argument '--roots <FILE>' cannot be used with '--order <FILE>'",
         (true, false) => "the argument '--roots <FILE>' cannot be used without '--routing spread'",
@@ -447,9 +476,10 @@ fn conflict_text(matches: &ArgMatches<'_>) -> &'static str {
     }
 }
 
-/// Builds the subcommand `name`: `next`, `run`, `order` or `serve`, and `plan` for any other name.
+/// Builds the subcommand `name`: `audit`, `next`, `run`, `order` or `serve`, and `plan` for any other name.
 fn subcommand<'a>(alloc: Global, name: Option<&str>) -> Result<Command<'a>, AllocError> {
     match name {
+        Some(AUDIT) => audit(alloc)?.bin_name("ibsm audit"),
         Some(NEXT) => next(alloc, RULES.as_slice())?.bin_name("ibsm next"),
         Some(RUN) => run(alloc, RULES.as_slice())?.bin_name("ibsm run"),
         Some(ORDER) => order(alloc, RULES.as_slice())?.bin_name("ibsm order"),

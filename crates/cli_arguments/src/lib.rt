@@ -5,4 +5,4 @@ pub mod argument_names;
 mod arguments;
 mod command_line;
 
-pub use command_line::matches_of;
+pub use command_line::{is_set, matches_of};

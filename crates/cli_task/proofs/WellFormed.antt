@@ -1,13 +1,14 @@
 -- Well-formed words ask for a task, and name its inputs.
-use Rattle.std.proofs.Common.{◌≡◌, ℕ, true, false, List, [], ◌∷◌, Option, None, Some, ap, inl, inr, refl, sym, subst, ◌∙◌}
+use Rattle.std.proofs.Common.{◌≡◌, ◌&&◌, ℕ, Bool, not, true, false, List, [], ◌∷◌, Option, None, Some, ap, inl, inr, refl, sym, subst, ◌∙◌}
 use Rattle.std.specs.Prelude.{codes, is_some, option_and_then, option_map}
 use Rattle.clap.specs.Matches.{subcommand_name_of}
 use Rattle.clap.specs.declared.parser.matches.ArgMatches.{ArgMatches}
 use Rattle.cli_arguments.specs.WellFormed.{HasItsWords, IsGiven, IsNumberWithin, IsRouting, IsWellFormed, NamesFiles, NamesOrder, NamesPlanning, NamesSeat, facts, join, plan, order, audit, order_of, next, run, serve}
-use Rattle.cli_arguments.specs.Words.{files_named, has_conflict_of, is_guid, is_key, order_rule, word_named}
+use Rattle.cli_arguments.specs.Words.{files_named, has_conflict_of, is_guid, is_key, is_set, lacks_lanes, order_rule, word_named}
+use Rattle.audit_report.specs.declared.audit_run.AuditAsked.{AuditAsked}
 use Rattle.sm_cli.specs.declared.asked.RuleAsked.{RuleAsked}
 use Rattle.sm_cli.specs.declared.asked.RuleAsked.TheVariants.{UpDown, Spread, SpreadFromRoots, SpreadInOrder, Balance, BalanceInOrder}
-use Rattle.cli_task.specs.Asked.{floor_asked, followed_by, guid_asked, lmc_asked, max_load_asked, number_in, port_asked, priority_asked, sm_key_asked, within, names_in, planning_asked, rule_asked, task_behind, texts_of_rule}
+use Rattle.cli_task.specs.Asked.{audit_by, floor_asked, followed_by, guid_asked, lmc_asked, max_load_asked, number_in, port_asked, priority_asked, sm_key_asked, within, names_in, planning_asked, rule_asked, task_behind, texts_of_rule}
 use Rattle.cli_task.proofs.Guids.{guid_is_read}
 use Rattle.cli_task.proofs.Within.{number_within}
 
@@ -162,11 +163,21 @@ module _ (word : List ℕ → Option (List ℕ)) (files : Option (List (List ℕ
       (order_routing (word (codes "routing")) p.routing) p.apart in
       rw (rule.1, floor.1) (both_there (texts_of_rule word rule.0) (followed_by (Some []) files) (rule.2 word refl refl) (both_there (Some []) files refl h.named))
 
-  audit_asks : IsGiven (word (codes "TABLES")) → NamesFiles word files → IsNumberWithin 0 4294967295 (word (codes "max-load")) → Asks (codes "audit")
-  audit_asks t h m =
+  -- an audit, by lane if a file of lanes is named, names its texts and its files
+  asks_by : (asked : AuditAsked) (lanes : Option (List ℕ)) (answers : Bool) → word (codes "lanes") ≡ lanes → (answers && not (is_some lanes)) ≡ false
+      → IsGiven (word (codes "TABLES")) → NamesFiles word files
+      → is_some (option_and_then (names_in word files) (audit_by (is_some lanes) answers asked)) ≡ true
+  asks_by asked (Some lanes) answers is apart t h =
+      both_there (Some []) _ refl (both_there _ files (two_there (word (codes "lanes")) (word (codes "TABLES")) (ap is_some is) t) h.named)
+  asks_by asked None false is apart t h = both_there (Some []) _ refl (both_there _ files (one_there (word (codes "TABLES")) t) h.named)
+  asks_by asked None true is apart t h = absurd (cc)
+
+  audit_asks : IsGiven (word (codes "TABLES")) → NamesFiles word files → IsNumberWithin 0 4294967295 (word (codes "max-load")) → lacks_lanes word ≡ false
+      → Asks (codes "audit")
+  audit_asks t h m apart =
       let floor = known (floor_asked (word (codes "floor"))) (floor_there (word (codes "floor")) h.floor) in
       let load = known (max_load_asked (word (codes "max-load"))) (max_load_there (word (codes "max-load")) m) in
-      rw floor.1 rw load.1 (both_there (Some []) _ refl (both_there _ files (one_there (word (codes "TABLES")) t) h.named))
+      rw floor.1 rw load.1 (asks_by _ (word (codes "lanes")) (is_set (word (codes "answers-as-asked"))) refl apart t h)
 
   order_of_asks : IsGiven (word (codes "TABLES")) → NamesFiles word files → Asks (codes "order-of")
   order_of_asks t h =
@@ -199,7 +210,7 @@ module _ (word : List ℕ → Option (List ℕ)) (files : Option (List (List ℕ
   words_ask name (join is h) = subst Asks (sym is) (join_ask h)
   words_ask name (plan is h p) = subst Asks (sym is) (plan_asks h p)
   words_ask name (order is h p) = subst Asks (sym is) (order_asks h p)
-  words_ask name (audit is t h m) = subst Asks (sym is) (audit_asks t h m)
+  words_ask name (audit is t h m apart) = subst Asks (sym is) (audit_asks t h m apart)
   words_ask name (order_of is t h) = subst Asks (sym is) (order_of_asks t h)
   words_ask name (next is t h p) = subst Asks (sym is) (next_asks t h p)
   words_ask name (run is t s p) = subst Asks (sym is) (run_asks t s p)

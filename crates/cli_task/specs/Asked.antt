@@ -5,9 +5,10 @@ use Rattle.std.specs.Str.{bytes_eq}
 use Rattle.std.specs.Str.Parse.{starts_with_minus, without_leading_plus}
 use Rattle.clap.specs.Matches.{subcommand_name_of}
 use Rattle.clap.specs.declared.parser.matches.ArgMatches.{ArgMatches}
-use Rattle.cli_arguments.specs.Words.{files_named, order_rule, word_named}
+use Rattle.cli_arguments.specs.Words.{files_named, is_set, order_rule, word_named}
 use Rattle.text_words.specs.Number.{number_of}
 use Rattle.audit_report.specs.declared.audit_run.AuditAsked.{AuditAsked}
+use Rattle.lane_report.specs.declared.lane_run.LaneAuditAsked.{LaneAuditAsked}
 use Rattle.sm_cli.specs.Asked.{rule_for}
 use Rattle.sm_cli.specs.declared.asked.Output.{Output}
 use Rattle.sm_cli.specs.declared.asked.Output.TheVariants.{Facts, Join, Plan, Order}
@@ -17,7 +18,7 @@ use Rattle.next_run.specs.declared.run_step.StepAsked.{StepAsked}
 use Rattle.serve_lines.specs.ServeLine.{hex_number}
 use Rattle.serve_task.specs.declared.serving.Serving.{Serving}
 use Rattle.cli_task.specs.declared.task.Task.{Task}
-use Rattle.cli_task.specs.declared.task.Task.TheVariants.{Answer, Audit, OrderOf, Next, Run, Serve}
+use Rattle.cli_task.specs.declared.task.Task.TheVariants.{Answer, Audit, AuditByLane, OrderOf, Next, Run, Serve}
 
 -- options ---------------------------------------------------------------------------------------
 
@@ -79,11 +80,6 @@ abbrev pub order_asked : (List ℕ → Option (List ℕ)) → Option RuleAsked
 order_asked word =
     rule_asked (order_rule (word (codes "routing"))) (is_some (word (codes "roots"))) (is_some (word (codes "order")))
 
--- whether a flag is set: its word is `true`, which the parser of words sets
-abbrev pub is_set : Option (List ℕ) → Bool
-is_set None = false
-is_set (Some word) = bytes_eq word (codes "true")
-
 -- the greatest load that passes, if a word names it; None if the word names no number of 32 bits
 abbrev pub max_load_asked : Option (List ℕ) → Option (Option ℕ)
 max_load_asked None = Some None
@@ -94,6 +90,17 @@ abbrev pub audit_asked : (List ℕ → Option (List ℕ)) → Option AuditAsked
 audit_asked word = option_and_then (λ floor. option_map
     (λ max_load. record { floor = floor; all = is_set (word (codes "all")); max_load = max_load })
     (max_load_asked (word (codes "max-load")))) (floor_asked (word (codes "floor")))
+
+-- the task of an audit, lane by lane if `by_lane`; None if `answers`, which is about lanes, is set without it
+abbrev pub audit_by : Bool → Bool → AuditAsked → Option Task
+audit_by true answers audit = Some (AuditByLane (record { audit = audit; answers = answers }))
+audit_by false false audit = Some (Audit audit)
+audit_by false true audit = None
+
+-- the task of the audit that the words ask for, lane by lane if a file of lanes is named; None if one of them is wrong
+abbrev pub audit_task : (List ℕ → Option (List ℕ)) → Option Task
+audit_task word = option_and_then
+    (audit_by (is_some (word (codes "lanes"))) (is_set (word (codes "answers-as-asked")))) (audit_asked word)
 
 -- the step that the words ask for; None if one of them is wrong
 abbrev pub step_asked : (List ℕ → Option (List ℕ)) → Option StepAsked
@@ -141,7 +148,7 @@ output_asked word command =
 -- the task of the subcommand `command` with the words of its arguments; None if one of them is wrong
 abbrev pub task_behind : (List ℕ → Option (List ℕ)) → List ℕ → Option Task
 task_behind word command =
-    if bytes_eq command (codes "audit") then option_map Audit (audit_asked word)
+    if bytes_eq command (codes "audit") then audit_task word
     else (if bytes_eq command (codes "order-of") then option_map OrderOf (floor_asked (word (codes "floor")))
     else (if bytes_eq command (codes "next") then option_map Next (step_asked word)
     else (if bytes_eq command (codes "run") then option_map (λ by. Run by.0 by.1) (planning_asked word)
@@ -168,6 +175,7 @@ texts_of_rule word BalanceInOrder = option_map (λ order. order ∷ []) (word (c
 abbrev pub rule_of_task : Task → RuleAsked
 rule_of_task (Answer request) = rule_for request.output
 rule_of_task (Audit asked) = UpDown
+rule_of_task (AuditByLane asked) = UpDown
 rule_of_task (OrderOf floor) = UpDown
 rule_of_task (Next asked) = asked.rule
 rule_of_task (Run lmc rule) = rule
@@ -177,6 +185,8 @@ rule_of_task (Serve asked) = asked.rule
 abbrev pub texts_asked : (List ℕ → Option (List ℕ)) → Task → Option (List (List ℕ))
 texts_asked word (Answer request) = Some []
 texts_asked word (Audit asked) = option_map (λ tables. tables ∷ []) (word (codes "TABLES"))
+texts_asked word (AuditByLane asked) =
+    option_and_then (λ lanes. option_map (λ tables. lanes ∷ tables ∷ []) (word (codes "TABLES"))) (word (codes "lanes"))
 texts_asked word (OrderOf floor) = option_map (λ tables. tables ∷ []) (word (codes "TABLES"))
 texts_asked word (Next asked) = option_map (λ tables. tables ∷ []) (word (codes "TABLES"))
 texts_asked word (Run lmc rule) =
@@ -188,6 +198,7 @@ texts_asked word (Serve asked) = option_map (λ guid. codes "/dev/stdin" ∷ [])
 abbrev pub takes_files : Task → Bool
 takes_files (Answer request) = true
 takes_files (Audit asked) = true
+takes_files (AuditByLane asked) = true
 takes_files (OrderOf floor) = true
 takes_files (Next asked) = true
 takes_files (Run lmc rule) = false

@@ -1,7 +1,7 @@
 //! The task that the words of the command line ask for.
 ghost use Rattle.std.specs.Prelude.{◌≡◌, IfOk, codes, is_some, map, option_and_then, option_map};
 ghost use Rattle.clap.specs.Matches.{first_value, found_of, matched_of, raw_values};
-ghost use Rattle.cli_task.specs.Asked.{audit_asked, floor_asked, is_set, lmc_asked, max_load_asked, number_in};
+ghost use Rattle.cli_task.specs.Asked.{audit_asked, audit_task, floor_asked, lmc_asked, max_load_asked, number_in};
 ghost use Rattle.cli_task.specs.Asked.{number_or, planning_asked, rule_asked};
 ghost use Rattle.cli_task.specs.Asked.{order_asked, output_asked, step_asked, task_asked, task_behind, within};
 ghost use Rattle.cli_task.specs.Asked.{balance_asked, names_asked, names_in, rule_of_task, spread_asked, takes_files, texts_asked};
@@ -13,10 +13,12 @@ use attr_codec::{Lmc, Priority};
 use audit_report::AuditAsked;
 use clap::ArgMatches;
 use cli_arguments::argument_names::{
-    ALL, AUDIT, BALANCE, FACTS, FILE, FLOOR, GUID, JOIN, LMC, MAX_LOAD, NEXT, ORDER, ORDER_OF,
-    PLAN, PORT, PRIORITY, ROOTS, ROUTING, RUN, SCHEDULE, SERVE, SM_KEY, SPREAD, TABLES, TOLD_ORDER,
-    TOPOLOGY, UPDOWN,
+    ALL, ANSWERS_AS_ASKED, AUDIT, BALANCE, FACTS, FILE, FLOOR, GUID, JOIN, LANES, LMC, MAX_LOAD,
+    NEXT, ORDER, ORDER_OF, PLAN, PORT, PRIORITY, ROOTS, ROUTING, RUN, SCHEDULE, SERVE, SM_KEY,
+    SPREAD, TABLES, TOLD_ORDER, TOPOLOGY, UPDOWN,
 };
+use cli_arguments::is_set;
+use lane_report::LaneAuditAsked;
 use next_run::StepAsked;
 use serve_lines::hex_number;
 use serve_task::Serving;
@@ -31,6 +33,8 @@ pub enum Task {
     Answer(Invocation),
     /// Auditing tables in the subnet that files describe.
     Audit(AuditAsked),
+    /// Auditing tables in the subnet that files describe, with credit loops judged lane by lane.
+    AuditByLane(LaneAuditAsked),
     /// Writing the order of switches that tables give in the subnet that files describe. Facts of generations before
     /// this one are ignored.
     OrderOf(Generation),
@@ -53,7 +57,7 @@ impl Task {
     {
         match self {
             Task::Answer(request) => request.output.rule(),
-            Task::Audit(_) | Task::OrderOf(_) => RuleAsked::UpDown,
+            Task::Audit(_) | Task::AuditByLane(_) | Task::OrderOf(_) => RuleAsked::UpDown,
             Task::Next(asked) => asked.rule,
             Task::Run(_, rule) => *rule,
             Task::Serve(asked) => asked.rule,
@@ -65,7 +69,11 @@ impl Task {
         ensures { result ≡ takes_files self.now }
     {
         match self {
-            Task::Answer(_) | Task::Audit(_) | Task::OrderOf(_) | Task::Next(_) => true,
+            Task::Answer(_)
+            | Task::Audit(_)
+            | Task::AuditByLane(_)
+            | Task::OrderOf(_)
+            | Task::Next(_) => true,
             Task::Run(..) | Task::Serve(_) => false,
         }
     }
@@ -84,7 +92,7 @@ fn task_behind(command: &str, words: &ArgMatches<'_>) -> Option<Task>
     ensures { result ≡ task_behind (first_value (found_of words.now)) command.now }
 {
     match command {
-        AUDIT => Some(Task::Audit(audit_of(words)?)),
+        AUDIT => audit_task(words),
         ORDER_OF => Some(Task::OrderOf(floor_of(words)?)),
         NEXT => Some(Task::Next(step_of(words)?)),
         RUN => {
@@ -100,6 +108,20 @@ fn task_behind(command: &str, words: &ArgMatches<'_>) -> Option<Task>
     }
 }
 
+/// Returns the task of the audit that `words`, after a subcommand, ask for: lane by lane, if a file of lanes is named.
+/// Returns `None` if one of the words is wrong, or a flag about lanes is set without a file of lanes.
+fn audit_task(words: &ArgMatches<'_>) -> Option<Task>
+    ensures { result ≡ audit_task (first_value (found_of words.now)) }
+{
+    let audit = audit_of(words)?;
+    let answers = is_set(words, ANSWERS_AS_ASKED);
+    match words.get_str(LANES) {
+        Some(_) => Some(Task::AuditByLane(LaneAuditAsked { audit, answers })),
+        None if !answers => Some(Task::Audit(audit)),
+        None => None,
+    }
+}
+
 /// Returns the audit that `words`, after a subcommand, ask for. Returns `None` if one of them is wrong.
 fn audit_of(words: &ArgMatches<'_>) -> Option<AuditAsked>
     ensures { result ≡ audit_asked (first_value (found_of words.now)) }
@@ -111,16 +133,6 @@ fn audit_of(words: &ArgMatches<'_>) -> Option<AuditAsked>
         all: is_set(words, ALL),
         max_load,
     })
-}
-
-/// Returns whether `words`, after a subcommand, set the flag `name`.
-fn is_set(words: &ArgMatches<'_>, name: &str) -> bool
-    ensures { result ≡ is_set (first_value (found_of words.now) name.now) }
-{
-    match words.get_str(name) {
-        Some(word) => word == "true",
-        None => false,
-    }
 }
 
 /// Returns the greatest load that passes. The inner value is `None` if `words`, after a subcommand, name none. Returns
@@ -391,6 +403,10 @@ fn texts_of<'a>(words: &ArgMatches<'a>, task: &Task) -> Option<ArrayVec<&'a str,
     match task {
         Task::Answer(_) => {}
         Task::Audit(_) | Task::OrderOf(_) | Task::Next(_) => texts.push(words.get_str(TABLES)?),
+        Task::AuditByLane(_) => {
+            texts.push(words.get_str(LANES)?);
+            texts.push(words.get_str(TABLES)?);
+        }
         Task::Run(..) => {
             texts.push(words.get_str(TOPOLOGY)?);
             texts.push(words.get_str(SCHEDULE)?);

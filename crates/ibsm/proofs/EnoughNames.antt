@@ -9,7 +9,7 @@ use Rattle.sm_cli.specs.Asked.{rule_for}
 use Rattle.cli_arguments.specs.Words.{files_named, word_named}
 use Rattle.cli_task.specs.Asked.{followed_by, names_asked, names_in, texts_asked, texts_of_rule}
 use Rattle.cli_task.specs.declared.task.Task.{Task}
-use Rattle.cli_task.specs.declared.task.Task.TheVariants.{Answer, Audit, OrderOf, Next, Run, Serve}
+use Rattle.cli_task.specs.declared.task.Task.TheVariants.{Answer, Audit, AuditByLane, OrderOf, Next, Run, Serve}
 use Rattle.cli_task.proofs.RuleTexts.{one_word, texts_counted}
 use Rattle.ibsm.specs.Ending.{HasEnoughNames}
 
@@ -42,6 +42,12 @@ names_suffice word files (Audit asked) names e =
     let all = both_named (Some []) (followed_by (texts_asked word (Audit asked)) files) names e in
     let rest = both_named (texts_asked word (Audit asked)) files all.1 all.3 in
     let one = one_word (word (codes "TABLES")) rest.0 rest.2 in
+    let count = all.4 in
+    let others = rest.4 in omega arith
+names_suffice word files (AuditByLane asked) names e =
+    let all = both_named (Some []) (followed_by (texts_asked word (AuditByLane asked)) files) names e in
+    let rest = both_named (texts_asked word (AuditByLane asked)) files all.1 all.3 in
+    let two = two_words (word (codes "lanes")) (word (codes "TABLES")) rest.0 rest.2 in
     let count = all.4 in
     let others = rest.4 in omega arith
 names_suffice word files (OrderOf floor) names e =

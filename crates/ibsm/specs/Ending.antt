@@ -12,6 +12,7 @@ use Rattle.sm_cli.specs.declared.exit_status.ExitStatus.TheVariants.{Done, Faile
 use Rattle.sm_cli.specs.declared.fault.Fault.{Fault}
 use Rattle.sm_cli.specs.declared.fault.Fault.TheVariants.{Open, File, Text, NoRoom, Write, Memory}
 use Rattle.audit_report.specs.RunAudit.{HasAudited, IsAuditFault}
+use Rattle.lane_report.specs.RunLaneAudit.{HasAuditedByLane, IsLaneAuditFault}
 use Rattle.next_run.specs.RunNext.{HasStepped, IsStepFault}
 use Rattle.order_run.specs.OrderRun.{HasTold, IsOrderFault}
 use Rattle.record_file.specs.declared.file_fault.FileFault.TheVariants.{Read}
@@ -20,7 +21,7 @@ use Rattle.serve_task.specs.RunServe.{HasServedLines, IsServeFault}
 use Rattle.cli_task.specs.Asked.{names_asked, task_asked}
 use Rattle.ibsm.specs.declared.opener.OpenFault.{OpenFault}
 use Rattle.cli_task.specs.declared.task.Task.{Task}
-use Rattle.cli_task.specs.declared.task.Task.TheVariants.{Answer, Audit, OrderOf, Next, Run, Serve}
+use Rattle.cli_task.specs.declared.task.Task.TheVariants.{Answer, Audit, AuditByLane, OrderOf, Next, Run, Serve}
 use Rattle.ibsm.specs.Opening.{AreOpened, IsOpenFault}
 
 -- what is done ----------------------------------------------------------------------------------
@@ -29,6 +30,7 @@ use Rattle.ibsm.specs.Opening.{AreOpened, IsOpenFault}
 abbrev pub HasEnoughNames : Task → ℕ → Type 0
 HasEnoughNames (Answer request) count = texts_for (rule_for request.output) ≤ count
 HasEnoughNames (Audit asked) count = 1 ≤ count
+HasEnoughNames (AuditByLane asked) count = 2 ≤ count
 HasEnoughNames (OrderOf floor) count = 1 ≤ count
 HasEnoughNames (Next asked) count = texts_for asked.rule + 1 ≤ count
 HasEnoughNames (Run lmc rule) count = count ≡ texts_for rule + 2
@@ -42,6 +44,8 @@ Does state (Answer request) olds news prints says passed =
     (passed ≡ true) × HasAnswered state request olds news prints
 Does state (Audit asked) olds news prints says passed =
     HasAudited state asked olds news prints passed
+Does state (AuditByLane asked) olds news prints says passed =
+    HasAuditedByLane state asked olds news prints passed
 Does state (OrderOf floor) olds news prints says passed =
     HasTold state floor olds news prints passed
 Does state (Next asked) olds news prints says passed =
@@ -96,6 +100,8 @@ IsFaultOver state (Answer request) olds news prints whole output_failed fault =
     IsFaultOf state request olds news output_failed fault
 IsFaultOver state (Audit asked) olds news prints whole output_failed fault =
     IsAuditFault state asked.floor olds news output_failed fault
+IsFaultOver state (AuditByLane asked) olds news prints whole output_failed fault =
+    IsLaneAuditFault state asked.audit.floor olds news output_failed fault
 IsFaultOver state (OrderOf floor) olds news prints whole output_failed fault =
     IsOrderFault state floor olds news output_failed fault
 IsFaultOver state (Next asked) olds news prints whole output_failed fault =

@@ -13,6 +13,7 @@ use crate::opener::{OpenFault, Opener};
 use audit_report::run_audit;
 use byte_io::{Sink, Source, ToWrite};
 use cli_task::Task;
+use lane_report::run_lane_audit;
 use next_run::run_next;
 use order_run::run_order_of;
 use schedule_run::run_schedule;
@@ -125,6 +126,7 @@ fn do_task<S: Source, W: Sink, E: Sink>(
             Err(fault) => Err(fault),
         },
         Task::Audit(asked) => run_audit(alloc, inputs, asked, output),
+        Task::AuditByLane(asked) => run_lane_audit(alloc, inputs, asked, output),
         Task::OrderOf(floor) => run_order_of(alloc, inputs, floor, output),
         Task::Next(asked) => run_next(alloc, inputs, asked, output, errors),
         Task::Run(lmc, rule) => match run_schedule(alloc, inputs, lmc, rule, output) {

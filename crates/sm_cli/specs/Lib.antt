@@ -3,6 +3,7 @@ pub mod ExitStatus
 pub mod Faults
 pub mod FaultText
 pub mod InputFiles
+pub mod InputLanes
 pub mod InputReaders
 pub mod InputTables
 pub mod Inputs

@@ -7,16 +7,18 @@ use Rattle.schedule_file.specs.ScheduleFault as schedules
 use Rattle.text_words.specs.Faults as lines
 use Rattle.text_words.specs.declared.fault.LinesFault.TheVariants as line
 use Rattle.tables_file.specs.TablesTextFault as tables
+use Rattle.lanes_file.specs.LanesTextFault as lanes
 use Rattle.roots_file.specs.RootsTextFault as roots
 use Rattle.smp_bytes.specs.Text.{guid_text}
 use Rattle.sm_cli.specs.declared.text_fault.TextFault.{TextFault}
-use Rattle.sm_cli.specs.declared.text_fault.TextFault.TheVariants.{NotUtf8, Topology, Schedule, Tables, Roots, NoRoot, NoSwitch, Moves}
+use Rattle.sm_cli.specs.declared.text_fault.TextFault.TheVariants.{NotUtf8, Topology, Schedule, Tables, Lanes, Roots, NoRoot, NoSwitch, Moves}
 
 abbrev pub text_fault_line : TextFault → Option ℕ
 text_fault_line NotUtf8 = None
 text_fault_line (Topology fault) = topologies.fault_line fault
 text_fault_line (Schedule fault) = schedules.fault_line fault
 text_fault_line (Tables fault) = lines.fault_line fault
+text_fault_line (Lanes fault) = lines.fault_line fault
 text_fault_line (Roots fault) = lines.fault_line fault
 text_fault_line NoRoot = None
 text_fault_line (NoSwitch guid) = None
@@ -27,6 +29,7 @@ text_fault_word NotUtf8 = codes "not UTF-8"
 text_fault_word (Topology fault) = topologies.fault_word fault
 text_fault_word (Schedule fault) = schedules.fault_word fault
 text_fault_word (Tables fault) = lines.fault_word tables.wrong_word fault
+text_fault_word (Lanes fault) = lines.fault_word lanes.wrong_word fault
 text_fault_word (Roots fault) = lines.fault_word roots.wrong_word fault
 text_fault_word NoRoot = codes "no root"
 text_fault_word (NoSwitch guid) = codes "no usable switch"
@@ -47,6 +50,7 @@ abbrev pub is_of_text : TextFault → Bool
 is_of_text (Topology topology.Memory) = false
 is_of_text (Schedule schedule.Memory) = false
 is_of_text (Tables line.Memory) = false
+is_of_text (Lanes line.Memory) = false
 is_of_text (Roots line.Memory) = false
 is_of_text _ = true
 

@@ -5,7 +5,7 @@ use smp_bytes::{Guid, Lid};
 use thiserror::Error;
 use topo_file::TopoFault;
 
-/// Why a text is refused: the text of a topology, a schedule, tables, roots or an order.
+/// Why a text is refused: the text of a topology, a schedule, tables, lanes, roots or an order.
 #[derive(Clone, Copy, Debug, PartialEq, Eq, Error)]
 pub enum TextFault {
     /// The text is not UTF-8.
@@ -20,6 +20,9 @@ pub enum TextFault {
     /// The text of tables has a fault, or memory ran out while it was checked.
     #[error("{0}")]
     Tables(tables_file::TablesTextFault),
+    /// The text of lanes has a fault, or memory ran out while it was checked.
+    #[error("{0}")]
+    Lanes(lanes_file::LanesTextFault),
     /// The text of roots or of an order has a fault, or memory ran out while it was checked.
     #[error("{0}")]
     Roots(roots_file::RootsTextFault),
@@ -48,6 +51,7 @@ impl TextFault {
             TextFault::Topology(fault) => fault.line(),
             TextFault::Schedule(fault) => fault.line(),
             TextFault::Tables(fault) => fault.line(),
+            TextFault::Lanes(fault) => fault.line(),
             TextFault::Roots(fault) => fault.line(),
         }
     }
@@ -61,6 +65,7 @@ impl TextFault {
             TextFault::Topology(fault) => fault.word(),
             TextFault::Schedule(fault) => fault.word(),
             TextFault::Tables(fault) => fault.word(),
+            TextFault::Lanes(fault) => fault.word(),
             TextFault::Roots(fault) => fault.word(),
             TextFault::NoRoot => "no root",
             TextFault::NoSwitch(_) => "no usable switch",
@@ -97,6 +102,7 @@ impl TextFault {
             TextFault::Topology(TopoFault::Memory)
                 | TextFault::Schedule(ScheduleFault::Memory)
                 | TextFault::Tables(tables_file::TablesTextFault::Memory)
+                | TextFault::Lanes(lanes_file::LanesTextFault::Memory)
                 | TextFault::Roots(roots_file::RootsTextFault::Memory)
         )
     }

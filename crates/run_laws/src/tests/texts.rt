@@ -119,6 +119,13 @@ const LID: tables_file::TablesTextFault = tables_file::TablesTextFault::Line(
     },
 );
 
+const LANE: lanes_file::LanesTextFault = lanes_file::LanesTextFault::Line(
+    lanes_file::LanesLineFault {
+        line: 3,
+        wrong: lanes_file::LanesTextError::Lane,
+    },
+);
+
 const AGAIN: roots_file::RootsTextFault = roots_file::RootsTextFault::Line(
     roots_file::RootsLineFault {
         line: 3,
@@ -126,11 +133,12 @@ const AGAIN: roots_file::RootsTextFault = roots_file::RootsTextFault::Line(
     },
 );
 
-const TEXTS: [(TextFault, &str); 6] = [
+const TEXTS: [(TextFault, &str); 7] = [
     (TextFault::NotUtf8, "not UTF-8"),
     (TextFault::Topology(PEER), "line 3: peer"),
     (TextFault::Schedule(SEAT), "line 3: seat"),
     (TextFault::Tables(LID), "line 3: lid"),
+    (TextFault::Lanes(LANE), "line 3: lane"),
     (TextFault::Roots(AGAIN), "line 3: repeated"),
     (TextFault::NoRoot, "no root"),
 ];

@@ -1,0 +1,83 @@
+-- The text of lanes, which is read whole and then checked, and the text of tables and the files after it.
+use Rattle.std.specs.Prelude.{◌≡◌, ◌⊎◌, ℕ, List, None, Some}
+use Rattle.byte_io.specs.Source.{SourceState}
+use Rattle.record_file.specs.Whole.{IsReadWhole, FailsToRead}
+use Rattle.lanes_file.specs.Lanes.{LanesSaid}
+use Rattle.lanes_file.specs.Reading.{first_fault, lanes_said}
+use Rattle.lanes_file.specs.LanesTextFault.{LanesTextFault as LanesFault}
+use Rattle.text_words.specs.declared.fault.LinesFault.TheVariants as wrong
+use Rattle.sm_cli.specs.declared.fault.Fault.{Fault}
+use Rattle.sm_cli.specs.declared.fault.Fault.TheVariants.{File, Text}
+use Rattle.sm_cli.specs.declared.text_fault.TextFault.{TextFault}
+use Rattle.sm_cli.specs.declared.text_fault.TextFault.TheVariants as texts
+use Rattle.sm_cli.specs.declared.input_lanes.LanesAndFiles.{LanesAndFiles}
+use Rattle.sm_cli.specs.InputTables.{AreNoTablesAndFiles, AreTablesAndFiles}
+use Rattle.sm_cli.specs.Sources.{IsOneRead, Parts}
+
+-- the source was read to its end, and its text has no fault and says `said`
+pub record IsLanes {S : Type 0} (state : S → SourceState) (old new : S) (said : LanesSaid) : Type 0 where
+  pub text : List ℕ
+  pub read : IsReadWhole state old new text
+  pub sound : first_fault text ≡ None
+  pub told : said ≡ lanes_said text
+
+-- there is one source, and it was read as `said`
+abbrev pub AreLanes : {S : Type 0} → (S → SourceState) → List S → List S → LanesSaid → Type 0
+AreLanes state olds news said = IsOneRead olds news (λ old new. IsLanes state old new said)
+
+-- the fault is the first one of the text, or the text has none and memory ran out
+abbrev pub IsFaultOfText : List ℕ → LanesFault → Type 0
+IsFaultOfText text (wrong.Line fault) = first_fault text ≡ Some fault
+IsFaultOfText text wrong.Memory = first_fault text ≡ None
+
+-- the source was read to its end, and its text is refused
+pub record RefusesLanes {S : Type 0} (state : S → SourceState) (old new : S) (fault : LanesFault) : Type 0 where
+  pub text : List ℕ
+  pub read : IsReadWhole state old new text
+  pub refused : IsFaultOfText text fault
+
+-- why the text of lanes is refused, as a fault of a text
+abbrev pub IsTextRefused : {S : Type 0} → (S → SourceState) → S → S → TextFault → Type 0
+IsTextRefused state old new (texts.Lanes fault) = RefusesLanes state old new fault
+IsTextRefused state old new fault = ⊥
+
+-- why the lanes, input 0, are not read
+abbrev pub IsLanesFault : {S : Type 0} → (S → SourceState) → S → S → Fault → Type 0
+IsLanesFault state old new (File input fault) =
+    (input ≡ 0) × FailsToRead state old new fault
+IsLanesFault state old new (Text input fault) =
+    (input ≡ 0) × IsTextRefused state old new fault
+IsLanesFault state old new fault = ⊥
+
+-- there is one source, and its lanes are not read
+abbrev pub AreNoLanes : {S : Type 0} → (S → SourceState) → List S → List S → Fault → Type 0
+AreNoLanes state olds news fault = IsOneRead olds news (λ old new. IsLanesFault state old new fault)
+
+-- tables and files -------------------------------------------------------------------------------
+
+-- the lanes, then the tables and then the files were read, and say `told`
+pub record AreLanesAndFiles {S : Type 0} (state : S → SourceState) (floor : ℕ) (olds news : List S)
+    (told : LanesAndFiles) : Type 0 where
+  pub were : Parts olds
+  pub are : Parts news
+  pub lanes_read : AreLanes state were.first are.first told.lanes
+  pub others_read : AreTablesAndFiles state floor were.others are.others told.read
+
+-- the lanes are refused, and no other input was touched
+pub record StopsAtLanes {S : Type 0} (state : S → SourceState) (olds news : List S) (fault : Fault) : Type 0 where
+  pub were : Parts olds
+  pub are : Parts news
+  pub why : AreNoLanes state were.first are.first fault
+  pub untouched : are.others ≡ were.others
+
+-- the lanes were read, and the tables or a file after them are refused
+pub record StopsBehindLanes {S : Type 0} (state : S → SourceState) (olds news : List S) (fault : Fault) : Type 0 where
+  pub were : Parts olds
+  pub are : Parts news
+  pub said : LanesSaid
+  pub lanes_read : AreLanes state were.first are.first said
+  pub why : AreNoTablesAndFiles state 1 were.others are.others fault
+
+-- why the lanes, or the tables and files after them, are not read
+abbrev pub AreNoLanesAndFiles : {S : Type 0} → (S → SourceState) → List S → List S → Fault → Type 0
+AreNoLanesAndFiles state olds news fault = StopsAtLanes state olds news fault ⊎ StopsBehindLanes state olds news fault
