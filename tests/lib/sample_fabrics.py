@@ -133,6 +133,8 @@ class Fabric:
         tables = {name: [255] * (len(self.ends()) // 64 + 1) * 64 for name in exits}
         for lid, (name, port) in enumerate(self.ends(), 1):
             home, out = (name, 0) if port == 0 else self.peers[name, port]
+            if home not in tables:
+                continue
             steps, reached = {home: 0}, [home]
             for near in reached:
                 for _, far in exits[near]:

@@ -5,6 +5,7 @@ import random
 from collections.abc import Callable, Iterable, Iterator
 from typing import NamedTuple
 
+import paths  # noqa: F401
 import sample_fabrics as make
 from ibsm_texts import ENTRIES, End, name_of
 from lane_rule import DROPS, LEVELS, NO_LEVEL
@@ -109,7 +110,7 @@ def rows() -> Iterator[Row]:
 def a_fabric(chance: random.Random) -> make.Fabric:
     """Returns a ring, mostly, of some switches with wires across, and adapters at some of them or at each other."""
     fabric = make.Fabric()
-    switches = fabric.switches(chance.choice((1, 2, 3, 4, 4, 5, 6)), 10)
+    switches = fabric.switches(chance.choice((1, 2, 3, 4, 4, 5, 5, 6, 6)), 16)
     for one, other in zip(switches, switches[1:] + switches[:1]):
         if chance.random() < 0.95:
             fabric.join(one, other)
@@ -118,7 +119,7 @@ def a_fabric(chance: random.Random) -> make.Fabric:
     for number in range(1, chance.randint(1, 5)):
         adapter = fabric.add(make.ADAPTER, f"H{number}", 0x100000 + 16 * number, 2)
         for _ in range(chance.choice((1, 1, 2))):
-            fabric.join(adapter, chance.choice([switch for switch in switches if fabric.used[switch] < 10]))
+            fabric.join(adapter, chance.choice(switches))
     if chance.random() < 0.1:
         fabric.join(fabric.add(make.ADAPTER, "H8", 0x200000, 1), fabric.add(make.ADAPTER, "H9", 0x200010, 1))
     return fabric
@@ -137,28 +138,31 @@ def some_facts(chance: random.Random, fabric: make.Fabric) -> str:
 
 def some_tables(chance: random.Random, fabric: make.Fabric) -> Tables:
     """Returns tables of shortest ways or of ways that turn round, mostly with some other entries, LIDs or tops."""
-    ends = [(fabric.guid(name), port) for name, port in fabric.ends()]
     tables = Tables(fabric.plan(fabric.some_shortest(chance)))
-    exits = {fabric.guid(name): [port for port, _ in fabric.exits(name)] for name in fabric.nodes}
-    kind, share = chance.randrange(6), chance.choice((0, 0, 0.1, 0.5))
-    for guid, blocks in tables.blocks.items():
+    names = [name for name in fabric.nodes if fabric.is_switch(name)]
+    kind, share = chance.randrange(8), chance.choice((0, 0, 0, 0, 0.05, 0.5))
+    for place, name in enumerate(names):
+        guid, exits = fabric.guid(name), fabric.exits(name)
+        # Round the ring, whatever way is shorter: to the next switch, or to the one before.
+        beside = names[(place + (1 if kind < 3 else -1)) % len(names)] if kind < 4 else ""
+        turn, blocks = [port for port, far in exits if far == beside], tables.blocks[guid]
         for number, entries in blocks.items():
-            # The least or greatest exit of each switch, whatever is shorter, turns round a ring.
-            turn = exits[guid][:1] if kind == 0 else exits[guid][-1:] if kind == 1 else []
             row = bytearray(entries)
-            for at in range(1, len(ends) + 3):
-                if turn and row[at] in exits[guid] or chance.random() < share:
-                    row[at] = chance.choice(turn or [*exits[guid], 0, 1, 9, 255])
+            for at in range(1, len(fabric.ends()) + 3):
+                if turn and row[at] in dict(exits):
+                    row[at] = turn[0]
+                if chance.random() < share:
+                    row[at] = chance.choice([*dict(exits), 0, 1, 9, 255])
             blocks[number] = bytes(row)
         if chance.random() < 0.3:
             tables.tops[guid] += chance.choice((-1, 1, 2))
-    if kind == 2 and len(tables.ranges) > 1:
+    if kind == 6 and len(tables.ranges) > 1:
         # Two ends exchange LIDs, or one has the other's, or several.
         one, other = chance.sample(range(len(tables.ranges)), 2)
         (first, end, _), (second, far, _) = tables.ranges[one], tables.ranges[other]
         tables.ranges[one] = first, chance.choice((end, far)), chance.choice((0, 1))
         tables.ranges[other] = second, end, 0
-    if kind == 3 and tables.ranges:
+    if kind == 7 and tables.ranges:
         tables.ranges.pop(chance.randrange(len(tables.ranges)))
     return tables
 
