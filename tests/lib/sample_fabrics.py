@@ -264,6 +264,19 @@ def torus(rows: int, columns: int) -> Fabric:
     return fabric
 
 
+def mesh(rows: int, columns: int) -> Fabric:
+    """Returns switches in rows and columns, with an adapter at each."""
+    fabric = Fabric()
+    switches = fabric.switches(rows * columns)
+    fabric.hosts(switches)
+    for i, switch in enumerate(switches):
+        if (i + 1) % columns:
+            fabric.join(switch, switches[i + 1])
+        if i + columns < len(switches):
+            fabric.join(switch, switches[i + columns])
+    return fabric
+
+
 def dragonfly(groups: int, size: int, hosts: int) -> Fabric:
     """Returns groups of switches, all wired to each other within a group, with a cable between any two groups, and
     adapters at each switch."""

@@ -11,7 +11,7 @@
 enum { SA_CLASS = 3, SA_VERSION = 2, GET = 1, ANSWER = 0x81, PATH_RECORD = 0x35, GRACE_MS = 2000 };
 enum { MASK_AT = 48, RECORD_AT = 56, DLID_AT = 40, SLID_AT = 42, PATHS_AT = 49, LEVEL_AT = 53 };
 enum { OF_DLID = 1 << 4, OF_SLID = 1 << 5, OF_PATHS = 1 << 12, BUSY = 1 };
-enum { LEVELS = 16, NONE = 255, FEW_LINES = 20 };
+enum { LEVELS = 16, NONE = 255, FEW_LINES = 20, MOST_SILENT = 8 };
 #define WELL_KNOWN_KEY 0x80010000u
 
 /* A request that waits for its answer: from the port of a source to a LID. */
@@ -28,7 +28,8 @@ static uint8_t *levels;		/* by source and LID */
 static const struct lid **owners;	/* by LID */
 static size_t greatest, next_source;
 static uint32_t next_lid, number = 1;
-static unsigned long without;
+static unsigned long without, answers;
+static int is_silent;	/* so many queries had no answer, and none had one, that no more are sent */
 
 static uint8_t *level_of(size_t source, size_t lid)
 {
@@ -121,6 +122,7 @@ static void no_answer(int place)
 	counts.silent++;
 	say_of_pair(&queries[place], "no answer", 0);
 	close_query(place);
+	is_silent = !answers && without >= MOST_SILENT;
 }
 
 static void take_answer(int place, const uint8_t *packet)
@@ -134,6 +136,7 @@ static void take_answer(int place, const uint8_t *packet)
 		return;
 	}
 	counts.replies++;
+	answers++;
 	if (status || get(record + DLID_AT, 2) != query->lid || get(record + SLID_AT, 2) != lid_at(query->source)->lid) {
 		counts.left_out++;
 		say_of_pair(query, status ? "left out: status" : "left out: it is of another path", status);
@@ -188,7 +191,7 @@ int read_levels(void)
 		end(NO_FABRIC, "cannot register for the subnet administration: %s", strerror(-agent));
 	stage = "asks for levels";
 	for (;;) {
-		while (out < options.outstanding && next_pair(&queries[out]))
+		while (!is_silent && out < options.outstanding && next_pair(&queries[out]))
 			send_query(&queries[out++]);
 		if (!out)
 			break;
@@ -196,6 +199,8 @@ int read_levels(void)
 		progress(known_nodes(), out);
 	}
 	umad_unregister(opened_port(), agent);
+	if (is_silent)
+		say("the subnet administration at LID %u does not answer, so no levels are read", lid_of_manager());
 	return !without;
 }
 
