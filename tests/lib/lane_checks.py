@@ -18,10 +18,12 @@ from next_rule import Tables
 
 # The corner and the beginnings of both dimensions, by GUIDs.
 TORUS = "torus 4 4 1\nxp_link 0x10 0x20\nxm_link 0x10 0x40\nyp_link 0x10 0x50\nym_link 0x10 0xd0\n"
+ODD = "torus 5 5 1\nxp_link 0x10 0x20\nyp_link 0x10 0x60\n"
 MESH = "mesh 4 4 1\nxp_link 0x10 0x20\nyp_link 0x10 0x50\n"
 # Fabrics, and the texts by which torus-2QoS knows them.
 FABRICS = {
     "a torus of 4 x 4": (lambda: make.torus(4, 4), TORUS),
+    "a torus of 5 x 5": (lambda: make.torus(5, 5), ODD),
     "a mesh of 4 x 4": (lambda: make.mesh(4, 4), MESH),
     "a dragonfly of 4 groups": (lambda: make.dragonfly(4, 3, 2), ""),
     "a random fabric of 16 switches": (lambda: make.random_fabric(16, 4, 24), ""),
@@ -151,8 +153,42 @@ def judge(bench: Bench, name: str) -> None:
     as_the_program_says(bench, {pairs: bool(it.loop) for pairs, it in found.items()}, lanes)
 
 
+def refused(bench: Bench) -> None:
+    """Checks recordings of lanes that end without a file, and replies that are not as they should be."""
+    bench.check(bench.record("-S", "x.reports") == 2, "--levels without --lanes: status 2")
+    for words in (("-L", "x.reports"), ("-L", "x", "-T", "x"), ("-L", "x", "-N", "x")):
+        bench.check(bench.record(*words, "x.reports") == 2 and "cannot be one file" in bench.said, f"{words}: status 2")
+    status = bench.record("-q", "-L", "x", "-S", "x.reports")
+    bench.check(status == 4 and "no port has a LID" in bench.said, "levels in a fabric without LIDs: status 4")
+    bench.check(not list(bench.path.glob("x*")), "none of these leaves a file")
+    bench.check(bench.record("-q", "-L", "plain", "x.reports") == 0, "lanes need no manager: status 0")
+    bench.check(bench.record("-q", "-L", "x", "x.reports", bend="lanes") == 1, "maps that are refused: status 1")
+    refusal = re.search(r"SLtoVLMappingTable from port \d to port 2 of node \w+: left out: Status 0x001c", bench.said)
+    bench.check(refusal and "x is not written" in bench.said and not (bench.path / "x").exists(), "they are named")
+    bench.check(bench.record("-q", "-p", "-L", "x", "x.reports", bend="lanes") == 1, "the same with --partial: status 1")
+    plain, some = Lanes(text(bench.path / "plain")), Lanes(text(bench.path / "x"))
+    ports = cabled(bench)
+    apart = [
+        some.lane(guid, 0, port, level) == (15 if port == 2 else plain.lane(guid, 0, port, level))
+        for guid, port in ports for level in range(LEVELS)
+    ]
+    bench.check(apart != [] and all(apart), "by that text packets are dropped there alone")
+    bench.check(bench.record("-q", "-L", "x", "x.reports", bend="narrow") == 0, "ports with two lanes: status 0")
+    some = Lanes(text(bench.path / "x"))
+    two = [
+        some.lane(guid, 0, port, level) == (level if level < 2 else 15)
+        for guid, port in ports if port == 2 for level in range(LEVELS)
+    ]
+    bench.check(two != [] and all(two), "what they do not carry is lane 15")
+
+
+def cabled(bench: Bench) -> list[End]:
+    """Returns the ports of switches with a cable."""
+    return [(bench.fabric.guid(name), port) for name, port in bench.fabric.peers if bench.fabric.is_switch(name)]
+
+
 def try_all(bench: Bench) -> None:
-    """Tries each engine on each fabric."""
+    """Tries each engine on each fabric, and then what is refused."""
     for fabric, (made, conf) in FABRICS.items():
         for engine, words in ENGINES.items():
             if "torus.conf" in words and not conf:
@@ -163,3 +199,6 @@ def try_all(bench: Bench) -> None:
                 (bench.path / "torus.conf").write_text(conf)
                 with bench.opensm(*words):
                     judge(bench, name)
+    print("== a triangle", flush=True)
+    with bench.simulated(make.triangle(), "triangle"):
+        refused(bench)
