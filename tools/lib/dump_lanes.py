@@ -135,11 +135,10 @@ class Lanes:
         place = self.dumps.places[key]
         if kind == LID:
             found = [self.by_lid[number]] if number in self.by_lid else []
-        elif kind == NODE:
-            found = self.by_node[number]
         else:
             # Without the GUID of port 0 a switch goes by its own.
-            found = self.by_guid[number] or [(number, 0)] * self.facts.is_switch(number)
+            found = (self.by_node if kind == NODE else self.by_guid)[number]
+            found = found or [(number, 0)] * self.facts.is_switch(number)
         if not found or kind == PORT and len(found) > 1:
             named = f"LID {number}" if kind == LID else f"{kind} GUID {number:016x}"
             many = "several ports have" if found else "no dump of nodes and cables knows"
