@@ -10,7 +10,7 @@ from collections.abc import Callable
 
 import paths
 import sample_fabrics as make
-import sample_lanes
+import lane_cases
 from bench import Bench, text
 from ibsm_texts import End, Facts
 from lane_rule import LEVELS, NO_LEVEL, Judged, Lanes, Rule
@@ -61,7 +61,7 @@ class Read:
             level = self.said.level_of(end, lid) if is_counted else None
             return NO_LEVEL if level is None else level
 
-        levels = sample_lanes.level_lines(self.facts.port_guids, max(self.owners), level_of)
+        levels = lane_cases.level_lines(self.facts.port_guids, max(self.owners), level_of)
         return "".join(f"{line}\n" for line in [*maps, *levels])
 
     def for_ibdmchk(self) -> str:

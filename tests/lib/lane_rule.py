@@ -7,13 +7,12 @@ from __future__ import annotations
 
 import collections
 import re
-from collections.abc import Iterator
 from typing import NamedTuple
 
 import credit_loops
 import paths  # noqa: F401
 import spread_rule
-from ibsm_texts import ENTRIES, End, Facts, name_of
+from ibsm_texts import ENTRIES, End, Facts
 from next_rule import Subnet, Tables
 
 LEVELS, DROPS, NO_LEVEL = 16, 15, 255
@@ -109,10 +108,8 @@ class Lanes:
 
 
 class Drop(NamedTuple):
-    """Packets from an end to a LID are dropped at a switch, where they come in and go out by these ports, on this
-    level."""
+    """Packets for a LID are dropped at a switch, where they come in and would leave by these ports, on this level."""
 
-    end: End
     lid: int
     guid: int
     into: int
@@ -121,16 +118,16 @@ class Drop(NamedTuple):
 
     def line(self) -> str:
         """Returns the line that tells of these packets."""
-        return f"dropped {name_of(self.end)} {self.lid} at {self.guid:016x} {self.into} {self.out} level {self.level}"
+        return f"dropped {self.lid} at {self.guid:016x} {self.into} {self.out} level {self.level}"
 
 
 class Judged(NamedTuple):
     """What an audit by lane finds: for each channel those that packets take next, the length of a shortest credit loop
-    or 0, the pairs of an end and a LID without a level, and what is dropped."""
+    or 0, the pairs of an end and a LID without a level, in order, and what is dropped."""
 
     after: dict[Channel, set[Channel]]
     loop: int
-    without: set[tuple[End, int]]
+    without: list[tuple[End, int]]
     drops: set[Drop]
 
     def passes(self) -> bool:
@@ -150,9 +147,11 @@ class Rule:
             if (port == 0 if facts.is_switch(guid) else 1 <= port <= facts.nodes.get(guid, ("", 0))[1])
         ]
         self.top = max((tables.tops.get(guid, 0) for guid in self.subnet.switches), default=0)
-        self.held = {
-            lid: [end for end in owners if end in self.ends] for lid, owners in sorted(tables.owners().items())
-        }
+        self.ends.sort(key=lambda end: (facts.port_guids[end], end))
+        # A LID with each end that holds it, in the order of lines.
+        self.lines = list(dict.fromkeys(
+            (lid, end) for first, end, lmc in tables.ranges for lid in range(first, first + 2**lmc)
+        ))
 
     def start(self, end: End) -> End | None:
         """Returns the switch at which packets from an end begin, and the port by which they come in there."""
@@ -173,7 +172,7 @@ class Rule:
                 break
             lane = self.lanes.lane(guid, into, out, level)
             if lane == DROPS:
-                return taken, Drop(end, lid, guid, into, out, level)
+                return taken, Drop(lid, guid, into, out, level)
             taken.append((guid, out, lane))
             if at in met:
                 break
@@ -181,32 +180,23 @@ class Rule:
             at = far
         return taken, None
 
-    def levels(self, with_answers: bool) -> dict[tuple[End, int], set[int]]:
-        """Returns the levels of packets from each end to each LID for which they have any."""
-        found = collections.defaultdict(set)
-        last = max([self.top, *self.held])
-        for end in self.ends:
-            for lid in range(1, last + 1):
-                level = self.lanes.level_of(end, lid)
-                if level is not None:
-                    found[end, lid].add(level)
-        if with_answers:
-            own = {pair: set(levels) for pair, levels in found.items()}
-            for asker, lid, far, back in self.answers():
-                found[far, back] |= own.get((asker, lid), set())
-        return {pair: levels for pair, levels in found.items() if levels}
+    def own_levels(self, end: End, lid: int) -> set[int]:
+        """Returns the level that a text gives to packets from an end to a LID, if it gives one."""
+        level = self.lanes.level_of(end, lid)
+        return set() if level is None else {level}
 
-    def answers(self) -> Iterator[tuple[End, int, End, int]]:
-        """Yields an end that asks, a LID to which it asks, an end that holds it, and a LID to which that answers."""
-        lids = collections.defaultdict(list)
-        for lid, owners in self.held.items():
-            for end in owners:
-                lids[end].append(lid)
-        for asker in self.ends:
-            for far in self.ends:
-                for lid in lids[far]:
-                    for back in lids[asker]:
-                        yield asker, lid, far, back
+    def levels(self, end: End, lid: int, with_answers: bool) -> set[int]:
+        """Returns the levels of packets from an end to a LID: their own and, with answers, those on which an end that
+        holds the LID asks."""
+        found = self.own_levels(end, lid)
+        if with_answers:
+            askers, lids = self.owners_of(lid), [own for own, holder in self.lines if holder == end]
+            found |= {level for asker in askers for own in lids for level in self.own_levels(asker, own)}
+        return found
+
+    def owners_of(self, lid: int) -> list[End]:
+        """Returns the ends that hold a LID by the tables, whatever the facts know of them."""
+        return [end for held, end in self.lines if held == lid]
 
     def components(self) -> dict[End, End]:
         """Returns an end for each end port, the same for those of a component."""
@@ -221,27 +211,32 @@ class Rule:
             found[end] = first.setdefault(site, end)
         return found
 
+    def without(self) -> list[tuple[End, int]]:
+        """Returns the pairs of an end and a LID, held by another end of its component, without a level of their own, in
+        the order of the lines of LIDs and then of port GUIDs."""
+        component = self.components()
+        return [
+            (end, lid)
+            for lid, owner in self.lines if owner in self.ends
+            for end in self.ends
+            if end != owner and component[end] == component[owner] and not self.own_levels(end, lid)
+        ]
+
     def judge(self, with_answers: bool = False) -> Judged:
         """Returns what an audit by lane finds. With answers, packets to whom asked also have the level on which it
         asked."""
-        levels, after, drops = self.levels(with_answers), collections.defaultdict(set), set()
-        for (end, lid), those in levels.items():
-            for level in those if lid <= self.top else ():
-                taken, drop = self.walk(end, lid, level)
-                for channel, following in zip(taken, taken[1:]):
-                    after[channel].add(following)
-                if drop:
-                    drops.add(drop)
-        component = self.components()
-        without = {
-            (end, lid)
-            for lid, owners in self.held.items()
-            for end in self.ends
-            if (end, lid) not in levels and any(component[end] == component[owner] for owner in owners)
-        }
+        after, drops = collections.defaultdict(set), set()
+        for end in self.ends:
+            for lid in range(1, self.top + 1):
+                for level in self.levels(end, lid, with_answers):
+                    taken, drop = self.walk(end, lid, level)
+                    for channel, following in zip(taken, taken[1:]):
+                        after[channel].add(following)
+                    if drop:
+                        drops.add(drop)
         after = dict(after)
         loop = min(filter(None, (credit_loops.count_round(after, first) for first in list(after))), default=0)
-        return Judged(after, loop, without, drops)
+        return Judged(after, loop, self.without(), drops)
 
 
 def judged(facts: str, tables: str, lanes: str, with_answers: bool = False) -> Judged:

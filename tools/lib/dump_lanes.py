@@ -216,21 +216,20 @@ class Lanes:
             said.append((True, "no dump tells the service levels of paths (--level): by the text no packet has one"))
             return
         usual = most_frequent(self.levels.values()) if self.levels else level
-        rows, lacking = self.levels.copy(), []
-        for end, (first, last) in self.ranges.items():
-            # What a port sends to itself takes no cable between switches.
-            rows |= {(end, lid): usual for lid in range(first, last + 1) if (end, lid) not in rows}
-        for end in self.facts.port_guids:
-            lacking += [(lid, end) for lid in self.by_lid if (end, lid) not in rows]
+        lacking = [
+            (lid, end)
+            for end in self.facts.port_guids
+            for lid, owner in self.by_lid.items() if owner != end and (end, lid) not in self.levels
+        ]
         if lacking:
-            (lid, end), count = min(lacking), len(lacking)
-            pairs = f"{count} pairs of a port and a LID have no level in a dump, first {name_of(end)} and LID {lid}"
-            what = "(--level)" if level is None else f": level {level} is taken"
-            said.append((level is None, f"{pairs} {what}" if level is None else pairs + what))
+            lid, end = min(lacking)
+            first = f"first {name_of(end)} and LID {lid}"
+            what = f"{len(lacking)} pairs of a port and a LID have no level in a dump, {first}"
+            said.append((level is None, f"{what} (--level)" if level is None else f"{what}: level {level} is taken"))
             usual = level
         if usual is not None:
             yield f"level {usual}"
-        yield from levels_text(rows, usual)
+        yield from levels_text(self.levels, usual)
 
 
 def most_frequent(values: Sequence) -> bytes | int:

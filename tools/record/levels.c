@@ -233,9 +233,6 @@ static void print_block(FILE *file, size_t source, size_t first, int usual, int 
 
 	for (i = 0; i < BLOCK; i++) {
 		level = first + i <= greatest ? *level_of(source, first + i) : NONE;
-		/* What a port sends to itself takes no cable between switches. */
-		if (first + i <= greatest && is_own(source, first + i))
-			level = usual;
 		row[i] = is_whole && level == usual ? NONE : level;
 		is_begun |= row[i] != NONE;
 	}
