@@ -149,6 +149,11 @@ def judge(bench: Bench, name: str) -> None:
     print(f"     {bench.figures[-1]}")
     bench.check(not found["all"].without and not found["all"].drops, "each pair has a level, and no packet is dropped")
     bench.check(not found["between adapters"].loop, "no loop between adapters, each by the level of its own direction")
+    bench.record("-q", "-g", 1, "-L", "few", "-S", "-A", "b.reports")
+    few = Lanes(text(bench.path / "few"))
+    told = [(end, lid) for end, lid in asked if few.level_of(end, lid) is not None]
+    wanted = [(end, lid) for end, lid in asked if is_between_adapters(end, read.owners[lid])]
+    bench.check(told == wanted and few.level is None, f"record --adapters: {len(told)} pairs have a level")
     as_ibdmchk_says(bench, read, {pairs: bool(it.loop) for pairs, it in found.items()})
     as_the_program_says(bench, {pairs: bool(it.loop) for pairs, it in found.items()}, lanes)
 
@@ -156,6 +161,7 @@ def judge(bench: Bench, name: str) -> None:
 def refused(bench: Bench) -> None:
     """Checks recordings of lanes that end without a file, and replies that are not as they should be."""
     bench.check(bench.record("-S", "x.reports") == 2, "--levels without --lanes: status 2")
+    bench.check(bench.record("-L", "x", "-A", "x.reports") == 2, "--adapters without --levels: status 2")
     for words in (("-L", "x.reports"), ("-L", "x", "-T", "x"), ("-L", "x", "-N", "x")):
         bench.check(bench.record(*words, "x.reports") == 2 and "cannot be one file" in bench.said, f"{words}: status 2")
     status = bench.record("-q", "-L", "x", "-S", "x.reports")

@@ -98,6 +98,10 @@ def gaps(room: Room, levels: dict[tuple[int, int], int]) -> None:
     lanes = told(room, f"triangle.sl2vl fewer.saquery {LINKS} --level {(level + 1) % 8}")
     found = {(near, far): lanes.level_of(ENDS[near], far) for near, far in levels}
     room.check(found == levels | {(slid, dlid): (level + 1) % 8}, "or the level that is given")
+    lanes = told(room, f"triangle.sl2vl triangle.saquery {LINKS} --adapters")
+    found = {(near, far): lanes.level_of(ENDS[near], far) for near, far in levels}
+    between = {pair: level if ENDS[pair[0]][1] and ENDS[pair[1]][1] else None for pair, level in levels.items()}
+    room.check(found == between and lanes.level is None, "with --adapters the levels between adapters alone")
     row = re.search(r"^1   2 .*\n", room.text("triangle.sl2vl"), re.M)[0]
     room.put(fewer_sl2vl=room.text("triangle.sl2vl").replace(row, "", 1))
     lanes = told(room, f"fewer.sl2vl triangle.saquery {LINKS}", 1)
@@ -133,6 +137,6 @@ def faults(room: Room) -> None:
     room.refused(f"from-dumps psl other.psl {LINKS}", "other.psl: line 1 has another level than psl, line 1")
     room.refused(f"from-dumps other.psl triangle.saquery {LINKS}", "contradicts other.psl, line 1")
     room.refused(f"from-dumps {LINKS}", "--lanes: no dump is one of lanes or levels")
-    for words in ("", "--level 1", "--lanes lanes --level 16", "--lanes lanes --tables lanes"):
+    for words in ("", "--level 1", "--adapters", "--lanes lanes --level 16", "--lanes lanes --tables lanes"):
         room.run(f"from-dumps triangle.lst psl {words}", 2)
     room.run("from-dumps triangle.lst psl --lanes ./psl", 2)

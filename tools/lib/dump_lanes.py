@@ -173,12 +173,12 @@ class Lanes:
             (path, number), place = self.dumps.places[before], self.dumps.places[key]
             raise self.dumps.fault(f"contradicts {path}, line {number}: are these dumps of two times?", place)
 
-    def lines(self, level: int | None) -> tuple[list[str], list[tuple[bool, str]]]:
+    def lines(self, level: int | None, of_adapters: bool) -> tuple[list[str], list[tuple[bool, str]]]:
         """Returns the lines of a text on lanes, and for each gap whether something is left out, and a sentence. Packets
-        whose level no dump tells have `level`, if it is given."""
+        whose level no dump tells have `level`, if it is given; `of_adapters` leaves out those from or to switches."""
         said, lines = [], []
         lines += self.map_lines(said)
-        lines += self.level_lines(level, said)
+        lines += self.level_lines(level, of_adapters, said)
         return lines, said
 
     def map_lines(self, said: list[tuple[bool, str]]) -> Iterator[str]:
@@ -209,27 +209,30 @@ class Lanes:
         """Returns the ports of a switch with a cable."""
         return [port for port in range(1, self.facts.nodes[guid][1] + 1) if (guid, port) in self.facts.links]
 
-    def level_lines(self, level: int | None, said: list[tuple[bool, str]]) -> Iterator[str]:
-        """Yields the lines of levels. There is a level for packets without a line of their own only if no pair lacks
-        one, or if it is given."""
+    def level_lines(self, level: int | None, of_adapters: bool, said: list[tuple[bool, str]]) -> Iterator[str]:
+        """Yields the lines of levels. There is a level for packets without a line of their own only if each pair has
+        one, of its own or by `level`."""
         if not self.levels and level is None:
             said.append((True, "no dump tells the service levels of paths (--level): by the text no packet has one"))
             return
-        usual = most_frequent(self.levels.values()) if self.levels else level
-        lacking = [
-            (lid, end)
+        pairs = {
+            (end, lid)
             for end in self.facts.port_guids
-            for lid, owner in self.by_lid.items() if owner != end and (end, lid) not in self.levels
-        ]
+            for lid, owner in self.by_lid.items() if owner != end and (not of_adapters or end[1] and owner[1])
+        }
+        rows = self.levels if not of_adapters else {pair: self.levels[pair] for pair in pairs & self.levels.keys()}
+        lacking = pairs - rows.keys()
         if lacking:
-            lid, end = min(lacking)
+            lid, end = min((lid, end) for end, lid in lacking)
             first = f"first {name_of(end)} and LID {lid}"
             what = f"{len(lacking)} pairs of a port and a LID have no level in a dump, {first}"
             said.append((level is None, f"{what} (--level)" if level is None else f"{what}: level {level} is taken"))
-            usual = level
+        if level is not None:
+            rows = dict.fromkeys(lacking, level) | rows
+        usual = most_frequent(rows.values()) if pairs <= rows.keys() and rows and not of_adapters else None
         if usual is not None:
             yield f"level {usual}"
-        yield from levels_text(self.levels, usual)
+        yield from levels_text(rows, usual)
 
 
 def most_frequent(values: Sequence) -> bytes | int:

@@ -36,9 +36,12 @@ static uint8_t *level_of(size_t source, size_t lid)
 	return &levels[source * (greatest + 1) + lid];
 }
 
-static int is_own(size_t source, size_t lid)
+/* Returns whether the level of packets from a source to a LID is asked for. */
+static int is_asked(size_t source, size_t lid)
 {
-	return owners[lid] == lid_at(source);
+	const struct lid *from = lid_at(source), *to = owners[lid];
+
+	return to && to != from && (!options.adapters || (from->port && to->port));
 }
 
 /* Lists the owners of LIDs; returns how many ports have one. */
@@ -92,7 +95,7 @@ static int next_pair(struct query *query)
 {
 	for (; next_source < known_lids(); next_source++, next_lid = 0)
 		for (; lid_at(next_source)->lid && next_lid <= greatest; next_lid++)
-			if (owners[next_lid] && !is_own(next_source, next_lid)) {
+			if (is_asked(next_source, next_lid)) {
 				*query = (struct query) { .source = next_source, .lid = next_lid++, .number = number++ };
 				return 1;
 			}
@@ -217,7 +220,7 @@ static int find_usual(int *usual)
 			if (level < LEVELS)
 				count[level]++;
 			else
-				lacks |= owners[lid] && !is_own(source, lid);
+				lacks |= owners[lid] && owners[lid] != lid_at(source);
 		}
 	for (*usual = level = 0; level < LEVELS; level++)
 		if (count[level] > count[*usual])

@@ -35,6 +35,7 @@ static const char usage_text[] =
 "  -L, --lanes FILE       also read the SL-to-VL maps of switches, and write them for `ibsm audit --lanes`\n"
 "  -S, --levels           with --lanes, also ask the subnet administration for the service level from each end port to\n"
 "                         each LID, and write them there too\n"
+"  -A, --adapters         with --levels, ask for paths between ports of adapters alone\n"
 "  -q, --quiet            neither progress nor a summary\n"
 "  -v, --verbose          name every request without a reply, not only the first 20\n"
 "  -h, --help             this text\n"
@@ -55,7 +56,7 @@ static const struct option words[] = {
 	{ "ca", 1, 0, 'C' }, { "port", 1, 0, 'P' }, { "generation", 1, 0, 'g' }, { "outstanding", 1, 0, 'n' },
 	{ "timeout", 1, 0, 't' }, { "retries", 1, 0, 'r' }, { "m-key", 1, 0, 'k' }, { "tables", 1, 0, 'T' },
 	{ "names", 1, 0, 'N' }, { "after", 1, 0, 'a' }, { "partial", 0, 0, 'p' }, { "lanes", 1, 0, 'L' },
-	{ "levels", 0, 0, 'S' },
+	{ "levels", 0, 0, 'S' }, { "adapters", 0, 0, 'A' },
 	{ "quiet", 0, 0, 'q' }, { "verbose", 0, 0, 'v' }, { "help", 0, 0, 'h' }, { "version", 0, 0, 'V' }, { 0 }
 };
 
@@ -69,6 +70,7 @@ static void take_option(int letter)
 	case 'N': options.names = optarg; break;
 	case 'L': options.lanes = optarg; break;
 	case 'S': options.levels = 1; break;
+	case 'A': options.adapters = 1; break;
 	case 'p': options.partial = 1; break;
 	case 'a': options.after = optarg; break;
 	case 'h': print_usage(stdout, usage_text); exit(WHOLE);
@@ -94,7 +96,7 @@ static void parse(int count, char **texts)
 	int letter;
 
 	called = texts[0];
-	while ((letter = getopt_long(count, texts, "C:P:g:n:t:r:k:T:N:L:Sa:pqvhV", words, NULL)) != -1)
+	while ((letter = getopt_long(count, texts, "C:P:g:n:t:r:k:T:N:L:SAa:pqvhV", words, NULL)) != -1)
 		take_option(letter);
 	if (optind + 1 != count)
 		take_option('?');
@@ -102,6 +104,8 @@ static void parse(int count, char **texts)
 	tell_apart();
 	if (options.levels && !options.lanes)
 		end(USAGE, "--levels goes with --lanes");
+	if (options.adapters && !options.levels)
+		end(USAGE, "--adapters goes with --levels");
 	if (options.after && options.generation)
 		end(USAGE, "--after and --generation both number the sweep");
 }

@@ -31,7 +31,7 @@ struct request {
 
 struct options {
 	char *adapter, *file, *tables, *names, *lanes, *after;
-	int port, timeout_ms, tries, outstanding, quiet, verbose, partial, levels;
+	int port, timeout_ms, tries, outstanding, quiet, verbose, partial, levels, adapters;
 	uint32_t generation;
 	uint64_t m_key;
 };
