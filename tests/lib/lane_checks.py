@@ -187,6 +187,10 @@ def refused(bench: Bench) -> None:
         for guid, port in ports if port == 2 for level in range(LEVELS)
     ]
     bench.check(two != [] and all(two), "what they do not carry is lane 15")
+    bench.check(bench.record("-q", "-L", "x", "x.reports", bend="single") == 0, "ports with a single lane: status 0")
+    some = Lanes(text(bench.path / "x"))
+    one = [some.lane(guid, 0, port, level) == 0 for guid, port in ports if port == 2 for level in range(LEVELS)]
+    bench.check(one != [] and all(one), "all levels have lane 0 there")
 
 
 def cabled(bench: Bench) -> list[End]:

@@ -50,6 +50,15 @@ static int comes_by(const struct node *node, int port)
 	return port == 0 || node->carries[port];
 }
 
+/* Asks for a map, unless the port that packets leave by has none: they take lane 0 then. */
+static void ask_map(const struct node *node, int into, int out)
+{
+	if (node->carries[out] == ALONE)
+		memset(map_of(node, into, out), 0, LEVELS);
+	else
+		ask(&node->path, LANE_TABLE, into << 8 | out, node->guid);
+}
+
 int read_lanes(void)
 {
 	struct node *node;
@@ -66,7 +75,7 @@ int read_lanes(void)
 		for (into = 0; into < PORTS; into++)
 			for (out = 1; comes_by(node, into) && out < PORTS; out++)
 				if (node->carries[out])
-					ask(&node->path, LANE_TABLE, into << 8 | out, node->guid);
+					ask_map(node, into, out);
 	}
 	ask_all(take_map);
 	for (i = 0; i < known_nodes(); i++)

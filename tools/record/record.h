@@ -8,6 +8,7 @@
 
 enum { NODE_DESCRIPTION = 0x10, NODE_INFO = 0x11, SWITCH_INFO = 0x12, PORT_INFO = 0x15, LANE_TABLE = 0x17 };
 enum { FORWARDING_TABLE = 0x19 };
+enum { ALONE = 16 };	/* a port has no other lane of data than 0, and no SL-to-VL map */
 enum context { START, VIA, ABOUT };
 enum node_type { ADAPTER = 1, SWITCH = 2, ROUTER = 3 };
 enum { MOST_HOPS = 63, MOST_OUT = 64, PACKET = 256, ATTRIBUTE = 64, BLOCK = 64 };
@@ -111,7 +112,7 @@ struct node {
 	uint8_t *name;		/* ends with 0; NULL if it was not asked or told */
 	int is_shared;		/* another node has this name too */
 	struct shape *shape;	/* what send knows of it */
-	uint8_t *carries;	/* by port of a switch: how many lanes of data it carries, 0 if it is not up */
+	uint8_t *carries;	/* by port of a switch: how many lanes of data it carries, 0 if it is not up; or ALONE */
 	uint8_t *maps;		/* the lane of each level, from port 0 and each port that is up to each port that is up */
 };
 /* Asks all nodes, and passes each reply that is taken to `seen`. */

@@ -142,8 +142,9 @@ static void note_lanes(const struct request *request, const uint8_t *info)
 		node->carries = more(NULL, PORTS, 1);
 		memset(node->carries, 0, PORTS);
 	}
-	/* 0 and numbers without a meaning leave all lanes. */
-	node->carries[request->modifier] = operational >= 1 && operational <= 4 ? 1 << (operational - 1) : MOST_LANES;
+	/* 0 and numbers without a meaning leave all lanes. VLCap tells whether there is more than one. */
+	node->carries[request->modifier] = info[37] >> 4 == 1 ? ALONE :
+		operational >= 1 && operational <= 4 ? 1 << (operational - 1) : MOST_LANES;
 }
 
 static void on_port_info(const struct request *request, const uint8_t *info)
