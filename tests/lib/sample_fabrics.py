@@ -133,6 +133,8 @@ class Fabric:
         tables = {name: [255] * (len(self.ends()) // 64 + 1) * 64 for name in exits}
         for lid, (name, port) in enumerate(self.ends(), 1):
             home, out = (name, 0) if port == 0 else self.peers[name, port]
+            if home not in tables:
+                continue
             steps, reached = {home: 0}, [home]
             for near in reached:
                 for _, far in exits[near]:
@@ -259,6 +261,19 @@ def torus(rows: int, columns: int) -> Fabric:
         row, column = divmod(i, columns)
         fabric.join(switch, switches[row * columns + (column + 1) % columns])
         fabric.join(switch, switches[(row + 1) % rows * columns + column])
+    return fabric
+
+
+def mesh(rows: int, columns: int) -> Fabric:
+    """Returns switches in rows and columns, with an adapter at each."""
+    fabric = Fabric()
+    switches = fabric.switches(rows * columns)
+    fabric.hosts(switches)
+    for i, switch in enumerate(switches):
+        if (i + 1) % columns:
+            fabric.join(switch, switches[i + 1])
+        if i + columns < len(switches):
+            fabric.join(switch, switches[i + columns])
     return fabric
 
 

@@ -47,6 +47,11 @@ void close_port(void)
 	umad_close_port(umad);
 }
 
+int opened_port(void)
+{
+	return umad;
+}
+
 struct request *ask(const struct path *path, uint16_t attribute, uint32_t modifier, uint64_t guid)
 {
 	struct request *request;

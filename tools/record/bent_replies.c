@@ -5,6 +5,9 @@
  *   type      a node two hops away says that it is of type 9
  *   names     nodes one hop away and farther have one name, with a quote and a control character
  *   unnamed   nodes one hop away do not tell their names
+ *   lanes     SL-to-VL maps of packets that leave by port 2 are refused with status 0x001C
+ *   narrow    ports 2 carry lanes 0 and 1 alone
+ *   single    ports 2 have lane 0 alone, and maps of packets that leave by them are refused as by `lanes`
  *   slow      each reply takes 100 milliseconds
  *   stop      the fifth Set comes with an interrupt
  *   other     the answer to the fifth Set tells another first entry
@@ -81,6 +84,12 @@ int umad_recv(int port, void *buffer, int *length, int timeout_ms)
 		packet[6] = 1;
 	if (!strcmp(bend, "status") && packet[17] == 0x15 && packet[23] == 2)
 		packet[5] = 0x1c;
+	if (!strcmp(bend, "single") && packet[17] == 0x15 && packet[23] == 2)
+		packet[64 + 37] = packet[64 + 43] = 1 << 4;
+	if ((!strcmp(bend, "lanes") || !strcmp(bend, "single")) && packet[17] == 0x17 && packet[23] == 2)
+		packet[5] = 0x1c;
+	if (!strcmp(bend, "narrow") && packet[17] == 0x15 && packet[23] == 2)
+		packet[64 + 43] = 2 << 4;
 	if (!strcmp(bend, "type") && packet[17] == 0x11 && packet[7] == 2)
 		packet[64 + 2] = 9;
 	if (!strcmp(bend, "names") && packet[17] == 0x10 && packet[7] >= 1)

@@ -87,7 +87,8 @@ void put(uint8_t *bytes, int count, uint64_t value)
 static const char *name_of(uint16_t attribute)
 {
 	return attribute == NODE_DESCRIPTION ? "NodeDescription" : attribute == NODE_INFO ? "NodeInfo" :
-	       attribute == SWITCH_INFO ? "SwitchInfo" : attribute == PORT_INFO ? "PortInfo" : "LinearForwardingTable";
+	       attribute == SWITCH_INFO ? "SwitchInfo" : attribute == PORT_INFO ? "PortInfo" :
+	       attribute == LANE_TABLE ? "SLtoVLMappingTable" : "LinearForwardingTable";
 }
 
 /* Says `what` of a request, named by its path in the form that smpquery -D takes. */
@@ -107,6 +108,8 @@ void say_of(const struct request *request, const char *what)
 		fprintf(stderr, " block %u", request->modifier);
 	if (request->attribute == PORT_INFO)
 		fprintf(stderr, " of port %u", request->modifier);
+	if (request->attribute == LANE_TABLE)
+		fprintf(stderr, " from port %u to port %u", request->modifier >> 8, request->modifier & 255);
 	if (request->context == ABOUT)
 		fprintf(stderr, " of node %016llx", guid);
 	if (request->context == VIA)

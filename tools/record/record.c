@@ -1,8 +1,8 @@
 /*
  * record: asks the nodes of an InfiniBand subnet what they are, and keeps the replies in a recording for ibsm.
  *
- * It sends Gets over directed routes alone, so it changes nothing, and a subnet manager may run meanwhile. The manual
- * page, record.1, has the options and exit statuses.
+ * It sends Gets alone, so it changes nothing, and a subnet manager may run meanwhile: over directed routes, and with
+ * --levels to the subnet administration. The manual page, record.1, has the options and exit statuses.
  */
 #include <errno.h>
 #include <getopt.h>
@@ -32,6 +32,10 @@ static const char usage_text[] =
 "  -T, --tables FILE      also read the forwarding tables, and write them with the LIDs in the form of a plan\n"
 "  -p, --partial          write the tables also where replies are missing, without the switches and ports that lack them\n"
 "  -N, --names FILE       also ask for names, and write them as a node name map of infiniband-diags\n"
+"  -L, --lanes FILE       also read the SL-to-VL maps of switches, and write them for `ibsm audit --lanes`\n"
+"  -S, --levels           with --lanes, also ask the subnet administration for the service level from each end port to\n"
+"                         each LID, and write them there too\n"
+"  -A, --adapters         with --levels, ask for paths between ports of adapters alone\n"
 "  -q, --quiet            neither progress nor a summary\n"
 "  -v, --verbose          name every request without a reply, not only the first 20\n"
 "  -h, --help             this text\n"
@@ -51,7 +55,8 @@ static void on_signal(int number)
 static const struct option words[] = {
 	{ "ca", 1, 0, 'C' }, { "port", 1, 0, 'P' }, { "generation", 1, 0, 'g' }, { "outstanding", 1, 0, 'n' },
 	{ "timeout", 1, 0, 't' }, { "retries", 1, 0, 'r' }, { "m-key", 1, 0, 'k' }, { "tables", 1, 0, 'T' },
-	{ "names", 1, 0, 'N' }, { "after", 1, 0, 'a' }, { "partial", 0, 0, 'p' },
+	{ "names", 1, 0, 'N' }, { "after", 1, 0, 'a' }, { "partial", 0, 0, 'p' }, { "lanes", 1, 0, 'L' },
+	{ "levels", 0, 0, 'S' }, { "adapters", 0, 0, 'A' },
 	{ "quiet", 0, 0, 'q' }, { "verbose", 0, 0, 'v' }, { "help", 0, 0, 'h' }, { "version", 0, 0, 'V' }, { 0 }
 };
 
@@ -63,6 +68,9 @@ static void take_option(int letter)
 	case 'g': options.generation = number_in(optarg, "--generation", 1, UINT32_MAX); break;
 	case 'T': options.tables = optarg; break;
 	case 'N': options.names = optarg; break;
+	case 'L': options.lanes = optarg; break;
+	case 'S': options.levels = 1; break;
+	case 'A': options.adapters = 1; break;
 	case 'p': options.partial = 1; break;
 	case 'a': options.after = optarg; break;
 	case 'h': print_usage(stdout, usage_text); exit(WHOLE);
@@ -71,9 +79,16 @@ static void take_option(int letter)
 	}
 }
 
-static int is_same(const char *one, const char *other)
+/* Refuses options that name one file for two texts. */
+static void tell_apart(void)
 {
-	return one && other && !strcmp(one, other);
+	const char *names[] = { options.file, options.tables, options.names, options.lanes };
+	int i, j, count = sizeof names / sizeof *names;
+
+	for (i = 0; i < count; i++)
+		for (j = 0; j < i; j++)
+			if (names[i] && names[j] && !strcmp(names[i], names[j]))
+				end(USAGE, "the recording, the tables, the names and the lanes cannot be one file");
 }
 
 static void parse(int count, char **texts)
@@ -81,14 +96,16 @@ static void parse(int count, char **texts)
 	int letter;
 
 	called = texts[0];
-	while ((letter = getopt_long(count, texts, "C:P:g:n:t:r:k:T:N:a:pqvhV", words, NULL)) != -1)
+	while ((letter = getopt_long(count, texts, "C:P:g:n:t:r:k:T:N:L:SAa:pqvhV", words, NULL)) != -1)
 		take_option(letter);
 	if (optind + 1 != count)
 		take_option('?');
 	options.file = texts[optind];
-	if (is_same(options.tables, options.file) || is_same(options.names, options.file) ||
-	    is_same(options.tables, options.names))
-		end(USAGE, "the recording, the tables and the names cannot be one file");
+	tell_apart();
+	if (options.levels && !options.lanes)
+		end(USAGE, "--levels goes with --lanes");
+	if (options.adapters && !options.levels)
+		end(USAGE, "--adapters goes with --levels");
 	if (options.after && options.generation)
 		end(USAGE, "--after and --generation both number the sweep");
 }
@@ -125,34 +142,51 @@ static void keep_reply(const struct request *request, const uint8_t *reply)
 	keep(&report, request, reply);
 }
 
-static int record(struct whole_file *tables, struct whole_file *names)
+/* Writes a text that was asked for if it is there. */
+static void finish(struct whole_file *file, const char *name, int is_there)
+{
+	if (name && is_there)
+		commit_file(file);
+}
+
+static int record(struct whole_file *tables, struct whole_file *names, struct whole_file *lanes)
 {
 	double begun = now();
-	int has_tables = 0;
+	int has_tables = 0, has_lanes = 0;
 
 	sweep(keep_reply);
 	if (!counts.kept)
 		end(NO_FABRIC, "nothing answered, not even this machine's own port; no file is written");
 	if (options.tables)
 		has_tables = read_tables() || options.partial;
+	if (options.lanes)
+		has_lanes = read_lanes() || options.partial;
 	if (options.names)
-		read_names();	/* last: a missing name is no gap in the tables */
+		read_names();	/* last of what is found by GUIDs: a missing name is no gap in the tables */
+	sort_found();
+	if (options.levels)
+		has_lanes &= read_levels() || options.partial;
 	if (has_tables)
 		print_tables(tables->file);
 	if (options.names)
 		print_names(names->file);
+	if (has_lanes)
+		print_lanes(lanes->file);
+	if (has_lanes && options.levels)
+		print_levels(lanes->file);
 	clear_line();
 	commit_file(&report);
-	if (has_tables)
-		commit_file(tables);
-	if (options.names)
-		commit_file(names);
+	finish(tables, options.tables, has_tables);
+	finish(names, options.names, 1);
+	finish(lanes, options.lanes, has_lanes);
 	remove_begun_files();
 	close_port();
 	if (!options.quiet)
 		summary(now() - begun);
 	if (options.tables && !has_tables)
 		say("%s is not written, since replies that it needs are missing", options.tables);
+	if (options.lanes && !has_lanes)
+		say("%s is not written, since replies that it needs are missing", options.lanes);
 	if (!counts.silent && !counts.left_out && !counts.too_far)
 		return WHOLE;
 	say("NOT WHOLE: %lu requests without a reply, %lu replies left out, %lu ports over %d hops away",
@@ -162,7 +196,7 @@ static int record(struct whole_file *tables, struct whole_file *names)
 
 int main(int count, char **texts)
 {
-	static struct whole_file tables, names;
+	static struct whole_file tables, names, lanes;
 
 	parse(count, texts);
 	number_sweep();
@@ -177,7 +211,9 @@ int main(int count, char **texts)
 		begin_file(&tables, options.tables);
 	if (options.names)
 		begin_file(&names, options.names);
+	if (options.lanes)
+		begin_file(&lanes, options.lanes);
 	if (fwrite("IBSMREP1", 8, 1, report.file) != 1)
 		end(NO_FABRIC, "cannot write %s: %s", options.file, strerror(errno));
-	return record(&tables, &names);
+	return record(&tables, &names, &lanes);
 }

@@ -6,7 +6,9 @@
 #include <stdint.h>
 #include <stdio.h>
 
-enum { NODE_DESCRIPTION = 0x10, NODE_INFO = 0x11, SWITCH_INFO = 0x12, PORT_INFO = 0x15, FORWARDING_TABLE = 0x19 };
+enum { NODE_DESCRIPTION = 0x10, NODE_INFO = 0x11, SWITCH_INFO = 0x12, PORT_INFO = 0x15, LANE_TABLE = 0x17 };
+enum { FORWARDING_TABLE = 0x19 };
+enum { ALONE = 16 };	/* a port has no other lane of data than 0, and no SL-to-VL map */
 enum context { START, VIA, ABOUT };
 enum node_type { ADAPTER = 1, SWITCH = 2, ROUTER = 3 };
 enum { MOST_HOPS = 63, MOST_OUT = 64, PACKET = 256, ATTRIBUTE = 64, BLOCK = 64 };
@@ -29,8 +31,8 @@ struct request {
 };
 
 struct options {
-	char *adapter, *file, *tables, *names, *after;
-	int port, timeout_ms, tries, outstanding, quiet, verbose, partial;
+	char *adapter, *file, *tables, *names, *lanes, *after;
+	int port, timeout_ms, tries, outstanding, quiet, verbose, partial, levels, adapters;
 	uint32_t generation;
 	uint64_t m_key;
 };
@@ -72,6 +74,7 @@ int open_own_port(struct own_port *port);
 /* ask.c: requests, and their replies in the order of the requests. */
 void open_port(void);
 void close_port(void);
+int opened_port(void);	/* libibumad's number of the port */
 struct request *ask(const struct path *path, uint16_t attribute, uint32_t modifier, uint64_t guid);
 size_t asked_and_waiting(void);
 /* Sends all requests, and those that `take` adds; a reply is NULL if none came. */
@@ -93,17 +96,24 @@ const char *fault_of(const struct request *request, const uint8_t *reply);
 void keep(struct whole_file *file, const struct request *request, const uint8_t *reply);
 
 /* sweep.c */
+struct lid {
+	uint16_t lid;
+	uint64_t guid;
+	uint8_t port, lmc;	/* it has 2^lmc LIDs, from lid on */
+};
 struct node {
 	uint64_t guid;
 	uint8_t type;
 	struct path path;	/* the first path that reached it */
 	uint16_t top;		/* a switch's top, and its table in whole blocks up to there */
 	uint8_t *table;
-	uint8_t lacks;		/* a missing reply about it: 1 about a port, 2 about its table */
+	uint8_t lacks;		/* a missing reply about it: 1 about a port, 2 about its table, 4 about its lanes */
 	uint8_t asked[256];	/* an adapter's ports whose PortInfo was asked */
 	uint8_t *name;		/* ends with 0; NULL if it was not asked or told */
 	int is_shared;		/* another node has this name too */
 	struct shape *shape;	/* what send knows of it */
+	uint8_t *carries;	/* by port of a switch: how many lanes of data it carries, 0 if it is not up; or ALONE */
+	uint8_t *maps;		/* the lane of each level, from port 0 and each port that is up to each port that is up */
 };
 /* Asks all nodes, and passes each reply that is taken to `seen`. */
 void sweep(void (*seen)(const struct request *request, const uint8_t *reply));
@@ -118,6 +128,21 @@ void print_tables(FILE *file);
 /* Asks each node for its name; a silent node has none. */
 void read_names(void);
 void print_names(FILE *file);
+/* Sorts the nodes and the LIDs, so none is found by its GUID afterwards. */
+void sort_found(void);
+size_t known_lids(void);
+const struct lid *lid_at(size_t place);
+/* The LID and the level by which the subnet manager of this machine's port is reached; 0 if none is known. */
+uint16_t lid_of_manager(void);
+uint8_t level_of_manager(void);
+
+/* lanes.c: the SL-to-VL maps of switches. Returns 0 if a reply is missing. */
+int read_lanes(void);
+void print_lanes(FILE *file);
+
+/* levels.c: the service levels that the subnet administration gives. Returns 0 if an answer is missing. */
+int read_levels(void);
+void print_levels(FILE *file);
 
 /* names.c */
 void print_name(FILE *file, uint64_t guid, const uint8_t *name, int is_shared);

@@ -7,7 +7,7 @@
 #include <unistd.h>
 #include "record.h"
 
-enum { MOST_FILES = 3, MOST_PORTS = 254, CLASS = 0x81, ANSWER = 0x81, RECORD_HEAD = 16 };
+enum { MOST_FILES = 4, MOST_PORTS = 254, CLASS = 0x81, ANSWER = 0x81, RECORD_HEAD = 16 };
 
 static char *begun[MOST_FILES];
 

@@ -3,13 +3,7 @@
 #include <string.h>
 #include "record.h"
 
-enum { DOWN = 1, ACTIVE = 4 };
-
-struct lid {
-	uint16_t lid;
-	uint64_t guid;
-	uint8_t port, lmc;	/* it has 2^lmc LIDs, from lid on */
-};
+enum { DOWN = 1, ACTIVE = 4, MOST_LANES = 15, PORTS = 256 };
 
 static struct node *nodes;
 static size_t node_count, node_room;
@@ -17,7 +11,9 @@ static uint32_t *index_of, index_room;	/* open addressing: index in nodes, plus 
 static struct lid *lids;
 static size_t lid_count, lid_room;
 static void (*seen)(const struct request *request, const uint8_t *reply);
-static int missing;	/* replies about nodes that are known */
+static int missing;	/* replies about nodes that are known, without those about lanes */
+static uint16_t to_manager;
+static uint8_t level_to_manager;
 
 size_t known_nodes(void)
 {
@@ -110,6 +106,45 @@ static void note_lid(const struct request *request, const uint8_t *info)
 		lids = more(lids, lid_room, sizeof *lids);
 	}
 	lids[lid_count++] = (struct lid) { get(info + 16, 2), request->guid, request->modifier, info[34] & 7 };
+	if (request->path.hops == 0 && !to_manager) {
+		to_manager = get(info + 18, 2);
+		level_to_manager = info[36] & 15;
+	}
+}
+
+size_t known_lids(void)
+{
+	return lid_count;
+}
+
+const struct lid *lid_at(size_t place)
+{
+	return &lids[place];
+}
+
+uint16_t lid_of_manager(void)
+{
+	return to_manager;
+}
+
+uint8_t level_of_manager(void)
+{
+	return level_to_manager;
+}
+
+/* Notes how many lanes of data a port of a switch carries, by OperationalVLs: 1, 2, 4, 8 or 15. */
+static void note_lanes(const struct request *request, const uint8_t *info)
+{
+	struct node *node = find(request->guid);
+	uint8_t operational = info[43] >> 4;
+
+	if (!node->carries) {
+		node->carries = more(NULL, PORTS, 1);
+		memset(node->carries, 0, PORTS);
+	}
+	/* 0 and numbers without a meaning leave all lanes. VLCap tells whether there is more than one. */
+	node->carries[request->modifier] = info[37] >> 4 == 1 ? ALONE :
+		operational >= 1 && operational <= 4 ? 1 << (operational - 1) : MOST_LANES;
 }
 
 static void on_port_info(const struct request *request, const uint8_t *info)
@@ -122,6 +157,8 @@ static void on_port_info(const struct request *request, const uint8_t *info)
 		note_lid(request, info);
 	if (state <= DOWN || state > ACTIVE)
 		return;
+	if (request->type == SWITCH && port && options.lanes)
+		note_lanes(request, info);
 	if (request->type == SWITCH ? port == 0 || port == request->arrival : path.hops > 0)
 		return;
 	if (path.hops == MOST_HOPS) {
@@ -138,9 +175,9 @@ static void note_gap(const struct request *request)
 {
 	struct node *node = request->context == ABOUT ? find(request->guid) : NULL;
 
-	missing += request->attribute != NODE_INFO;
+	missing += request->attribute != NODE_INFO && request->attribute != LANE_TABLE;
 	if (node && request->attribute != NODE_DESCRIPTION)
-		node->lacks |= request->attribute == PORT_INFO ? 1 : 2;
+		node->lacks |= request->attribute == PORT_INFO ? 1 : request->attribute == LANE_TABLE ? 4 : 2;
 }
 
 int is_good(const struct request *request, uint8_t *reply)
@@ -276,13 +313,19 @@ static int by_name(const void *one, const void *other)
 	return strcmp((const char *) (*a)->name, (const char *) (*b)->name);
 }
 
-/* Prints the names of nodes. Sorts the nodes, so none is found by its GUID afterwards. */
+void sort_found(void)
+{
+	if (lid_count)
+		qsort(lids, lid_count, sizeof *lids, by_lid);
+	qsort(nodes, node_count, sizeof *nodes, by_guid);
+}
+
+/* Prints the names of nodes, once they are sorted. */
 void print_names(FILE *file)
 {
 	struct node **named = more(NULL, node_count, sizeof *named);
 	size_t i, count = 0;
 
-	qsort(nodes, node_count, sizeof *nodes, by_guid);
 	for (i = 0; i < node_count; i++)
 		if (nodes[i].name)
 			named[count++] = &nodes[i];
@@ -296,16 +339,11 @@ void print_names(FILE *file)
 			print_name(file, nodes[i].guid, nodes[i].name, nodes[i].is_shared);
 }
 
-/*
- * Prints tables in the form of a plan, without switches whose table is not known whole. Sorts the nodes, so none is
- * found by its GUID afterwards.
- */
+/* Prints tables in the form of a plan, once what was found is sorted: without switches whose table is not whole. */
 void print_tables(FILE *file)
 {
 	size_t i;
 
-	qsort(lids, lid_count, sizeof *lids, by_lid);
-	qsort(nodes, node_count, sizeof *nodes, by_guid);
 	for (i = 0; i < lid_count; i++)
 		if (lids[i].lid) {
 			fprintf(file, "lid %u %016llx/%u", lids[i].lid, (unsigned long long) lids[i].guid, lids[i].port);
