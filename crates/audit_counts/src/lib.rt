@@ -18,5 +18,5 @@ pub use first_few::FirstFew;
 pub use packet_tally::PacketTally;
 pub use pairs::Pairs;
 pub use sent_packet::SentPacket;
-pub use site::{Site, index_of, site_in, sites};
+pub use site::{Site, are_adapters, index_of, site_in, sites};
 pub use unmatched::Unmatched;

@@ -142,7 +142,7 @@ fn are_joined_adapters(site: &Site, owner: &Site) -> bool
 }
 
 /// Returns whether both are end ports of adapters.
-pub(crate) fn are_adapters(port: &EndPort, other: &EndPort) -> bool
+pub fn are_adapters(port: &EndPort, other: &EndPort) -> bool
     ensures { result ≡ are_adapters port.now other.now }
 {
     is_adapter(port) && is_adapter(other)

@@ -7,15 +7,15 @@ use Rattle.held_tables.specs.declared.held.HeldLid.{HeldLid}
 use Rattle.held_tables.specs.Held.{HeldPlan}
 use Rattle.held_tables.specs.Tables.{is_owner, is_same_end, lines_of}
 use Rattle.audit_counts.specs.declared.site.Site.{Site}
-use Rattle.audit_counts.specs.Sites.{are_joined, site_of}
+use Rattle.audit_counts.specs.Sites.{are_adapters, are_joined, site_of}
 use Rattle.lanes_file.specs.Lanes.{LanesSaid, level_of}
 use Rattle.lane_report.specs.declared.levels_missing.PacketPair.{PacketPair}
 
--- the end port of `site` lies in the component of `owner`, is another end port, and its packets for the LID of `line`
--- have no service level
+-- both are adapter ports, `site` is another one in the component of `owner`, and its packets for the LID of `line` have
+-- no service level
 abbrev pub lacks_level : LanesSaid → HeldLid → Site → Site → Bool
 lacks_level said line owner site =
-    are_joined site owner && not (is_same_end site.port owner.port)
+    are_joined site owner && are_adapters site.port owner.port && not (is_same_end site.port owner.port)
     && not (is_some (level_of said site.port.node site.port.port line.lid))
 
 abbrev pub pair_of : HeldLid → Site → PacketPair

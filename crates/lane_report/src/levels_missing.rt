@@ -7,7 +7,7 @@ ghost use Rattle.audit_counts.specs.Sites.{site_of};
 ghost use Rattle.lane_report.specs.declared.levels_missing.PacketPair.{PacketPair as Pair};
 ghost use Rattle.lane_report.specs.LevelsMissing.{lacks_level, missing_for, missing_levels};
 
-use audit_counts::{FirstFew, Site, index_of, site_in};
+use audit_counts::{FirstFew, Site, are_adapters, index_of, site_in};
 use held_tables::HeldLid;
 use lanes_file::Lanes;
 use packet_walks::{Network, is_same_end};
@@ -22,8 +22,8 @@ pub struct PacketPair {
     pub lid: Lid,
 }
 
-/// Finds the packets without a service level that end ports send to the LIDs of other end ports of their components.
-/// Keeps the first `most`, in the order of the LIDs and then of the end ports. Takes a search for each LID and each end
+/// Finds the packets without a service level that adapter ports send to the LIDs of other adapter ports of their
+/// components. Keeps the first `most`, in the order of the LIDs and then of the end ports. Takes a search for each LID and each end
 /// port.
 pub fn pairs_without_level(
     alloc: Global,
@@ -69,12 +69,13 @@ fn add_for(
     Ok(())
 }
 
-/// Returns whether the end port of `site` lies in the component of `owner`, is another end port, and its packets for
-/// the LID of `line` have no service level.
+/// Returns whether both are adapter ports, `site` is another one in the component of `owner`, and its packets for the
+/// LID of `line` have no service level.
 fn lacks_level(lanes: &Lanes, line: &HeldLid, owner: &Site, site: &Site) -> bool
     ensures { result ≡ lacks_level lanes.now line.now owner.now site.now }
 {
     site.is_joined_to(owner)
+        && are_adapters(&site.port, &owner.port)
         && !is_same_end(&site.port, &owner.port)
         && lanes
             .level(site.port.node, site.port.port, line.lid)
