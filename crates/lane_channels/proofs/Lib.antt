@@ -1,3 +1,4 @@
+pub mod FarPorts
 pub mod LaneLaws
 pub mod LidWaits
 pub mod Orders

@@ -1,7 +1,8 @@
 -- All packets for a LID followed, and then LID by LID up to the greatest top.
-use Rattle.std.proofs.Common.{◌≡◌, ◌<◌, ◌≤◌, ◌+◌, ◌*◌, ◌/◌, ℕ, zero, suc, Bool, List, [], ◌∷◌, length, replicate, length-replicate, refl, sym, ap, ◌∙◌, subst, arith, inl, inr, ◌⊎◌}
+use Rattle.std.proofs.Common.{◌≡◌, ◌<◌, ◌≤◌, ◌+◌, ◌*◌, ◌/◌, ℕ, zero, suc, Bool, List, [], ◌∷◌, length, replicate, refl, sym, ap, ◌∙◌, subst, arith, inl, inr, ◌⊎◌}
 use Rattle.std.specs.Prelude.{Contains, Option, None, Some, option_and_then, slice_index_or, ◌↔◌}
 use Rattle.std.proofs.lemmas.Bool.{cases_lt}
+use Rattle.std.proofs.lemmas.List.{length-replicate}
 use Rattle.port_graph.specs.declared.edge.Edge.{Edge}
 use Rattle.fact_store.specs.View.{cells_of}
 use Rattle.subnet_view.specs.Reading.{Cells, switches}
@@ -51,7 +52,7 @@ module _ (said : LanesSaid) (cells : Cells) (column : List (Option Edge)) (lid :
               | inl m ↦ whole.closed level before stop (f.small level first begins) m n
               | inr past ↦
                   let none : next_stop said cells column level before ≡ None =
-                  ap (option_and_then (carried said cells level before)) (no_edge column (before / 256) (omega arith)) in
+                  ap (option_and_then (carried said cells (length column) level before)) (no_edge column (before / 256) (omega arith)) in
                   absurd (cc)
             ])
       ] refl there

@@ -1,18 +1,18 @@
 -- The order of channels by lane, in terms of packets.
-use Rattle.std.proofs.Common.{◌<◌, ℕ, List, [], ◌∷◌, Bool}
+use Rattle.std.proofs.Common.{◌<◌, ◌≤◌, ℕ, List, [], ◌∷◌, Bool, length, arith}
 use Rattle.std.specs.Prelude.{slice_index_or}
 use Rattle.audit_channels.specs.Orders.{GoesOn, IsCycle, IsOrder, IsShortest}
 use Rattle.audit_channels.specs.declared.order.ChannelOrder.{ChannelOrder}
 use Rattle.audit_channels.specs.declared.order.ChannelOrder.TheVariants.{Rises, Cycle}
 use Rattle.lane_channels.specs.LaneNetwork.{SeenByLane}
-use Rattle.lane_channels.specs.Waiting.{AreLaneWaits, IsLaneCycle, NoneShorter, RiseByLane, WaitOn, WaitInCycle}
+use Rattle.lane_channels.specs.Waiting.{AreLaneWaits, IsLaneCycle, NoneShorter, RiseByLane, WaitOn, WaitInCycle, cycle_in}
 
 module _ (s : SeenByLane) (answers : Bool) (waits : List (List ℕ)) (are : AreLaneWaits s answers waits) where
   on : (channel last : ℕ) (later : List ℕ) → GoesOn waits channel later last → WaitOn s answers channel later last
   on channel last [] h = (are.follows channel last).0 h
   on channel last (next ∷ later) h = ((are.follows channel next).0 h.0, on next last later h.1)
 
-  pub cycle_is : (channels : List ℕ) → IsCycle waits channels → IsLaneCycle s answers channels
+  cycle_is : (channels : List ℕ) → IsCycle waits channels → IsLaneCycle s answers channels
   cycle_is [] h = absurd h
   cycle_is (channel ∷ later) h = on channel channel later h
 
@@ -24,9 +24,11 @@ module _ (s : SeenByLane) (answers : Bool) (waits : List (List ℕ)) (are : AreL
   is_cycle [] h = h
   is_cycle (channel ∷ later) h = goes_on channel channel later h
 
-  pub shortest_is : (channels : List ℕ) → ((cycle : List ℕ) → IsCycle waits cycle → length channels ≤ length cycle)
-      → NoneShorter s answers channels
-  shortest_is channels h other waiting = h other (is_cycle other waiting)
+  pub rises : (found : ChannelOrder) → IsOrder waits found → IsLaneCycle s answers (cycle_in found)
+  rises (Rises numbers) h =
+      record { number = λ c. slice_index_or numbers.items c 0; rises = λ a b w. h.rises a b ((are.follows a b).1 w) }
+  rises (Cycle channels) h = cycle_is channels.items h
 
-  pub rises : (numbers : List ℕ) → IsOrder waits (Rises numbers) → RiseByLane s answers
-  rises numbers h = record { number = λ c. slice_index_or numbers c 0; rises = λ a b w. h.rises a b ((are.follows a b).1 w) }
+  pub none_shorter : (found : ChannelOrder) → IsShortest waits found → NoneShorter s answers (cycle_in found)
+  none_shorter (Rises numbers) h = λ other waiting. omega arith
+  none_shorter (Cycle channels) h = λ other waiting. h other (is_cycle other waiting)

@@ -1,6 +1,6 @@
 -- Senders, and whom they answer, one after the other.
-use Rattle.std.proofs.Common.{◌≡◌, ◌<◌, ◌≤◌, ◌+◌, ℕ, zero, suc, Bool, true, false, List, [], ◌∷◌, refl, sym, ap, ◌∙◌, subst, arith, inl, inr, ◌⊎◌}
-use Rattle.std.specs.Prelude.{Option, None, Some, length, slice_get}
+use Rattle.std.proofs.Common.{◌≡◌, ◌<◌, ◌≤◌, ◌+◌, ℕ, zero, suc, Bool, true, false, List, [], ◌∷◌, get_or, map, refl, sym, ap, ◌∙◌, subst, arith, inl, inr, ◌⊎◌}
+use Rattle.std.specs.Prelude.{Option, None, Some, length, option_map, slice_get}
 use Rattle.std.proofs.lemmas.Bool.{cases_lt}
 use Rattle.std.proofs.lemmas.Option.{same_Some}
 use Rattle.fact_store.specs.View.{cells_of}
@@ -8,20 +8,55 @@ use Rattle.port_graph.specs.declared.edge.Edge.{Edge}
 use Rattle.subnet_view.specs.Reading.{Cells}
 use Rattle.subnet_view.specs.EndPorts.{end_ports}
 use Rattle.subnet_view.specs.declared.end_port.EndPort.{EndPort}
+use Rattle.held_tables.specs.Switches.{sender_of}
 use Rattle.held_tables.specs.Tables.{owners_of}
+use Rattle.held_tables.specs.declared.senders.Sender.{Sender}
 use Rattle.lanes_file.specs.Lanes.{LanesSaid, level_of}
 use Rattle.lane_channels.specs.LaneNetwork.{SeenByLane}
 use Rattle.lane_channels.specs.Levels.{HasLevel, IsAsked, lids_held}
 use Rattle.lane_channels.specs.Senders.{AnswersOf, AnswersTo, SentFor, SentFrom}
 use Rattle.lane_channels.specs.Stops.{first_stop}
 use Rattle.lane_channels.specs.Walks.{AreFollowed, BeginsIf, Walked}
-use Rattle.lane_channels.proofs.Walks.{followed_as, followed_then}
+use Rattle.lane_channels.proofs.Walks.{followed_as, followed_then, none_followed}
 
 -- an index in a list is below its length
 pub below_length : {X : Type 0} (xs : List X) (i : ℕ) (x : X) → slice_get xs i ≡ Some x → i < length xs
 below_length [] i x e = absurd (cc)
 below_length (y ∷ xs) zero x e = omega arith
 below_length (y ∷ xs) (suc i) x e = let less = below_length xs i x e in omega arith
+
+-- the element at an index
+pub item_there : {X : Type 0} (xs : List X) (i : ℕ) (x : X) → i < length xs → x ≡ get_or xs i x → slice_get xs i ≡ Some x
+item_there {X = X} xs i x less e = there xs i less ∙ ap Some (sym e)
+  where
+    there : (ys : List X) (k : ℕ) → k < length ys → slice_get ys k ≡ Some (get_or ys k x)
+    there [] k less = absurd (omega arith)
+    there (y ∷ ys) zero less = refl
+    there (y ∷ ys) (suc k) less = there ys k (omega arith)
+
+-- the element of a list that is made from another
+pub map_there : {X Y : Type 0} (f : X → Y) (xs : List X) (i : ℕ) (y : Y) → slice_get (map f xs) i ≡ Some y
+    → (x : X) × (slice_get xs i ≡ Some x) × (y ≡ f x)
+map_there f [] i y e = absurd (cc)
+map_there f (x ∷ xs) zero y e = (x, refl, sym (same_Some (f x) y e))
+map_there f (x ∷ xs) (suc i) y e = map_there f xs i y e
+
+pub map_of_there : {X Y : Type 0} (f : X → Y) (xs : List X) (i : ℕ) (x : X) (y : Y) → slice_get xs i ≡ Some x → slice_get (map f xs) i ≡ Some y
+    → y ≡ f x
+map_of_there f [] i x y a b = absurd (cc)
+map_of_there f (z ∷ xs) zero x y a b = sym (same_Some (f z) y b) ∙ ap f (same_Some z x a)
+map_of_there f (z ∷ xs) (suc i) x y a b = map_of_there f xs i x y a b
+
+-- the end port of a sender
+pub port_there : (cells : Cells) (sources : List Sender) (i : ℕ) (e : EndPort) → sources ≡ map (sender_of cells) (end_ports cells)
+    → option_map (λ (s : Sender). s.port) (slice_get sources i) ≡ Some e → slice_get (end_ports cells) i ≡ Some e
+port_there cells sources i e are is =
+    of (end_ports cells) i (ap (λ (xs : List Sender). option_map (λ (s : Sender). s.port) (slice_get xs i)) (sym are) ∙ is)
+  where
+    of : (es : List EndPort) (k : ℕ) → option_map (λ (s : Sender). s.port) (slice_get (map (sender_of cells) es) k) ≡ Some e → slice_get es k ≡ Some e
+    of [] k q = absurd (cc)
+    of (x ∷ es) zero q = q
+    of (x ∷ es) (suc k) q = of es k q
 
 -- the packets from `first` on that answer those which one of the first `count` of `owners` sends for one of `lids`
 pub record AnswersToSome (said : LanesSaid) (owners : List EndPort) (lids : List ℕ) (count : ℕ) (first : Option ℕ) (level : ℕ)
@@ -37,6 +72,19 @@ pub record SentBySome (s : SeenByLane) (answers : Bool) (lid count level : ℕ) 
   pub index : ℕ
   pub below : index < count
   pub sent : SentFrom s answers lid index level begin
+
+module _ (said : LanesSaid) (cells : Cells) (column : List (Option Edge)) (lid : ℕ) (old : Walked) where
+  -- none so far
+  pub no_lids : (asker : EndPort) (lids : List ℕ) (first : Option ℕ) → AreFollowed said cells column lid (AnswersOf said asker lids 0 first) old old
+  no_lids asker lids first =
+      none_followed said cells column lid (AnswersOf said asker lids 0 first) old (λ l b a. (let below = a.below in
+          omega arith))
+
+  pub no_owners : (owners : List EndPort) (lids : List ℕ) (first : Option ℕ)
+      → AreFollowed said cells column lid (AnswersToSome said owners lids 0 first) old old
+  no_owners owners lids first =
+      none_followed said cells column lid (AnswersToSome said owners lids 0 first) old (λ l b a. (let below = a.below in
+          omega arith))
 
 module _ (said : LanesSaid) (cells : Cells) (column : List (Option Edge)) (lid : ℕ) (old w new : Walked) where
   -- one LID more
@@ -141,6 +189,12 @@ module _ (said : LanesSaid) (cells : Cells) (column : List (Option Edge)) (lid :
             level_is = k.level_is;
           })
 
+pub no_senders : (s : SeenByLane) (answers : Bool) (column : List (Option Edge)) (lid : ℕ) (w : Walked)
+    → AreFollowed s.said (cells_of s.seen.facts) column lid (SentBySome s answers lid 0) w w
+no_senders s answers column lid w =
+    none_followed s.said (cells_of s.seen.facts) column lid (SentBySome s answers lid 0) w (λ l b a. (let below = a.below in
+        omega arith))
+
 module _ (s : SeenByLane) (answers : Bool) (column : List (Option Edge)) (lid : ℕ) (old w new : Walked) where
   abbrev cells : Cells
   cells = cells_of s.seen.facts
@@ -193,22 +247,22 @@ module _ (s : SeenByLane) (answers : Bool) (column : List (Option Edge)) (lid : 
 
     pub no_answers : answers ≡ false → AreFollowed s.said cells column lid (BeginsIf own first) old w
         → AreFollowed s.said cells column lid (SentFrom s answers lid index) old w
-    no_answers no h =
+    no_answers off h =
         followed_as s.said cells column lid (BeginsIf own first) (SentFrom s answers lid index) old w h back
         (λ l b a. from l b (inl a.0) a.1)
       where
         back : (l : ℕ) (b : Option ℕ) → SentFrom s answers lid index l b → BeginsIf own first l b
         back l b a =
             let h = has_level l b a in
-            (elim h.0 [ inl e ↦ e | inr t ↦ (let yes = t.0 in absurd (cc)) ], h.1)
+            (elim h.0 [ inl e ↦ e | inr t ↦ (let set = t.0 in absurd (cc)) ], h.1)
 
     pub with_answers : answers ≡ true → AreFollowed s.said cells column lid (BeginsIf own first) old w
         → AreFollowed s.said cells column lid (AnswersTo s.said (owners_of s.seen.held lid) (lids_held s.seen.held source) first) w new
         → AreFollowed s.said cells column lid (SentFrom s answers lid index) old new
-    with_answers yes h one =
+    with_answers on h one =
         followed_then s.said cells column lid (BeginsIf own first)
         (AnswersTo s.said (owners_of s.seen.held lid) (lids_held s.seen.held source) first) (SentFrom s answers lid index) old w new h one either
-        (λ l b a. from l b (inl a.0) a.1) (λ l b a. from l b (inr (yes, a.1)) a.0)
+        (λ l b a. from l b (inl a.0) a.1) (λ l b a. from l b (inr (on, a.1)) a.0)
       where
         either : (l : ℕ) (b : Option ℕ) → SentFrom s answers lid index l b
             → (BeginsIf own first l b) ⊎ AnswersTo s.said (owners_of s.seen.held lid) (lids_held s.seen.held source) first l b

@@ -1,17 +1,18 @@
 -- Packets followed from stop to stop, one after the other.
-use Rattle.std.proofs.Common.{◌≡◌, ◌<◌, ◌≤◌, ◌+◌, ◌*◌, ℕ, zero, suc, Bool, true, false, cond, ◌||◌, List, [], ◌∷◌, length, refl, sym, ap, ◌∙◌, subst, arith, inl, inr, ◌⊎◌, slice_set}
+use Rattle.std.proofs.Common.{◌≡◌, ◌<◌, ◌≤◌, ◌+◌, ◌*◌, ◌/◌, ℕ, zero, suc, Bool, true, false, cond, ◌||◌, List, [], ◌∷◌, length, refl, sym, ap, ◌∙◌, subst, arith, inl, inr, ◌⊎◌, slice_set}
 use Rattle.std.specs.Prelude.{Option, None, Some, option_and_then, slice_index_or, nat_le, ◌==◌, ◌↔◌}
 use Rattle.std.proofs.lemmas.Option.{same_Some}
-use Rattle.std.proofs.lemmas.Bool.{cases_lt, eqb-true, leb-true}
+use Rattle.std.proofs.lemmas.Bool.{cases_lt, eqb-true, leb-false, leb-true}
 use Rattle.port_graph.specs.declared.edge.Edge.{Edge}
 use Rattle.subnet_view.specs.Reading.{Cells}
-use Rattle.audit_channels.specs.Orders.{Follows}
+use Rattle.audit_channels.specs.Orders.{Follows, IsWith}
 use Rattle.audit_channels.proofs.Columns.{within}
 use Rattle.lanes_file.specs.Lanes.{LanesSaid}
 use Rattle.lane_channels.specs.declared.stop.Dropped.{Dropped}
-use Rattle.lane_channels.specs.Stops.{carried, next_stop, stop_after}
-use Rattle.lane_channels.specs.LaneTurns.{DropsBefore, TakesByLane}
-use Rattle.lane_channels.specs.Walks.{AreFollowed, Beginnings, Begins, BeginsIf, IsDone, IsDroppedOne, IsMarked, IsVisit, IsWhole, OneTakes, Reaches, Walked}
+use Rattle.lane_channels.specs.declared.stop.LaneTurn.{LaneTurn}
+use Rattle.lane_channels.specs.Stops.{lane_between, lane_by, lane_number, next_stop, port_across, stop_after}
+use Rattle.lane_channels.specs.LaneTurns.{DropsBefore, IsLaneTurn, TakesByLane, TakesNone}
+use Rattle.lane_channels.specs.Walks.{AreFollowed, Beginnings, Begins, BeginsIf, IsDone, IsDroppedOne, IsMarked, IsVisit, IsWhole, IsWithTurn, OneTakes, Reaches, Walked}
 use Rattle.lane_channels.specs.Walks.{is_done, mark_number, not_done}
 
 module _ (said : LanesSaid) (cells : Cells) (column : List (Option Edge)) (lid : ℕ) where
@@ -244,7 +245,7 @@ module _ (said : LanesSaid) (cells : Cells) (column : List (Option Edge)) (lid :
 
     pub visited : InWalk level first after old new
     visited = record {
-      as_many = v.as_many ∙ h.as_many;
+      as_many = v.turn.as_many ∙ h.as_many;
       as_many_marks = ap length v.marks ∙ set_long w.marks (mark_number level stop) lid ∙ h.as_many_marks;
       no_later = no_later;
       kept = λ l s m. still l s (h.kept l s m);
@@ -253,8 +254,8 @@ module _ (said : LanesSaid) (cells : Cells) (column : List (Option Edge)) (lid :
       closed = λ whole l s later l_small m n. closed whole l s later l_small n (which l s l_small m);
       recorded = λ whole l s a b l_small m t. recorded whole l s a b l_small t (which l s l_small m);
       noted = λ whole none l s out l_small m d. noted whole none l s out l_small d (which l s l_small m);
-      waits_kept = λ a b f. (v.follows a b).1 (inl (h.waits_kept a b f));
-      waits_only = λ a b f. waits a b ((v.follows a b).0 f);
+      waits_kept = λ a b f. (v.turn.follows a b).1 (inl (h.waits_kept a b f));
+      waits_only = λ a b f. waits a b ((v.turn.follows a b).0 f);
       dropped_kept = λ d e none. h.dropped_kept d e (v.dropped.none none).0;
       dropped_only = λ d e. drops d (v.dropped.some d e);
     }
@@ -275,7 +276,7 @@ module _ (said : LanesSaid) (cells : Cells) (column : List (Option Edge)) (lid :
 
         closed : IsWhole said cells column lid old → (l : ℕ) (s later : ℕ) → l < 16
             → next_stop said cells column l s ≡ Some later → ((l ≡ level) × (s ≡ stop)) ⊎ IsMarked lid w.marks l s
-            → (later.into < 256) × (IsDone (length column) lid new.marks l later ⊎ ((l ≡ level) × (after ≡ Some later)))
+            → IsDone (length column) lid new.marks l later ⊎ ((l ≡ level) × (after ≡ Some later))
         closed whole l s later l_small n (inl e) =
             let goes : after ≡ Some later =
             after_is ∙ (λ i. next_stop said cells column (sym e.0 i) (sym e.1 i)) ∙ n in
@@ -287,8 +288,8 @@ module _ (said : LanesSaid) (cells : Cells) (column : List (Option Edge)) (lid :
             → TakesByLane said cells column l s a b → ((l ≡ level) × (s ≡ stop)) ⊎ IsMarked lid w.marks l s → Follows new.waits a b
         recorded whole l s a b l_small t (inl e) =
             let at_level = subst (λ (k : ℕ). TakesByLane said cells column k s a b) e.0 t in
-            (v.follows a b).1 (inr (subst (λ (x : ℕ). TakesByLane said cells column level x a b) e.1 at_level))
-        recorded whole l s a b l_small t (inr m) = (v.follows a b).1 (inl (h.recorded whole l s a b l_small m t))
+            (v.turn.follows a b).1 (inr (subst (λ (x : ℕ). TakesByLane said cells column level x a b) e.1 at_level))
+        recorded whole l s a b l_small t (inr m) = (v.turn.follows a b).1 (inl (h.recorded whole l s a b l_small m t))
 
         noted : IsWhole said cells column lid old → new.dropped ≡ None → (l : ℕ) (s : ℕ) (out : ℕ) → l < 16
             → DropsBefore said cells column l s out → ((l ≡ level) × (s ≡ stop)) ⊎ IsMarked lid w.marks l s → ⊥
@@ -308,12 +309,12 @@ module _ (said : LanesSaid) (cells : Cells) (column : List (Option Edge)) (lid :
         drops d (inl e) = h.dropped_only d e
         drops d (inr t) =
             let at_level = subst (λ (k : ℕ). Reaches said cells column (Begins level first) k stop) (sym t.1) reaches_stop in
-            let there = subst (λ (x : ℕ). Reaches said cells column (Begins level first) d.level x) (sym t.2.0) at_level in
-            let of_level = subst (λ (k : ℕ). DropsBefore said cells column k stop d.out) (sym t.1) t.2.1 in
+            let there = subst (λ (x : ℕ). Reaches said cells column (Begins level first) d.level x) (sym t.2) at_level in
+            let of_level = subst (λ (k : ℕ). DropsBefore said cells column k stop d.out) (sym t.1) t.3 in
             inr (record {
               lid_is = t.0;
               reaches = there;
-              drops = subst (λ (x : ℕ). DropsBefore said cells column d.level x d.out) (sym t.2.0) of_level;
+              drops = subst (λ (x : ℕ). DropsBefore said cells column d.level x d.out) (sym t.2) of_level;
             })
 
   done_by : (a b : Bool) (P Q : Type 0) → (a ≡ true → Q) → (b ≡ true → P) → (a || b) ≡ true → P ⊎ Q
@@ -330,8 +331,7 @@ module _ (said : LanesSaid) (cells : Cells) (column : List (Option Edge)) (lid :
       none_by true q = refl
       none_by false q = absurd (cc)
 
-  pub walk_ends : (level : ℕ) (first next : Option ℕ) (old w : Walked) → level < 16 → ((stop : ℕ) → first ≡ Some stop)
-      → InWalk level first next old w
+  pub walk_ends : (level : ℕ) (first next : Option ℕ) (old w : Walked) → level < 16 → InWalk level first next old w
       → not_done (length column) lid w.marks level next ≡ None → AreFollowed said cells column lid (Begins level first) old w
   walk_ends level first next old w level_small h ends = record {
     as_many = h.as_many;
@@ -352,7 +352,8 @@ module _ (said : LanesSaid) (cells : Cells) (column : List (Option Edge)) (lid :
   }
     where
       no_more : (s : ℕ) → next ≡ Some s → IsDone (length column) lid w.marks level s
-      no_more s e = is_done_there level s w.marks (ap (not_done (length column) lid w.marks level) (sym e) ∙ ends)
+      no_more s e =
+          is_done_there level s w.marks (ap (not_done (length column) lid w.marks level) (sym e) ∙ ends)
 
       at_end : (l : ℕ) (s : ℕ) → IsDone (length column) lid w.marks l s ⊎ ((l ≡ level) × (next ≡ Some s))
           → IsDone (length column) lid w.marks l s
@@ -366,6 +367,18 @@ module _ (said : LanesSaid) (cells : Cells) (column : List (Option Edge)) (lid :
           elim (h.begun s (sym starts.1 ∙ e)) [ inl d ↦ d | inr n ↦ no_more s n ] in
           subst (λ (k : ℕ). IsDone (length column) lid w.marks k s) (sym starts.0) there
 
+  -- a stop from which to go on
+  pub left_over : (level : ℕ) (marks : List ℕ) (next : Option ℕ) (stop : ℕ) → not_done (length column) lid marks level next ≡ Some stop
+      → (next ≡ Some stop) × (stop < 256 * length column)
+  left_over level marks None stop e = absurd (cc)
+  left_over level marks (Some s) stop e =
+      by (nat_le (256 * length column) s) (slice_index_or marks (mark_number level s) 0 == lid) refl e
+    where
+      by : (a b : Bool) → nat_le (256 * length column) s ≡ a → cond (a || b) None (Some s) ≡ Some stop → (Some s ≡ Some stop) × (stop < 256 * length column)
+      by true b q k = absurd (cc)
+      by false true q k = absurd (cc)
+      by false false q k = let same = same_Some s stop k in let less = leb-false (256 * length column) s q in (k, omega arith)
+
   -- packets of a level, if there is one
   pub followed_at : (level : ℕ) (first : Option ℕ) (o : Option ℕ) (old new : Walked) → o ≡ Some level
       → AreFollowed said cells column lid (Begins level first) old new → AreFollowed said cells column lid (BeginsIf o first) old new
@@ -376,3 +389,43 @@ module _ (said : LanesSaid) (cells : Cells) (column : List (Option Edge)) (lid :
   pub followed_at_none : (first : Option ℕ) (o : Option ℕ) (w : Walked) → o ≡ None → AreFollowed said cells column lid (BeginsIf o first) w w
   followed_at_none first o w none = none_followed (BeginsIf o first) w (λ l b a. (let some = a.0 in
       cc))
+
+-- what a packet takes in turn is recorded
+module _ (said : LanesSaid) (cells : Cells) (column : List (Option Edge)) (level stop : ℕ) (old new : List (List ℕ)) where
+  pub with_turn : (turn : LaneTurn) → IsLaneTurn said cells column level stop turn → IsWith old turn.channel turn.next new
+      → IsWithTurn said cells column level stop old new
+  with_turn turn is with_it = record { as_many = with_it.as_many; follows = λ a b. ((λ f. there a b ((with_it.follows a b).0 f)), back a b) }
+    where
+      there : (a b : ℕ) → Follows old a b ⊎ ((a ≡ turn.channel) × (b ≡ turn.next)) → Follows old a b ⊎ TakesByLane said cells column level stop a b
+      there a b (inl f) = inl f
+      there a b (inr e) =
+          let one = subst (λ (n : ℕ). TakesByLane said cells column level stop n turn.next) (sym e.0) is.takes in
+          inr (subst (λ (n : ℕ). TakesByLane said cells column level stop a n) (sym e.1) one)
+
+      back : (a b : ℕ) → Follows old a b ⊎ TakesByLane said cells column level stop a b → Follows new a b
+      back a b (inl f) = (with_it.follows a b).1 (inl f)
+      back a b (inr t) =
+          let that = is.takes in
+          let one : t.first ≡ that.first = same_Some t.first that.first (sym t.leaves ∙ that.leaves) in
+          let to : t.first.to ≡ that.first.to = ap (λ (e : Edge). e.to) one in
+          let two : t.second ≡ that.second =
+          same_Some t.second that.second (sym t.leaves_there ∙ ap (λ (v : ℕ). slice_index_or column v None) to ∙ that.leaves_there) in
+          let channel : a ≡ turn.channel =
+          t.channel_is ∙ (λ i. lane_number (stop / 256) (one i).port (lane_by said cells level stop (one i))) ∙ sym that.channel_is in
+          let next : b ≡ turn.next =
+          t.next_is ∙ (λ i. lane_number (to i) (two i).port (lane_between said cells level (to i) (port_across cells (stop / 256) (one i).port) (two i).port))
+          ∙ sym that.next_is in
+          (with_it.follows a b).1 (inr (channel, next))
+
+  pub no_turn : TakesNone said cells column level stop → new ≡ old → IsWithTurn said cells column level stop old new
+  no_turn none same = record {
+    as_many = ap length same;
+    follows = λ a b. (
+      λ f. inl (subst (λ (xs : List (List ℕ)). Follows xs a b) same f),
+      back a b,
+    );
+  }
+    where
+      back : (a b : ℕ) → Follows old a b ⊎ TakesByLane said cells column level stop a b → Follows new a b
+      back a b (inl f) = subst (λ (xs : List (List ℕ)). Follows xs a b) (sym same) f
+      back a b (inr t) = absurd (none a b t)

@@ -1,6 +1,6 @@
 -- Where packets come in at usable switches, and where they go from there. A stop is a port by which packets come in at a
 -- usable switch: its number is 256 times the switch's index, plus the port, which is 0 for the switch's own packets.
-use Rattle.std.specs.Prelude.{ℕ, zero, suc, ◌/◌, ◌%◌, ◌+◌, ◌*◌, List, Option, None, Some, nat_lt, option_and_then, slice_get, slice_index_or, if◌then◌else◌}
+use Rattle.std.specs.Prelude.{ℕ, zero, suc, ◌/◌, ◌%◌, ◌+◌, ◌*◌, ◌&&◌, List, Option, None, Some, length, nat_lt, option_and_then, slice_get, slice_index_or, if◌then◌else◌}
 use Rattle.std.specs.Option.{option_map_or}
 use Rattle.port_graph.specs.declared.edge.Edge.{Edge}
 use Rattle.subnet_view.specs.Reading.{Cells, switches}
@@ -68,16 +68,16 @@ lane_number index out lane = 16 * (256 * index + out) + lane
 abbrev pub port_across : Cells → ℕ → ℕ → ℕ
 port_across cells index out = far_port_by cells (256 * index + out)
 
--- where a packet at `stop` goes along `edge`, unless it is dropped
-abbrev pub carried : LanesSaid → Cells → ℕ → ℕ → Edge → Option ℕ
-carried said cells level stop edge =
-    if nat_lt (lane_by said cells level stop edge) 15
+-- where a packet at `stop` goes along `edge`, unless it is dropped; `count` is the number of switches
+abbrev pub carried : LanesSaid → Cells → ℕ → ℕ → ℕ → Edge → Option ℕ
+carried said cells count level stop edge =
+    if nat_lt edge.to count && nat_lt (lane_by said cells level stop edge) 15
     then Some (stop_at edge.to (port_across cells (stop / 256) edge.port)) else None
 
 -- the next stop of a packet at `stop`, by the edges of its LID; None if it goes to no other switch
 abbrev pub next_stop : LanesSaid → Cells → List (Option Edge) → ℕ → ℕ → Option ℕ
 next_stop said cells column level stop =
-    option_and_then (carried said cells level stop) (slice_index_or column (stop / 256) None)
+    option_and_then (carried said cells (length column) level stop) (slice_index_or column (stop / 256) None)
 
 -- where a packet is after `count` stops more
 abbrev pub stop_after : LanesSaid → Cells → List (Option Edge) → ℕ → ℕ → Option ℕ → Option ℕ

@@ -7,6 +7,8 @@ use Rattle.held_tables.specs.Held.{HeldPlan}
 use Rattle.packet_walks.specs.Edges.{edges_of}
 use Rattle.port_graph.specs.declared.edge.Edge.{Edge}
 use Rattle.audit_channels.specs.Orders.{Follows}
+use Rattle.audit_channels.specs.declared.order.ChannelOrder.{ChannelOrder}
+use Rattle.audit_channels.specs.declared.order.ChannelOrder.TheVariants.{Rises, Cycle}
 use Rattle.lane_channels.specs.declared.stop.Dropped.{Dropped}
 use Rattle.lane_channels.specs.LaneNetwork.{SeenByLane}
 use Rattle.lane_channels.specs.Senders.{SentFor}
@@ -52,6 +54,11 @@ WaitOn s answers channel (next ∷ later) last = WaitsByLane s answers channel n
 abbrev pub WaitInCycle : SeenByLane → Bool → List ℕ → Type 0
 WaitInCycle s answers [] = ⊥
 WaitInCycle s answers (channel ∷ later) = WaitOn s answers channel later channel
+
+-- the channels of a cycle; none if numbers rise
+abbrev pub cycle_in : ChannelOrder → List ℕ
+cycle_in (Rises numbers) = []
+cycle_in (Cycle channels) = channels.items
 
 -- the channels are a credit loop; there is none if the list is empty
 abbrev pub IsLaneCycle : SeenByLane → Bool → List ℕ → Type 0

@@ -128,11 +128,15 @@ pub record IsDroppedNow (said : LanesSaid) (cells : Cells) (column : List (Optio
   pub some : (d : Dropped) → new ≡ Some d
       → (noted ≡ Some d) ⊎ ((d.lid ≡ lid) × (d.level ≡ level) × (d.stop ≡ stop) × DropsBefore said cells column level stop d.out)
 
+-- `new` is `old`, with the channels that a packet of `level` takes from the stop on one after the other
+pub record IsWithTurn (said : LanesSaid) (cells : Cells) (column : List (Option Edge)) (level stop : ℕ)
+    (old new : List (List ℕ)) : Type 0 where
+  pub as_many : length new ≡ length old
+  pub follows : (a b : ℕ) → Follows new a b ↔ (Follows old a b ⊎ TakesByLane said cells column level stop a b)
+
 -- the stop is marked, and what a packet of `level` takes from there in turn, and whether it is dropped, is kept
 pub record IsVisit (said : LanesSaid) (cells : Cells) (column : List (Option Edge)) (lid level : ℕ) (stop : ℕ)
     (old new : Walked) : Type 0 where
-  pub as_many : length new.waits ≡ length old.waits
   pub marks : new.marks ≡ slice_set old.marks (mark_number level stop) lid
-  pub follows : (a b : ℕ) → Follows new.waits a b
-      ↔ (Follows old.waits a b ⊎ TakesByLane said cells column level stop a b)
+  pub turn : IsWithTurn said cells column level stop old.waits new.waits
   pub dropped : IsDroppedNow said cells column lid level stop old.dropped new.dropped

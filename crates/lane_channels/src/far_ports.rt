@@ -1,11 +1,11 @@
 //! The ports at the far ends of wires.
-ghost use Rattle.std.specs.Prelude.{◌≡◌, ◌<◌, ◌+◌, ◌*◌, ◌^◌, IfOk, length, map};
+ghost use Rattle.std.specs.Prelude.{◌≡◌, ◌<◌, ◌+◌, ◌*◌, ◌^◌, ℕ, IfOk, None, Some, length, map};
 ghost use Rattle.std.specs.List.{range_with_len};
 ghost use Rattle.fact_store.specs.View.{cells_of};
 ghost use Rattle.subnet_view.specs.EndPorts.{end_ports};
 ghost use Rattle.subnet_view.specs.Reading.{switches};
-ghost use Rattle.lane_channels.specs.Stops.{far_port, far_port_by, first_stop, stop_at, stop_from};
-ghost use Rattle.held_tables.specs.Switches.{sender_of};
+ghost use Rattle.lane_channels.specs.Stops.{far_port, far_port_by, first_stop, stop_at, stop_by, stop_from};
+ghost use Rattle.held_tables.specs.Switches.{first_switch, switch_over};
 
 use held_tables::{Far, Sender};
 use packet_walks::Network;
@@ -20,11 +20,12 @@ pub(crate) fn far_ports(
     network: &Network,
     wires: &Wires,
 ) -> Result<Vec<PortNum>, AllocError>
-    requires { cells_of wires.now ≡ cells_of network.now.facts }
+    requires wires { cells_of wires.now ≡ cells_of network.now.facts }
+    requires room { 256 * length (switches (cells_of network.now.facts)) < 2 ^ 64 }
     ensures { IfOk result (λ ports. ports.items ≡ map (far_port_by (cells_of network.now.facts))
         (range_with_len 0 (256 * length (switches (cells_of network.now.facts))))) }
 {
-    let count = network.switch_count().checked_mul(256).ok_or(AllocError)?;
+    let count = 256 * network.switch_count();
     let mut ports = Vec::with_capacity(alloc, count)?;
     for number in 0..count {
         ports.push(far_port_by(network, wires, number))?;
@@ -60,7 +61,8 @@ pub(crate) fn first_stops(
     network: &Network,
     wires: &Wires,
 ) -> Result<Vec<Option<usize>>, AllocError>
-    requires { cells_of wires.now ≡ cells_of network.now.facts }
+    requires wires { cells_of wires.now ≡ cells_of network.now.facts }
+    requires room { 256 * length (switches (cells_of network.now.facts)) < 2 ^ 64 }
     ensures { IfOk result (λ firsts. firsts.items ≡ map (first_stop (cells_of network.now.facts))
         (end_ports (cells_of network.now.facts))) }
 {
@@ -73,13 +75,26 @@ pub(crate) fn first_stops(
 
 /// Returns the stop at which the packets of `source` first reach a usable switch, or `None` if they reach none.
 fn first_stop(wires: &Wires, source: &Sender) -> Option<usize>
+    requires { (index : ℕ) → first_switch source.now ≡ Some index → 256 * index + 256 < 2 ^ 64 + 1 }
     ensures { result ≡ stop_from source.now (far_port (cells_of wires.now) source.now.port.node source.now.port.port) }
 {
-    let port = far_port(wires, source.port.node, source.port.port);
-    match (source.switch, source.far) {
-        (Some(index), _) => Some(stop_at(index, PortNum::new(0))),
-        (None, Far::Switch(index)) => Some(stop_at(index, port)),
-        (None, _) => None,
+    match source.switch {
+        Some(index) => Some(stop_at(index, PortNum::new(0))),
+        None => {
+            let port = far_port(wires, source.port.node, source.port.port);
+            stop_over(source.far, port)
+        }
+    }
+}
+
+/// Returns the stop at `port` of the usable switch to which a wire leads, or `None` if it leads to none.
+fn stop_over(far: Far, port: PortNum) -> Option<usize>
+    requires { (index : ℕ) → switch_over far ≡ Some index → 256 * index + 256 < 2 ^ 64 + 1 }
+    ensures { result ≡ stop_by None far port }
+{
+    match far {
+        Far::Switch(index) => Some(stop_at(index, port)),
+        _ => None,
     }
 }
 

@@ -17,7 +17,7 @@ use lanes_file::Lanes;
 use packet_walks::Network;
 use port_graph::Edge;
 use smp_bytes::{Guid, Lid, PortNum};
-use std::alloc::Global;
+use std::alloc::{AllocError, Global};
 use std::marker::Model;
 use subnet_view::Wires;
 
@@ -56,6 +56,7 @@ impl<'a> LaneNetwork<'a> {
         ensures said { IfOk result (λ by_lane. by_lane.said ≡ lanes.now) }
     {
         let wires = Wires::of(alloc, network.store())?;
+        network.switch_count().checked_mul(256).ok_or(AllocError)?;
         let far_ports = far_ports(alloc, network, &wires)?;
         let firsts = first_stops(alloc, network, &wires)?;
         let held_by = held_by(alloc, network)?;
@@ -134,6 +135,9 @@ impl<'a> LaneNetwork<'a> {
         let edge = edge_of(column, at)?;
         let out = edge.port;
         let to = edge.to;
+        if column.len() <= to {
+            return None;
+        }
         self.lane(level, at, into, out)?;
         let port = self.port_across(at, out);
         Some(stop_at(to, port))

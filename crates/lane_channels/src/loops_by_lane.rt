@@ -1,5 +1,5 @@
-ghost use Rattle.std.specs.Prelude.{IfOk};
-ghost use Rattle.lane_channels.specs.Waiting.{IsLaneCycle, IsSomeDrop, NoneShorter};
+ghost use Rattle.std.specs.Prelude.{◌≡◌, IfOk};
+ghost use Rattle.lane_channels.specs.Waiting.{IsLaneCycle, IsSomeDrop, NoneShorter, cycle_in};
 
 use crate::lane_network::LaneNetwork;
 use crate::waits_by_lane::lane_waits;
@@ -20,7 +20,6 @@ pub struct LaneOrder {
 /// Finds a shortest credit loop of channels by lane, and a packet that is dropped for want of a lane. If `answers` is
 /// set, packets that answer others also have the level of what they answer. Takes what `lane_waits` and
 /// `order_channels` take.
-#[tactic(auto, using(crate::proofs::Orders::cycle_is, crate::proofs::Orders::shortest_is))]
 pub fn lane_order(
     alloc: Global,
     by_lane: &LaneNetwork,
@@ -31,12 +30,18 @@ pub fn lane_order(
     ensures dropped { IfOk result (λ found. IsSomeDrop by_lane.now answers found.dropped) }
 {
     let found = lane_waits(alloc, by_lane, answers)?;
-    let cycle = match order_channels(alloc, &found.waits)? {
+    let order = order_channels(alloc, &found.waits)?;
+    let cycle = cycle_in(alloc, order);
+    let dropped = found.dropped;
+    Ok(LaneOrder { cycle, dropped })
+}
+
+/// Returns the channels of a cycle, or none if numbers rise.
+fn cycle_in(alloc: Global, order: ChannelOrder) -> Vec<usize>
+    ensures { result.items ≡ cycle_in order }
+{
+    match order {
         ChannelOrder::Rises(_) => Vec::new(alloc),
         ChannelOrder::Cycle(channels) => channels,
-    };
-    Ok(LaneOrder {
-        cycle,
-        dropped: found.dropped,
-    })
+    }
 }

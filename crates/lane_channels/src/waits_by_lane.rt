@@ -1,5 +1,7 @@
 //! The channels by lane that packets take one after the other.
-ghost use Rattle.std.specs.Prelude.{◌≡◌, ◌<◌, ◌≤◌, ◌*◌, ◌^◌, IfOk, IfSome, OnOk, length};
+ghost use Rattle.std.specs.Prelude.{◌≡◌, ◌<◌, ◌≤◌, ◌*◌, ◌^◌, IfOk, IfSome, OnOk, Some, length, slice_get};
+ghost use Rattle.std.specs.Option.{option_map};
+ghost use Rattle.lane_channels.specs.LaneNetwork.{lists_of};
 ghost use Rattle.fact_store.specs.View.{cells_of};
 ghost use Rattle.subnet_view.specs.EndPorts.{end_ports};
 ghost use Rattle.subnet_view.specs.Reading.{switches};
@@ -13,6 +15,7 @@ use crate::lane_network::LaneNetwork;
 use crate::stop::Dropped;
 use crate::walk::{Column, Walks, walk};
 use audit_channels::Waits;
+use held_tables::Sender;
 use lanes_file::Lanes;
 use smp_bytes::Lid;
 use std::alloc::{AllocError, Global};
@@ -116,15 +119,39 @@ fn follow_sender(
     ensures { OnOk result (AreFollowed by_lane.now.said (cells_of by_lane.now.seen.facts) column.now.edges.items
         column.now.lid (SentFrom by_lane.now answers column.now.lid index) (walked walks.old) (walked walks.new)) }
 {
-    let first = by_lane.firsts()[index];
-    let port = &by_lane.network().sources()[index].port;
+    let first = first_at(by_lane.firsts(), index);
+    let port = port_at(by_lane.network().sources(), index);
     let level = level_from(by_lane.lanes(), port, column.lid);
     walk_at_level(by_lane, column, level, first, walks)?;
     if !answers {
         return Ok(());
     }
-    let lids = &by_lane.held_by()[index];
+    let lids = lids_at(by_lane.held_by(), index);
     follow_answers(by_lane, column, owners, lids, first, walks)
+}
+
+/// Returns the first stop at `index`.
+fn first_at(firsts: &[Option<usize>], index: usize) -> Option<usize>
+    requires { index < length firsts.now }
+    ensures { slice_get firsts.now index ≡ Some result }
+{
+    firsts[index]
+}
+
+/// Returns the end port of the sender at `index`.
+fn port_at(sources: &[Sender], index: usize) -> &EndPort
+    requires { index < length sources.now }
+    ensures { option_map (λ s. s.port) (slice_get sources.now index) ≡ Some result.now }
+{
+    &sources[index].port
+}
+
+/// Returns the LIDs at `index`.
+fn lids_at(held_by: &[Vec<Lid>], index: usize) -> &[Lid]
+    requires { index < length held_by.now }
+    ensures { slice_get (lists_of held_by.now) index ≡ Some result.now }
+{
+    &held_by[index]
 }
 
 /// Follows a packet of `level` from `first` on, or none if there is no level.

@@ -1,8 +1,8 @@
 //! Packets followed from stop to stop.
-ghost use Rattle.std.specs.Prelude.{◌≡◌, ◌<◌, ◌≤◌, ◌+◌, ◌*◌, ◌^◌, OnOk, length, slice_index_or};
+ghost use Rattle.std.specs.Prelude.{◌≡◌, ◌<◌, ◌≤◌, ◌+◌, ◌*◌, ◌^◌, OnOk, length, slice_index_or, slice_set};
 ghost use Rattle.fact_store.specs.View.{cells_of};
 ghost use Rattle.subnet_view.specs.Reading.{switches};
-ghost use Rattle.lane_channels.specs.Walks.{AreFollowed, Begins, IsDroppedNow, IsVisit, is_done, mark_number, not_done, walked};
+ghost use Rattle.lane_channels.specs.Walks.{AreFollowed, Begins, IsDroppedNow, IsVisit, IsWithTurn, is_done, mark_number, not_done, walked};
 
 use crate::lane_network::LaneNetwork;
 use crate::stop::Dropped;
@@ -80,12 +80,38 @@ fn visit(
     ensures { OnOk result (IsVisit by_lane.now.said (cells_of by_lane.now.seen.facts) column.now.edges.items
         column.now.lid level stop (walked walks.old) (walked walks.new)) }
 {
-    walks.marks[mark_number(level, stop)] = column.lid.number();
-    if let Some(turn) = by_lane.turn(&column.edges, level, stop) {
-        walks.waits.add(turn.channel, turn.next)?;
-    }
+    mark(&mut walks.marks, mark_number(level, stop), column.lid);
+    record(by_lane, column, level, stop, &mut walks.waits)?;
     walks.dropped = dropped_now(by_lane, column, level, stop, walks.dropped);
     Ok(())
+}
+
+/// Sets the mark at `number` to `lid`.
+fn mark(marks: &mut [u16], number: usize, lid: Lid)
+    requires { number < length marks.old }
+    ensures { marks.new ≡ slice_set marks.old number lid }
+{
+    marks[number] = lid.number();
+}
+
+/// Records the channels that a packet of `level` takes from `stop` on one after the other.
+fn record(
+    by_lane: &LaneNetwork,
+    column: &Column,
+    level: u8,
+    stop: usize,
+    waits: &mut Waits,
+) -> Result<(), AllocError>
+    requires column { length column.now.edges.items ≡ length (switches (cells_of by_lane.now.seen.facts)) }
+    requires room { 4096 * length column.now.edges.items < 2 ^ 64 }
+    requires waits { length waits.old ≡ 4096 * length column.now.edges.items }
+    ensures { OnOk result (IsWithTurn by_lane.now.said (cells_of by_lane.now.seen.facts) column.now.edges.items
+        level stop waits.old waits.new) }
+{
+    match by_lane.turn(&column.edges, level, stop) {
+        Some(turn) => waits.add(turn.channel, turn.next),
+        None => Ok(()),
+    }
 }
 
 /// Returns `noted`, or else the packet of `level` at `stop`, if it is dropped there.

@@ -6,4 +6,4 @@ use Rattle.lane_channels.proofs.walk.walk.Given as goal
 
 abbrev pub invariant-loop-step : goal.invariant-loop-step
 invariant-loop-step l =
-    InWalk l.by_lane.said (cells_of l.by_lane.seen.facts) l.column.edges.items l.column.lid l.level l.first l.next (walked l.fn.walks) (walked l.walks)
+    InWalk l.by_lane.said (cells_of l.by_lane.seen.facts) l.column.edges.items l.column.lid l.level l.fn.first l.next (walked l.fn.walks) (walked l.walks)
