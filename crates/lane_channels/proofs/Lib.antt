@@ -1,3 +1,4 @@
+pub mod Fabrics
 pub mod LaneLaws
 pub mod LidWaits
 pub mod Orders
