@@ -1,3 +1,4 @@
+pub mod Fabrics
 pub mod FarPorts
 pub mod LaneLaws
 pub mod LidWaits

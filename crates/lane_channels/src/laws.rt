@@ -1,4 +1,5 @@
 //! The laws of channels by lane.
+ghost use Rattle.lane_channels.specs.Fabrics.{LaneChannelsRise};
 ghost use Rattle.lane_channels.specs.LaneLaws.{NeverBothByLane, OneLaneSuffices};
 
 /// If numbers of channels rise on one lane, numbers of channels by lane rise, whatever the lanes and service levels are.
@@ -11,4 +12,12 @@ pub fn one_lane_suffices()
 #[tactic(auto, using(crate::proofs::LaneLaws::never_both_by_lane))]
 pub fn never_both_by_lane()
     ensures law { NeverBothByLane }
+{}
+
+/// If numbers of channels by lane rise by facts, tables and lanes, the facts describe all that is joined to an end port
+/// of a fabric, and the end ports and switches there hold the tables and the lanes, each packet that such an end port
+/// sends, for any LID and at its own service level or that of a packet that it answers, and that is not dropped, takes
+/// channels by lane with rising numbers, wire after wire.
+pub fn lane_channels_rise()
+    ensures law { LaneChannelsRise }
 {}
