@@ -1,8 +1,8 @@
 -- In a fabric that facts describe and that holds tables and lanes, packets take channels by lane from stop to stop.
-use Rattle.std.proofs.Common.{◌≡◌, ◌≢◌, ℕ, zero, suc, ◌<◌, ◌≤◌, ◌+◌, ◌*◌, ◌/◌, ◌%◌, Bool, true, false, cond, ◌||◌, List, [], ◌∷◌, Option, None, Some, refl, sym, ap, ◌∙◌, subst, arith}
-use Rattle.std.specs.Prelude.{Contains, is_some, slice_get, slice_index_or, map, nat_lt, option_and_then, ◌==◌}
+use Rattle.std.proofs.Common.{◌≡◌, ◌≢◌, ℕ, zero, suc, ◌<◌, ◌≤◌, ◌+◌, ◌*◌, ◌/◌, ◌%◌, Bool, true, false, cond, ◌||◌, List, [], ◌∷◌, Option, None, Some, length, refl, sym, ap, ◌∙◌, subst, arith}
+use Rattle.std.specs.Prelude.{Contains, is_some, slice_get, slice_index_or, map, nat_lt, option_and_then, ◌==◌, ◌&&◌}
 use Rattle.std.specs.Option.{option_map_or}
-use Rattle.std.proofs.lemmas.Bool.{lt-ltb}
+use Rattle.std.proofs.lemmas.Bool.{and_from, lt-ltb}
 use Rattle.std.proofs.lemmas.Option.{same_Some, get_or_from_slice_get, slice_get-get_or}
 use Rattle.fabric_model.specs.declared.cable.NodePort.{NodePort}
 use Rattle.fabric_model.specs.declared.course.Course.{Course}
@@ -32,6 +32,7 @@ use Rattle.packet_walks.proofs.FabricParts.{indexed, listed, wire_told, switch_e
 use Rattle.packet_walks.proofs.FarRows.{has, row_at}
 use Rattle.packet_walks.proofs.Told.{IsClosed, switch_goes, joined_closed}
 use Rattle.audit_channels.specs.Fabrics.{IsChannel}
+use Rattle.audit_channels.proofs.Waiting.{column_long}
 use Rattle.lane_channels.specs.Fabrics.{HoldLanes, IsCarried, IsLaneChannel, LaneChannelsRise, LaneMaps, came_by, lane_at}
 use Rattle.lanes_file.specs.Lanes.{lane_of}
 use Rattle.lane_channels.specs.LaneNetwork.{SeenByLane}
@@ -39,6 +40,7 @@ use Rattle.lane_channels.specs.LaneTurns.{TakesByLane}
 use Rattle.lane_channels.specs.Levels.{HasLevel}
 use Rattle.lane_channels.specs.Stops.{carried, far_port, first_stop, lane_between, lane_by, lane_number, next_stop, port_across, port_in, stop_after, stop_at, stop_by}
 use Rattle.lane_channels.specs.Waiting.{WaitsByLane, column_for}
+use Rattle.lane_channels.proofs.FarPorts.{index_below}
 
 -- the switch and the port of a stop
 stop_switch : (index port : ℕ) → port ≤ 254 → (256 * index + port) / 256 ≡ index
@@ -271,8 +273,13 @@ module _ (s : SeenByLane) (f : Fabric) (part : Part) (seen : IsSeenIn part (cell
       let edge : Edge = record { port = hop.out.port; to = x.far } in
       let lane : lane_by s.said cells level stop edge ≡ vl hop.out.node came hop.out.port level =
       (λ i. lane_between s.said cells level (q i) (r i) hop.out.port) ∙ sym (x.lane came) in
-      let on : nat_lt (lane_by s.said cells level stop edge) 15 ≡ true = lt-ltb _ 15 (subst (λ l. l < 15) (sym lane) less) in
-      ap (option_and_then (carried s.said cells level stop)) (ap (λ i. slice_index_or column i None) q ∙ x.edge)
+      let there = index_below (switches cells) to.guid x.far x.far_is in
+      let long : length column ≡ length (switches cells) = column_long cells s.seen.held lid in
+      let below : nat_lt x.far (length column) ≡ true = lt-ltb x.far (length column) (omega arith) in
+      let not_dropped : nat_lt (lane_by s.said cells level stop edge) 15 ≡ true = lt-ltb _ 15 (subst (λ l. l < 15) (sym lane) less) in
+      let on : (nat_lt x.far (length column) && nat_lt (lane_by s.said cells level stop edge) 15) ≡ true =
+      and_from (nat_lt x.far (length column)) (nat_lt (lane_by s.said cells level stop edge) 15) below not_dropped in
+      ap (option_and_then (carried s.said cells (length column) level stop)) (ap (λ i. slice_index_or column i None) q ∙ x.edge)
       ∙ ap (λ t. cond t (Some (stop_at x.far (port_across cells (stop / 256) hop.out.port))) None) on
       ∙ ap (λ i. Some (stop_at x.far (port_across cells i hop.out.port))) q
       ∙ ap (λ p. Some (stop_at x.far p)) x.port

@@ -47,7 +47,7 @@ port_there cells ports number are =
           same ∙ past_range (far_port_by cells) count 0 number past ∙ sym (ap (λ (o : Option ℕ). option_map_or (λ g. far_port cells g (number % 256)) o 0) none)
     ]
 
-index_below : (guids : List ℕ) (g i : ℕ) → index_in guids g ≡ Some i → i < length guids
+pub index_below : (guids : List ℕ) (g i : ℕ) → index_in guids g ≡ Some i → i < length guids
 index_below guids g i e = (position-Some (λ x. x == g) guids i 0 e).0
 
 far_within : (cells : Cells) (g p i : ℕ) → far_of cells g p ≡ Switch i → i < length (switches cells)
@@ -120,4 +120,3 @@ pub sender_at : (cells : Cells) (sources : List Sender) (i : ℕ) (source : Send
     → source ≡ get_or sources i source → (e : EndPort) × (slice_get (end_ports cells) i ≡ Some e) × (source.port ≡ e)
 sender_at cells sources i source are less is =
     let s = sender_is cells sources i source are less is in (s.0, s.1, ap (λ (x : Sender). x.port) s.2)
-

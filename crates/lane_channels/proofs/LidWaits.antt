@@ -202,8 +202,11 @@ module _ (s : SeenByLane) (answers : Bool) where
     pub all_waits : AreLaneWaits s answers w.waits
     all_waits = record {
       as_many = h.as_many;
-      follows = λ a b. ((λ f. (let t = (h.follows a b).0 f in
-          record { lid = t.lid; is_lid = t.low; takes = t.takes })), (λ t. (h.follows a b).1 (back a b t)));
+      follows = λ a b. (
+        (λ f. (let t = (h.follows a b).0 f in
+            record { lid = t.lid; is_lid = t.low; takes = t.takes })),
+        (λ t. (h.follows a b).1 (back a b t)),
+      );
     }
 
     none_at_all : w.dropped ≡ None → (d : Dropped) → IsDroppedByLane s answers d → ⊥

@@ -78,13 +78,13 @@ module _ (said : LanesSaid) (cells : Cells) (column : List (Option Edge)) (lid :
   pub no_lids : (asker : EndPort) (lids : List ℕ) (first : Option ℕ) → AreFollowed said cells column lid (AnswersOf said asker lids 0 first) old old
   no_lids asker lids first =
       none_followed said cells column lid (AnswersOf said asker lids 0 first) old (λ l b a. (let below = a.below in
-          omega arith))
+      omega arith))
 
   pub no_owners : (owners : List EndPort) (lids : List ℕ) (first : Option ℕ)
       → AreFollowed said cells column lid (AnswersToSome said owners lids 0 first) old old
   no_owners owners lids first =
       none_followed said cells column lid (AnswersToSome said owners lids 0 first) old (λ l b a. (let below = a.below in
-          omega arith))
+      omega arith))
 
 module _ (said : LanesSaid) (cells : Cells) (column : List (Option Edge)) (lid : ℕ) (old w new : Walked) where
   -- one LID more
@@ -178,22 +178,24 @@ module _ (said : LanesSaid) (cells : Cells) (column : List (Option Edge)) (lid :
 
       to : (l : ℕ) (b : Option ℕ) → AnswersToSome said owners lids (length owners) first l b → AnswersTo said owners lids first l b
       to l b a =
-          let k = a.answers in
-          (k.begins, record {
-            asker = a.asker;
-            nth = a.nth;
-            asker_is = a.asker_is;
-            asked = k.asked;
-            index = k.index;
-            asked_is = k.asked_is;
-            level_is = k.level_is;
-          })
+          let k = a.answers in (
+            k.begins,
+            record {
+              asker = a.asker;
+              nth = a.nth;
+              asker_is = a.asker_is;
+              asked = k.asked;
+              index = k.index;
+              asked_is = k.asked_is;
+              level_is = k.level_is;
+            },
+          )
 
 pub no_senders : (s : SeenByLane) (answers : Bool) (column : List (Option Edge)) (lid : ℕ) (w : Walked)
     → AreFollowed s.said (cells_of s.seen.facts) column lid (SentBySome s answers lid 0) w w
 no_senders s answers column lid w =
     none_followed s.said (cells_of s.seen.facts) column lid (SentBySome s answers lid 0) w (λ l b a. (let below = a.below in
-        omega arith))
+    omega arith))
 
 module _ (s : SeenByLane) (answers : Bool) (column : List (Option Edge)) (lid : ℕ) (old w new : Walked) where
   abbrev cells : Cells
@@ -239,8 +241,7 @@ module _ (s : SeenByLane) (answers : Bool) (column : List (Option Edge)) (lid : 
 
     has_level : (l : ℕ) (b : Option ℕ) → SentFrom s answers lid index l b → HasLevel s.said answers s.seen.held source lid l × (b ≡ first)
     has_level l b a =
-        let same = same_source a.source a.source_is in
-        (
+        let same = same_source a.source a.source_is in (
           subst (λ (e : EndPort). HasLevel s.said answers s.seen.held e lid l) same a.has_level,
           a.begins ∙ ap (first_stop cells) same ∙ sym first_is,
         )

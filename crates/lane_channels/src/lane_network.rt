@@ -8,10 +8,10 @@ ghost use Rattle.lane_channels.specs.LaneNetwork.{lists_of};
 ghost use Rattle.lane_channels.specs.Levels.{lids_held};
 ghost use Rattle.lane_channels.specs.LaneTurns.{DropsBefore, DropsNone, IsLaneTurn, TakesNone};
 
-use audit_channels::edge_of;
 use crate::far_ports::{far_ports, first_stops, stop_at};
 use crate::held_by::held_by;
 use crate::stop::LaneTurn;
+use audit_channels::edge_of;
 use fact_store::Refused;
 use lanes_file::Lanes;
 use packet_walks::Network;

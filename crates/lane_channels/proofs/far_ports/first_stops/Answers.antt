@@ -16,8 +16,8 @@ first_stop-requires c =
     sender_is cells c.sources-source-items.result.now c.loop-source.source-index c.source-item.result c.sources-source-items.ensures (omega arith)
     c.source-item.is in
     λ index is. (
-        let less = first_below cells s.0 index (ap first_switch (sym s.2) ∙ is) in
-        omega arith)
+    let less = first_below cells s.0 index (ap first_switch (sym s.2) ∙ is) in
+    omega arith)
 
 pub loop-source-preserved : goal.loop-source-preserved
 loop-source-preserved c =
