@@ -1,7 +1,7 @@
 -- When all packets arrive, and channels can be numbered.
 use Rattle.std.proofs.Common.{◌≡◌, ◌+◌, ℕ, List, [], ◌∷◌, refl, sym, ap, ◌∙◌, subst, arith, inl, inr, Bool, true, false, cond, length}
-use Rattle.std.specs.Prelude.{Contains, Some, IsTrue, ◌↔◌, ◌&&◌, ◌==◌, count_by, filter}
-use Rattle.std.proofs.lemmas.Bool.{and_parts, and_from, eqb-true, eq-eqb}
+use Rattle.std.specs.Prelude.{Contains, Some, IsTrue, ◌↔◌, ◌==◌, count_by, filter}
+use Rattle.std.proofs.lemmas.Bool.{eqb-true, eq-eqb}
 use Rattle.std.proofs.lemmas.List.Sums.{sum_by-cons, count_by-le-length}
 use Rattle.fact_store.specs.View.{cells_of}
 use Rattle.subnet_view.specs.declared.end_port.EndPort.{EndPort}
@@ -27,7 +27,7 @@ use Rattle.audit_counts.specs.declared.sent_packet.SentPacket.{SentPacket}
 use Rattle.audit_counts.specs.declared.packet_tally.PacketTally.{PacketTally}
 use Rattle.audit_counts.specs.declared.unmatched.Unmatched.{Unmatched}
 use Rattle.audit_counts.specs.Packets.{arrives, packet_of, packets_for, packets_of, sent_to}
-use Rattle.audit_report.specs.Passing.{EachArrives, CanRise, IsSound, IsCycle, IsFound}
+use Rattle.audit_report.specs.Passing.{EachArrives, CanRise, IsCycle, IsFound}
 use Rattle.audit_counts.specs.Sites.{in_one_component}
 
 -- counting all ------------------------------------------------------------------------
@@ -127,24 +127,12 @@ module _ (cells : Cells) (held : HeldPlan) where
   can_rise [] h e = h
   can_rise (channel ∷ later) h e = absurd (omega arith)
 
-pub sound_is : (most : ℕ) (seen : Seen) (tally : PacketTally) (unmatched : Unmatched) (count : ℕ) (ways : WayFigures) (cycle : List ℕ) (b : Bool)
-    → IsFound most seen tally unmatched count ways cycle
-    → b ≡ ((tally.all.arrived == tally.all.sent) && (length cycle == 0)) → IsTrue b ↔ IsSound (cells_of seen.facts) seen.held
-sound_is most seen tally unmatched count ways cycle b found is =
-    let cells = cells_of seen.facts in
-    let held = seen.held in
-    let counted = found.counted.all in (
-      λ t.
-          let parts = and_parts (tally.all.arrived == tally.all.sent) (length cycle == 0) (sym is ∙ t) in
-          let same : tally.all.arrived ≡ tally.all.sent = eqb-true tally.all.arrived tally.all.sent parts.0 in
-          record {
-            arrive = arrive_all cells held (sym counted.arrived ∙ same ∙ counted.sent);
-            rise = can_rise cells held cycle found.waits (eqb-true (length cycle) 0 parts.1);
-          },
-      λ p. is ∙ and_from (tally.all.arrived == tally.all.sent) (length cycle == 0)
-          (eq-eqb tally.all.arrived tally.all.sent (counted.arrived ∙ count_all cells held p.arrive ∙ sym counted.sent))
-          (eq-eqb (length cycle) 0 (no_cycle cells held cycle found.waits p.rise)),
-    )
+pub rise_is : (cells : Cells) (held : HeldPlan) (cycle : List ℕ) (b : Bool) → IsCycle cells held cycle → b ≡ (length cycle == 0)
+    → IsTrue b ↔ CanRise cells held
+rise_is cells held cycle b waits is = (
+  λ t. can_rise cells held cycle waits (eqb-true (length cycle) 0 (sym is ∙ t)),
+  λ rise. is ∙ eq-eqb (length cycle) 0 (no_cycle cells held cycle waits rise),
+)
 
 pub arrive_is : (most : ℕ) (seen : Seen) (tally : PacketTally) (unmatched : Unmatched) (count : ℕ) (ways : WayFigures) (cycle : List ℕ) (b : Bool)
     → IsFound most seen tally unmatched count ways cycle → b ≡ (tally.all.arrived == tally.all.sent)

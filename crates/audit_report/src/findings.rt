@@ -140,8 +140,7 @@ impl<'a> Audit<'a> {
     fn is_sound(&self) -> bool
         ensures { IsTrue result ↔ IsSound (cells_of self.now.facts) self.now.held }
     {
-        self.findings.tally.all.arrived == self.findings.tally.all.sent
-            && self.findings.cycle.is_empty()
+        self.all_arrive() && self.findings.cycle.is_empty()
     }
 
     /// Returns whether nothing is missing, each packet arrives, and no channel carries more pairs of adapter ports than
