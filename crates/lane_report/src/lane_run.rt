@@ -154,7 +154,11 @@ fn is_sound(found: &LaneFindings) -> bool
 }
 
 /// Writes an audit with what was found by lane in place of its credit loop, and flushes.
-fn write_all<W: Sink>(sink: &mut W, audit: &Audit, found: &LaneFindings) -> Result<(), WriteFault>
+fn write_all<W: Sink>(
+    sink: &mut W,
+    audit: &Audit,
+    found: &LaneFindings,
+) -> Result<(), WriteFault>
     ensures writes { Writes W.written W.has_failed result sink.old sink.new
         (findings_text audit.now.most (cells_of audit.now.facts) audit.now.held
         ++ lanes_text (cells_of audit.now.facts) found.now.missing found.now.order.dropped found.now.order.cycle.items) }
