@@ -99,12 +99,12 @@ def rows() -> Iterator[Row]:
     dropped = {(one, 3, 2): NONE}
     yield row("packets are dropped at S1", text_of(PLAIN, dropped, 0), drops=True)
     yield row("no lane at all", text_of(None, {}, 0), drops=True)
-    yield row("no level at all", text_of(PLAIN, {}, None), without=56)
-    yield row("an empty text", "", without=56)
+    yield row("no level at all", text_of(PLAIN, {}, None), without=12)
+    yield row("an empty text", "", without=12)
     some = [line for line in levels if line.startswith(f"levels {fabric.guid('S4'):016x}/0 ")]
-    yield row("the levels of one sender", text_of(PLAIN, {}, None, some), without=49)
+    yield row("the levels of one sender", text_of(PLAIN, {}, None, some), without=12)
     # The seven others answer S4, and none of these packets goes on from S3 to S4 and further.
-    yield row("the levels of one sender, with answers", text_of(PLAIN, {}, None, some), True, without=49)
+    yield row("the levels of one sender, with answers", text_of(PLAIN, {}, None, some), True, without=12)
 
 
 def a_fabric(chance: random.Random) -> make.Fabric:

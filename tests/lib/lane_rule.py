@@ -212,14 +212,14 @@ class Rule:
         return found
 
     def without(self) -> list[tuple[End, int]]:
-        """Returns the pairs of an end and a LID, held by another end of its component, without a level of their own, in
-        the order of the lines of LIDs and then of port GUIDs."""
+        """Returns the pairs of an adapter port and a LID, held by another adapter port of its component, without a
+        level of their own, in the order of the lines of LIDs and then of port GUIDs."""
         component = self.components()
         return [
             (end, lid)
-            for lid, owner in self.lines if owner in self.ends
+            for lid, owner in self.lines if owner in self.ends and owner[1]
             for end in self.ends
-            if end != owner and component[end] == component[owner] and not self.own_levels(end, lid)
+            if end[1] and end != owner and component[end] == component[owner] and not self.own_levels(end, lid)
         ]
 
     def judge(self, with_answers: bool = False) -> Judged:

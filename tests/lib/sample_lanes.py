@@ -126,8 +126,8 @@ def pairs(plan: Callable[..., Ended]) -> Iterator[Row]:
     yield "one lane, and answers", good, ONE_LEVEL, "--answers-as-asked", prints(HEAD + "credit loop none\n")
     for bound, ended in ("1", prints), ("0", audits.found):
         yield "a greatest load", good, ONE_LEVEL, f"--max-load={bound}", ended(HEAD + "credit loop none\n")
-    # Only packets between different end ports want a level.
-    lacking = [f"{source} {lid}" for lid, own in enumerate(ENDS, 1) for source in ENDS if source != own]
+    # Only packets between different adapter ports want a level.
+    lacking = ["200/1 3", "100/1 4"]
     for text in "", "lanes %\n":
         yield "no levels", good, text, "", audits.found(HEAD + without_level(*lacking) + "credit loop none\n")
     one = "".join(f"levels {end} 0 $\n" for end in ENDS[:3]) + f"levels 200/1 0 {levels({1: 0, 2: 15, 4: 0})}\n"
@@ -187,15 +187,28 @@ def rings(plan: Callable[..., Ended]) -> Iterator[Row]:
 
 
 def rings_and_two(plan: Callable[..., Ended]) -> Iterator[Row]:
-    """Yields audits of the ring and two switches beside it, without levels: 22 packets want one."""
+    """Yields an audit of the ring and two switches beside it, without levels: packets of switches want none."""
     short = audits.ring("0 1 1 2 2 - -", "2 0 1 1 2 - -", "2 2 0 1 1 - -", "1 2 2 0 1 - -", "1 1 2 2 0 - -")
     lids = f"{audits.RING_LIDS} 6 60/0 7 70/0"
     tables = plan(lids, *short, "60 - - - - - 0 1", "70 - - - - - 1 0").printed.decode()
-    lacking = [f"{guid:x}/0 {lid}" for lid, own in enumerate(audits.RING, 1) for guid in audits.RING if guid != own]
     head = audits.counted(29, 0) + audits.NEITHER
-    yield "22 packets without a level", tables, "lanes %\n", "", audits.found(
-        head + without_level(*lacking) + "more no-level 2\ncredit loop none\n"
+    yield "packets of switches without a level", tables, "lanes %\n", "", prints(f"{head}credit loop none\n")
+
+
+# A switch with six adapters.
+STAR = 0x10, tuple(range(0x100, 0x700, 0x100))
+STAR_WIRES = " ".join(f"10/{port}-{guid:x}/1" for port, guid in enumerate(STAR[1], 1))
+
+
+def stars(plan: Callable[..., Ended]) -> Iterator[Row]:
+    """Yields audits of a switch with six adapters, without levels: 30 packets want one."""
+    lids = "1 10/0 " + " ".join(f"{lid} {guid:x}/1" for lid, guid in enumerate(STAR[1], 2))
+    tables = plan(lids, "10 0 1 2 3 4 5 6").printed.decode()
+    lacking = [f"{guid:x}/1 {lid}" for lid, own in enumerate(STAR[1], 2) for guid in STAR[1] if guid != own]
+    head = audits.counted(49, 36) + "hops max 2 mean 2.00\nload none\n"
+    yield "30 packets without a level", tables, "lanes %\n", "", audits.found(
+        head + without_level(*lacking[:20]) + "more no-level 10\ncredit loop none\n"
     )
     yield "all packets without a level", tables, "lanes %\n", "--all", audits.found(
-        head + without_level(*lacking, "70/0 6", "60/0 7") + "credit loop none\n"
+        head + without_level(*lacking) + "credit loop none\n"
     )
