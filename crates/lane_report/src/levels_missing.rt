@@ -23,8 +23,8 @@ pub struct PacketPair {
 }
 
 /// Finds the packets without a service level that adapter ports send to the LIDs of other adapter ports of their
-/// components. Keeps the first `most`, in the order of the LIDs and then of the end ports. Takes a search for each LID and each end
-/// port.
+/// components. Keeps the first `most`, in the order of the LIDs and then of the end ports. Takes a search for each LID
+/// and each end port.
 pub fn pairs_without_level(
     alloc: Global,
     most: usize,
