@@ -62,10 +62,11 @@ pub fn run_lane_audit<S: Source, W: Sink>(
         inputs.old inputs.new (W.has_failed sink.new)) }
     ensures nothing_written { OnErr result ((result ≡ Err Fault.Write) ⊎ (sink.new ≡ sink.old)) }
 {
-    match read_lanes_and_files(alloc, inputs, asked.audit.floor) {
-        Ok(told) => answer(alloc, sink, asked, &told),
-        Err(fault) => Err(fault),
-    }
+    let told = match read_lanes_and_files(alloc, inputs, asked.audit.floor) {
+        Ok(told) => told,
+        Err(fault) => return Err(fault),
+    };
+    answer(alloc, sink, asked, &told)
 }
 
 /// Writes the audit of the tables in the subnet of the files by the lanes, and flushes. Returns whether the tables pass
