@@ -23,8 +23,8 @@ module _ (s : SeenByLane) (answers : Bool) where
   none_dropped (Some d) h e = absurd (cc)
 
   none_found : (dropped : Option Dropped) → IsSomeDrop s answers dropped → ((d : Dropped) → IsDroppedByLane s answers d → ⊥) → dropped ≡ None
-  none_found None h no = refl
-  none_found (Some d) h no = absurd (no d h)
+  none_found None h never = refl
+  none_found (Some d) h never = absurd (never d h)
 
   can_rise : (cycle : List ℕ) → IsLaneCycle s answers cycle → cycle ≡ [] → RiseByLane s answers
   can_rise [] h e = h

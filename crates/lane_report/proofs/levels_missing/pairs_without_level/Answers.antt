@@ -13,7 +13,7 @@ use Rattle.lane_report.specs.declared.levels_missing.PacketPair.{PacketPair}
 use Rattle.lane_report.specs.LevelsMissing.{missing_at, missing_for}
 use Rattle.lane_report.proofs.Leveled.{flat_all, flat_none, flat_one}
 use Rattle.lane_report.proofs.levels_missing.pairs_without_level.Goals as goal
-use Rattle.lane_report.proofs.levels_missing.pairs_without_level.Goals.{in-Some+in_ok-add_for, in-None}
+use Rattle.lane_report.proofs.levels_missing.pairs_without_level.Goals.{in-Some+in_ok-add_for, in_default}
 
 pub loop-line-preserved : goal.loop-line-preserved
 loop-line-preserved c =
@@ -36,11 +36,11 @@ loop-line-preserved c =
           ∙ sym (ap (λ t. cond t (missing_for said (map (site_of cells) (end_ports cells)) line (site_of cells port)) []) is.1) in
           flat_one most f lines n line c.match-site_in.few c.loop-line-test.true c.line-item.is
           (w.few-is ∙ w.in_ok-add_for.ensures most (flat_map f (take n lines)) c.loop-line.invariant ∙ ap (λ t. all_listed most (flat_map f (take n lines) ++ t)) same)
-      | in-None w ↦
+      | in_default w ↦
           flat_none most f lines n line few c.match-site_in.few c.loop-line.invariant c.loop-line-test.true c.line-item.is
           (ap (λ t. cond t (missing_for said (map (site_of cells) (end_ports cells)) line (site_of cells port)) [])
           (no_site cells port (end_ports cells) sites c.requires
-          (subst (λ (o : Option Site). IsSiteOf sites port o) (sym c.site_in.ensures ∙ w.in-None.is) c.index_of-index.ensures)))
+          (subst (λ (o : Option Site). IsSiteOf sites port o) (sym c.site_in.ensures ∙ w.in_default.is) c.index_of-index.ensures)))
           w.few-is
     ]
 
