@@ -62,10 +62,26 @@ pub fn run_lane_audit<S: Source, W: Sink>(
         inputs.old inputs.new (W.has_failed sink.new)) }
     ensures nothing_written { OnErr result ((result ≡ Err Fault.Write) ⊎ (sink.new ≡ sink.old)) }
 {
-    let told = match read_lanes_and_files(alloc, inputs, asked.audit.floor) {
-        Ok(told) => told,
-        Err(fault) => return Err(fault),
-    };
+    match read_lanes_and_files(alloc, inputs, asked.audit.floor) {
+        Ok(told) => answer_owned(alloc, sink, asked, told),
+        Err(fault) => Err(fault),
+    }
+}
+
+/// Does what `answer` does, and drops what was read.
+fn answer_owned<W: Sink>(
+    alloc: Global,
+    sink: &mut W,
+    asked: LaneAuditAsked,
+    told: LanesAndFiles,
+) -> Result<bool, Fault>
+    ensures audited { IfOk result (IsAuditedByLane asked told.read.store told.read.held told.lanes
+        (Appends (W.written sink.old) (W.written sink.new))) }
+    ensures flushed { OnOk result (IsTrue (W.is_flushed sink.new)) }
+    ensures sink_works { OnOk result (W.has_failed sink.new ≡ false) }
+    ensures refused { IfErr result (IsAnswerFault (W.has_failed sink.new)) }
+    ensures nothing_written { OnErr result ((result ≡ Err Fault.Write) ⊎ (sink.new ≡ sink.old)) }
+{
     answer(alloc, sink, asked, &told)
 }
 
