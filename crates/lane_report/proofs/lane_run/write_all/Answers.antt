@@ -1,5 +1,5 @@
 -- Its parts in turn.
-use Rattle.std.proofs.Common.{◌≡◌, ◌∙◌, ◌++◌, append-nil, append_assoc, subst, sym}
+use Rattle.std.proofs.Common.{◌≡◌, ◌∙◌, ◌++◌, ap, append-nil, append_assoc, subst}
 use Rattle.std.specs.Io.KnownBytes.{Appends}
 use Rattle.std.proofs.lemmas.Result.{on_ok_weaker}
 use Rattle.fact_store.specs.View.{cells_of}
@@ -29,7 +29,9 @@ returns-clause-writes g c =
     let all = findings ++ lanes_text cells found.missing found.order.dropped found.order.cycle.items in
     let whole : (((findings ++ missing) ++ dropped) ++ cycle) ≡ all =
     (λ i. ((findings ++ missing) ++ dropped_text (cells_of (c.network.ensures.facts i)) found.order.dropped)
-    ++ cycle_line (cells_of (c.network-2.ensures.facts i)) (c.deref.ensures.value i)) in
+    ++ cycle_line (cells_of (c.network-2.ensures.facts i)) (c.deref.ensures.value i))
+    ∙ ap (λ t. t ++ cycle_line cells found.order.cycle.items) (append_assoc findings missing (dropped_text cells found.order.dropped))
+    ∙ append_assoc findings (missing ++ dropped_text cells found.order.dropped) (cycle_line cells found.order.cycle.items) in
     record {
       ok = on_ok_weaker c.flush.result
           (λ none. subst (Appends start (written c.flush.new.self)) (append-nil (((findings ++ missing) ++ dropped) ++ cycle) ∙ whole)
