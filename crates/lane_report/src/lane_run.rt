@@ -14,12 +14,11 @@ use crate::levels_missing::{PacketPair, pairs_without_level};
 use audit_counts::{FirstFew, sites};
 use audit_report::{Audit, AuditAsked, most_told, write_findings};
 use byte_io::{Sink, Source, WriteFault};
-use fact_store::{Refused, Store};
-use held_tables::Held;
+use fact_store::Refused;
 use lane_channels::{LaneNetwork, LaneOrder, lane_order};
 use lanes_file::Lanes;
 use packet_walks::Network;
-use sm_cli::{Fault, read_lanes_and_files};
+use sm_cli::{Fault, LanesAndFiles, read_lanes_and_files};
 use std::alloc::Global;
 
 /// The options of an audit by lane.
@@ -64,29 +63,37 @@ pub fn run_lane_audit<S: Source, W: Sink>(
     ensures nothing_written { OnErr result ((result ≡ Err Fault.Write) ⊎ (sink.new ≡ sink.old)) }
 {
     match read_lanes_and_files(alloc, inputs, asked.audit.floor) {
-        Ok(told) => answer(
-            alloc,
-            sink,
-            asked,
-            &told.read.store,
-            &told.read.held,
-            &told.lanes,
-        ),
+        Ok(told) => answer_owned(alloc, sink, asked, told),
         Err(fault) => Err(fault),
     }
 }
 
-/// Writes the audit of `held` in the subnet of `store` by `lanes`, and flushes. Returns whether the tables pass by lane
-/// and no channel carries more pairs than `asked.audit.max_load`.
+/// Does what `answer` does, and drops what was read.
+fn answer_owned<W: Sink>(
+    alloc: Global,
+    sink: &mut W,
+    asked: LaneAuditAsked,
+    told: LanesAndFiles,
+) -> Result<bool, Fault>
+    ensures audited { IfOk result (IsAuditedByLane asked told.read.store told.read.held told.lanes
+        (Appends (W.written sink.old) (W.written sink.new))) }
+    ensures flushed { OnOk result (IsTrue (W.is_flushed sink.new)) }
+    ensures sink_works { OnOk result (W.has_failed sink.new ≡ false) }
+    ensures refused { IfErr result (IsAnswerFault (W.has_failed sink.new)) }
+    ensures nothing_written { OnErr result ((result ≡ Err Fault.Write) ⊎ (sink.new ≡ sink.old)) }
+{
+    answer(alloc, sink, asked, &told)
+}
+
+/// Writes the audit of the tables in the subnet of the files by the lanes, and flushes. Returns whether the tables pass
+/// by lane and no channel carries more pairs than `asked.audit.max_load`.
 fn answer<W: Sink>(
     alloc: Global,
     sink: &mut W,
     asked: LaneAuditAsked,
-    store: &Store,
-    held: &Held,
-    lanes: &Lanes,
+    told: &LanesAndFiles,
 ) -> Result<bool, Fault>
-    ensures audited { IfOk result (IsAuditedByLane asked store.now held.now lanes.now
+    ensures audited { IfOk result (IsAuditedByLane asked told.now.read.store told.now.read.held told.now.lanes
         (Appends (W.written sink.old) (W.written sink.new))) }
     ensures flushed { OnOk result (IsTrue (W.is_flushed sink.new)) }
     ensures sink_works { OnOk result (W.has_failed sink.new ≡ false) }
@@ -94,13 +101,13 @@ fn answer<W: Sink>(
     ensures nothing_written { OnErr result ((result ≡ Err Fault.Write) ⊎ (sink.new ≡ sink.old)) }
 {
     let most = most_told(asked.audit.all);
-    let Ok(audit) = Audit::of(alloc, most, store, held) else {
+    let Ok(audit) = Audit::of(alloc, most, &told.read.store, &told.read.held) else {
         return Err(Fault::Memory);
     };
-    let Ok(found) = findings(alloc, most, audit.network(), lanes, asked.answers) else {
+    let Ok(found) = findings(alloc, most, audit.network(), &told.lanes, asked.answers) else {
         return Err(Fault::Memory);
     };
-    tell(sink, asked, &audit, lanes, &found)
+    tell(sink, asked, &audit, &told.lanes, &found)
 }
 
 /// Finds what packets do by lane: which have no service level, whether one is dropped, and a credit loop. Keeps the
@@ -134,7 +141,8 @@ fn tell<W: Sink>(
     requires { IsFoundByLane audit.now.most (seen_of audit.now.facts audit.now.held lanes.now)
         asked.answers found.now.missing found.now.order.dropped found.now.order.cycle.items }
     ensures told { IfOk result (λ passed. IsTold asked audit.now.most
-        (seen_of audit.now.facts audit.now.held lanes.now) found.now.missing found.now.order.dropped found.now.order.cycle.items
+        (seen_of audit.now.facts audit.now.held lanes.now)
+        found.now.missing found.now.order.dropped found.now.order.cycle.items
         (Appends (W.written sink.old) (W.written sink.new)) passed) }
     ensures flushed { OnOk result (IsTrue (W.is_flushed sink.new)) }
     ensures sink_works { OnOk result (W.has_failed sink.new ≡ false) }

@@ -1,5 +1,5 @@
 //! Packets without a service level.
-ghost use Rattle.std.specs.Prelude.{◌≡◌, ◌++◌, IfOk, List, OnOk, map};
+ghost use Rattle.std.specs.Prelude.{◌≡◌, ◌++◌, ℕ, IfOk, List, OnOk, map};
 ghost use Rattle.fact_store.specs.View.{cells_of};
 ghost use Rattle.subnet_view.specs.EndPorts.{end_ports};
 ghost use Rattle.audit_counts.specs.FirstFew.{all_listed};
@@ -23,8 +23,8 @@ pub struct PacketPair {
 }
 
 /// Finds the packets without a service level that adapter ports send to the LIDs of other adapter ports of their
-/// components. Keeps the first `most`, in the order of the LIDs and then of the end ports. Takes a search for each LID and each end
-/// port.
+/// components. Keeps the first `most`, in the order of the LIDs and then of the end ports. Takes a search for each LID
+/// and each end port.
 pub fn pairs_without_level(
     alloc: Global,
     most: usize,
