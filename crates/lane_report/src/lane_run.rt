@@ -8,6 +8,7 @@ ghost use Rattle.lane_report.specs.LaneText.{lanes_text};
 ghost use Rattle.lane_report.specs.RunLaneAudit.{HasAuditedByLane, IsAuditedByLane, IsFoundByLane, IsLaneAuditFault};
 ghost use Rattle.lane_report.specs.RunLaneAudit.{IsSoundByLane, IsTold, seen_by, seen_of};
 ghost use Rattle.byte_io.specs.Writes.{Writes};
+ghost use Rattle.sm_cli.specs.InputLanes.{AreLanesAndFiles, AreNoLanesAndFiles};
 
 use crate::lane_text::{write_dropped, write_lane_cycle, write_missing};
 use crate::levels_missing::{PacketPair, pairs_without_level};
@@ -18,7 +19,7 @@ use fact_store::Refused;
 use lane_channels::{LaneNetwork, LaneOrder, lane_order};
 use lanes_file::Lanes;
 use packet_walks::Network;
-use sm_cli::{Fault, LanesAndFiles, read_lanes_and_files};
+use sm_cli::{Fault, LanesAndFiles, TablesAndFacts, read_lanes_and_files};
 use std::alloc::Global;
 
 /// The options of an audit by lane.
@@ -62,27 +63,35 @@ pub fn run_lane_audit<S: Source, W: Sink>(
         inputs.old inputs.new (W.has_failed sink.new)) }
     ensures nothing_written { OnErr result ((result ≡ Err Fault.Write) ⊎ (sink.new ≡ sink.old)) }
 {
-    match read_lanes_and_files(alloc, inputs, asked.audit.floor) {
-        Ok(told) => answer_owned(alloc, sink, asked, told),
+    match read_parts(alloc, inputs, &asked) {
+        Ok((lanes, read)) => answer(alloc, sink, &asked, &read, &lanes),
         Err(fault) => Err(fault),
     }
 }
 
-/// Does what `answer` does, and drops what was read.
-fn answer_owned<W: Sink>(
+/// Reads the lanes from the first input, and the tables and files from the others.
+fn read_parts<S: Source>(
     alloc: Global,
-    sink: &mut W,
-    asked: LaneAuditAsked,
-    told: LanesAndFiles,
-) -> Result<bool, Fault>
-    ensures audited { IfOk result (IsAuditedByLane asked told.read.store told.read.held told.lanes
-        (Appends (W.written sink.old) (W.written sink.new))) }
-    ensures flushed { OnOk result (IsTrue (W.is_flushed sink.new)) }
-    ensures sink_works { OnOk result (W.has_failed sink.new ≡ false) }
-    ensures refused { IfErr result (IsAnswerFault (W.has_failed sink.new)) }
-    ensures nothing_written { OnErr result ((result ≡ Err Fault.Write) ⊎ (sink.new ≡ sink.old)) }
+    inputs: &mut [S],
+    asked: &LaneAuditAsked,
+) -> Result<(Lanes, TablesAndFacts), Fault>
+    requires { 2 ≤ length inputs.old }
+    ensures read { IfOk result (λ told. AreLanesAndFiles S.state asked.now.audit.floor inputs.old inputs.new
+        (record { lanes = told.0; read = told.1 })) }
+    ensures refused { IfErr result (AreNoLanesAndFiles S.state inputs.old inputs.new) }
 {
-    answer(alloc, sink, asked, &told)
+    match read_lanes_and_files(alloc, inputs, asked.audit.floor) {
+        Ok(told) => Ok(parts(told)),
+        Err(fault) => Err(fault),
+    }
+}
+
+/// Returns the lanes, and what tables and files say.
+fn parts(told: LanesAndFiles) -> (Lanes, TablesAndFacts)
+    ensures { result ≡ (told.lanes, told.read) }
+{
+    let LanesAndFiles { lanes, read } = told;
+    (lanes, read)
 }
 
 /// Writes the audit of the tables in the subnet of the files by the lanes, and flushes. Returns whether the tables pass
@@ -90,10 +99,11 @@ fn answer_owned<W: Sink>(
 fn answer<W: Sink>(
     alloc: Global,
     sink: &mut W,
-    asked: LaneAuditAsked,
-    told: &LanesAndFiles,
+    asked: &LaneAuditAsked,
+    read: &TablesAndFacts,
+    lanes: &Lanes,
 ) -> Result<bool, Fault>
-    ensures audited { IfOk result (IsAuditedByLane asked told.now.read.store told.now.read.held told.now.lanes
+    ensures audited { IfOk result (IsAuditedByLane asked.now read.now.store read.now.held lanes.now
         (Appends (W.written sink.old) (W.written sink.new))) }
     ensures flushed { OnOk result (IsTrue (W.is_flushed sink.new)) }
     ensures sink_works { OnOk result (W.has_failed sink.new ≡ false) }
@@ -101,13 +111,13 @@ fn answer<W: Sink>(
     ensures nothing_written { OnErr result ((result ≡ Err Fault.Write) ⊎ (sink.new ≡ sink.old)) }
 {
     let most = most_told(asked.audit.all);
-    let Ok(audit) = Audit::of(alloc, most, &told.read.store, &told.read.held) else {
+    let Ok(audit) = Audit::of(alloc, most, &read.store, &read.held) else {
         return Err(Fault::Memory);
     };
-    let Ok(found) = findings(alloc, most, audit.network(), &told.lanes, asked.answers) else {
+    let Ok(found) = findings(alloc, most, audit.network(), lanes, asked.answers) else {
         return Err(Fault::Memory);
     };
-    tell(sink, asked, &audit, &told.lanes, &found)
+    tell(sink, asked, &audit, lanes, &found)
 }
 
 /// Finds what packets do by lane: which have no service level, whether one is dropped, and a credit loop. Keeps the
@@ -133,14 +143,14 @@ fn findings(
 /// than `asked.audit.max_load`.
 fn tell<W: Sink>(
     sink: &mut W,
-    asked: LaneAuditAsked,
+    asked: &LaneAuditAsked,
     audit: &Audit,
     lanes: &Lanes,
     found: &LaneFindings,
 ) -> Result<bool, Fault>
     requires { IsFoundByLane audit.now.most (seen_of audit.now.facts audit.now.held lanes.now)
-        asked.answers found.now.missing found.now.order.dropped found.now.order.cycle.items }
-    ensures told { IfOk result (λ passed. IsTold asked audit.now.most
+        asked.now.answers found.now.missing found.now.order.dropped found.now.order.cycle.items }
+    ensures told { IfOk result (λ passed. IsTold asked.now audit.now.most
         (seen_of audit.now.facts audit.now.held lanes.now)
         found.now.missing found.now.order.dropped found.now.order.cycle.items
         (Appends (W.written sink.old) (W.written sink.new)) passed) }
@@ -162,11 +172,7 @@ fn is_sound(found: &LaneFindings) -> bool
 }
 
 /// Writes an audit with what was found by lane in place of its credit loop, and flushes.
-fn write_all<W: Sink>(
-    sink: &mut W,
-    audit: &Audit,
-    found: &LaneFindings,
-) -> Result<(), WriteFault>
+fn write_all<W: Sink>(sink: &mut W, audit: &Audit, found: &LaneFindings) -> Result<(), WriteFault>
     ensures writes { Writes W.written W.has_failed result sink.old sink.new
         (findings_text audit.now.most (cells_of audit.now.facts) audit.now.held
         ++ lanes_text (cells_of audit.now.facts) found.now.missing found.now.order.dropped found.now.order.cycle.items) }

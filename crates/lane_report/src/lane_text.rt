@@ -65,11 +65,7 @@ pub(crate) fn write_dropped<W: Sink>(
 
 /// Writes the line of a packet that is dropped for want of a lane: its LID, the switch, the ports by which it comes in
 /// and would leave, and its service level.
-fn write_drop<W: Sink>(
-    sink: &mut W,
-    network: &Network,
-    dropped: Dropped,
-) -> Result<(), WriteFault>
+fn write_drop<W: Sink>(sink: &mut W, network: &Network, dropped: Dropped) -> Result<(), WriteFault>
     ensures { Writes W.written W.has_failed result sink.old sink.new
         (drop_line (cells_of network.now.facts) dropped) }
 {

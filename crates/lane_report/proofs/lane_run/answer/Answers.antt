@@ -10,10 +10,10 @@ use Rattle.lane_report.proofs.lane_run.answer.Goals as goal
 pub tell-requires : goal.tell-requires
 tell-requires g c =
     let audit = c.in-Ok.audit in
-    let said = c.args.told.now.lanes in
+    let said = c.args.lanes.now in
     let found = c.in-Ok-findings.found in
     let net = c.network.ensures in
-    let Found = λ (most : ℕ) (s : SeenByLane). IsFoundByLane most s c.args.asked.answers found.missing found.order.dropped found.order.cycle.items in
+    let Found = λ (most : ℕ) (s : SeenByLane). IsFoundByLane most s c.args.asked.now.answers found.missing found.order.dropped found.order.cycle.items in
     let same : ◌≡◌ {A = SeenByLane} (seen_by c.network.result.now said) (seen_of audit.facts audit.held said) =
     λ i. seen_by (record { facts = net.facts i; held = net.held i }) said in
     subst (λ (most : ℕ). Found most (seen_of audit.facts audit.held said)) (sym c.in-Ok.ensures.most)
@@ -24,11 +24,11 @@ returns-clause-audited g c =
     let a = c.args in
     let audit = c.in-Ok.audit in
     let of = c.in-Ok.ensures in
-    let said = a.told.now.lanes in
-    let read = a.told.now.read in
+    let said = a.lanes.now in
+    let read = a.read.now in
     let found = c.in-Ok-findings.found in
     let net = c.network.ensures in
-    let answers = a.asked.answers in
+    let answers = a.asked.now.answers in
     let missing = found.missing in
     let dropped = found.order.dropped in
     let cycle = found.order.cycle.items in
@@ -37,13 +37,13 @@ returns-clause-audited g c =
     λ i. seen_of (of.facts i) (of.held i) said in
     let network : ◌≡◌ {A = SeenByLane} (seen_by c.network.result.now said) (seen_of audit.facts audit.held said) =
     λ i. seen_by (record { facts = net.facts i; held = net.held i }) said in
-    let most : audit.most ≡ most_told a.asked.audit.all = of.most ∙ c.most_told-most.ensures in
+    let most : audit.most ≡ most_told a.asked.now.audit.all = of.most ∙ c.most_told-most.ensures in
     IfOk-weaker c.tell.result _ _ (λ passed told. record {
       missing = missing;
       dropped = dropped;
       cycle = cycle;
       found = subst (λ (n : ℕ). IsFoundByLane n (seen_of read.store read.held said) answers missing dropped cycle) c.most_told-most.ensures
           (subst (λ (s : SeenByLane). IsFoundByLane c.most_told-most.result s answers missing dropped cycle) (network ∙ seen) c.in-Ok-findings.ensures);
-      told = subst (λ (n : ℕ). IsTold a.asked n (seen_of read.store read.held said) missing dropped cycle prints passed) most
-          (subst (λ (s : SeenByLane). IsTold a.asked audit.most s missing dropped cycle prints passed) seen told);
+      told = subst (λ (n : ℕ). IsTold a.asked.now n (seen_of read.store read.held said) missing dropped cycle prints passed) most
+          (subst (λ (s : SeenByLane). IsTold a.asked.now audit.most s missing dropped cycle prints passed) seen told);
     }) c.tell.ensures.told

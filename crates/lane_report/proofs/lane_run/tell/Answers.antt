@@ -12,7 +12,7 @@ returns-clause-told g c =
     let a = c.args in
     let audit = a.audit.now in
     let s = seen_of audit.facts audit.held a.lanes.now in
-    let bound = a.asked.audit.max_load in
+    let bound = a.asked.now.audit.max_load in
     let found = a.found.now in
     let missing = found.missing in
     let dropped = found.order.dropped in
@@ -21,9 +21,9 @@ returns-clause-told g c =
       answered = c.in_ok-write_all.ensures.writes.ok;
       judged = elim c.if-delivers_within.branch [
         | then-delivers_within w ↦ (
-          λ t. passes s a.asked.answers bound audit.most missing dropped cycle c.requires (c.delivers_within.ensures.0 w.if-delivers_within.true)
+          λ t. passes s a.asked.now.answers bound audit.most missing dropped cycle c.requires (c.delivers_within.ensures.0 w.if-delivers_within.true)
               (w.is_sound-passed.ensures.0 (sym w.passed-is ∙ t)),
-          λ p. w.passed-is ∙ w.is_sound-passed.ensures.1 (is_sound s a.asked.answers bound audit.most missing dropped cycle c.requires p),
+          λ p. w.passed-is ∙ w.is_sound-passed.ensures.1 (is_sound s a.asked.now.answers bound audit.most missing dropped cycle c.requires p),
         )
         | else-delivers_within w ↦ (
           λ t. (let is = w.passed-is in absurd (cc)),
