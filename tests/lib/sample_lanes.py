@@ -195,17 +195,20 @@ def rings_and_two(plan: Callable[..., Ended]) -> Iterator[Row]:
     yield "packets of switches without a level", tables, "lanes %\n", "", prints(f"{head}credit loop none\n")
 
 
-# A switch with six adapters.
-STAR = 0x10, tuple(range(0x100, 0x700, 0x100))
-STAR_WIRES = " ".join(f"10/{port}-{guid:x}/1" for port, guid in enumerate(STAR[1], 1))
+# Two switches with three adapters each.
+SIX = (0x10, 0x20), tuple(range(0x100, 0x700, 0x100))
+SIX_WIRES = "10/1-20/1 " + " ".join(
+    f"{SIX[0][index // 3]:x}/{2 + index % 3}-{guid:x}/1" for index, guid in enumerate(SIX[1])
+)
 
 
-def stars(plan: Callable[..., Ended]) -> Iterator[Row]:
-    """Yields audits of a switch with six adapters, without levels: 30 packets want one."""
-    lids = "1 10/0 " + " ".join(f"{lid} {guid:x}/1" for lid, guid in enumerate(STAR[1], 2))
-    tables = plan(lids, "10 0 1 2 3 4 5 6").printed.decode()
-    lacking = [f"{guid:x}/1 {lid}" for lid, own in enumerate(STAR[1], 2) for guid in STAR[1] if guid != own]
-    head = audits.counted(49, 36) + "hops max 2 mean 2.00\nload none\n"
+def sixes(plan: Callable[..., Ended]) -> Iterator[Row]:
+    """Yields audits of two switches with three adapters each, without levels: 30 packets want one."""
+    lids = "1 10/0 2 20/0 " + " ".join(f"{lid} {guid:x}/1" for lid, guid in enumerate(SIX[1], 3))
+    tables = plan(lids, "10 0 1 2 3 4 1 1 1", "20 1 0 1 1 1 2 3 4").printed.decode()
+    lacking = [f"{guid:x}/1 {lid}" for lid, own in enumerate(SIX[1], 3) for guid in SIX[1] if guid != own]
+    # Of 30 packets between different adapters 12 take two wires, and 18 three: nine each way between the switches.
+    head = audits.counted(64, 36) + "hops max 3 mean 2.60\nload max 9 mean 9.00\n"
     yield "30 packets without a level", tables, "lanes %\n", "", audits.found(
         head + without_level(*lacking[:20]) + "more no-level 10\ncredit loop none\n"
     )
