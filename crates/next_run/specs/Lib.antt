@@ -1,2 +1,4 @@
+pub mod Asked
 pub mod LoopText
 pub mod RunNext
+pub mod StepOrderText

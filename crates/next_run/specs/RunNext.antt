@@ -1,6 +1,6 @@
 -- What a step from held tables towards a plan does: it reads its inputs in order and writes the tables to write next,
 -- or returns a fault.
-use Rattle.std.specs.Prelude.{◌≡◌, ◌⊎◌, ◌↔◌, ℕ, Bool, true, false, List, [], ◌∷◌, Option, None, Some, IsTrue, if◌then◌else◌}
+use Rattle.std.specs.Prelude.{◌≡◌, ◌⊎◌, ◌↔◌, ◌+◌, ◌++◌, ℕ, Bool, true, false, List, [], ◌∷◌, Option, None, Some, IsTrue, if◌then◌else◌}
 use Rattle.std.specs.Io.KnownBytes.{Appends}
 use Rattle.byte_io.specs.Source.{SourceState}
 use Rattle.fact_store.specs.View.{Facts, cells_of}
@@ -22,12 +22,16 @@ use Rattle.step_loops.specs.LoopLids.{AreLoopLids}
 use Rattle.step_loops.specs.StepOrder.{NoneShorter, NumbersRise, WaitInCycle}
 use Rattle.next_run.specs.LoopText.{loop_text}
 use Rattle.sm_cli.specs.Asked.{texts_for}
-use Rattle.sm_cli.specs.InputReaders.{tables_reader}
-use Rattle.sm_cli.specs.Inputs.{IsInputFault, WithInputs}
+use Rattle.sm_cli.specs.InputOrders.{order_texts}
+use Rattle.sm_cli.specs.InputReaders.{order_reader}
+use Rattle.sm_cli.specs.Inputs.{IsInputFault, Reader, WithInputs}
+use Rattle.sm_cli.specs.declared.input_orders.OrderAndTables.{OrderAndTables}
 use Rattle.sm_cli.specs.declared.fault.Fault.{Fault}
 use Rattle.sm_cli.specs.declared.fault.Fault.TheVariants.{NoRoom, Text, Write, Memory}
 use Rattle.sm_cli.specs.declared.text_fault.TextFault.TheVariants.{Moves}
-use Rattle.next_run.specs.declared.run_step.StepAsked.{StepAsked}
+use Rattle.next_run.specs.declared.asked.StepAsked.{StepAsked}
+use Rattle.next_run.specs.Asked.{is_named, is_told, preferred_rule}
+use Rattle.next_run.specs.StepOrderText.{items_of, order_of_step, step_order_text, switches_by}
 use Rattle.next_run.specs.declared.step_choice.StepChoice.{StepChoice}
 
 -- steps -----------------------------------------------------------------------------------------
@@ -57,37 +61,53 @@ text_of_step lmc rule facts next = next_text (plan_of rule lmc (cells_of facts))
 abbrev pub step_text : ℕ → RuleValue → Facts → HeldPlan → List ℕ
 step_text lmc rule facts held = text_of_step lmc rule facts (stepped lmc rule facts held)
 
--- how a step chooses entries, and the tables that it goes towards, if they are not the plan's
+-- how a step chooses entries, the tables that it goes towards, if they are not the plan's, and the order that it goes
+-- by, if the held tables imply it
 pub record Choice : Type 0 where
   pub by : StepRuleValue
   pub goal : Option HeldPlan
+  pub order : Option (List ℕ)
 
 abbrev pub choice_of : StepChoice → Choice
-choice_of choice = record { by = value_of choice.by; goal = choice.goal }
+choice_of choice = record { by = value_of choice.by; goal = choice.goal; order = items_of choice.order }
 
--- the goal of a step by the order that the held tables imply; None if `told` is false or the held tables are right by
--- the order of the plan's switches
-abbrev pub IsGoalFrom : Bool → Bool → Cells → HeldPlan → HeldPlan → List ℕ → Option Goal → Type 0
-IsGoalFrom false right cells held plan positions goal = goal ≡ None
-IsGoalFrom true true cells held plan positions goal = goal ≡ None
-IsGoalFrom true false cells held plan positions goal = IsGoal cells held plan positions goal
+-- the tables of a goal, or else those of the plan
+abbrev pub goal_or : HeldPlan → Option HeldPlan → HeldPlan
+goal_or plan None = plan
+goal_or plan (Some goal) = goal
 
--- the goal of a step towards the plan of `facts` by `rule`, if the step may go by the order that the held tables imply
-abbrev pub IsGoalOf : Bool → RuleValue → Facts → HeldPlan → HeldPlan → Option Goal → Type 0
-IsGoalOf told rule facts held plan goal =
+-- the tables to write next as a choice says
+abbrev pub next_by_choice : Cells → Choice → HeldPlan → HeldPlan → HeldPlan
+next_by_choice cells choice held plan = next_tables cells choice.by held (goal_or plan choice.goal)
+
+-- the goal of a step by the order that the held tables imply, of several the one nearest to `preferred`; None if `told`
+-- is false or the held tables are right by the order of the plan's switches
+abbrev pub IsGoalFrom : Bool → Bool → Cells → HeldPlan → HeldPlan → List ℕ → List ℕ → Option Goal → Type 0
+IsGoalFrom false right cells held plan positions preferred goal = goal ≡ None
+IsGoalFrom true true cells held plan positions preferred goal = goal ≡ None
+IsGoalFrom true false cells held plan positions preferred goal = IsGoal cells held plan positions preferred goal
+
+-- the goal of a step towards the plan of `facts` by `rule`, if the step may go by the order that the held tables imply;
+-- of several orders it is the one nearest to the order of the rule `preferred`
+abbrev pub IsGoalOf : Bool → RuleValue → RuleValue → Facts → HeldPlan → HeldPlan → Option Goal → Type 0
+IsGoalOf told rule preferred facts held plan goal =
     IsGoalFrom told (are_right (cells_of facts) (position_at (positions_by rule (cells_of facts))) held) (cells_of facts)
-    held plan (positions_by rule (cells_of facts)) goal
+    held plan (positions_by rule (cells_of facts)) (positions_by preferred (cells_of facts)) goal
 
 -- a step with a goal goes by the order that the held tables imply, towards the goal's tables
 abbrev pub choice_by : RuleValue → Facts → HeldPlan → Option Goal → Choice
-choice_by rule facts held None = record { by = step_rule rule facts held; goal = None }
-choice_by rule facts held (Some goal) = record { by = by_order goal.positions; goal = Some goal.tables }
+choice_by rule facts held None = record { by = step_rule rule facts held; goal = None; order = None }
+choice_by rule facts held (Some goal) = record {
+  by = by_order goal.positions;
+  goal = Some goal.tables;
+  order = Some (switches_by (cells_of facts) goal.positions);
+}
 
 -- `choice` is how a step chooses entries, and the tables that it goes towards
-pub record IsChoice (told : Bool) (rule : RuleValue) (facts : Facts) (held plan : HeldPlan) (choice : Choice)
+pub record IsChoice (told : Bool) (rule preferred : RuleValue) (facts : Facts) (held plan : HeldPlan) (choice : Choice)
     : Type 0 where
   pub goal : Option Goal
-  pub goal_is : IsGoalOf told rule facts held plan goal
+  pub goal_is : IsGoalOf told rule preferred facts held plan goal
   pub is : choice ≡ choice_by rule facts held goal
 
 -- the tables to write next, towards the goal if there is one, otherwise towards the plan
@@ -95,11 +115,20 @@ abbrev pub next_towards : RuleValue → Facts → HeldPlan → HeldPlan → Opti
 next_towards rule facts held plan None = next_tables (cells_of facts) (step_rule rule facts held) held plan
 next_towards rule facts held plan (Some goal) = next_tables (cells_of facts) (by_order goal.positions) held goal.tables
 
--- `next` are the tables to write next; `told` says whether the step may go by the order that the held tables imply
-pub record IsNextStep (told : Bool) (rule : RuleValue) (facts : Facts) (held plan next : HeldPlan) : Type 0 where
-  pub goal : Option Goal
-  pub goal_is : IsGoalOf told rule facts held plan goal
+-- `next` are the tables to write next; `goal` is that of a step by the order that the held tables imply, and `told` says
+-- whether the step may go by it
+pub record IsNextStep (told : Bool) (rule preferred : RuleValue) (facts : Facts) (held plan : HeldPlan)
+    (goal : Option Goal) (next : HeldPlan) : Type 0 where
+  pub goal_is : IsGoalOf told rule preferred facts held plan goal
   pub is : next ≡ next_towards rule facts held plan goal
+
+-- a step was made: `next` are the tables to write next, and `order` has the switches in the order that the step goes by,
+-- if the held tables imply it
+pub record IsMade (told : Bool) (rule preferred : RuleValue) (facts : Facts) (held plan next : HeldPlan)
+    (order : Option (List ℕ)) : Type 0 where
+  pub goal : Option Goal
+  pub is_next : IsNextStep told rule preferred facts held plan goal next
+  pub order_is : order ≡ order_of_step (cells_of facts) goal
 
 -- a shortest credit loop that some mixture of the two tables makes; empty if numbers rise
 abbrev pub IsCycleInStep : Cells → HeldPlan → HeldPlan → List ℕ → Type 0
@@ -117,19 +146,21 @@ abbrev pub IsSaid : {W : Type 0} → (W → Option (List ℕ)) → (W → Bool) 
 IsSaid written has_failed old new text = IsTrue (has_failed new) ⊎ Appends (written old) (written new) text
 
 -- There is room for the plan, and no LID moves. `prints` holds of the step's text, and `says` of the text of a shortest
--- credit loop, or that there is none. `passed` says whether there is none. `told` says whether the step may go by the
--- order that the held tables imply
-pub record IsStep (lmc : ℕ) (told : Bool) (rule : RuleValue) (facts : Facts) (held : HeldPlan) (prints says : List ℕ
-    → Type 0) (passed : Bool) : Type 0 where
+-- credit loop, or that there is none, and of the order that the step goes by, if the held tables imply it. `passed` says
+-- whether there is no loop. `told` says whether the step may go by such an order, of several the one nearest to the
+-- order of the rule `preferred`
+pub record IsStep (lmc : ℕ) (told : Bool) (rule preferred : RuleValue) (facts : Facts) (held : HeldPlan)
+    (prints says : List ℕ → Type 0) (passed : Bool) : Type 0 where
   pub has_room : no_room lmc (cells_of facts) ≡ None
   pub no_move : first_moved held (planned lmc rule facts) ≡ None
+  pub goal : Option Goal
   pub next : HeldPlan
-  pub is_next : IsNextStep told rule facts held (planned lmc rule facts) next
+  pub is_next : IsNextStep told rule preferred facts held (planned lmc rule facts) goal next
   pub written : prints (text_of_step lmc rule facts next)
   pub cycle : List ℕ
   pub lids : List ℕ
   pub waits : IsLoopInStep (cells_of facts) held next cycle lids
-  pub said : says (loop_text (cells_of facts) cycle lids)
+  pub said : says (loop_text (cells_of facts) cycle lids ++ step_order_text (order_of_step (cells_of facts) goal))
   pub judged : IsTrue passed ↔ (cycle ≡ [])
 
 -- why there are no next tables, as a fault of the run; `at` is the input of the held tables
@@ -160,17 +191,25 @@ StopsStep at lmc rule facts held sink_failed fault = ⊥
 
 -- runs ------------------------------------------------------------------------------------------
 
--- the inputs were read (the text that the rule takes, the tables and the files), and the step was written
+-- the reader of the inputs after the text that the rule takes: the text of an order, if one is named, the tables and the
+-- files
+abbrev pub reader_of : {S : Type 0} → (S → SourceState) → StepAsked → Reader S OrderAndTables
+reader_of state asked = order_reader state asked.floor (is_named asked.held_order)
+
+-- the inputs were read (the text that the rule takes, the text of an order, if one is named, the tables and the files),
+-- and the step was written
 abbrev pub HasStepped : {S : Type 0} → (S → SourceState) → StepAsked → List S → List S
     → (List ℕ → Type 0) → (List ℕ → Type 0) → Bool → Type 0
 HasStepped state asked olds news prints says passed =
-    WithInputs state (tables_reader state asked.floor) asked.rule olds news
-    (λ rule told. IsStep asked.lmc asked.told rule told.store told.held prints says passed)
+    WithInputs state (reader_of state asked) asked.rule olds news
+    (λ rule told. IsStep asked.lmc (is_told asked.held_order) rule (preferred_rule asked.held_order rule told.order.items)
+    told.read.store told.read.held prints says passed)
 
 -- why a step over open inputs fails: the inputs are not read, or the step is not written
 abbrev pub IsStepFault : {S : Type 0} → (S → SourceState) → StepAsked → List S → List S
     → Bool → Fault → Type 0
 IsStepFault state asked olds news sink_failed fault =
-    IsInputFault state (tables_reader state asked.floor) asked.rule olds news fault
-    ⊎ WithInputs state (tables_reader state asked.floor) asked.rule olds news
-    (λ rule told. StopsStep (texts_for asked.rule) asked.lmc rule told.store told.held sink_failed fault)
+    IsInputFault state (reader_of state asked) asked.rule olds news fault
+    ⊎ WithInputs state (reader_of state asked) asked.rule olds news
+    (λ rule told. StopsStep (texts_for asked.rule + order_texts (is_named asked.held_order)) asked.lmc rule
+    told.read.store told.read.held sink_failed fault)

@@ -2,8 +2,11 @@
 //! writes the step from these tables towards the plan, and says whether channels can wait for each other in it.
 #![tactic(auto)]
 
+mod asked;
 mod run_step;
 mod step_choice;
 mod step_loop;
+mod step_order;
 
-pub use run_step::{StepAsked, run_next};
+pub use asked::{HeldOrder, StepAsked};
+pub use run_step::run_next;

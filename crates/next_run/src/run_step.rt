@@ -1,47 +1,53 @@
 //! A step from held tables towards the plan of the subnet that files describe.
-ghost use Rattle.std.specs.Prelude.{◌≡◌, ◌⊎◌, ◌+◌, ◌≤◌, Err, IfErr, IfOk, IsTrue, None, OnErr, OnOk, false, length};
+ghost use Rattle.std.specs.Prelude.{◌≡◌, ◌⊎◌, ◌+◌, ◌++◌, ◌≤◌, Err, IfErr, IfOk, IsTrue, None, OnErr, OnOk, false, length};
 ghost use Rattle.std.specs.Io.KnownBytes.{Appends};
+ghost use Rattle.std.specs.Option.{option_map};
 ghost use Rattle.fact_store.specs.View.{cells_of};
-ghost use Rattle.lft_blocks.specs.Rules.{value_of};
+ghost use Rattle.lft_blocks.specs.Rules.{RuleValue, value_of};
+ghost use Rattle.lft_blocks.specs.WritesPart.{WritesPart};
 ghost use Rattle.sm_cli.specs.Asked.{texts_for};
-ghost use Rattle.next_run.specs.RunNext.{HasStepped, IsLoopInStep, IsNextStep, IsSaid, IsStep, IsStepFault, StopsNext};
-ghost use Rattle.next_run.specs.RunNext.{StopsStep, fault_of_step};
+ghost use Rattle.sm_cli.specs.InputOrders.{order_texts};
+ghost use Rattle.next_run.specs.Asked.{is_named, is_told, preferred_rule, rule_or};
+ghost use Rattle.next_run.specs.LoopText.{loop_text};
+ghost use Rattle.next_run.specs.RunNext.{HasStepped, IsLoopInStep, IsMade, IsSaid, IsStep, IsStepFault, StopsNext};
+ghost use Rattle.next_run.specs.RunNext.{StopsStep, choice_of, fault_of_step, goal_or, next_by_choice};
+ghost use Rattle.next_run.specs.StepOrderText.{items_of, step_order_text};
 ghost use Rattle.next_tables.specs.NextTables.{first_moved, next_tables};
 ghost use Rattle.next_tables.specs.NextTables.{value_of as chosen_of};
 ghost use Rattle.held_tables.specs.PlanTables.{held_plan};
 
-use crate::step_choice::step_choice;
+use crate::asked::{HeldOrder, StepAsked};
+use crate::step_choice::{StepChoice, step_choice};
 use crate::step_loop::StepLoop;
+use crate::step_order::write_step_order;
 use attr_codec::Lmc;
-use byte_io::{Sink, Source};
+use byte_io::{Sink, Source, WriteFault};
 use fact_store::Store;
 use held_tables::Held;
-use lft_blocks::{Plan, Rule};
+use lft_blocks::{Plan, Rule, SwitchOrder};
 use next_tables::{StepFault, StepRule, next_tables};
 use packet_walks::Network;
-use sm_cli::{Fault, RuleAsked, TablesAndFiles, TextFault, read_inputs};
-use smp_bytes::Generation;
+use sm_cli::{
+    Fault, OrderAndTables, OrderTablesAndFiles, TablesAndFacts, TextFault, order_texts, read_inputs,
+};
+use smp_bytes::Guid;
 use std::alloc::{AllocError, Global};
 use tables_file::write_next;
 
-/// The options of a step.
-#[derive(Clone, Copy, Debug, PartialEq, Eq)]
-pub struct StepAsked {
-    /// Each adapter port has 2^LMC LIDs in the plan.
-    pub lmc: Lmc,
-    /// The rule by which the plan is made.
-    pub rule: RuleAsked,
-    /// Facts of generations before this one are ignored.
-    pub floor: Generation,
-    /// Whether the step may go by the order that the held tables imply, if they are not right by the order of the
-    /// plan's switches.
-    pub told: bool,
+/// A step from held tables.
+#[derive(Drop)]
+struct MadeStep {
+    /// The tables to write next.
+    next: Held,
+    /// The usable switches in the order that the step goes by, if it is one that the held tables imply.
+    order: Option<Vec<Guid>>,
 }
 
-/// Reads the inputs in order (`read_inputs`): the text that the rule takes, the text of the held tables, then the
-/// files. Writes to `sink` the tables to write next, towards the plan of the subnet that the files describe together.
-/// Writes to `told` whether channels can wait for each other by any mixtures of both tables, in a line like an audit's.
-/// If they can, another line has the LIDs. Returns whether they cannot.
+/// Reads the inputs in order (`read_inputs`): the text that the rule takes, the text of an order, if one is named, the
+/// text of the held tables, then the files. Writes to `sink` the tables to write next, towards the plan of the subnet
+/// that the files describe together. Writes to `told` whether channels can wait for each other by any mixtures of both
+/// tables, in a line like an audit's. If they can, another line has the LIDs. If the step goes by an order that the held
+/// tables imply, a last line has the switches in this order. Returns whether the channels cannot wait for each other.
 ///
 /// # Errors
 ///
@@ -55,7 +61,7 @@ pub fn run_next<S: Source, W: Sink, E: Sink>(
     sink: &mut W,
     told: &mut E,
 ) -> Result<bool, Fault>
-    requires { texts_for asked.rule + 1 ≤ length inputs.old }
+    requires { texts_for asked.rule + order_texts (is_named asked.held_order) + 1 ≤ length inputs.old }
     ensures done { IfOk result (HasStepped S.state asked inputs.old inputs.new
         (Appends (W.written sink.old) (W.written sink.new))
         (IsSaid E.written E.has_failed told.old told.new)) }
@@ -66,77 +72,134 @@ pub fn run_next<S: Source, W: Sink, E: Sink>(
     ensures nothing_written { OnErr result ((result ≡ Err Fault.Write) ⊎ (sink.new ≡ sink.old)) }
     ensures nothing_told { OnErr result (told.new ≡ told.old) }
 {
-    let reader = TablesAndFiles { floor: asked.floor };
+    let has_order = asked.held_order.is_named();
+    let reader = OrderTablesAndFiles {
+        floor: asked.floor,
+        has_order,
+    };
+    let input = asked.rule.texts() + order_texts(has_order);
     match read_inputs(alloc, asked.rule, &reader, inputs) {
-        Ok((rule, read)) => step(
-            alloc,
-            asked.rule.texts(),
-            &read.held,
-            &read.store,
-            asked.lmc,
-            asked.told,
-            &rule,
-            sink,
-            told,
-        ),
+        Ok((rule, found)) => step_from(alloc, input, asked, &rule, found, sink, told),
         Err(fault) => Err(fault),
     }
 }
 
-/// Writes the step from the held tables towards the plan of the facts in `store`. `input` is the number of the held
-/// tables' text. `by_told` says whether the step may go by the order that the held tables imply. Writes to `told`
-/// whether channels can wait for each other in the step, and returns whether they cannot.
-fn step<W: Sink, E: Sink>(
+/// Writes the step that is asked for from what the inputs say. `input` is the number of the held tables' text. Writes
+/// to `told` what `run_next` does, and returns whether channels cannot wait for each other.
+fn step_from<W: Sink, E: Sink>(
     alloc: Global,
     input: usize,
-    held: &Held,
-    store: &Store,
-    lmc: Lmc,
-    by_told: bool,
+    asked: StepAsked,
     rule: &Rule,
+    found: OrderAndTables,
     sink: &mut W,
     told: &mut E,
 ) -> Result<bool, Fault>
-    ensures done { IfOk result (IsStep lmc by_told (value_of rule.now) store.now held.now
+    ensures done { IfOk result (IsStep asked.lmc (is_told asked.held_order) (value_of rule.now)
+        (preferred_rule asked.held_order (value_of rule.now) found.order.items) found.read.store found.read.held
         (Appends (W.written sink.old) (W.written sink.new))
         (IsSaid E.written E.has_failed told.old told.new)) }
     ensures flushed { OnOk result (IsTrue (W.is_flushed sink.new)) }
     ensures sink_works { OnOk result (W.has_failed sink.new ≡ false) }
-    ensures refused { IfErr result (StopsStep input lmc (value_of rule.now) store.now held.now
+    ensures refused { IfErr result (StopsStep input asked.lmc (value_of rule.now) found.read.store found.read.held
         (W.has_failed sink.new)) }
     ensures nothing_written { OnErr result ((result ≡ Err Fault.Write) ⊎ (sink.new ≡ sink.old)) }
     ensures nothing_told { OnErr result (told.new ≡ told.old) }
 {
-    let plan = Plan::of(alloc, store, lmc, rule)?;
-    let Ok(from) = Network::of(alloc, store, held) else {
+    let OrderAndTables { order, read } = found;
+    let named = named_rule(asked.held_order, order);
+    let by_told = asked.held_order.is_told();
+    step(
+        alloc, input, &read, asked.lmc, by_told, rule, &named, sink, told,
+    )
+}
+
+/// Returns the rule that spreads in the order of `switches`, which a text names, or `None` if no text names an order.
+fn named_rule(held_order: HeldOrder, switches: Vec<Guid>) -> Option<Rule>
+    ensures { (rule : RuleValue) → preferred_rule held_order rule switches.items ≡ rule_or rule (option_map value_of result) }
+{
+    match held_order {
+        HeldOrder::Ignored | HeldOrder::NearPlan => None,
+        HeldOrder::NearNamed => Some(Rule::Spread {
+            order: SwitchOrder::AsNamed { switches },
+        }),
+    }
+}
+
+/// Writes the step from the tables and files of `read` towards the plan by `rule`. `input` is the number of the held
+/// tables' text. `by_told` says whether the step may go by an order that the held tables imply, of several the one
+/// nearest to the order of `named`, or of `rule` if `named` is `None`. Writes to `told` what `run_next` does, and
+/// returns whether channels cannot wait for each other.
+fn step<W: Sink, E: Sink>(
+    alloc: Global,
+    input: usize,
+    read: &TablesAndFacts,
+    lmc: Lmc,
+    by_told: bool,
+    rule: &Rule,
+    named: &Option<Rule>,
+    sink: &mut W,
+    told: &mut E,
+) -> Result<bool, Fault>
+    ensures done { IfOk result (IsStep lmc by_told (value_of rule.now)
+        (rule_or (value_of rule.now) (option_map value_of named.now)) read.now.store read.now.held
+        (Appends (W.written sink.old) (W.written sink.new))
+        (IsSaid E.written E.has_failed told.old told.new)) }
+    ensures flushed { OnOk result (IsTrue (W.is_flushed sink.new)) }
+    ensures sink_works { OnOk result (W.has_failed sink.new ≡ false) }
+    ensures refused { IfErr result (StopsStep input lmc (value_of rule.now) read.now.store read.now.held
+        (W.has_failed sink.new)) }
+    ensures nothing_written { OnErr result ((result ≡ Err Fault.Write) ⊎ (sink.new ≡ sink.old)) }
+    ensures nothing_told { OnErr result (told.new ≡ told.old) }
+{
+    let plan = Plan::of(alloc, &read.store, lmc, rule)?;
+    let Ok(from) = Network::of(alloc, &read.store, &read.held) else {
         return Err(Fault::Memory);
     };
-    let next = match next_by(alloc, input, by_told, store, rule, &from, &plan) {
-        Ok(next) => next,
+    let made = match made_step(alloc, input, by_told, &read.store, rule, named, &from, &plan) {
+        Ok(made) => made,
         Err(fault) => return Err(fault),
     };
-    let Ok(found) = loop_towards(alloc, store, &from, &next) else {
+    let Ok(found) = loop_towards(alloc, &read.store, &from, &made.next) else {
         return Err(Fault::Memory);
     };
-    write_next(sink, plan.lids(), &next)?;
-    let _ = found.write(told, &from);
+    write_next(sink, plan.lids(), &made.next)?;
+    let _ = write_told(told, &from, &found, &made.order);
     Ok(found.is_none())
 }
 
-/// Returns the tables to write next from the tables of the network `from`, towards a plan of the same facts by `rule`.
-/// `told` says whether the step may go by the order that the tables of `from` imply. `input` is the number of the held
-/// tables' text, for faults.
-fn next_by(
+/// Writes the credit loop `found`, or that there is none, and the order that the step goes by, if there is one.
+fn write_told<E: Sink>(
+    told: &mut E,
+    from: &Network,
+    found: &StepLoop,
+    order: &Option<Vec<Guid>>,
+) -> Result<(), WriteFault>
+    ensures { WritesPart E.written E.has_failed result told.old told.new
+        (loop_text (cells_of from.now.facts) found.now.channels.items found.now.lids.items
+        ++ step_order_text (items_of order.now)) }
+{
+    found.write(told, from)?;
+    write_step_order(told, order)
+}
+
+/// Makes the step from the tables of the network `from` towards a plan of the same facts by `rule`. `told` says whether
+/// the step may go by an order that the tables of `from` imply, of several the one nearest to the order of `named`, or
+/// of `rule` if `named` is `None`. `input` is the number of the held tables' text, for faults.
+fn made_step(
     alloc: Global,
     input: usize,
     told: bool,
     store: &Store,
     rule: &Rule,
+    named: &Option<Rule>,
     from: &Network,
     plan: &Plan,
-) -> Result<Held, Fault>
+) -> Result<MadeStep, Fault>
     requires { from.now.facts ≡ store.now }
-    ensures tables { IfOk result (IsNextStep told (value_of rule.now) store.now from.now.held (held_plan plan.now)) }
+    ensures made { IfOk result (λ made. IsMade told (value_of rule.now)
+        (rule_or (value_of rule.now) (option_map value_of named.now)) store.now from.now.held (held_plan plan.now)
+        made.next (items_of made.order)) }
     ensures still { OnOk result (first_moved from.now.held (held_plan plan.now) ≡ None) }
     ensures refused { IfErr result (StopsNext input from.now.held (held_plan plan.now)) }
 {
@@ -146,12 +209,37 @@ fn next_by(
     let Ok(to) = Network::of(alloc, store, &planned) else {
         return Err(Fault::Memory);
     };
-    let Ok(choice) = step_choice(alloc, told, store, rule, from, &to) else {
+    let Ok(choice) = step_choice(alloc, told, store, rule, named, from, &to) else {
         return Err(Fault::Memory);
     };
+    let next = match next_by_choice(alloc, input, store, &choice, from, &to) {
+        Ok(next) => next,
+        Err(fault) => return Err(fault),
+    };
+    let StepChoice { order, .. } = choice;
+    Ok(MadeStep { next, order })
+}
+
+/// Returns the tables to write next as `choice` says, from the tables of the network `from`, towards the tables of the
+/// network `plan` if `choice` has no others. `input` is the number of the held tables' text, for faults.
+fn next_by_choice(
+    alloc: Global,
+    input: usize,
+    store: &Store,
+    choice: &StepChoice,
+    from: &Network,
+    plan: &Network,
+) -> Result<Held, Fault>
+    requires from { from.now.facts ≡ store.now }
+    requires plan { plan.now.facts ≡ store.now }
+    ensures tables { IfOk result (λ next.
+        next ≡ next_by_choice (cells_of store.now) (choice_of choice.now) from.now.held plan.now.held) }
+    ensures still { OnOk result (first_moved from.now.held (goal_or plan.now.held choice.now.goal) ≡ None) }
+    ensures refused { IfErr result (StopsNext input from.now.held (goal_or plan.now.held choice.now.goal)) }
+{
     match &choice.goal {
         Some(goal) => next_towards_goal(alloc, input, store, &choice.by, from, goal),
-        None => next_towards(alloc, input, &choice.by, from, &to),
+        None => next_towards(alloc, input, &choice.by, from, plan),
     }
 }
 

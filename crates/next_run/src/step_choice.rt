@@ -5,16 +5,19 @@ ghost use Rattle.fact_store.specs.View.{cells_of};
 ghost use Rattle.lft_blocks.specs.Rules.{value_of};
 ghost use Rattle.subnet_view.specs.Reading.{switches};
 ghost use Rattle.between_orders.specs.Between.{goal_of};
+ghost use Rattle.next_run.specs.Asked.{preferred_positions, rule_or};
 ghost use Rattle.next_run.specs.RunNext.{IsChoice, IsGoalFrom, choice_of};
 
+use crate::step_order::switches_by;
 use between_orders::{StepGoal, between};
-use fact_store::Store;
+use fact_store::{Refused, Store};
 use held_tables::Held;
 use lft_blocks::Rule;
 use next_tables::StepRule;
 use ordered_steps::are_right;
 use packet_walks::Network;
 use plan_order::plan_positions;
+use smp_bytes::Guid;
 use std::alloc::{AllocError, Global};
 
 /// How a step chooses entries, and the tables that it goes towards.
@@ -24,24 +27,29 @@ pub(crate) struct StepChoice {
     pub by: StepRule,
     /// The tables that the step goes towards, if they are not the plan's.
     pub goal: Option<Held>,
+    /// The usable switches in the order that the step goes by, if it is one that the held tables imply.
+    pub order: Option<Vec<Guid>>,
 }
 
 /// Returns how a step from the tables of `from` towards the tables of `plan` chooses entries. `plan` is the plan of the
 /// same facts by `rule`. The step goes by the order of the plan's switches if the tables of `from` are right by it.
 /// Otherwise, if `told` is true and the tables imply an order, it goes by that order, towards tables between that order
-/// and the plan's. Otherwise it goes by settled entries.
+/// and the plan's; if they imply several, by the one nearest to the order of `named`, or of `rule` if `named` is `None`.
+/// Otherwise it goes by settled entries.
 pub(crate) fn step_choice(
     alloc: Global,
     told: bool,
     store: &Store,
     rule: &Rule,
+    named: &Option<Rule>,
     from: &Network,
     plan: &Network,
 ) -> Result<StepChoice, AllocError>
     requires from { from.now.facts ≡ store.now }
     requires plan { plan.now.facts ≡ store.now }
-    ensures { IfOk result (λ choice.
-        IsChoice told (value_of rule.now) store.now from.now.held plan.now.held (choice_of choice)) }
+    ensures { IfOk result (λ choice. IsChoice told (value_of rule.now)
+        (rule_or (value_of rule.now) (option_map value_of named.now)) store.now from.now.held plan.now.held
+        (choice_of choice)) }
 {
     let Ok(positions) = plan_positions(alloc, store, rule) else {
         return Err(AllocError);
@@ -50,41 +58,56 @@ pub(crate) fn step_choice(
         return Ok(StepChoice {
             by: StepRule::ByOrder(positions),
             goal: None,
+            order: None,
         });
     }
-    match goal_between(alloc, told, store, from, plan, &positions)? {
-        Some(StepGoal { positions, tables }) => Ok(StepChoice {
-            by: StepRule::ByOrder(positions),
-            goal: Some(tables),
-        }),
+    let Ok(goal) = goal_between(alloc, told, store, named, from, plan, &positions) else {
+        return Err(AllocError);
+    };
+    match goal {
+        Some(StepGoal { positions, tables }) => {
+            let switches = switches_by(alloc, from, &positions)?;
+            Ok(StepChoice {
+                by: StepRule::ByOrder(positions),
+                goal: Some(tables),
+                order: Some(switches),
+            })
+        }
         None => Ok(StepChoice {
             by: StepRule::SettledFirst,
             goal: None,
+            order: None,
         }),
     }
 }
 
-/// Returns the goal of a step by the order that the tables of `from` imply, or `None` if `told` is false or they imply
-/// no order.
+/// Returns the goal of a step by the order that the tables of `from` imply, of several the one nearest to the order of
+/// `named`, or to the order of `positions` if `named` is `None`. Returns `None` if `told` is false or they imply no
+/// order.
 fn goal_between(
     alloc: Global,
     told: bool,
     store: &Store,
+    named: &Option<Rule>,
     from: &Network,
     plan: &Network,
     positions: &[usize],
-) -> Result<Option<StepGoal>, AllocError>
+) -> Result<Option<StepGoal>, Refused>
     requires from { from.now.facts ≡ store.now }
     requires plan { plan.now.facts ≡ store.now }
     requires positions { length positions.now ≡ length (switches (cells_of store.now)) }
     ensures { IfOk result (λ found. IsGoalFrom told false (cells_of store.now) from.now.held plan.now.held
-        positions.now (option_map goal_of found)) }
+        positions.now (preferred_positions positions.now (cells_of store.now) (option_map value_of named.now))
+        (option_map goal_of found)) }
 {
     if !told {
         return Ok(None);
     }
-    match between(alloc, store, from, plan, positions) {
-        Ok(found) => Ok(found),
-        Err(_) => Err(AllocError),
+    match named {
+        Some(rule) => {
+            let preferred = plan_positions(alloc, store, rule)?;
+            between(alloc, store, from, plan, positions, &preferred)
+        }
+        None => between(alloc, store, from, plan, positions, positions),
     }
 }

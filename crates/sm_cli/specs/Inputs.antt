@@ -75,13 +75,13 @@ abbrev pub IsTextRefused : {S : Type 0} → (S → SourceState) → S → S → 
 IsTextRefused state old new (texts.Roots fault) = RefusesRootsText state old new fault
 IsTextRefused state old new fault = ⊥
 
--- why the text of roots or of an order, input 0, is not read
-abbrev pub IsRootsFault : {S : Type 0} → (S → SourceState) → S → S → Fault → Type 0
-IsRootsFault state old new (File input fault) =
-    (input ≡ 0) × FailsToRead state old new fault
-IsRootsFault state old new (Text input fault) =
-    (input ≡ 0) × IsTextRefused state old new fault
-IsRootsFault state old new fault = ⊥
+-- why the text of roots or of an order, the input `at`, is not read
+abbrev pub IsRootsFault : {S : Type 0} → (S → SourceState) → ℕ → S → S → Fault → Type 0
+IsRootsFault state at old new (File input fault) =
+    (input ≡ at) × FailsToRead state old new fault
+IsRootsFault state at old new (Text input fault) =
+    (input ≡ at) × IsTextRefused state old new fault
+IsRootsFault state at old new fault = ⊥
 
 -- the text that the rule takes was read, and `grows` makes the order from the GUIDs that it names
 pub record IsOrderRead {S : Type 0} (state : S → SourceState) (grows : List ℕ → OrderValue) (olds news : List S)
@@ -106,12 +106,12 @@ abbrev pub IsRuleFault : {S : Type 0} → (S → SourceState) → RuleAsked → 
 IsRuleFault state UpDown olds news fault = ⊥
 IsRuleFault state Spread olds news fault = ⊥
 IsRuleFault state SpreadFromRoots olds news fault =
-    IsOneRead olds news (λ old new. IsRootsFault state old new fault)
+    IsOneRead olds news (λ old new. IsRootsFault state 0 old new fault)
 IsRuleFault state SpreadInOrder olds news fault =
-    IsOneRead olds news (λ old new. IsRootsFault state old new fault)
+    IsOneRead olds news (λ old new. IsRootsFault state 0 old new fault)
 IsRuleFault state Balance olds news fault = ⊥
 IsRuleFault state BalanceInOrder olds news fault =
-    IsOneRead olds news (λ old new. IsRootsFault state old new fault)
+    IsOneRead olds news (λ old new. IsRootsFault state 0 old new fault)
 
 -- inputs ----------------------------------------------------------------------------------------
 

@@ -4,6 +4,7 @@ pub mod Faults
 pub mod FaultText
 pub mod InputFiles
 pub mod InputLanes
+pub mod InputOrders
 pub mod InputReaders
 pub mod InputTables
 pub mod Inputs

@@ -94,19 +94,19 @@ fn read_rule<S: Source>(alloc: Global, asked: RuleAsked, texts: &mut [S]) -> Res
         RuleAsked::Balance => Ok(Rule::Spread {
             order: SwitchOrder::LeastLoaded,
         }),
-        RuleAsked::SpreadFromRoots => match read_roots(alloc, &mut texts[0]) {
+        RuleAsked::SpreadFromRoots => match read_switches(alloc, 0, &mut texts[0]) {
             Ok(roots) => Ok(Rule::Spread {
                 order: SwitchOrder::FromRoots { roots },
             }),
             Err(fault) => Err(fault),
         },
-        RuleAsked::SpreadInOrder => match read_roots(alloc, &mut texts[0]) {
+        RuleAsked::SpreadInOrder => match read_switches(alloc, 0, &mut texts[0]) {
             Ok(switches) => Ok(Rule::Spread {
                 order: SwitchOrder::AsNamed { switches },
             }),
             Err(fault) => Err(fault),
         },
-        RuleAsked::BalanceInOrder => match read_roots(alloc, &mut texts[0]) {
+        RuleAsked::BalanceInOrder => match read_switches(alloc, 0, &mut texts[0]) {
             Ok(switches) => Ok(Rule::Spread {
                 order: SwitchOrder::BalancedAs { switches },
             }),
@@ -115,21 +115,25 @@ fn read_rule<S: Source>(alloc: Global, asked: RuleAsked, texts: &mut [S]) -> Res
     }
 }
 
-/// Reads a text of roots, or of the switches of an order, to its end.
-fn read_roots<S: Source>(alloc: Global, roots: &mut S) -> Result<Vec<Guid>, Fault>
+/// Reads a text of roots, or of the switches of an order, to its end. `input` is its number in the run.
+pub(crate) fn read_switches<S: Source>(
+    alloc: Global,
+    input: usize,
+    source: &mut S,
+) -> Result<Vec<Guid>, Fault>
     ensures read { IfOk result (λ found.
-        IsRoots S.state roots.old roots.new found.items) }
+        IsRoots S.state source.old source.new found.items) }
     ensures refused { IfErr result
-        (IsRootsFault S.state roots.old roots.new) }
+        (IsRootsFault S.state input source.old source.new) }
 {
-    let text = match read_whole(alloc, roots) {
+    let text = match read_whole(alloc, source) {
         Ok(text) => text,
-        Err(fault) => return Err(Fault::File { input: 0, fault }),
+        Err(fault) => return Err(Fault::File { input, fault }),
     };
     match parse(alloc, &text) {
-        Ok(roots) => Ok(roots),
+        Ok(switches) => Ok(switches),
         Err(fault) => Err(Fault::Text {
-            input: 0,
+            input,
             fault: TextFault::Roots(fault),
         }),
     }

@@ -9,7 +9,7 @@ use Rattle.roots_file.specs.RootsTextFault.{RootsTextFault as RootsFault}
 use Rattle.text_words.specs.Faults.{is_memory}
 use Rattle.text_words.specs.declared.fault.LinesFault.TheVariants as wrong
 use Rattle.sm_cli.specs.Inputs.{IsFaultOfText}
-use Rattle.sm_cli.proofs.inputs.read_roots.Goals as goal
+use Rattle.sm_cli.proofs.inputs.read_switches.Goals as goal
 
 -- a text's first fault, or lack of memory if it has none
 faulty : (told : Result (List ℕ) RootsLineFault) (fault : RootsLineFault) → option_map wrong.Line (result_err told) ≡ Some (wrong.Line fault) → told ≡ Err fault
@@ -29,7 +29,7 @@ pub returns-clause-refused : goal.returns-clause-refused
 returns-clause-refused g c =
     let value = c.deref.ensures.value in
     let same : c.in-Ok.text.items ≡ c.deref.result.now = cc in
-    let Whole : List ℕ → Type 0 = λ text. IsReadWhole g.S.Source.state c.args.roots.now c.read_whole.new.source text in (
+    let Whole : List ℕ → Type 0 = λ text. IsReadWhole g.S.Source.state c.args.source.now c.read_whole.new.source text in (
       refl,
       record {
         text = c.deref.result.now;

@@ -1,0 +1,37 @@
+-- The order that a step goes by, as it is asked for.
+use Rattle.std.specs.Prelude.{ℕ, Bool, true, false, List, Option, None, Some}
+use Rattle.subnet_view.specs.Reading.{Cells}
+use Rattle.lft_blocks.specs.Rules.{RuleValue, spread_in}
+use Rattle.plan_order.specs.PlanOrder.{positions_by}
+use Rattle.spread_routes.specs.SwitchOrders.{as_named}
+use Rattle.next_run.specs.declared.asked.HeldOrder.{HeldOrder}
+use Rattle.next_run.specs.declared.asked.HeldOrder.TheVariants.{Ignored, NearPlan, NearNamed}
+
+-- the step may go by an order that the held tables imply
+abbrev pub is_told : HeldOrder → Bool
+is_told Ignored = false
+is_told NearPlan = true
+is_told NearNamed = true
+
+-- a text names an order
+abbrev pub is_named : HeldOrder → Bool
+is_named Ignored = false
+is_named NearPlan = false
+is_named NearNamed = true
+
+-- the rule of the order that a text names, or else the plan's rule
+abbrev pub rule_or : RuleValue → Option RuleValue → RuleValue
+rule_or rule None = rule
+rule_or rule (Some named) = named
+
+-- the positions of switches in the order of the named rule, or else these positions
+abbrev pub preferred_positions : List ℕ → Cells → Option RuleValue → List ℕ
+preferred_positions positions cells None = positions
+preferred_positions positions cells (Some named) = positions_by named cells
+
+-- the rule whose order decides if the held tables imply several: it spreads in the order that a text names, or else it
+-- is the plan's
+abbrev pub preferred_rule : HeldOrder → RuleValue → List ℕ → RuleValue
+preferred_rule Ignored rule named = rule
+preferred_rule NearPlan rule named = rule
+preferred_rule NearNamed rule named = spread_in (as_named named)

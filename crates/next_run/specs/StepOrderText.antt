@@ -1,0 +1,35 @@
+-- The line of the order that a step goes by.
+use Rattle.std.specs.Prelude.{◌==◌, ℕ, List, [], ◌++◌, Option, None, Some, Vec, codes, length, map, option_map, position}
+use Rattle.std.specs.List.{flat_map, range_with_len}
+use Rattle.std.specs.Option.{option_map_or}
+use Rattle.std.specs.declared.alloc.Global.{Global}
+use Rattle.smp_bytes.specs.Text.{guid_text}
+use Rattle.subnet_view.specs.Reading.{Cells}
+use Rattle.next_tables.specs.EntriesByOrder.{switch_at}
+use Rattle.between_orders.specs.Between.{Goal}
+
+-- the index of the switch at `place` in the order, or 0 if there is none
+abbrev pub index_at : List ℕ → ℕ → ℕ
+index_at positions place = option_map_or (λ (i : ℕ). i) (position (λ p. p == place) positions) 0
+
+-- the usable switches in the order of their positions
+abbrev pub switches_by : Cells → List ℕ → List ℕ
+switches_by cells positions =
+    map (λ place. switch_at cells (index_at positions place)) (range_with_len 0 (length positions))
+
+-- the switches in the order that a step goes by, if it is one that the held tables imply
+abbrev pub order_of_step : Cells → Option Goal → Option (List ℕ)
+order_of_step cells goal = option_map (λ (g : Goal). switches_by cells g.positions) goal
+
+-- the switches of an order, as specified
+abbrev pub items_of : Option (Vec ℕ Global) → Option (List ℕ)
+items_of order = option_map (λ switches. switches.items) order
+
+-- a blank and the GUID of a switch
+abbrev pub switch_word : ℕ → List ℕ
+switch_word guid = codes " 0x" ++ guid_text guid
+
+-- the line of the order that a step goes by, if it is one that the held tables imply
+abbrev pub step_order_text : Option (List ℕ) → List ℕ
+step_order_text None = []
+step_order_text (Some switches) = codes "order" ++ flat_map switch_word switches ++ codes "\n"

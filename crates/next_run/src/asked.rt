@@ -1,0 +1,53 @@
+//! The options of a step.
+ghost use Rattle.std.specs.Prelude.{◌≡◌};
+ghost use Rattle.next_run.specs.Asked.{is_named, is_told};
+
+use attr_codec::Lmc;
+use sm_cli::RuleAsked;
+use smp_bytes::Generation;
+
+/// Which order a step goes by if the held tables are not right by the order of the plan's switches, but imply others.
+#[derive(Clone, Copy, Debug, PartialEq, Eq)]
+pub enum HeldOrder {
+    /// None: the step goes by settled entries.
+    Ignored,
+    /// Of the orders that the held tables imply, the one nearest to the order of the plan's switches.
+    NearPlan,
+    /// Of the orders that the held tables imply, the one nearest to the order that a text names.
+    NearNamed,
+}
+
+impl HeldOrder {
+    /// Returns whether the step may go by an order that the held tables imply.
+    pub fn is_told(self) -> bool
+        ensures { result ≡ is_told self }
+    {
+        match self {
+            HeldOrder::Ignored => false,
+            HeldOrder::NearPlan | HeldOrder::NearNamed => true,
+        }
+    }
+
+    /// Returns whether a text names an order.
+    pub fn is_named(self) -> bool
+        ensures { result ≡ is_named self }
+    {
+        match self {
+            HeldOrder::Ignored | HeldOrder::NearPlan => false,
+            HeldOrder::NearNamed => true,
+        }
+    }
+}
+
+/// The options of a step.
+#[derive(Clone, Copy, Debug, PartialEq, Eq)]
+pub struct StepAsked {
+    /// Each adapter port has 2^LMC LIDs in the plan.
+    pub lmc: Lmc,
+    /// The rule by which the plan is made.
+    pub rule: RuleAsked,
+    /// Facts of generations before this one are ignored.
+    pub floor: Generation,
+    /// Which order the step goes by if the held tables are not right by the order of the plan's switches.
+    pub held_order: HeldOrder,
+}
