@@ -15,8 +15,8 @@ use two_orders::{Orders, grown_by, positions_in, tree};
 
 /// Returns the orders of a step from the tables of `held`: the order that they imply, and the next one on the way to
 /// the plan's. If several switches may be last, the one that comes last in the order that grows by `preferred` is taken
-/// first. Returns `None` if the tables imply no order. `edges` has the wires of each switch, `plan` the position of each
-/// switch in the plan's order, and `preferred` its position in the preferred order. Takes what `told_order` and
+/// first. Returns `None` if the tables imply no order. `edges` has the wires of each switch, `plan` the position of
+/// each switch in the plan's order, and `preferred` its position in the preferred order. Takes what `told_order` and
 /// `are_right` take, and a step for each pair of switches.
 pub(crate) fn orders(
     alloc: Global,
