@@ -161,7 +161,7 @@ module _ (facts : Facts) (by : List ℕ) where
       (second_further held told.taken told.is_told count own by_grown)))
 
   -- a step
-  step : (held plan : HeldPlan) (g : Goal) (k : ℕ) → IsGoalBetween cells held plan by g → AgreeTo cells held by k
+  step : (held plan : HeldPlan) (g : Goal) (k : ℕ) → IsGoalBetween cells held plan by by g → AgreeTo cells held by k
       → AgreeTo cells (next_towards facts held g) by k
   step held plan g k is agree =
       let taken = is.are.0 in
@@ -170,7 +170,7 @@ module _ (facts : Facts) (by : List ℕ) where
       let own = first_agrees held taken told k (agree.agrees taken told) in
       let by_goal = subst (λ (x : TwoOrders). AgreesUpTo P (number_at x.first) k) (sym is.are.2) own in
       let agreed = subst (λ (x : Goal). AgreesUpTo P (number_at x.positions) k) (sym is.is) by_goal in
-      tell (next_towards facts held g) g.positions k (goals_are_safe facts held plan by g is).1 agreed
+      tell (next_towards facts held g) g.positions k (goals_are_safe facts held plan by by g is).1 agreed
 
   -- tables that tell an order agree with the plan's on none
   begins : (tables : HeldPlan) → TellsPositions cells tables by → AgreeTo cells tables by 0

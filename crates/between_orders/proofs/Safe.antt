@@ -120,14 +120,14 @@ module _ (facts : Facts) where
 pub owners_by_lids : (a b : HeldPlan) → a.lids ≡ b.lids → (lid : ℕ) → owners_of a lid ≡ owners_of b lid
 owners_by_lids a b e lid = λ i. owners_of (record { lids = e i; switches = a.switches; blocks = a.blocks }) lid
 
-module _ (facts : Facts) (held plan : HeldPlan) (by : List ℕ) (goal : Goal) (is : IsGoalBetween (cells_of facts) held plan by goal) where
+module _ (facts : Facts) (held plan : HeldPlan) (by preferred : List ℕ) (goal : Goal) (is : IsGoalBetween (cells_of facts) held plan by preferred goal) where
   -- the held tables are right by the order of the goal
   pub held_is : IsOrderOf (cells_of facts) held goal.positions
   held_is =
       let cells = cells_of facts in
       let taken = is.are.0 in
       let told = told_positions taken (length (edges_in cells)) in
-      let first = first_is facts held by told (grown_by (edges_in cells) told) (told_is facts held (grown_by (edges_in cells) by) taken is.are.1)
+      let first = first_is facts held by told (grown_by (edges_in cells) told) (told_is facts held (grown_by (edges_in cells) preferred) taken is.are.1)
       (grown_is_order facts told) in
       let own = subst (λ (o : TwoOrders). IsOrderOf cells held o.first) (sym is.are.2) first in
       subst (λ (g : Goal). IsOrderOf cells held g.positions) (sym is.is) own
@@ -150,24 +150,24 @@ module _ (facts : Facts) (held plan : HeldPlan) (by : List ℕ) (goal : Goal) (i
   goal_owners lid = owners_by_lids goal.tables plan goal_lids lid
 
 pub goals_are_safe : GoalsAreSafe
-goals_are_safe facts held plan by goal is =
-    let own = held_is facts held plan by goal is in
+goals_are_safe facts held plan by preferred goal is =
+    let own = held_is facts held plan by preferred goal is in
     all_are_step (cells_of facts) (position_at goal.positions) held goal.tables (next_towards facts held goal) own.order own.right
-    (goal_right facts held plan by goal is) (ordered_tables_are_next facts goal.positions held goal.tables)
+    (goal_right facts held plan by preferred goal is) (ordered_tables_are_next facts goal.positions held goal.tables)
 
 pub goals_follow_the_rule : GoalsFollowTheRule
-goals_follow_the_rule facts held plan by goal line is kept some =
+goals_follow_the_rule facts held plan by preferred goal line is kept some =
     let cells = cells_of facts in
     let q = position_at goal.positions in
     let next = next_towards facts held goal in
-    let own = held_is facts held plan by goal is in
-    let owners = goal_owners facts held plan by goal is line.lid in
+    let own = held_is facts held plan by preferred goal is in
+    let owners = goal_owners facts held plan by preferred goal is line.lid in
     let kept_on : IsKept held goal.tables line = record { in_plan = owners ∙ kept.in_plan; in_held = kept.in_held } in
     let follows = all_follow_the_rule cells q held goal.tables next line (ordered_tables_are_next facts goal.positions held goal.tables) kept_on in
     record {
       order = own.order;
       owners = owners ∙ kept.in_plan ∙ sym kept.in_held;
       held_right = own.right line.lid some;
-      goal_right = goal_right facts held plan by goal is line.lid some;
+      goal_right = goal_right facts held plan by preferred goal is line.lid some;
       is_next = rule_is_tried cells q held goal.tables next line follows;
     }

@@ -41,12 +41,12 @@ pub record TellsPositions (cells : Cells) (tables : HeldPlan) (by : List ℕ) : 
   pub positions : List ℕ
   pub are : positions ≡ told_positions taken (length (edges_in cells))
 
--- after a step towards the goal between two orders, the order of the tables agrees with the plan's order at least as
--- far as before
+-- after a step towards the goal between two orders, where the plan's order is preferred, the order of the tables agrees
+-- with the plan's order at least as far as before
 abbrev pub StepsKeepAgreement : Type 0
 StepsKeepAgreement =
     (facts : Facts) (held plan : HeldPlan) (by : List ℕ) (goal : Goal) (k : ℕ)
-    → IsGoal (cells_of facts) held plan by (Some goal) → AgreeTo (cells_of facts) held by k
+    → IsGoal (cells_of facts) held plan by by (Some goal) → AgreeTo (cells_of facts) held by k
     → AgreeTo (cells_of facts) (next_towards facts held goal) by k
 
 -- the next tables are right by the first or by the second order of a step from `held`. Being right by the second order

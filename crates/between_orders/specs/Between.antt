@@ -23,13 +23,14 @@ goal_between cells orders held plan = record {
 abbrev pub goal_of : StepGoal → Goal
 goal_of goal = record { positions = goal.positions.items; tables = goal.tables }
 
--- the goal between the orders of `held` and the plan
-pub record IsGoalBetween (cells : Cells) (held plan : HeldPlan) (by : List ℕ) (goal : Goal) : Type 0 where
+-- the goal between the orders of `held` and the plan. `by` has the positions in the plan's order, and `preferred` those
+-- in the order that the order of `held` is to be nearest to
+pub record IsGoalBetween (cells : Cells) (held plan : HeldPlan) (by preferred : List ℕ) (goal : Goal) : Type 0 where
   pub orders : TwoOrders
-  pub are : AreOrders cells held (edges_in cells) by (Some orders)
+  pub are : AreOrders cells held (edges_in cells) by preferred (Some orders)
   pub is : goal ≡ goal_between cells orders held plan
 
 -- the goal of a step; None if the held tables imply no order
-abbrev pub IsGoal : Cells → HeldPlan → HeldPlan → List ℕ → Option Goal → Type 0
-IsGoal cells held plan by None = AreOrders cells held (edges_in cells) by None
-IsGoal cells held plan by (Some goal) = IsGoalBetween cells held plan by goal
+abbrev pub IsGoal : Cells → HeldPlan → HeldPlan → List ℕ → List ℕ → Option Goal → Type 0
+IsGoal cells held plan by preferred None = AreOrders cells held (edges_in cells) by preferred None
+IsGoal cells held plan by preferred (Some goal) = IsGoalBetween cells held plan by preferred goal

@@ -71,7 +71,8 @@ next_towards facts held goal = next_tables (cells_of facts) (by_order goal.posit
 -- makes a credit loop
 abbrev pub GoalsAreSafe : Type 0
 GoalsAreSafe =
-    (facts : Facts) (held plan : HeldPlan) (by : List ℕ) (goal : Goal) → IsGoal (cells_of facts) held plan by (Some goal)
+    (facts : Facts) (held plan : HeldPlan) (by preferred : List ℕ) (goal : Goal)
+    → IsGoal (cells_of facts) held plan by preferred (Some goal)
     → IsStep (cells_of facts) (position_at goal.positions) held goal.tables (next_towards facts held goal)
     × ((lid : ℕ) → 1 ≤ lid → AreRight (cells_of facts) (position_at goal.positions) (next_towards facts held goal) lid)
 
@@ -79,8 +80,8 @@ GoalsAreSafe =
 -- of a line by the goal's order; no packet that the held tables deliver is then lost
 abbrev pub GoalsFollowTheRule : Type 0
 GoalsFollowTheRule =
-    (facts : Facts) (held plan : HeldPlan) (by : List ℕ) (goal : Goal) (line : HeldLid)
-    → IsGoal (cells_of facts) held plan by (Some goal) → IsKept held plan line → 1 ≤ line.lid
+    (facts : Facts) (held plan : HeldPlan) (by preferred : List ℕ) (goal : Goal) (line : HeldLid)
+    → IsGoal (cells_of facts) held plan by preferred (Some goal) → IsKept held plan line → 1 ≤ line.lid
     → IsLineStep (cells_of facts) (position_at goal.positions) held goal.tables line (next_towards facts held goal)
 
 -- if each held entry is 255 or delivers, as after a step towards a goal, the goal between the two orders has the same

@@ -1,4 +1,5 @@
--- The two orders of a step from tables that imply an order: this order, and the next one on the way to the plan's.
+-- The two orders of a step from tables that imply an order: this order, and the next one on the way to the plan's. If
+-- the tables imply several orders, the one nearest to a preferred order is taken.
 use Rattle.std.specs.Prelude.{◌≡◌, ℕ, List, Option, None, Some, length, map, if◌then◌else◌}
 use Rattle.std.specs.List.{range_with_len}
 use Rattle.port_graph.specs.declared.edge.Edge.{Edge}
@@ -35,10 +36,11 @@ orders_by cells held edges plan told grown =
 abbrev pub orders_from : Cells → HeldPlan → List (List Edge) → List ℕ → List ℕ → TwoOrders
 orders_from cells held edges plan told = orders_by cells held edges plan told (grown_by edges told)
 
--- the orders of a step from `held`, by the order that the tables imply; of several switches that may be last, the last
--- in the plan's order is taken first. None if the tables imply no order
-abbrev pub AreOrders : Cells → HeldPlan → List (List Edge) → List ℕ → Option TwoOrders → Type 0
-AreOrders cells held edges plan None = IsTold cells held (grown_by edges plan) None
-AreOrders cells held edges plan (Some orders) =
-    (taken : List ℕ) × IsTold cells held (grown_by edges plan) (Some taken)
+-- the orders of a step from `held`, by the order that the tables imply; of several switches that may be last, the one
+-- that comes last in the order that grows by the positions `preferred` is taken first. None if the tables imply no
+-- order
+abbrev pub AreOrders : Cells → HeldPlan → List (List Edge) → List ℕ → List ℕ → Option TwoOrders → Type 0
+AreOrders cells held edges plan preferred None = IsTold cells held (grown_by edges preferred) None
+AreOrders cells held edges plan preferred (Some orders) =
+    (taken : List ℕ) × IsTold cells held (grown_by edges preferred) (Some taken)
     × (orders ≡ orders_from cells held edges plan (told_positions taken (length edges)))

@@ -48,7 +48,7 @@ pub fn goals_follow_the_rule()
 {}
 
 /// After a step towards the goal, the tables imply an order that agrees with the plan's order on at least as many first
-/// switches as the order of the held tables does.
+/// switches as the order of the held tables does, if the plan's order is the preferred one.
 pub fn steps_keep_agreement()
     ensures law { StepsKeepAgreement }
 {}

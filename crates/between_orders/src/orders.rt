@@ -14,22 +14,25 @@ use told_order::told_order;
 use two_orders::{Orders, grown_by, positions_in, tree};
 
 /// Returns the orders of a step from the tables of `held`: the order that they imply, and the next one on the way to
-/// the plan's. If several switches may be last, the last of them in the plan's order is taken first. Returns `None` if
-/// the tables imply no order. `edges` has the wires of each switch, and `plan` the position of each switch in the
-/// plan's order. Takes what `told_order` and `are_right` take, and a step for each pair of switches.
+/// the plan's. If several switches may be last, the one that comes last in the order that grows by `preferred` is taken
+/// first. Returns `None` if the tables imply no order. `edges` has the wires of each switch, `plan` the position of
+/// each switch in the plan's order, and `preferred` its position in the preferred order. Takes what `told_order` and
+/// `are_right` take, and a step for each pair of switches.
 pub(crate) fn orders(
     alloc: Global,
     edges: &Adjacency,
     held: &Network,
     plan: &[usize],
+    preferred: &[usize],
 ) -> Result<Option<Orders>, AllocError>
     requires plan { length plan.now ≡ length edges.now }
+    requires preferred { length preferred.now ≡ length edges.now }
     requires lead { LeadToVertices edges.now }
     requires symmetric { IsSymmetric edges.now }
-    ensures { IfOk result (AreOrders (cells_of held.now.facts) held.now.held edges.now plan.now) }
+    ensures { IfOk result (AreOrders (cells_of held.now.facts) held.now.held edges.now plan.now preferred.now) }
 {
-    let preferred = grown_by(alloc, edges, plan)?;
-    match told_order(alloc, held, &preferred)? {
+    let list = grown_by(alloc, edges, preferred)?;
+    match told_order(alloc, held, &list)? {
         Some(taken) => {
             let told = told_positions(alloc, &taken, edges.len())?;
             let orders = orders_from(alloc, edges, held, plan, told)?;

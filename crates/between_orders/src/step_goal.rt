@@ -24,26 +24,29 @@ pub struct StepGoal {
 
 /// Returns the goal of a step from the tables of `held` towards the tables of `plan`: tables that lead packets up and
 /// then down both by the order that the held tables imply and by the next one on the way to the plan's order. Returns
-/// `None` if the held tables imply no order. `positions` has the position of each usable switch in the plan's order, by
-/// rising GUID. Takes what `told_order` and `are_right` take, four steps for each wire and LID, and one for each pair
-/// of switches.
+/// `None` if the held tables imply no order. If they imply several, takes the one nearest to the order that grows by
+/// `preferred`. `positions` has the position of each usable switch in the plan's order, by rising GUID, and `preferred`
+/// its position in the preferred order. Takes what `told_order` and `are_right` take, four steps for each wire and LID,
+/// and one for each pair of switches.
 pub fn between(
     alloc: Global,
     store: &Store,
     held: &Network,
     plan: &Network,
     positions: &[usize],
+    preferred: &[usize],
 ) -> Result<Option<StepGoal>, Refused>
     requires held { held.now.facts ≡ store.now }
     requires plan { plan.now.facts ≡ store.now }
     requires positions { length positions.now ≡ length (switches (cells_of store.now)) }
-    ensures { IfOk result (λ found. IsGoal (cells_of store.now) held.now.held plan.now.held positions.now
+    requires preferred { length preferred.now ≡ length (switches (cells_of store.now)) }
+    ensures { IfOk result (λ found. IsGoal (cells_of store.now) held.now.held plan.now.held positions.now preferred.now
         (option_map goal_of found)) }
 {
     let wires = Wires::of(alloc, store)?;
     let graph = SwitchGraph::of(alloc, &wires)?;
     let edges = graph.adjacency();
-    let Some(orders) = orders(alloc, edges, held, positions)? else {
+    let Some(orders) = orders(alloc, edges, held, positions, preferred)? else {
         return Ok(None);
     };
     let tables = tables_between(alloc, edges, &orders, held, plan)?;

@@ -19,9 +19,10 @@ returns-in-Some c =
     let held = c.args.held.now.held in
     let edges = c.args.edges.now in
     let plan = c.args.plan.now in
-    let preferred : c.deref.result.now ≡ grown_by edges plan = c.deref.ensures.value ∙ c.in_ok-preferred.ensures in
-    let told : IsTold cells held (grown_by edges plan) (Some c.in-Some.taken.items) =
-    subst (λ (ps : List ℕ). IsTold cells held ps (Some c.in-Some.taken.items)) preferred
+    let by = c.args.preferred.now in
+    let list : c.deref.result.now ≡ grown_by edges by = c.deref.ensures.value ∙ c.in_ok-list.ensures in
+    let told : IsTold cells held (grown_by edges by) (Some c.in-Some.taken.items) =
+    subst (λ (ps : List ℕ). IsTold cells held ps (Some c.in-Some.taken.items)) list
     (subst (λ (o : Option (Vec ℕ Global)). IsTold cells held c.deref.result.now (option_map (λ (v : Vec ℕ Global). v.items) o)) c.in-Some.is
     c.in_ok-taken.ensures) in
     let positions = c.in_ok-told-in-Some.ensures ∙ (λ i. told_positions (c.deref-in-Some.ensures.value i) (c.len.ensures i)) in
