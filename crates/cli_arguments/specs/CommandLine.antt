@@ -44,6 +44,10 @@ all_rule = record (new_rule (codes "all")) { long = Some (codes "all"); action =
 abbrev pub told_order_rule : Rule
 told_order_rule = record (new_rule (codes "told-order")) { long = Some (codes "told-order"); action = Some SetTrue }
 
+-- the options of a step: whether it may go by the order that held tables imply, and the file of the last step's order
+abbrev pub of_step : List Rule
+of_step = told_order_rule ∷ option_rule (codes "last-order") ∷ []
+
 abbrev pub max_load_rule : Rule
 max_load_rule = record (option_rule (codes "max-load")) { parser = Some (Signed (pos 0) (pos 4294967295)) }
 
@@ -118,7 +122,7 @@ order_of_shape = subcommand_shape (codes "order-of") (text_rule (codes "TABLES")
 
 abbrev pub next_shape : Bor (List (Bor Text)) → Shape
 next_shape words =
-    subcommand_shape (codes "next") (text_rule (codes "TABLES") ∷ of_files ++ of_planning words ++ told_order_rule ∷ [])
+    subcommand_shape (codes "next") (text_rule (codes "TABLES") ∷ of_files ++ of_planning words ++ of_step)
 
 abbrev pub run_shape : Bor (List (Bor Text)) → Shape
 run_shape words =

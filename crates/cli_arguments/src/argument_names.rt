@@ -60,6 +60,9 @@ pub const ANSWERS_AS_ASKED: &str = "answers-as-asked";
 /// The flag by which a step may go by the order that held tables imply.
 pub const TOLD_ORDER: &str = "told-order";
 
+/// The option for the file of the order that the last step went by.
+pub const LAST_ORDER: &str = "last-order";
+
 /// The option for the LMC of a plan.
 pub const LMC: &str = "lmc";
 

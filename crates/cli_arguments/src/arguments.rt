@@ -7,8 +7,8 @@ ghost use Rattle.cli_arguments.specs.CommandLine.{option_rule, routing_rule, tol
 ghost use Rattle.cli_arguments.specs.CommandLine.{text_rule};
 
 use crate::argument_names::{
-    ALL, ANSWERS_AS_ASKED, FILE, FLOOR, GUID, LANES, LMC, MAX_LOAD, ORDER, PORT, PRIORITY, ROOTS,
-    ROUTING, SM_KEY, TOLD_ORDER,
+    ALL, ANSWERS_AS_ASKED, FILE, FLOOR, GUID, LANES, LAST_ORDER, LMC, MAX_LOAD, ORDER, PORT,
+    PRIORITY, ROOTS, ROUTING, SM_KEY, TOLD_ORDER,
 };
 use clap::{Arg, ArgAction, value_parser};
 use std::alloc::Global;
@@ -96,6 +96,21 @@ pub(crate) fn told_order<'a>(alloc: Global) -> Arg<'a>
              tell by themselves, towards tables between both orders",
         )
         .action(ArgAction::SetTrue)
+}
+
+/// Builds the option for the file of the order that the last step went by.
+pub(crate) fn last_order<'a>(alloc: Global) -> Arg<'a>
+    ensures rule { rule_of result ≡ option_rule (codes "last-order") }
+    ensures own { result.global ≡ false }
+{
+    Arg::new(alloc, LAST_ORDER)
+        .long(LAST_ORDER)
+        .value_name("FILE")
+        .help(
+            "As --told-order, but if the tables tell several orders, goes by the one nearest to that of FILE, \
+             a GUID a line, as the last step printed it",
+        )
+        .action(ArgAction::Set)
 }
 
 /// Builds the option for the greatest load that passes.

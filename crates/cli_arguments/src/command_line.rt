@@ -11,7 +11,7 @@ ghost use Rattle.cli_arguments.specs.CommandLine.{audit_shape, facts_shape, join
 ghost use Rattle.cli_arguments.specs.CommandLine.{order_shape};
 ghost use Rattle.cli_arguments.specs.CommandLine.{command_line, of_files, of_order, of_planning, of_routing, of_seat};
 ghost use Rattle.cli_arguments.specs.CommandLine.{plan_shape, program_app, run_shape, serve_shape};
-ghost use Rattle.cli_arguments.specs.CommandLine.{of_lanes, of_report};
+ghost use Rattle.cli_arguments.specs.CommandLine.{of_lanes, of_report, of_step};
 ghost use Rattle.cli_arguments.specs.CommandLine.{text_rule};
 ghost use Rattle.cli_arguments.specs.WellFormed.{IsWellFormed};
 ghost use Rattle.cli_arguments.specs.Words.{has_conflict, has_conflict_behind, is_guid, is_guid_word, is_key};
@@ -23,8 +23,8 @@ use crate::argument_names::{
     PLAN, ROOTS, ROUTING, RUN, SCHEDULE, SERVE, SM_KEY, SPREAD, TABLES, TOPOLOGY, UPDOWN,
 };
 use crate::arguments::{
-    all, answers_as_asked, files, floor, lanes, lmc, max_load, order_file, port, priority, roots,
-    routing, sm_key, text, told_order,
+    all, answers_as_asked, files, floor, lanes, last_order, lmc, max_load, order_file, port,
+    priority, roots, routing, sm_key, text, told_order,
 };
 use clap::error::ErrorKind;
 use clap::{ArgMatches, Command, Error};
@@ -221,7 +221,10 @@ fn next<'a>(alloc: Global, routings: &'a [&'a str]) -> Result<Command<'a>, Alloc
              all the files, so that no packet for a LID that stays is lost meanwhile",
         )
         .after_help(NEXT_END);
-    with_planning(alloc, routings, of_tables(alloc, command)?)?.arg(told_order(alloc))
+    with_step(
+        alloc,
+        with_planning(alloc, routings, of_tables(alloc, command)?)?,
+    )
 }
 
 fn run<'a>(alloc: Global, routings: &'a [&'a str]) -> Result<Command<'a>, AllocError>
@@ -298,6 +301,13 @@ fn with_lanes<'a>(alloc: Global, command: Command<'a>) -> Result<Command<'a>, Al
     ensures { IfOk result (AddsRules of_lanes command.entry) }
 {
     command.arg(lanes(alloc))?.arg(answers_as_asked(alloc))
+}
+
+/// Adds the options of a step: whether it may go by the order that held tables imply, and the order of the last step.
+fn with_step<'a>(alloc: Global, command: Command<'a>) -> Result<Command<'a>, AllocError>
+    ensures { IfOk result (AddsRules of_step command.entry) }
+{
+    command.arg(told_order(alloc))?.arg(last_order(alloc))
 }
 
 /// Adds the options of a plan: its LMC, its rule of routing, and the roots or the order.

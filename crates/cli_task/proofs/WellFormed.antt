@@ -8,7 +8,8 @@ use Rattle.cli_arguments.specs.Words.{files_named, has_conflict_of, is_guid, is_
 use Rattle.audit_report.specs.declared.audit_run.AuditAsked.{AuditAsked}
 use Rattle.sm_cli.specs.declared.asked.RuleAsked.{RuleAsked}
 use Rattle.sm_cli.specs.declared.asked.RuleAsked.TheVariants.{UpDown, Spread, SpreadFromRoots, SpreadInOrder, Balance, BalanceInOrder}
-use Rattle.cli_task.specs.Asked.{audit_by, floor_asked, followed_by, guid_asked, lmc_asked, max_load_asked, number_in, port_asked, priority_asked, sm_key_asked, within, names_in, planning_asked, rule_asked, task_behind, texts_of_rule}
+use Rattle.next_run.specs.Asked.{is_named}
+use Rattle.cli_task.specs.Asked.{audit_by, floor_asked, followed_by, guid_asked, held_order_asked, lmc_asked, max_load_asked, number_in, port_asked, priority_asked, sm_key_asked, within, names_in, planning_asked, rule_asked, step_texts, task_behind, texts_of_rule}
 use Rattle.cli_task.proofs.Guids.{guid_is_read}
 use Rattle.cli_task.proofs.Within.{number_within}
 
@@ -184,11 +185,19 @@ module _ (word : List ℕ → Option (List ℕ)) (files : Option (List (List ℕ
       let floor = known (floor_asked (word (codes "floor"))) (floor_there (word (codes "floor")) h.floor) in
       rw floor.1 (both_there (Some []) _ refl (both_there _ files (one_there (word (codes "TABLES")) t) h.named))
 
+  -- a step, with the order of the last one if its file is named, names its texts
+  step_there : (told : Bool) (order : Option (List ℕ)) → word (codes "last-order") ≡ order → IsGiven (word (codes "TABLES"))
+      → is_some (step_texts word (is_named (held_order_asked told (is_some order)))) ≡ true
+  step_there true None is t = one_there (word (codes "TABLES")) t
+  step_there false None is t = one_there (word (codes "TABLES")) t
+  step_there told (Some order) is t = two_there (word (codes "last-order")) (word (codes "TABLES")) (ap is_some is) t
+
   next_asks : IsGiven (word (codes "TABLES")) → NamesFiles word files → NamesPlanning word → Asks (codes "next")
   next_asks t h p =
       let floor = known (floor_asked (word (codes "floor"))) (floor_there (word (codes "floor")) h.floor) in
       let by = planning_there p in
-      rw (by.1, floor.1) (both_there (texts_of_rule word by.0.1) _ by.2 (both_there _ files (one_there (word (codes "TABLES")) t) h.named))
+      let texts = step_there (is_set (word (codes "told-order"))) (word (codes "last-order")) refl t in
+      rw (by.1, floor.1) (both_there (texts_of_rule word by.0.1) _ by.2 (both_there _ files texts h.named))
 
   run_asks : IsGiven (word (codes "TOPOLOGY")) → IsGiven (word (codes "SCHEDULE")) → NamesPlanning word → Asks (codes "run")
   run_asks t s p =

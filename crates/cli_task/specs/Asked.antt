@@ -14,7 +14,10 @@ use Rattle.sm_cli.specs.declared.asked.Output.{Output}
 use Rattle.sm_cli.specs.declared.asked.Output.TheVariants.{Facts, Join, Plan, Order}
 use Rattle.sm_cli.specs.declared.asked.RuleAsked.{RuleAsked}
 use Rattle.sm_cli.specs.declared.asked.RuleAsked.TheVariants.{UpDown, Spread, SpreadFromRoots, SpreadInOrder, Balance, BalanceInOrder}
-use Rattle.next_run.specs.declared.run_step.StepAsked.{StepAsked}
+use Rattle.next_run.specs.Asked.{is_named}
+use Rattle.next_run.specs.declared.asked.HeldOrder.{HeldOrder}
+use Rattle.next_run.specs.declared.asked.HeldOrder.TheVariants.{Ignored, NearNamed, NearPlan}
+use Rattle.next_run.specs.declared.asked.StepAsked.{StepAsked}
 use Rattle.serve_lines.specs.ServeLine.{hex_number}
 use Rattle.serve_task.specs.declared.serving.Serving.{Serving}
 use Rattle.cli_task.specs.declared.task.Task.{Task}
@@ -102,10 +105,21 @@ abbrev pub audit_task : (List ℕ → Option (List ℕ)) → Option Task
 audit_task word = option_and_then
     (audit_by (is_some (word (codes "lanes"))) (is_set (word (codes "answers-as-asked")))) (audit_asked word)
 
+-- the order that a step may go by: an order that the held tables imply if `told` is set, and the one nearest to an order
+-- that a text names if there is one (`named`)
+abbrev pub held_order_asked : Bool → Bool → HeldOrder
+held_order_asked told true = NearNamed
+held_order_asked true false = NearPlan
+held_order_asked false false = Ignored
+
+-- the order that the words let a step go by
+abbrev pub held_order_of : (List ℕ → Option (List ℕ)) → HeldOrder
+held_order_of word = held_order_asked (is_set (word (codes "told-order"))) (is_some (word (codes "last-order")))
+
 -- the step that the words ask for; None if one of them is wrong
 abbrev pub step_asked : (List ℕ → Option (List ℕ)) → Option StepAsked
 step_asked word = option_and_then (λ by. option_map
-    (λ floor. record { lmc = by.0; rule = by.1; floor = floor; told = is_set (word (codes "told-order")) })
+    (λ floor. record { lmc = by.0; rule = by.1; floor = floor; held_order = held_order_of word })
     (floor_asked (word (codes "floor")))) (planning_asked word)
 
 -- the GUID that 1 to 16 hex digits write; None if the word is missing or wrong
@@ -181,6 +195,13 @@ rule_of_task (Next asked) = asked.rule
 rule_of_task (Run lmc rule) = rule
 rule_of_task (Serve asked) = asked.rule
 
+-- the names of the texts of a step: the text of the last step's order, if one is named, and the tables; None if one is
+-- missing
+abbrev pub step_texts : (List ℕ → Option (List ℕ)) → Bool → Option (List (List ℕ))
+step_texts word false = option_map (λ tables. tables ∷ []) (word (codes "TABLES"))
+step_texts word true = option_and_then (λ order. option_map (λ tables. order ∷ tables ∷ []) (word (codes "TABLES")))
+    (word (codes "last-order"))
+
 -- the names of the other texts that a task takes; None if one is missing
 abbrev pub texts_asked : (List ℕ → Option (List ℕ)) → Task → Option (List (List ℕ))
 texts_asked word (Answer request) = Some []
@@ -188,7 +209,7 @@ texts_asked word (Audit asked) = option_map (λ tables. tables ∷ []) (word (co
 texts_asked word (AuditByLane asked) =
     option_and_then (λ lanes. option_map (λ tables. lanes ∷ tables ∷ []) (word (codes "TABLES"))) (word (codes "lanes"))
 texts_asked word (OrderOf floor) = option_map (λ tables. tables ∷ []) (word (codes "TABLES"))
-texts_asked word (Next asked) = option_map (λ tables. tables ∷ []) (word (codes "TABLES"))
+texts_asked word (Next asked) = step_texts word (is_named asked.held_order)
 texts_asked word (Run lmc rule) =
     option_and_then (λ topology. option_map (λ schedule. topology ∷ schedule ∷ []) (word (codes "SCHEDULE")))
     (word (codes "TOPOLOGY"))

@@ -3,7 +3,7 @@ ghost use Rattle.std.specs.Prelude.{◌≡◌, IfOk, codes, is_some, map, option
 ghost use Rattle.clap.specs.Matches.{first_value, found_of, matched_of, raw_values};
 ghost use Rattle.cli_task.specs.Asked.{audit_asked, audit_task, floor_asked, lmc_asked, max_load_asked, number_in};
 ghost use Rattle.cli_task.specs.Asked.{number_or, planning_asked, rule_asked};
-ghost use Rattle.cli_task.specs.Asked.{order_asked, output_asked, step_asked, task_asked, task_behind, within};
+ghost use Rattle.cli_task.specs.Asked.{held_order_of, order_asked, output_asked, step_asked, task_asked, task_behind, within};
 ghost use Rattle.cli_task.specs.Asked.{balance_asked, names_asked, names_in, rule_of_task, spread_asked, takes_files, texts_asked};
 ghost use Rattle.cli_task.specs.Asked.{guid_asked, port_asked, priority_asked, serving_asked, sm_key_asked};
 ghost use Rattle.cli_task.specs.Asked.{texts_of_rule};
@@ -13,13 +13,13 @@ use attr_codec::{Lmc, Priority};
 use audit_report::AuditAsked;
 use clap::ArgMatches;
 use cli_arguments::argument_names::{
-    ALL, ANSWERS_AS_ASKED, AUDIT, BALANCE, FACTS, FILE, FLOOR, GUID, JOIN, LANES, LMC, MAX_LOAD,
-    NEXT, ORDER, ORDER_OF, PLAN, PORT, PRIORITY, ROOTS, ROUTING, RUN, SCHEDULE, SERVE, SM_KEY,
-    SPREAD, TABLES, TOLD_ORDER, TOPOLOGY, UPDOWN,
+    ALL, ANSWERS_AS_ASKED, AUDIT, BALANCE, FACTS, FILE, FLOOR, GUID, JOIN, LANES, LAST_ORDER, LMC,
+    MAX_LOAD, NEXT, ORDER, ORDER_OF, PLAN, PORT, PRIORITY, ROOTS, ROUTING, RUN, SCHEDULE, SERVE,
+    SM_KEY, SPREAD, TABLES, TOLD_ORDER, TOPOLOGY, UPDOWN,
 };
 use cli_arguments::is_set;
 use lane_report::LaneAuditAsked;
-use next_run::StepAsked;
+use next_run::{HeldOrder, StepAsked};
 use serve_lines::hex_number;
 use serve_task::Serving;
 use sm_cli::{Invocation, Output, RuleAsked};
@@ -156,8 +156,19 @@ fn step_of(words: &ArgMatches<'_>) -> Option<StepAsked>
         lmc,
         rule,
         floor,
-        told: is_set(words, TOLD_ORDER),
+        held_order: held_order_of(words),
     })
+}
+
+/// Returns the order that `words`, after a subcommand, let a step go by.
+fn held_order_of(words: &ArgMatches<'_>) -> HeldOrder
+    ensures { result ≡ held_order_of (first_value (found_of words.now)) }
+{
+    match words.get_str(LAST_ORDER) {
+        Some(_) => HeldOrder::NearNamed,
+        None if is_set(words, TOLD_ORDER) => HeldOrder::NearPlan,
+        None => HeldOrder::Ignored,
+    }
 }
 
 /// Returns the manager that `words`, after a subcommand, ask for. Returns `None` if one of them is missing or wrong.
@@ -402,7 +413,13 @@ fn texts_of<'a>(words: &ArgMatches<'a>, task: &Task) -> Option<ArrayVec<&'a str,
     let mut texts = ArrayVec::new();
     match task {
         Task::Answer(_) => {}
-        Task::Audit(_) | Task::OrderOf(_) | Task::Next(_) => texts.push(words.get_str(TABLES)?),
+        Task::Audit(_) | Task::OrderOf(_) => texts.push(words.get_str(TABLES)?),
+        Task::Next(asked) => {
+            if asked.held_order.is_named() {
+                texts.push(words.get_str(LAST_ORDER)?);
+            }
+            texts.push(words.get_str(TABLES)?);
+        }
         Task::AuditByLane(_) => {
             texts.push(words.get_str(LANES)?);
             texts.push(words.get_str(TABLES)?);

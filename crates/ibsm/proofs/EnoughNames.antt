@@ -1,13 +1,15 @@
 -- There are as many inputs as a task takes.
-use Rattle.std.proofs.Common.{◌≡◌, ◌+◌, ◌∙◌, ℕ, List, [], ◌∷◌, ◌++◌, Option, None, Some, length, length-append, ap, sym, refl, subst, arith}
+use Rattle.std.proofs.Common.{◌≡◌, ◌+◌, ◌∙◌, ℕ, Bool, true, false, List, [], ◌∷◌, ◌++◌, Option, None, Some, length, length-append, ap, sym, refl, subst, arith}
 use Rattle.std.proofs.lemmas.Option.{same_Some}
 use Rattle.std.specs.Prelude.{codes, map, option_and_then, option_map}
 use Rattle.std.specs.Borrow.{Bor}
 use Rattle.std.proofs.lemmas.List.{length-map}
 use Rattle.clap.specs.declared.parser.matches.ArgMatches.{ArgMatches}
 use Rattle.sm_cli.specs.Asked.{rule_for}
+use Rattle.sm_cli.specs.InputOrders.{order_texts}
+use Rattle.next_run.specs.Asked.{is_named}
 use Rattle.cli_arguments.specs.Words.{files_named, word_named}
-use Rattle.cli_task.specs.Asked.{followed_by, names_asked, names_in, texts_asked, texts_of_rule}
+use Rattle.cli_task.specs.Asked.{followed_by, names_asked, names_in, step_texts, texts_asked, texts_of_rule}
 use Rattle.cli_task.specs.declared.task.Task.{Task}
 use Rattle.cli_task.specs.declared.task.Task.TheVariants.{Answer, Audit, AuditByLane, OrderOf, Next, Run, Serve}
 use Rattle.cli_task.proofs.RuleTexts.{one_word, texts_counted}
@@ -26,6 +28,12 @@ two_words : (topology schedule : Option (List ℕ)) (xs : List (List ℕ))
 two_words None schedule xs e = absurd (cc)
 two_words (Some t) None xs e = absurd (cc)
 two_words (Some t) (Some s) xs e = ap length (sym (same_Some _ _ e))
+
+-- the texts of a step are that of the order, if one is named, and the tables
+step_counted : (word : List ℕ → Option (List ℕ)) (has_order : Bool) (xs : List (List ℕ)) → step_texts word has_order ≡ Some xs
+    → length xs ≡ order_texts has_order + 1
+step_counted word false xs e = one_word (word (codes "TABLES")) xs e
+step_counted word true xs e = two_words (word (codes "last-order")) (word (codes "TABLES")) xs e
 
 lines_counted : (guid : Option (List ℕ)) (xs : List (List ℕ)) → option_map (λ g. codes "/dev/stdin" ∷ []) guid ≡ Some xs → length xs ≡ 1
 lines_counted None xs e = absurd (cc)
@@ -60,7 +68,7 @@ names_suffice word files (Next step) names e =
     let all = both_named (texts_of_rule word step.rule) (followed_by (texts_asked word (Next step)) files) names e in
     let texts = texts_counted word step.rule all.0 all.2 in
     let rest = both_named (texts_asked word (Next step)) files all.1 all.3 in
-    let one = one_word (word (codes "TABLES")) rest.0 rest.2 in
+    let own = step_counted word (is_named step.held_order) rest.0 rest.2 in
     let count = all.4 in
     let others = rest.4 in omega arith
 names_suffice word files (Run lmc rule) names e =

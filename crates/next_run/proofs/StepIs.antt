@@ -1,5 +1,5 @@
 -- The text and the line that were written are those of the step from the facts, the held tables and the plan.
-use Rattle.std.proofs.Common.{◌≡◌, ◌∙◌, ◌==◌, ◌↔◌, ℕ, Bool, List, [], ◌∷◌, Option, None, Result, Ok, Err, IsTrue, length, ap, inl, inr, subst, sym}
+use Rattle.std.proofs.Common.{◌≡◌, ◌∙◌, ◌==◌, ◌↔◌, ◌++◌, ℕ, Bool, List, [], ◌∷◌, Option, None, Result, Ok, Err, IsTrue, length, ap, inl, inr, subst, sym}
 use Rattle.std.proofs.lemmas.Bool.{eqb-true}
 use Rattle.std.proofs.lemmas.List.{nil_from_length}
 use Rattle.std.specs.Prelude.{OnErr, OnOk}
@@ -17,7 +17,8 @@ use Rattle.next_tables.specs.NextTables.{first_moved}
 use Rattle.sm_cli.proofs.Plans.{has_room}
 use Rattle.step_loops.specs.StepOrder.{NoneShorter, WaitInCycle}
 use Rattle.next_run.specs.LoopText.{loop_text}
-use Rattle.next_run.specs.RunNext.{IsCycleInStep, IsLoopInStep, IsNextStep, IsSaid, IsStep, planned}
+use Rattle.next_run.specs.RunNext.{IsCycleInStep, IsLoopInStep, IsMade, IsSaid, IsStep, planned}
+use Rattle.next_run.specs.StepOrderText.{step_order_text}
 
 pub is_empty : (xs : List ℕ) → IsTrue (length xs == 0) ↔ (xs ≡ [])
 is_empty xs = (λ t. nil_from_length xs (eqb-true _ _ t), λ e. ap (λ ys. length ys == 0) e)
@@ -34,25 +35,30 @@ pub was_said : {W : Type 0} (written : W → Option (List ℕ)) (has_failed : W 
 was_said written has_failed (Ok u) old new text ok err = inr ok
 was_said written has_failed (Err fault) old new text ok err = inl err
 
-module _ (lmc : ℕ) (told : Bool) (rule : RuleValue) (facts : Facts) (held : HeldPlan) (plan : PlanValue) (is_plan : plan ≡ plan_of rule lmc (cells_of facts))
-    (from next : HeldPlan) (is_from : from ≡ held) (is_next : IsNextStep told rule facts from (held_plan plan) next) where
-  next_is : IsNextStep told rule facts held (planned lmc rule facts) next
-  next_is =
-      subst (λ (x : HeldPlan × PlanValue). IsNextStep told rule facts x.0 (held_plan x.1) next) (λ i. (is_from i, is_plan i)) is_next
+module _ (lmc : ℕ) (told : Bool) (rule preferred : RuleValue) (facts : Facts) (held : HeldPlan) (plan : PlanValue)
+    (is_plan : plan ≡ plan_of rule lmc (cells_of facts)) (from next : HeldPlan) (order : Option (List ℕ)) (is_from : from ≡ held)
+    (made : IsMade told rule preferred facts from (held_plan plan) next order) where
+  made_is : IsMade told rule preferred facts held (planned lmc rule facts) next order
+  made_is =
+      subst (λ (x : HeldPlan × PlanValue). IsMade told rule preferred facts x.0 (held_plan x.1) next order) (λ i. (is_from i, is_plan i)) made
 
   pub step_is : (prints says : List ℕ → Type 0) (passed : Bool) (known : Facts) (cycle lids : List ℕ) → known ≡ facts
       → lid_fault (no_room lmc (cells_of facts)) ≡ None → first_moved from (held_plan plan) ≡ None
       → IsLoopInStep (cells_of facts) from next cycle lids → prints (next_text plan.given next)
-      → says (loop_text (cells_of known) cycle lids) → IsTrue passed ↔ (cycle ≡ []) → IsStep lmc told rule facts held prints says passed
+      → says (loop_text (cells_of known) cycle lids ++ step_order_text order) → IsTrue passed ↔ (cycle ≡ [])
+      → IsStep lmc told rule preferred facts held prints says passed
   step_is prints says passed known cycle lids is_known room still waits printed said judged = record {
     has_room = has_room lmc facts room;
     no_move = sym (λ i. first_moved (is_from i) (held_plan (is_plan i))) ∙ still;
+    goal = made_is.goal;
     next = next;
-    is_next = next_is;
+    is_next = made_is.is_next;
     written = subst prints (λ i. next_text (is_plan i).given next) printed;
     cycle = cycle;
     lids = lids;
     waits = subst (λ (h : HeldPlan). IsLoopInStep (cells_of facts) h next cycle lids) is_from waits;
-    said = subst (λ (f : Facts). says (loop_text (cells_of f) cycle lids)) is_known said;
+    said =
+        let Said : Option (List ℕ) → Type 0 = λ o. says (loop_text (cells_of facts) cycle lids ++ step_order_text o) in
+        subst Said made_is.order_is (subst (λ (f : Facts). says (loop_text (cells_of f) cycle lids ++ step_order_text order)) is_known said);
     judged = judged;
   }
