@@ -271,11 +271,11 @@ def tree_of(graph: dict[int, list[tuple[int, int]]], order: Order) -> dict[int, 
     }
 
 
-def two_orders(subnet: Subnet, held: Tables, plan: Order) -> tuple[Order, Order] | None:
-    """Returns the order by which a step goes from the held tables, if these tell one, and the next order."""
+def two_orders(subnet: Subnet, held: Tables, plan: Order, preferred: Order) -> tuple[Order, Order] | None:
+    """Returns the order by which a step goes from the held tables, if these tell one, and the next order. Of several
+    that they tell, it is the one nearest to `preferred`."""
     graph = subnet.graph()
-    by_plan = grown(graph, plan)
-    told = told_order(subnet, held, sorted(graph, key=by_plan.positions.get))
+    told = told_order(subnet, held, sorted(graph, key=grown(graph, preferred).positions.get))
     if told is None:
         return None
     first = Order({guid: position for position, guid in enumerate(told)})
@@ -348,9 +348,13 @@ def tables_between(subnet: Subnet, held: Tables, plan: Tables, orders: tuple[Ord
     return assembled(subnet, held, plan, columns)
 
 
-def told_step(subnet: Subnet, held: Tables, plan: Tables, order: Order) -> tuple[Tables, Order | None]:
-    """Returns the next tables if a step may go by the order that the held tables tell, and that order if it does."""
-    orders = None if order.is_right(subnet, held) else two_orders(subnet, held, order)
+def told_step(
+    subnet: Subnet, held: Tables, plan: Tables, order: Order, last: list[int] | None = None
+) -> tuple[Tables, Order | None]:
+    """Returns the next tables if a step may go by the order that the held tables tell, and that order if it does. Of
+    several that they tell, it is the one nearest to the order of the last step, if its switches are given."""
+    preferred = order if last is None else as_named(subnet, last)
+    orders = None if order.is_right(subnet, held) else two_orders(subnet, held, order, preferred)
     if orders is not None:
         goal = tables_between(subnet, held, plan, orders)
         if orders[0].is_right(subnet, goal):
