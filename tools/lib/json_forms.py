@@ -183,10 +183,14 @@ class AuditRead(Rules):
 class NextRead(Rules):
     """A reader of what `ibsm next` says of a step."""
 
-    rules = (AuditRead.rules[-1], (r"lids (\d+(?: \d+)*)", "waiting"))
+    rules = (
+        AuditRead.rules[-1],
+        (r"lids (\d+(?: \d+)*)", "waiting"),
+        (r"order ((?:0x[0-9a-f]{16})(?: 0x[0-9a-f]{16})*)", "by_order"),
+    )
 
     def __init__(self) -> None:
-        self.cycle, self.lids = None, []
+        self.cycle, self.lids, self.order = None, [], []
 
     def loop(self, ends: str | None, *_: str | None) -> None:
         self.cycle = ends.split(" ") if ends else []
@@ -194,11 +198,14 @@ class NextRead(Rules):
     def waiting(self, lids: str) -> None:
         self.lids = [int(lid) for lid in lids.split(" ")]
 
+    def by_order(self, switches: str) -> None:
+        self.order = [switch.removeprefix("0x") for switch in switches.split(" ")]
+
     def lacks(self) -> bool:
         return self.cycle is None or len(self.cycle) != len(self.lids)
 
     def value_of_text(self) -> dict[str, Any]:
-        return {"credit_loop": self.cycle, "lids": self.lids}
+        return {"credit_loop": self.cycle, "lids": self.lids, "order": self.order}
 
 
 class CompareRead(Rules):
