@@ -40,5 +40,5 @@ returns-in-Err-read_tables_and_files-clause-refused g c =
       are = record { first = c.read_order.new.texts; others = c.read_tables_and_files.new.inputs; are = refl };
       switches = c.in-Ok.order.items;
       order_read = c.in-Ok.ensures.read;
-      why = subst Refused c.order_texts.ensures c.in-Err-read_tables_and_files.ensures.refused;
+      why = subst Refused c.order_texts-count.ensures c.in-Err-read_tables_and_files.ensures.refused;
     })
