@@ -8,14 +8,14 @@ use Rattle.subnet_view.specs.Reading.{Cells}
 use Rattle.next_tables.specs.EntriesByOrder.{switch_at}
 use Rattle.between_orders.specs.Between.{Goal}
 
--- the index of the switch at `place` in the order, or 0 if there is none
+-- the index of the switch at position `nth`, or 0 if there is none
 abbrev pub index_at : List ℕ → ℕ → ℕ
-index_at positions place = option_map_or (λ (i : ℕ). i) (position (λ p. p == place) positions) 0
+index_at positions nth = option_map_or (λ (i : ℕ). i) (position (λ p. p == nth) positions) 0
 
 -- the usable switches in the order of their positions
 abbrev pub switches_by : Cells → List ℕ → List ℕ
 switches_by cells positions =
-    map (λ place. switch_at cells (index_at positions place)) (range_with_len 0 (length positions))
+    map (λ nth. switch_at cells (index_at positions nth)) (range_with_len 0 (length positions))
 
 -- the switches in the order that a step goes by, if it is one that the held tables imply
 abbrev pub order_of_step : Cells → Option Goal → Option (List ℕ)

@@ -22,17 +22,17 @@ pub(crate) fn switches_by(
     ensures { IfOk result (λ switches. switches.items ≡ switches_by (cells_of network.now.facts) positions.now) }
 {
     (0..positions.len())
-        .map(|place| switch_at(network, index_at(positions, place)))
+        .map(|nth| switch_at(network, index_at(positions, nth)))
         .collect(alloc)
 }
 
-/// Returns the index of the switch at `place` in the order, or 0 if there is none.
-fn index_at(positions: &[usize], place: usize) -> usize
-    ensures { result ≡ index_at positions.now place }
+/// Returns the index of the switch at position `nth`, or 0 if there is none.
+fn index_at(positions: &[usize], nth: usize) -> usize
+    ensures { result ≡ index_at positions.now nth }
 {
     positions
         .iter()
-        .position(|position| *position == place)
+        .position(|position| *position == nth)
         .unwrap_or(0)
 }
 
