@@ -168,9 +168,15 @@ def check_round(room: Room, words: str, status: int, step: str, verdict: str, se
         f"round rd --ibsm ./ibsm --record ./record --send ./send --log fab/log --settle {settle} {words}", status
     )
     told = json.loads(room.text("rd/status.json"))
+    orders = [
+        "" if step["agrees"] is None
+        else f"; its order is the plan's on the first {step['agrees']} of {told['counts']['switches']} switches"
+        for step in told["steps"]
+    ]
     steps = [
-        f"step {number}: {step['entries']} entries, {step['blocks']} blocks; {step['told']}; status {step['status']}\n"
-        for number, step in enumerate(told["steps"], 1)
+        f"step {number}: {step['entries']} entries, {step['blocks']} blocks; {step['told']}; status {step['status']}"
+        f"{order}\n"
+        for number, (step, order) in enumerate(zip(told["steps"], orders), 1)
     ]
     wanted = {"status": status, "step": step, "verdict": told["verdict"]}
     room.check(all(told[word] == value for word, value in wanted.items()), f"round {words}: {told}")
@@ -303,13 +309,32 @@ def not_begun(room: Room) -> None:
         room.run(f"round {words}", 2)
 
 
+def by_orders_handed_on(room: Room, fab: Fab, ends: Ends, process: int) -> None:
+    """Checks a round whose two steps go by orders that the held tables imply: the order of the first is handed on to
+    the second, and no order of another round."""
+    fab(held=room.text("round.plan"), stepped="", log="ready\n", loop="credit loop none\norder 0x1 0x2\n")
+    (room.path / "rd/step.order").write_text("0x5\n")
+    told = ends(f"--opensm {process} --told-order", 0, "audit", "the subnet holds the plan")
+    room.check([step["agrees"] for step in told["steps"]] == [1, 1], f"they agree with the plan's: {told['steps']}")
+    stepped = room.text("fab/stepped").splitlines()
+    handed = "next --told-order --last-order rd/step.order rd/after.held rd/after.reports"
+    room.check(
+        stepped[:2] == ["next --told-order rd/now.held rd/now.reports", handed]
+        and room.text("rd/step.order") == "0x1\n0x2\n",
+        f"the order is handed on: {stepped}",
+    )
+    # The last step has nothing left to do by this order, so it is asked for without it.
+    room.check(stepped[-1] == "next --told-order rd/after.held rd/after.reports", f"and then begun anew: {stepped}")
+    fab(loop="credit loop none\n")
+
+
 def by_steps(room: Room, fab: Fab, ends: Ends, process: int) -> None:
     """Checks rounds whose plan is two steps away."""
     facts, plan, held = (room.text(name) for name in ("t.facts", "t.plan", "round.plan"))
     fab(held=held, obeys="", stepped="", log="ready\n", **{"step.1": room.text("hole.plan")})
     told = ends(f"--opensm {process} --lmc 0", 0, "audit", "the subnet holds the plan", settle=0.3)
     room.check(0.3 <= told["seconds"]["settle"] < 0.6, f"packets have 0.3 seconds between two steps: {told['seconds']}")
-    none = {"told": "credit loop none", "status": 0}
+    none = {"told": "credit loop none", "agrees": None, "status": 0}
     room.check(
         told["steps"] == [{"entries": 2, "blocks": 2} | none, {"entries": 1, "blocks": 1} | none],
         f"two steps: {told['steps']}",
@@ -321,6 +346,7 @@ def by_steps(room: Room, fab: Fab, ends: Ends, process: int) -> None:
         and room.text("fab/held") == plan,
         "each from what is held then",
     )
+    by_orders_handed_on(room, fab, ends, process)
     fab(held=held, loop="credit loop on one lane 0000000000000010/1 0000000000000020/1\nlids 5 4\n", log="ready\n")
     written = room.text("rd/plan.lfts")
     loop = "credit loop on one lane 0000000000000010/1 0000000000000020/1; lids 5 4 (--loops)"
