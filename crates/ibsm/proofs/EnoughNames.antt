@@ -6,7 +6,7 @@ use Rattle.std.specs.Borrow.{Bor}
 use Rattle.std.proofs.lemmas.List.{length-map}
 use Rattle.clap.specs.declared.parser.matches.ArgMatches.{ArgMatches}
 use Rattle.sm_cli.specs.Asked.{rule_for}
-use Rattle.sm_cli.specs.InputOrders.{order_texts}
+use Rattle.sm_cli.specs.InputOrders.{texts_if}
 use Rattle.next_run.specs.Asked.{is_named}
 use Rattle.cli_arguments.specs.Words.{files_named, word_named}
 use Rattle.cli_task.specs.Asked.{followed_by, names_asked, names_in, step_texts, texts_asked, texts_of_rule}
@@ -31,7 +31,7 @@ two_words (Some t) (Some s) xs e = ap length (sym (same_Some _ _ e))
 
 -- the texts of a step are that of the order, if one is named, and the tables
 step_counted : (word : List ℕ → Option (List ℕ)) (has_order : Bool) (xs : List (List ℕ)) → step_texts word has_order ≡ Some xs
-    → length xs ≡ order_texts has_order + 1
+    → length xs ≡ texts_if has_order + 1
 step_counted word false xs e = one_word (word (codes "TABLES")) xs e
 step_counted word true xs e = two_words (word (codes "last-order")) (word (codes "TABLES")) xs e
 

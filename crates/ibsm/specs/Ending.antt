@@ -6,7 +6,7 @@ use Rattle.clap.specs.declared.parser.matches.ArgMatches.{ArgMatches}
 use Rattle.sm_cli.specs.Asked.{rule_for, texts_for}
 use Rattle.sm_cli.specs.ExitStatus.{status_of}
 use Rattle.sm_cli.specs.FaultText.{fault_text, program_line}
-use Rattle.sm_cli.specs.InputOrders.{order_texts}
+use Rattle.sm_cli.specs.InputOrders.{texts_if}
 use Rattle.sm_cli.specs.Run.{HasAnswered, IsFaultOf}
 use Rattle.sm_cli.specs.declared.exit_status.ExitStatus.{ExitStatus}
 use Rattle.sm_cli.specs.declared.exit_status.ExitStatus.TheVariants.{Done, Failed}
@@ -34,7 +34,7 @@ HasEnoughNames (Answer request) count = texts_for (rule_for request.output) ≤ 
 HasEnoughNames (Audit asked) count = 1 ≤ count
 HasEnoughNames (AuditByLane asked) count = 2 ≤ count
 HasEnoughNames (OrderOf floor) count = 1 ≤ count
-HasEnoughNames (Next asked) count = texts_for asked.rule + order_texts (is_named asked.held_order) + 1 ≤ count
+HasEnoughNames (Next asked) count = texts_for asked.rule + texts_if (is_named asked.held_order) + 1 ≤ count
 HasEnoughNames (Run lmc rule) count = count ≡ texts_for rule + 2
 HasEnoughNames (Serve asked) count = count ≡ texts_for asked.rule + 1
 

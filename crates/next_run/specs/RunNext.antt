@@ -22,7 +22,7 @@ use Rattle.step_loops.specs.LoopLids.{AreLoopLids}
 use Rattle.step_loops.specs.StepOrder.{NoneShorter, NumbersRise, WaitInCycle}
 use Rattle.next_run.specs.LoopText.{loop_text}
 use Rattle.sm_cli.specs.Asked.{texts_for}
-use Rattle.sm_cli.specs.InputOrders.{order_texts}
+use Rattle.sm_cli.specs.InputOrders.{texts_if}
 use Rattle.sm_cli.specs.InputReaders.{order_reader}
 use Rattle.sm_cli.specs.Inputs.{IsInputFault, Reader, WithInputs}
 use Rattle.sm_cli.specs.declared.input_orders.OrderAndTables.{OrderAndTables}
@@ -211,5 +211,5 @@ abbrev pub IsStepFault : {S : Type 0} → (S → SourceState) → StepAsked → 
 IsStepFault state asked olds news sink_failed fault =
     IsInputFault state (reader_of state asked) asked.rule olds news fault
     ⊎ WithInputs state (reader_of state asked) asked.rule olds news
-    (λ rule told. StopsStep (texts_for asked.rule + order_texts (is_named asked.held_order)) asked.lmc rule
+    (λ rule told. StopsStep (texts_for asked.rule + texts_if (is_named asked.held_order)) asked.lmc rule
     told.read.store told.read.held sink_failed fault)

@@ -6,7 +6,7 @@ ghost use Rattle.fact_store.specs.View.{cells_of};
 ghost use Rattle.lft_blocks.specs.Rules.{RuleValue, value_of};
 ghost use Rattle.lft_blocks.specs.WritesPart.{WritesPart};
 ghost use Rattle.sm_cli.specs.Asked.{texts_for};
-ghost use Rattle.sm_cli.specs.InputOrders.{order_texts};
+ghost use Rattle.sm_cli.specs.InputOrders.{texts_if};
 ghost use Rattle.next_run.specs.Asked.{is_named, is_told, preferred_rule, rule_or};
 ghost use Rattle.next_run.specs.LoopText.{loop_text};
 ghost use Rattle.next_run.specs.RunNext.{HasStepped, IsLoopInStep, IsMade, IsSaid, IsStep, IsStepFault, StopsNext};
@@ -28,7 +28,7 @@ use lft_blocks::{Plan, Rule, SwitchOrder};
 use next_tables::{StepFault, StepRule, next_tables};
 use packet_walks::Network;
 use sm_cli::{
-    Fault, OrderAndTables, OrderTablesAndFiles, TablesAndFacts, TextFault, order_texts, read_inputs,
+    Fault, OrderAndTables, OrderTablesAndFiles, TablesAndFacts, TextFault, texts_if, read_inputs,
 };
 use smp_bytes::Guid;
 use std::alloc::{AllocError, Global};
@@ -61,7 +61,7 @@ pub fn run_next<S: Source, W: Sink, E: Sink>(
     sink: &mut W,
     told: &mut E,
 ) -> Result<bool, Fault>
-    requires { texts_for asked.rule + order_texts (is_named asked.held_order) + 1 ≤ length inputs.old }
+    requires { texts_for asked.rule + texts_if (is_named asked.held_order) + 1 ≤ length inputs.old }
     ensures done { IfOk result (HasStepped S.state asked inputs.old inputs.new
         (Appends (W.written sink.old) (W.written sink.new))
         (IsSaid E.written E.has_failed told.old told.new)) }
@@ -77,7 +77,7 @@ pub fn run_next<S: Source, W: Sink, E: Sink>(
         floor: asked.floor,
         has_order,
     };
-    let input = asked.rule.texts() + order_texts(has_order);
+    let input = asked.rule.texts() + texts_if(has_order);
     match read_inputs(alloc, asked.rule, &reader, inputs) {
         Ok((rule, found)) => step_from(alloc, input, asked, &rule, found, sink, told),
         Err(fault) => Err(fault),

@@ -41,17 +41,17 @@ abbrev pub IsTextRefused : {S : Type 0} → (S → SourceState) → S → S → 
 IsTextRefused state old new (texts.Lanes fault) = RefusesLanes state old new fault
 IsTextRefused state old new fault = ⊥
 
--- why the lanes, input 0, are not read
-abbrev pub IsLanesFault : {S : Type 0} → (S → SourceState) → S → S → Fault → Type 0
-IsLanesFault state old new (File input fault) =
-    (input ≡ 0) × FailsToRead state old new fault
-IsLanesFault state old new (Text input fault) =
-    (input ≡ 0) × IsTextRefused state old new fault
-IsLanesFault state old new fault = ⊥
+-- why the lanes, the input `at`, are not read
+abbrev pub IsLanesFault : {S : Type 0} → (S → SourceState) → ℕ → S → S → Fault → Type 0
+IsLanesFault state at old new (File input fault) =
+    (input ≡ at) × FailsToRead state old new fault
+IsLanesFault state at old new (Text input fault) =
+    (input ≡ at) × IsTextRefused state old new fault
+IsLanesFault state at old new fault = ⊥
 
 -- there is one source, and its lanes are not read
-abbrev pub AreNoLanes : {S : Type 0} → (S → SourceState) → List S → List S → Fault → Type 0
-AreNoLanes state olds news fault = IsOneRead olds news (λ old new. IsLanesFault state old new fault)
+abbrev pub AreNoLanes : {S : Type 0} → (S → SourceState) → ℕ → List S → List S → Fault → Type 0
+AreNoLanes state at olds news fault = IsOneRead olds news (λ old new. IsLanesFault state at old new fault)
 
 -- tables and files -------------------------------------------------------------------------------
 
@@ -67,7 +67,7 @@ pub record AreLanesAndFiles {S : Type 0} (state : S → SourceState) (floor : �
 pub record StopsAtLanes {S : Type 0} (state : S → SourceState) (olds news : List S) (fault : Fault) : Type 0 where
   pub were : Parts olds
   pub are : Parts news
-  pub why : AreNoLanes state were.first are.first fault
+  pub why : AreNoLanes state 0 were.first are.first fault
   pub untouched : are.others ≡ were.others
 
 -- the lanes were read, and the tables or a file after them are refused

@@ -5,12 +5,12 @@ use Rattle.sm_cli.specs.declared.fault.Fault.{Fault}
 use Rattle.sm_cli.specs.declared.input_orders.OrderAndTables.{OrderAndTables}
 use Rattle.sm_cli.specs.InputTables.{AreNoTablesAndFiles, AreTablesAndFiles}
 use Rattle.sm_cli.specs.Inputs.{IsRoots, IsRootsFault}
-use Rattle.sm_cli.specs.Sources.{IsOneRead, Parts}
+use Rattle.sm_cli.specs.Sources.{AreReadInParts, IsOneRead}
 
--- the number of texts of an order
-abbrev pub order_texts : Bool → ℕ
-order_texts false = 0
-order_texts true = 1
+-- the number of texts of which there is one if `has_text` is true
+abbrev pub texts_if : Bool → ℕ
+texts_if false = 0
+texts_if true = 1
 
 -- the text of the order was read and names these switches; without such a text there are none
 abbrev pub AreSwitches : {S : Type 0} → (S → SourceState) → Bool → List S → List S → List ℕ → Type 0
@@ -23,29 +23,21 @@ AreNoSwitches state false at olds news fault = ⊥
 AreNoSwitches state true at olds news fault = IsOneRead olds news (λ old new. IsRootsFault state at old new fault)
 
 -- the text of the order, if `has_order` is true, then the tables and then the files were read, and say `told`
-pub record AreOrderAndTables {S : Type 0} (state : S → SourceState) (floor : ℕ) (has_order : Bool) (olds news : List S)
-    (told : OrderAndTables) : Type 0 where
-  pub were : Parts olds
-  pub are : Parts news
-  pub order_read : AreSwitches state has_order were.first are.first told.order.items
-  pub others_read : AreTablesAndFiles state floor were.others are.others told.read
+abbrev pub AreOrderAndTables : {S : Type 0} → (S → SourceState) → ℕ → Bool → List S → List S → OrderAndTables → Type 0
+AreOrderAndTables state floor has_order olds news told =
+    AreReadInParts olds news (λ os ns. AreSwitches state has_order os ns told.order.items)
+    (λ os ns. AreTablesAndFiles state floor os ns told.read)
 
 -- the text of the order, the input `at`, is refused, and no other input was touched
-pub record StopsAtOrder {S : Type 0} (state : S → SourceState) (has_order : Bool) (at : ℕ) (olds news : List S)
-    (fault : Fault) : Type 0 where
-  pub were : Parts olds
-  pub are : Parts news
-  pub why : AreNoSwitches state has_order at were.first are.first fault
-  pub untouched : are.others ≡ were.others
+abbrev pub StopsAtOrder : {S : Type 0} → (S → SourceState) → Bool → ℕ → List S → List S → Fault → Type 0
+StopsAtOrder state has_order at olds news fault =
+    AreReadInParts olds news (λ os ns. AreNoSwitches state has_order at os ns fault) (λ os ns. ns ≡ os)
 
 -- the text of the order was read, and the tables or a file after it are refused
-pub record StopsBehindOrder {S : Type 0} (state : S → SourceState) (has_order : Bool) (at : ℕ) (olds news : List S)
-    (fault : Fault) : Type 0 where
-  pub were : Parts olds
-  pub are : Parts news
-  pub switches : List ℕ
-  pub order_read : AreSwitches state has_order were.first are.first switches
-  pub why : AreNoTablesAndFiles state (at + order_texts has_order) were.others are.others fault
+abbrev pub StopsBehindOrder : {S : Type 0} → (S → SourceState) → Bool → ℕ → List S → List S → Fault → Type 0
+StopsBehindOrder state has_order at olds news fault =
+    (switches : List ℕ) × AreReadInParts olds news (λ os ns. AreSwitches state has_order os ns switches)
+    (λ os ns. AreNoTablesAndFiles state (at + texts_if has_order) os ns fault)
 
 -- why the text of the order in the input `at`, or the tables and files after it, are not read
 abbrev pub AreNoOrderAndTables : {S : Type 0} → (S → SourceState) → Bool → ℕ → List S → List S → Fault → Type 0

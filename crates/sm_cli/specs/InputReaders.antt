@@ -1,14 +1,13 @@
--- Readers of the inputs of a run: of files, or of a text of tables, perhaps after a text of an order, and the files
--- after it.
+-- Readers of the inputs of a run: of files, of a text of tables and the files after it, or of a step.
 use Rattle.std.specs.Prelude.{ℕ, Bool}
 use Rattle.byte_io.specs.Source.{SourceState}
 use Rattle.fact_store.specs.View.{Facts, cells_of}
 use Rattle.subnet_view.specs.Reading.{is_usable}
 use Rattle.sm_cli.specs.InputFiles.{HasRead, IsRefusedFile}
-use Rattle.sm_cli.specs.InputOrders.{AreNoOrderAndTables, AreOrderAndTables}
+use Rattle.sm_cli.specs.InputSteps.{AreNoStepInputs, AreStepInputs}
 use Rattle.sm_cli.specs.InputTables.{AreNoTablesAndFiles, AreTablesAndFiles}
 use Rattle.sm_cli.specs.Inputs.{Reader}
-use Rattle.sm_cli.specs.declared.input_orders.OrderAndTables.{OrderAndTables}
+use Rattle.sm_cli.specs.declared.input_steps.StepInputs.{StepInputs}
 use Rattle.sm_cli.specs.declared.input_tables.TablesAndFacts.{TablesAndFacts}
 
 -- a reader of files, from `floor` on
@@ -27,10 +26,10 @@ tables_reader state floor = record {
   has_switch = λ told. is_usable (cells_of told.store);
 }
 
--- a reader of a text of an order, if `has_order` is true, a text of tables and then files, from `floor` on
-abbrev pub order_reader : {S : Type 0} → (S → SourceState) → ℕ → Bool → Reader S OrderAndTables
-order_reader state floor has_order = record {
-  reads = AreOrderAndTables state floor has_order;
-  refuses = AreNoOrderAndTables state has_order;
-  has_switch = λ told. is_usable (cells_of told.read.store);
+-- a reader of the inputs of a step, from `floor` on
+abbrev pub step_reader : {S : Type 0} → (S → SourceState) → ℕ → Bool → Bool → Reader S StepInputs
+step_reader state floor has_lanes has_order = record {
+  reads = AreStepInputs state floor has_lanes has_order;
+  refuses = AreNoStepInputs state has_lanes has_order;
+  has_switch = λ told. is_usable (cells_of told.others.read.store);
 }

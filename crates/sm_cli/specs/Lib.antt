@@ -6,6 +6,7 @@ pub mod InputFiles
 pub mod InputLanes
 pub mod InputOrders
 pub mod InputReaders
+pub mod InputSteps
 pub mod InputTables
 pub mod Inputs
 pub mod Run

@@ -7,6 +7,15 @@ pub record Parts {S : Type 0} (sources : List S) : Type 0 where
   pub others : List S
   pub are : sources ≡ first ++ others
 
+-- the sources were read in two parts: `first_read` holds of the first part before and after, and `others_read` of the
+-- others
+pub record AreReadInParts {S : Type 0} (olds news : List S) (first_read others_read : List S → List S → Type 0) : Type 0
+  where
+    pub were : Parts olds
+    pub are : Parts news
+    pub first_is : first_read were.first are.first
+    pub others_are : others_read were.others are.others
+
 -- there is one source, and `read_as` holds of it before and after
 pub record IsOneRead {S : Type 0} (olds news : List S) (read_as : S → S → Type 0) : Type 0 where
   pub old : S

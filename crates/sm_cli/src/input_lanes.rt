@@ -37,7 +37,7 @@ pub fn read_lanes_and_files<S: Source>(
     ensures refused { IfErr result (AreNoLanesAndFiles S.state inputs.old inputs.new) }
 {
     let (texts, others) = inputs.split_at_mut(1);
-    let lanes = match read_lanes(alloc, texts) {
+    let lanes = match read_lanes(alloc, 0, texts) {
         Ok(lanes) => lanes,
         Err(fault) => return Err(fault),
     };
@@ -47,31 +47,35 @@ pub fn read_lanes_and_files<S: Source>(
     }
 }
 
-/// Reads the lanes from the only source of `texts`, the first input of the run, to its end.
-fn read_lanes<S: Source>(alloc: Global, texts: &mut [S]) -> Result<Lanes, Fault>
+/// Reads the lanes from the only source of `texts`, to its end. `input` is its number in the run.
+pub(crate) fn read_lanes<S: Source>(
+    alloc: Global,
+    input: usize,
+    texts: &mut [S],
+) -> Result<Lanes, Fault>
     requires { length texts.old ≡ 1 }
     ensures read { IfOk result (AreLanes S.state texts.old texts.new) }
-    ensures refused { IfErr result (AreNoLanes S.state texts.old texts.new) }
+    ensures refused { IfErr result (AreNoLanes S.state input texts.old texts.new) }
 {
-    match read_text(alloc, &mut texts[0]) {
+    match read_text(alloc, input, &mut texts[0]) {
         Ok(lanes) => Ok(lanes),
         Err(fault) => Err(fault),
     }
 }
 
-/// Reads the lanes from `source`, the first input of the run, to its end.
-fn read_text<S: Source>(alloc: Global, source: &mut S) -> Result<Lanes, Fault>
+/// Reads the lanes from `source`, to its end. `input` is its number in the run.
+fn read_text<S: Source>(alloc: Global, input: usize, source: &mut S) -> Result<Lanes, Fault>
     ensures read { IfOk result (IsLanes S.state source.old source.new) }
-    ensures refused { IfErr result (IsLanesFault S.state source.old source.new) }
+    ensures refused { IfErr result (IsLanesFault S.state input source.old source.new) }
 {
     let text = match read_whole(alloc, source) {
         Ok(text) => text,
-        Err(fault) => return Err(Fault::File { input: 0, fault }),
+        Err(fault) => return Err(Fault::File { input, fault }),
     };
     match parse(alloc, &text) {
         Ok(lanes) => Ok(lanes),
         Err(fault) => Err(Fault::Text {
-            input: 0,
+            input,
             fault: TextFault::Lanes(fault),
         }),
     }

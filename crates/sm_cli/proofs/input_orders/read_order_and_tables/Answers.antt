@@ -11,8 +11,8 @@ returns-in-Err-clause-refused g c = inl (record {
     are = c.split_at_mut-texts.ensures.value;
   };
   are = record { first = c.read_order.new.texts; others = c.split_at_mut-texts.result.1.now; are = refl };
-  why = c.in-Err.ensures.refused;
-  untouched = refl;
+  first_is = c.in-Err.ensures.refused;
+  others_are = refl;
 })
 
 pub returns-in-Ok-read_tables_and_files-clause-read : goal.returns-in-Ok-read_tables_and_files-clause-read
@@ -23,22 +23,21 @@ returns-in-Ok-read_tables_and_files-clause-read g c = record {
     are = c.split_at_mut-texts.ensures.value;
   };
   are = record { first = c.read_order.new.texts; others = c.read_tables_and_files.new.inputs; are = refl };
-  order_read = c.in-Ok.ensures.read;
-  others_read = c.in-Ok-read_tables_and_files.ensures.read;
+  first_is = c.in-Ok.ensures.read;
+  others_are = c.in-Ok-read_tables_and_files.ensures.read;
 }
 
 pub returns-in-Err-read_tables_and_files-clause-refused : goal.returns-in-Err-read_tables_and_files-clause-refused
 returns-in-Err-read_tables_and_files-clause-refused g c =
     let Refused : ℕ → Type 0 = λ texts. AreNoTablesAndFiles g.S.Source.state (c.args.before + texts) c.split_at_mut-texts.result.1.now
     c.read_tables_and_files.new.inputs c.in-Err-read_tables_and_files.fault in
-    inr (record {
+    inr (c.in-Ok.order.items, record {
       were = record {
         first = c.split_at_mut-texts.result.0.now;
         others = c.split_at_mut-texts.result.1.now;
         are = c.split_at_mut-texts.ensures.value;
       };
       are = record { first = c.read_order.new.texts; others = c.read_tables_and_files.new.inputs; are = refl };
-      switches = c.in-Ok.order.items;
-      order_read = c.in-Ok.ensures.read;
-      why = subst Refused c.order_texts-count.ensures c.in-Err-read_tables_and_files.ensures.refused;
+      first_is = c.in-Ok.ensures.read;
+      others_are = subst Refused c.texts_if-count.ensures c.in-Err-read_tables_and_files.ensures.refused;
     })
