@@ -76,7 +76,7 @@ module _ (facts : Facts) (by : List ℕ) where
   of_edges : AreVertices (length edges) P
   of_edges = grown_are_vertices edges lead by
 
-  are : AreVertices (length (switches cells)) P
+  pub are : AreVertices (length (switches cells)) P
   are = subst (λ (n : ℕ). AreVertices n P) (count_is facts) of_edges
 
   -- tables that are right by an order that agrees with the plan's tell one that does
@@ -173,7 +173,7 @@ module _ (facts : Facts) (by : List ℕ) where
       tell (next_towards facts held g) g.positions k (goals_are_safe facts held plan by by g is).1 agreed
 
   -- tables that tell an order agree with the plan's on none
-  begins : (tables : HeldPlan) → TellsPositions cells tables by → AgreeTo cells tables by 0
+  pub begins : (tables : HeldPlan) → TellsPositions cells tables by → AgreeTo cells tables by 0
   begins tables told = record {
     some = λ none.
         some_order_is_told cells tables P (position_in told.taken) (λ i less. are.all i less)
@@ -197,19 +197,36 @@ module _ (facts : Facts) (by : List ℕ) where
   p_same a b a_in b_in e = sym (p_stands a a_in).1 ∙ ap (number_at P) e ∙ (p_stands b b_in).1
 
   -- tables that agree on all switches but one are right by the plan's order
-  right_by_plan : (tables : HeldPlan) (taken : List ℕ) (k : ℕ) → IsTold cells tables P (Some taken) → AgreesUpTo P (position_in taken) k
-      → length (switches cells) ≤ suc k
+  right_by_plan : (tables : HeldPlan) (position : ℕ → ℕ) (k : ℕ) → ((lid : ℕ) → 1 ≤ lid → AreRight cells position tables lid)
+      → AgreesUpTo P position k → length (switches cells) ≤ suc k
       → AreRightBy cells (positions_in (order_of_plan (cells_of facts) by) (length (edges_in (cells_of facts)))) tables
-  right_by_plan tables taken k told agreed many lid some =
-      right_too cells p (position_in taken) p_same less tables lid ((told_orders_are_right cells tables P taken told).2 lid some)
+  right_by_plan tables position k right agreed many lid some = right_too cells p position p_same less tables lid (right lid some)
     where
-      less : (a b : ℕ) → a < length (switches cells) → b < length (switches cells) → p a < p b → position_in taken a < position_in taken b
+      less : (a b : ℕ) → a < length (switches cells) → b < length (switches cells) → p a < p b → position a < position b
       less a b a_in b_in low =
           let at_a = p_stands a a_in in
           let at_b = p_stands b b_in in
           let most = grown_most edges (before_by (map key_of by)) (length edges) [] (numbers_from 0 (length edges)) in
           let own = agreed (p a) (p b) (omega (arith, low, at_b.0, most, many, count_is facts)) low at_b.0 in
-          omega (arith, own, ap (position_in taken) at_a.1, ap (position_in taken) at_b.1)
+          omega (arith, own, ap position at_a.1, ap position at_b.1)
+
+  -- by the order that they tell
+  pub told_right_by_plan : (tables : HeldPlan) (k : ℕ) → TellsPositions cells tables by → AgreeTo cells tables by k → length (switches cells) ≤ suc k
+      → AreRightBy cells (positions_in (order_of_plan (cells_of facts) by) (length (edges_in (cells_of facts)))) tables
+  told_right_by_plan tables k told agree many =
+      right_by_plan tables (position_in told.taken) k (told_orders_are_right cells tables P told.taken told.is_told).2 (agree.agrees told.taken told.is_told) many
+
+  -- by the second order of a step, if they have reached its goal
+  pub reached_right_by_plan : (held next : HeldPlan) (count : ℕ) (told : TellsPositions cells held by) → IsRightByGrown cells held told.positions
+      → AreRightBy cells (orders_from cells held edges by told.positions).second next → AgreeTo cells held by count
+      → length (switches cells) ≤ suc (suc count)
+      → AreRightBy cells (positions_in (order_of_plan (cells_of facts) by) (length (edges_in (cells_of facts)))) next
+  reached_right_by_plan held next count told grown right agree many =
+      let own = agree.agrees told.taken told.is_told in
+      let by_grown = subst (λ (p : List ℕ). IsRightByGrown cells held p) told.are grown in
+      right_by_plan next (number_at (orders_from cells held edges by told.positions).second) (suc count) right
+      (subst (λ (p : List ℕ). AgreesUpTo P (number_at (orders_from cells held edges by p).second) (suc count)) (sym told.are)
+      (second_further held told.taken told.is_told count own by_grown)) many
 
 pub steps_keep_agreement : StepsKeepAgreement
 steps_keep_agreement facts held plan by g k is agree = step facts by held plan g k is agree
@@ -230,8 +247,7 @@ module _ (facts : Facts) (by : List ℕ) (tables : ℕ → HeldPlan) (reached : 
 pub goals_are_few : GoalsAreFew
 goals_are_few facts by tables reached way m many =
     let told = told_of (cells_of facts) (tables m) (tables (suc m)) by (reached m) (reached (suc m)) (way.each m) in
-    let agree = agree_at facts by tables reached way m in
-    right_by_plan facts by (tables m) told.taken (reached m) told.is_told (agree.agrees told.taken told.is_told) many
+    told_right_by_plan facts by (tables m) (reached m) told (agree_at facts by tables reached way m) many
 
 -- the orders of the next step, if the first of these is handed on
 module _ (facts : Facts) (tables : HeldPlan) (told by taken : List ℕ)

@@ -1,41 +1,24 @@
 -- Steps towards the goal between an order that grows and one that grows over its tree end in it.
 use Rattle.std.proofs.Common.{◌≡◌, ◌∙◌, ◌<◌, ◌≤◌, ◌⊎◌, ◌*◌, ◌==◌, ℕ, zero, suc, true, false, cond, List, length, Option, None, Some, refl, sym, ap, subst, arith}
-use Rattle.std.specs.Prelude.{Contains, nat_lt, slice_get}
-use Rattle.std.proofs.lemmas.Bool.{and_parts, le-ltb}
+use Rattle.std.specs.Prelude.{nat_lt, slice_get}
+use Rattle.std.proofs.lemmas.Bool.{le-ltb}
 use Rattle.fact_store.specs.View.{AreInRange, Facts, cells_of}
 use Rattle.port_graph.specs.declared.edge.Edge.{Edge}
-use Rattle.port_graph.specs.Heads.{edges_at, heads}
-use Rattle.port_graph.specs.Walks.{Walk}
-use Rattle.port_graph.proofs.Lists.{contains_mapped}
-use Rattle.subnet_view.specs.Reading.{Cells, is_switch_node, switches}
-use Rattle.subnet_view.specs.Graph.{graph_of, guids_of}
-use Rattle.subnet_view.specs.GraphLaws.{IsGraph, IsSwitch}
-use Rattle.subnet_view.proofs.Graphs.{graph_law, wire_is_edge}
-use Rattle.subnet_view.proofs.GraphSwitches.{graph_guids, switch_usable}
-use Rattle.spread_labels.specs.Orders.{at_position, position_of, positioned_edge}
-use Rattle.spread_labels.proofs.Growing.{contains_at as vertex_at}
-use Rattle.spread_routes.proofs.Indices.{edge_there, index_of_switch}
+use Rattle.subnet_view.specs.Reading.{Cells, switches}
 use Rattle.held_tables.specs.declared.held.HeldLid.{HeldLid}
 use Rattle.held_tables.specs.Held.{HeldPlan}
 use Rattle.held_tables.specs.Switches.{row_of}
 use Rattle.held_tables.specs.Tables.{entry_for, owners_of, top_of}
-use Rattle.held_tables.proofs.HeldTables.{within_length}
 use Rattle.packet_walks.specs.declared.packet_end.Cause.{Cause}
 use Rattle.packet_walks.specs.declared.packet_end.Cause.TheVariants.{AboveTop, NoEntry, NoLink, NoPort}
 use Rattle.packet_walks.specs.declared.packet_end.End.TheVariants.{Taken}
-use Rattle.packet_walks.specs.declared.next_hop.NextHop.{NextHop}
 use Rattle.packet_walks.specs.declared.next_hop.NextHop.TheVariants.{To, Ends}
-use Rattle.packet_walks.specs.HopsByTables.{by_entry, cause_of, next_hops_of}
-use Rattle.packet_walks.specs.EndsBySwitch.{after}
-use Rattle.packet_walks.proofs.Ended.{after_ended}
-use Rattle.packet_walks.proofs.PlanSteps.{contains_at, leaves}
+use Rattle.packet_walks.specs.HopsByTables.{by_entry, cause_of}
+use Rattle.packet_walks.proofs.PlanSteps.{contains_at}
 use Rattle.subnet_view.specs.Reading.{port_count_of}
 use Rattle.next_tables.specs.EntriesByOrder.{AreRight, IsOrder, Leads, position_at, switch_at}
 use Rattle.next_tables.specs.Next.{step_at}
-use Rattle.next_tables.proofs.Entries.{at_mapped, member}
-use Rattle.next_tables.proofs.Hops.{edge_at, leads_from, leads_within, none_taken, placed, to_within}
-use Rattle.next_tables.proofs.Mixtures.{at}
-use Rattle.next_tables.proofs.Steps.{at_index}
+use Rattle.next_tables.proofs.Hops.{none_taken, placed, to_within}
 use Rattle.ordered_steps.specs.StepLaws.{AreStepsByOrder, DeliverFrom, IsLineStep}
 use Rattle.ordered_steps.proofs.EndRight.{end_right_by_any}
 use Rattle.ordered_steps.proofs.Goal.{end_in_twice_as_many}
@@ -50,6 +33,7 @@ use Rattle.between_orders.specs.BetweenLaws.{AreGoalSteps, GoalEndsRight, GoalIs
 use Rattle.between_orders.specs.TablesBetween.{arrives, entry_with, tables_between}
 use Rattle.between_orders.specs.Orders.{edges_in}
 use Rattle.between_orders.proofs.Agreement.{p_same}
+use Rattle.between_orders.proofs.Arrivals.{arrives_at, walk_of, wired_head}
 use Rattle.between_orders.proofs.GoalDelivers.{arrives_is, entry_is, goes_on_to}
 use Rattle.between_orders.proofs.GoalEntries.{pair, top_is}
 use Rattle.between_orders.proofs.GoalReaches.{goal_reaches_all}
@@ -57,37 +41,6 @@ use Rattle.between_orders.proofs.GoalTurns.{columns, goal, goal_is, goal_turns_w
 use Rattle.between_orders.proofs.Safe.{grown_is_order, owners_by_lids}
 use Rattle.between_orders.proofs.SameGoal.{same_next, same_step}
 use Rattle.between_orders.proofs.StandStill.{goal_stands_still}
-
--- what forwards packets has a wire
-module _ (facts : Facts) (tables : HeldPlan) (lid i j : ℕ) (l : Leads (cells_of facts) tables lid i j) where
-  pub wired_head : Contains (heads (edges_in (cells_of facts)) i) j
-  wired_head =
-      let cells = cells_of facts in
-      let gs = switches cells in
-      let graph = graph_of cells in
-      let good : IsGraph graph = graph_law facts in
-      let guids = guids_of graph in
-      let same : guids ≡ gs = graph_guids cells in
-      let as_many = ap (λ (xs : List ℕ). length xs) same in
-      let g = switch_at cells i in
-      let i_in = leads_within cells tables lid i j l in
-      let entry = entry_for tables lid g in
-      let out = leaves cells g entry (record { port = entry; to = j }) (edge_at cells tables lid i j l) in
-      let h = out.end.0 in
-      let e : Edge = record { port = entry; to = h } in
-      let usable = switch_usable facts h (contains_at gs j h out.index) in
-      let edge = wire_is_edge cells g entry h (member gs i i_in)
-      (record { end_port = out.end.1; wire = out.wire; is_switch = (and_parts (is_switch_node cells h) _ usable).0 }) in
-      let i_below : i < length guids = omega (arith, i_in, as_many) in
-      let j_below : j < length guids = omega (arith, within_length gs j h out.index, as_many) in
-      let from : at_position guids i ≡ g = ap (λ (xs : List ℕ). at_position xs i) same in
-      let to : at_position guids j ≡ h = ap (λ (xs : List ℕ). at_position xs j) same ∙ at_index gs j h 0 out.index in
-      let is_g : IsSwitch graph g = subst (λ (x : ℕ). IsSwitch graph x) from (vertex_at guids i i_below) in
-      let index_g : position_of guids g ≡ i = ap (position_of guids) (sym from) ∙ index_of_switch graph good i i_below in
-      let index_h : position_of guids h ≡ j = ap (position_of guids) (sym to) ∙ index_of_switch graph good j j_below in
-      let there = contains_mapped (λ (y : Edge). y.to) (edges_at (edges_in cells) (position_of guids g)) (positioned_edge guids e)
-      (edge_there graph good g e is_g edge) in
-      subst (λ (x : ℕ × ℕ). Contains (heads (edges_in cells) x.0) x.1) (λ k. (index_g k, index_h k)) there
 
 -- if the goal delivers, a walk leads to a switch from which the plan leads to the end port
 module _ (facts : Facts) (range : AreInRange facts) (told by : List ℕ) (held plan : HeldPlan) (line : HeldLid) (is : IsGoalLine (cells_of facts) plan line) where
@@ -136,40 +89,6 @@ module _ (facts : Facts) (range : AreInRange facts) (told by : List ℕ) (held p
           let clash : To on.0 ≡ Ends (Taken line.port) = sym on.1 ∙ h in
           absurd (cc)
 
-  record Reached (i : ℕ) : Type 0 where
-    target : ℕ
-    within : target < n
-    long : ℕ
-    walk : Walk (heads edges) i target long
-    ends : step_at cells plan lid (switch_at cells target) ≡ Ends (Taken line.port)
-
-  reached : (k i : ℕ) → i < n → after k (next_hops_of cells G lid) (To i) ≡ Ends (Taken line.port) → Reached i
-  reached zero i less h = absurd (cc)
-  reached (suc k) i less h =
-      let hop = step_at cells G lid (switch_at cells i) in
-      let here : at (next_hops_of cells G lid) i ≡ hop = at_mapped (step_at cells G lid) (switches cells) i (To i) less in
-      on (reached k) hop refl (sym (ap (after k (next_hops_of cells G lid)) here) ∙ h)
-    where
-      on : ((j : ℕ) → j < n → after k (next_hops_of cells G lid) (To j) ≡ Ends (Taken line.port) → Reached j) → (s : NextHop)
-          → step_at cells G lid (switch_at cells i) ≡ s → after k (next_hops_of cells G lid) s ≡ Ends (Taken line.port) → Reached i
-      on later (Ends e) is_s h =
-          record {
-            target = i;
-            within = less;
-            long = 0;
-            walk = refl;
-            ends = ends_by_plan i less (is_s ∙ sym (after_ended k (next_hops_of cells G lid) e) ∙ h);
-          }
-      on later (To j) is_s h =
-          let rest = later j (to_within cells G lid (switch_at cells i) j is_s) h in
-          record {
-            target = rest.target;
-            within = rest.within;
-            long = suc rest.long;
-            walk = (j, wired_head facts G lid i j (leads_from cells G lid i j less is_s), rest.walk);
-            ends = rest.ends;
-          }
-
   abbrev between : HeldPlan
   between = tables_between (cells_of facts) (edges_in (cells_of facts)) (grown_twice (edges_in (cells_of facts)) told by) held plan
 
@@ -177,8 +96,9 @@ module _ (facts : Facts) (range : AreInRange facts) (told by : List ℕ) (held p
   goal_covers tables i j l delivers =
       let d = subst (λ (t : HeldPlan). DeliverFrom cells t line j) (goal_is facts orders held plan lid) delivers in
       let j_in = to_within cells tables lid l.switch j l.goes in
-      let x = reached d.0 j j_in d.1 in
-      goal_reaches_all facts range told by held plan line is i x.target (suc x.long) x.within (j, wired_head facts tables lid i j l, x.walk) x.ends
+      let x = arrives_at facts G lid line.port d.0 j j_in d.1 in
+      goal_reaches_all facts range told by held plan line is i x.last (suc x.long) x.within
+      (j, wired_head facts tables lid i j l, walk_of facts G lid line.port x.long j x.last x.comes) (ends_by_plan x.last x.within x.ends)
 
 -- steps
 module _ (facts : Facts) (range : AreInRange facts) (told by : List ℕ) (plan : HeldPlan) (line : HeldLid) (tables : ℕ → HeldPlan)

@@ -1,12 +1,17 @@
 pub mod Agreement
+pub mod Arrivals
 pub mod Columns
 pub mod GoalDelivers
 pub mod GoalEntries
 pub mod GoalReached
 pub mod GoalReaches
+pub mod HandedSteps
+pub mod OneGoal
 pub mod SameGoal
+pub mod SameTables
 pub mod GoalTurns
 pub mod Safe
+pub mod Stages
 pub mod StandStill
 pub mod Told
 pub mod WholeTables

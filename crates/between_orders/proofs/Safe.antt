@@ -32,7 +32,7 @@ use Rattle.told_order.proofs.Orders.{told_orders_are_right}
 use Rattle.two_orders.specs.Growth.{grown_by, key_of, positions_in}
 use Rattle.two_orders.specs.Trees.{tree}
 use Rattle.two_orders.specs.TwoOrders.{TwoOrders, two_orders}
-use Rattle.between_orders.specs.Between.{Goal, IsGoalBetween, goal_between}
+use Rattle.between_orders.specs.Between.{Goal, IsGoalBetween}
 use Rattle.between_orders.specs.TablesBetween.{tables_between}
 use Rattle.between_orders.specs.BetweenLaws.{GoalsAreSafe, GoalsFollowTheRule, next_towards}
 use Rattle.between_orders.specs.Orders.{edges_in, orders_by, told_positions}
@@ -120,6 +120,12 @@ module _ (facts : Facts) where
 pub owners_by_lids : (a b : HeldPlan) → a.lids ≡ b.lids → (lid : ℕ) → owners_of a lid ≡ owners_of b lid
 owners_by_lids a b e lid = λ i. owners_of (record { lids = e i; switches = a.switches; blocks = a.blocks }) lid
 
+-- the tables between two orders have the LIDs of the plan
+pub lids_between : (cells : Cells) (edges : List (List Edge)) (orders : TwoOrders) (held plan : HeldPlan)
+    → (tables_between cells edges orders held plan).lids ≡ plan.lids
+unfolding tables_between
+lids_between cells edges orders held plan = refl
+
 module _ (facts : Facts) (held plan : HeldPlan) (by preferred : List ℕ) (goal : Goal) (is : IsGoalBetween (cells_of facts) held plan by preferred goal) where
   -- the held tables are right by the order of the goal
   pub held_is : IsOrderOf (cells_of facts) held goal.positions
@@ -139,12 +145,8 @@ module _ (facts : Facts) (held plan : HeldPlan) (by preferred : List ℕ) (goal 
       (goal_turns_well facts is.orders held plan lid).0
 
   -- it has the LIDs of the plan
-  between_lids : (orders : TwoOrders) → (goal_between (cells_of facts) orders held plan).tables.lids ≡ plan.lids
-  unfolding tables_between
-  between_lids orders = refl
-
   pub goal_lids : goal.tables.lids ≡ plan.lids
-  goal_lids = ap (λ (g : Goal). g.tables.lids) is.is ∙ between_lids is.orders
+  goal_lids = ap (λ (g : Goal). g.tables.lids) is.is ∙ lids_between (cells_of facts) (edges_in (cells_of facts)) is.orders held plan
 
   pub goal_owners : (lid : ℕ) → owners_of goal.tables lid ≡ owners_of plan lid
   goal_owners lid = owners_by_lids goal.tables plan goal_lids lid

@@ -25,7 +25,7 @@ use Rattle.two_orders.specs.Growth.{grown_by, number_at, positions_in}
 use Rattle.two_orders.proofs.GrownOrders.{grown_orders_stay}
 use Rattle.between_orders.specs.Agreement.{ComeEverywhere, ComeTo, WholeTablesGrow}
 use Rattle.between_orders.specs.Orders.{edges_in, told_positions}
-use Rattle.between_orders.proofs.GoalReached.{wired_head}
+use Rattle.between_orders.proofs.Arrivals.{wired_head}
 use Rattle.between_orders.proofs.Safe.{count_is, told_is}
 use Rattle.between_orders.proofs.Told.{told_at}
 

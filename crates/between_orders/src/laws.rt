@@ -15,6 +15,14 @@ ghost use Rattle.between_orders.specs.BetweenLaws.{
   GoalTurnsWell,
 };
 ghost use Rattle.between_orders.specs.BetweenLaws.{GoalsAreSafe, GoalsFollowTheRule};
+ghost use Rattle.between_orders.specs.HandedSteps.{
+  HandedOrdersStay,
+  HandedStepsAreGoalSteps,
+  HandedStepsEnd,
+  RightTablesHaveGoals,
+  StagesAreFew,
+  StagesStayWhole,
+};
 
 /// By the tables between two orders, whatever the orders are, no packet for any LID goes down and then up by either
 /// order.
@@ -95,4 +103,43 @@ pub fn whole_tables_grow()
 /// goal delivers from each switch that sends packets for the LID straight to the end port by the first tables.
 pub fn goal_ends_right()
     ensures law { GoalEndsRight }
+{}
+
+/// From tables that are right by some order of the switches, as after a step towards a goal, there is a goal, whatever
+/// the preferred order is.
+pub fn right_tables_have_goals()
+    ensures law { RightTablesHaveGoals }
+{}
+
+/// If tables are right by the order that grows by the order that they imply, and each step is handed the first order of
+/// the step before it, all steps have the two orders of the first step.
+pub fn handed_orders_stay()
+    ensures law { HandedOrdersStay }
+{}
+
+/// If tables are right by the order that grows by the order that they imply, handed steps are steps as in
+/// `goal_is_reached` for each LID that one end port alone holds, in the tables and in the plan, and whose entries are
+/// 255 or deliver at first.
+pub fn handed_steps_are_goal_steps()
+    ensures law { HandedStepsAreGoalSteps }
+{}
+
+/// After 2n + 2 handed steps, for n switches, no further one changes the tables, if they begin as in
+/// `handed_orders_stay`. In the plan, no two end ports hold the same LID.
+pub fn handed_steps_end()
+    ensures law { HandedStepsEnd }
+{}
+
+/// By the tables after 2n + 2 handed steps, for n switches, or after one that changes nothing, packets still get from
+/// each switch to all switches that wires join to it, if they did so at first. In the plan, no two end ports hold the
+/// same LID, and each usable switch holds one.
+pub fn stages_stay_whole()
+    ensures law { StagesStayWhole }
+{}
+
+/// After n - 1 stages, for n switches, the tables are right by the plan's order. A stage has 2n + 2 handed steps or
+/// more, or its last one changes nothing. It begins with the order of the tables that is nearest to the plan's. By the
+/// first tables, which imply an order, packets get from each switch to all switches that wires join to it.
+pub fn stages_are_few()
+    ensures law { StagesAreFew }
 {}
