@@ -1,6 +1,6 @@
 -- In a fabric that facts describe and that holds tables and lanes, packets take channels by lane from stop to stop.
 use Rattle.std.proofs.Common.{◌≡◌, ◌≢◌, ℕ, zero, suc, ◌<◌, ◌≤◌, ◌+◌, ◌*◌, ◌/◌, ◌%◌, Bool, true, false, cond, ◌||◌, List, [], ◌∷◌, Option, None, Some, length, refl, sym, ap, ◌∙◌, subst, arith}
-use Rattle.std.specs.Prelude.{Contains, is_some, slice_get, slice_index_or, map, nat_lt, option_and_then, ◌==◌, ◌&&◌}
+use Rattle.std.specs.Prelude.{Contains, is_some, slice_get, slice_index_or, map, nat_lt, ◌==◌, ◌&&◌}
 use Rattle.std.specs.Option.{option_map_or}
 use Rattle.std.proofs.lemmas.Bool.{and_from, lt-ltb}
 use Rattle.std.proofs.lemmas.Option.{same_Some, get_or_from_slice_get, slice_get-get_or}
@@ -25,21 +25,21 @@ use Rattle.subnet_view.specs.Agreement.{Part, IsEndPortIn}
 use Rattle.subnet_view.proofs.EndPortList.{end_ports_law}
 use Rattle.held_tables.specs.declared.far_end.Far.TheVariants.{Nothing, Switch}
 use Rattle.held_tables.specs.Switches.{index_in, far_at, far_to, far_of, row_of}
+use Rattle.held_tables.specs.Held.{HeldPlan}
 use Rattle.held_tables.specs.Tables.{counted, entry_for}
-use Rattle.packet_walks.specs.Edges.{edge_by, edge_to}
+use Rattle.packet_walks.specs.Edges.{edge_by, edge_to, edges_of}
 use Rattle.packet_walks.specs.Fabrics.{IsSeenIn}
 use Rattle.packet_walks.proofs.FabricParts.{indexed, listed, wire_told, switch_end}
 use Rattle.packet_walks.proofs.FarRows.{has, row_at}
 use Rattle.packet_walks.proofs.Told.{IsClosed, switch_goes, joined_closed}
 use Rattle.audit_channels.specs.Fabrics.{IsChannel}
-use Rattle.audit_channels.proofs.Waiting.{column_long}
 use Rattle.lane_channels.specs.Fabrics.{HoldLanes, IsCarried, IsLaneChannel, LaneChannelsRise, LaneMaps, came_by, lane_at}
 use Rattle.lanes_file.specs.Lanes.{lane_of}
 use Rattle.lane_channels.specs.LaneNetwork.{SeenByLane}
 use Rattle.lane_channels.specs.LaneTurns.{TakesByLane}
 use Rattle.lane_channels.specs.Levels.{HasLevel}
-use Rattle.lane_channels.specs.Stops.{carried, far_port, first_stop, lane_between, lane_by, lane_number, next_stop, port_across, port_in, stop_after, stop_at, stop_by}
-use Rattle.lane_channels.specs.Waiting.{WaitsByLane, column_for}
+use Rattle.lane_channels.specs.Stops.{Columns, ComesAfter, HasEdge, IsNextStop, far_port, first_stop, lane_between, lane_by, lane_number, port_across, port_in, stop_at, stop_by}
+use Rattle.lane_channels.specs.AnyTables.{WaitsByAny, columns_for}
 use Rattle.lane_channels.proofs.FarPorts.{index_below}
 
 -- the switch and the port of a stop
@@ -169,13 +169,20 @@ own_vertex f v is =
       | false ↦ λ e. adapter_vertex f v e
     ] refl
 
-module _ (s : SeenByLane) (f : Fabric) (part : Part) (seen : IsSeenIn part (cells_of s.seen.facts) s.seen.held f) (closed : IsClosed part f) (vl : LaneMaps)
-    (holds : HoldLanes part s.said f vl) (lid : ℕ) (some : 1 ≤ lid) (level : ℕ) where
+-- each edge by `mixed` is one by some table
+abbrev pub IsAmong : SeenByLane → List HeldPlan → HeldPlan → ℕ → Type 0
+IsAmong s others mixed lid =
+    (index : ℕ) (edge : Edge) → slice_index_or (edges_of (cells_of s.seen.facts) mixed lid) index None ≡ Some edge → HasEdge (columns_for s others lid) index edge
+
+-- `mixed` are the tables that the fabric holds
+module _ (s : SeenByLane) (others : List HeldPlan) (mixed : HeldPlan) (f : Fabric) (part : Part) (seen : IsSeenIn part (cells_of s.seen.facts) mixed f)
+    (closed : IsClosed part f) (vl : LaneMaps) (holds : HoldLanes part s.said f vl) (lid : ℕ) (some : 1 ≤ lid) (among : IsAmong s others mixed lid)
+    (level : ℕ) where
   abbrev cells : Cells
   cells = cells_of s.seen.facts
 
-  abbrev column : List (Option Edge)
-  column = column_for s lid
+  abbrev columns : Columns
+  columns = columns_for s others lid
 
   abbrev Within : Standing → Type 0
   Within st = part (vertex_of f st.at)
@@ -204,7 +211,7 @@ module _ (s : SeenByLane) (f : Fabric) (part : Part) (seen : IsSeenIn part (cell
       elim (index_in (switches cells) to.guid) as (λ o. index_in (switches cells) to.guid ≡ o
       → (index : ℕ) × (index_in (switches cells) to.guid ≡ Some index)) [
         | Some j ↦ λ e. (j, e)
-        | None ↦ λ e. absurd (listed part s.seen.facts s.seen.held f seen q.node to at kind (subst part vertex within) e)
+        | None ↦ λ e. absurd (listed part s.seen.facts mixed f seen q.node to at kind (subst part vertex within) e)
       ] refl
 
   small : (p q : NodePort) → f.across p ≡ Some q → p.port ≤ 254
@@ -215,7 +222,7 @@ module _ (s : SeenByLane) (f : Fabric) (part : Part) (seen : IsSeenIn part (cell
   record Crosses (hop : Hop) (index : ℕ) (to : Node) : Type 0 where
     far : ℕ
     far_is : index_in (switches cells) to.guid ≡ Some far
-    edge : slice_index_or column index None ≡ Some (record { port = hop.out.port; to = far })
+    edge : HasEdge columns index (record { port = hop.out.port; to = far })
     port : port_across cells index hop.out.port ≡ hop.into.port
     lane : (came : ℕ) → vl hop.out.node came hop.out.port level ≡ lane_between s.said cells level index came hop.out.port
 
@@ -223,7 +230,7 @@ module _ (s : SeenByLane) (f : Fabric) (part : Part) (seen : IsSeenIn part (cell
       → Crosses hop c.index c.to
   crosses st hop channel c within on =
       let facts = s.seen.facts in
-      let held = s.seen.held in
+      let held = mixed in
       let its = leaves f lid st hop.out on in
       let node = c.from in
       let g = node.guid in
@@ -253,10 +260,11 @@ module _ (s : SeenByLane) (f : Fabric) (part : Part) (seen : IsSeenIn part (cell
         far = to.0;
         far_is = to.1;
         edge =
-            edge_at (switches cells) (λ h. edge_by (row_of cells h) (entry_for held lid h)) c.index g nth
+            among c.index (record { port = hop.out.port; to = to.0 })
+            (edge_at (switches cells) (λ h. edge_by (row_of cells h) (entry_for held lid h)) c.index g nth
             ∙ ap (λ t. cond t None (edge_to n (slice_index_or (row_of cells g) n Nothing))) by.onward
             ∙ ap (edge_to n) in_row
-            ∙ ap (λ m. Some (record { port = m; to = to.0 })) (sym port);
+            ∙ ap (λ m. Some (record { port = m; to = to.0 })) (sym port));
         port =
             (λ i. option_map_or (λ h. far_port cells h (rest i)) (slice_get (switches cells) (quotient i)) 0)
             ∙ ap (λ o. option_map_or (λ h. far_port cells h hop.out.port) o 0) nth
@@ -268,34 +276,34 @@ module _ (s : SeenByLane) (f : Fabric) (part : Part) (seen : IsSeenIn part (cell
 
   -- a packet that is carried over a channel comes to the next stop
   next_is : (stop index came : ℕ) (hop : Hop) (to : Node) (x : Crosses hop index to) → stop / 256 ≡ index → stop % 256 ≡ came
-      → vl hop.out.node came hop.out.port level < 15 → next_stop s.said cells column level stop ≡ Some (stop_at x.far hop.into.port)
+      → vl hop.out.node came hop.out.port level < 15 → IsNextStop s.said cells columns level stop (stop_at x.far hop.into.port)
   next_is stop index came hop to x q r less =
       let edge : Edge = record { port = hop.out.port; to = x.far } in
       let lane : lane_by s.said cells level stop edge ≡ vl hop.out.node came hop.out.port level =
       (λ i. lane_between s.said cells level (q i) (r i) hop.out.port) ∙ sym (x.lane came) in
       let there = index_below (switches cells) to.guid x.far x.far_is in
-      let long : length column ≡ length (switches cells) = column_long cells s.seen.held lid in
-      let below : nat_lt x.far (length column) ≡ true = lt-ltb x.far (length column) (omega arith) in
+      let below : nat_lt x.far (length (switches cells)) ≡ true = lt-ltb x.far (length (switches cells)) there in
       let not_dropped : nat_lt (lane_by s.said cells level stop edge) 15 ≡ true = lt-ltb _ 15 (subst (λ l. l < 15) (sym lane) less) in
-      let on : (nat_lt x.far (length column) && nat_lt (lane_by s.said cells level stop edge) 15) ≡ true =
-      and_from (nat_lt x.far (length column)) (nat_lt (lane_by s.said cells level stop edge) 15) below not_dropped in
-      ap (option_and_then (carried s.said cells (length column) level stop)) (ap (λ i. slice_index_or column i None) q ∙ x.edge)
-      ∙ ap (λ t. cond t (Some (stop_at x.far (port_across cells (stop / 256) hop.out.port))) None) on
-      ∙ ap (λ i. Some (stop_at x.far (port_across cells i hop.out.port))) q
-      ∙ ap (λ p. Some (stop_at x.far p)) x.port
+      let on : (nat_lt x.far (length (switches cells)) && nat_lt (lane_by s.said cells level stop edge) 15) ≡ true =
+      and_from (nat_lt x.far (length (switches cells))) (nat_lt (lane_by s.said cells level stop edge) 15) below not_dropped in
+      record {
+        edge = edge;
+        leaves = subst (λ i. HasEdge columns i edge) (sym q) x.edge;
+        carried_is =
+            ap (λ t. cond t (Some (stop_at x.far (port_across cells (stop / 256) hop.out.port))) None) on
+            ∙ ap (λ i. Some (stop_at x.far (port_across cells i hop.out.port))) q
+            ∙ ap (λ p. Some (stop_at x.far p)) x.port;
+      }
 
-  -- where a packet is that is carried over one channel more
-  comes_on : (first : Option ℕ) (n stop next there : ℕ) → stop_after s.said cells column level n first ≡ Some stop
-      → next_stop s.said cells column level stop ≡ Some next → next ≡ there → stop_after s.said cells column level (suc n) first ≡ Some there
-  comes_on first n stop next there before on same =
-      ap (option_and_then (next_stop s.said cells column level)) before ∙ on ∙ ap (λ i. Some i) same
+  comes_on : (stop next there : ℕ) → IsNextStop s.said cells columns level stop next → next ≡ there → IsNextStop s.said cells columns level stop there
+  comes_on stop next there on same = subst (λ (n : ℕ). IsNextStop s.said cells columns level stop n) same on
 
   -- two channels in turn
   takes : (stop index came : ℕ) (hop later : Hop) (to to_later : Node) (x : Crosses hop index to) (y : Crosses later x.far to_later) (channel next : ℕ)
       → stop / 256 ≡ index → stop % 256 ≡ came → vl hop.out.node came hop.out.port level < 15 → vl later.out.node hop.into.port later.out.port level < 15
       → channel ≡ lane_number index hop.out.port (vl hop.out.node came hop.out.port level)
       → next ≡ lane_number x.far later.out.port (vl later.out.node hop.into.port later.out.port level)
-      → TakesByLane s.said cells column level stop channel next
+      → TakesByLane s.said cells columns level stop channel next
   takes stop index came hop later to to_later x y channel next q r less less_there e h =
       let out = hop.out.port in
       let lane : lane_between s.said cells level (stop / 256) (stop % 256) out ≡ vl hop.out.node came out level =
@@ -307,7 +315,7 @@ module _ (s : SeenByLane) (f : Fabric) (part : Part) (seen : IsSeenIn part (cell
       record {
         first = record { port = out; to = x.far };
         second = record { port = later.out.port; to = y.far };
-        leaves = ap (λ i. slice_index_or column i None) q ∙ x.edge;
+        leaves = subst (λ i. HasEdge columns i (record { port = out; to = x.far })) (sym q) x.edge;
         lane_is = subst (λ l. l < 15) (sym lane) less;
         leaves_there = y.edge;
         lane_there_is = subst (λ l. l < 15) (sym lane_there) less_there;
@@ -370,7 +378,7 @@ module _ (s : SeenByLane) (f : Fabric) (part : Part) (seen : IsSeenIn part (cell
         let from_at : IsNodeAt f h.out.node node = ap (λ (p : NodePort). slice_get f.nodes p.node) out ∙ here.node_there in
         let told : across cells node.guid source.port ≡ Some (to.guid, h.into.port) =
         ap (λ (p : NodePort). across cells node.guid p.port) (sym out)
-        ∙ wire_told part s.seen.facts s.seen.held f seen h.out h.into node to wire.cable wire.different from_at to_at vertex in
+        ∙ wire_told part s.seen.facts mixed f seen h.out h.into node to wire.cable wire.different from_at to_at vertex in
         let far : far_of cells node.guid source.port ≡ Switch index =
         ap (far_to (switches cells)) told ∙ ap (far_at (to.guid, h.into.port)) index_is in
         let none : index_in (switches cells) node.guid ≡ None =
@@ -378,7 +386,7 @@ module _ (s : SeenByLane) (f : Fabric) (part : Part) (seen : IsSeenIn part (cell
           | None ↦ λ k. refl
           | Some i ↦ λ k.
               let switch : is_switch from.kind ≡ true =
-              ap (λ (n : Node). is_switch n.kind) same ∙ (indexed part s.seen.facts s.seen.held f seen source node i here k).0 in
+              ap (λ (n : Node). is_switch n.kind) same ∙ (indexed part s.seen.facts mixed f seen source node i here k).0 in
               absurd (cc)
         ] refl in
         (refl, λ i. stop_by (none i) (far i) (option_map_or port_in (told i) 0))
@@ -386,7 +394,7 @@ module _ (s : SeenByLane) (f : Fabric) (part : Part) (seen : IsSeenIn part (cell
     -- where a packet is that none of the first `count` switches dropped
     module _ (count : ℕ) (carries : IsCarried cells f vl level hops count) where
       abbrev Comes : ℕ → ℕ → Type 0
-      Comes index j = (n : ℕ) × (stop_after s.said cells column level n first ≡ Some (stop_at index (came_by j hops)))
+      Comes index j = (n : ℕ) × ComesAfter s.said cells columns level n first (stop_at index (came_by j hops))
 
       comes : (j : ℕ) (k : Hop) (channel : ℕ) → slice_get hops j ≡ Some k → j < count → (d : IsChannel cells f k channel) → Comes d.index j
       comes zero k channel e less d =
@@ -436,10 +444,7 @@ module _ (s : SeenByLane) (f : Fabric) (part : Part) (seen : IsSeenIn part (cell
                 let there_is : stop_at x.far h.into.port ≡ stop_at d.index (came_by (suc j) hops) = λ n. stop_at (same n) (sym came n) in
                 let next =
                 next_is (stop_at i.0 at_port) i.0 at_port h d.from x (stop_switch i.0 at_port few) (stop_port i.0 at_port few)
-                (carries j h (256 * i.0 + h.out.port) (omega arith) is c) in (
-                  suc before.0,
-                  comes_on first before.0 (stop_at i.0 at_port) (stop_at x.far h.into.port) (stop_at d.index (came_by (suc j) hops)) before.1 next there_is,
-                )
+                (carries j h (256 * i.0 + h.out.port) (omega arith) is c) in (suc before.0, (stop_at i.0 at_port, before.1, comes_on (stop_at i.0 at_port) (stop_at x.far h.into.port) (stop_at d.index (came_by (suc j) hops)) next there_is))
             | false ↦ λ kind.
                 let begun = first_hop j h its.node d.from d.index is its.node_there kind w.0 wire to_at d.index_is in
                 (0, begun.1 ∙ ap (λ p. Some (stop_at d.index p)) (sym came))
@@ -447,7 +452,7 @@ module _ (s : SeenByLane) (f : Fabric) (part : Part) (seen : IsSeenIn part (cell
 
       -- the packet takes two channels in turn by facts, tables and lanes
       waits : (answers : Bool) (nth channel next : ℕ) → suc nth < count → HasLevel s.said answers s.seen.held sender lid level
-          → IsLaneChannel cells f vl level hops nth channel → IsLaneChannel cells f vl level hops (suc nth) next → WaitsByLane s answers channel next
+          → IsLaneChannel cells f vl level hops nth channel → IsLaneChannel cells f vl level hops (suc nth) next → WaitsByAny s others answers channel next
       waits answers nth channel next less has_level c d =
           let w = went f lid hops (sent_from source) end nth c.hop goes c.hop_is in
           let v = went f lid hops (sent_from source) end (suc nth) d.hop goes d.hop_is in
@@ -504,5 +509,5 @@ lane_channels_rise s answers f origin vl is_end seen holds r level hops t nth ch
     let after : nth + 1 ≡ suc nth = omega arith in
     let later = subst (λ (n : ℕ). IsLaneChannel (cells_of s.seen.facts) f vl level hops n next) after d in
     r.rises channel next
-    (waits s f part seen (joined_closed f seen.is_fabric origin) vl holds t.lid t.is_lid level t.source t.node t.is_source hops t.end t.goes (nth + 2) carries
+    (waits s [] s.seen.held f part seen (joined_closed f seen.is_fabric origin) vl holds t.lid t.is_lid (λ index edge is. (0, is)) level t.source t.node t.is_source hops t.end t.goes (nth + 2) carries
     answers nth channel next (omega arith) t.has_level c later)

@@ -1,17 +1,26 @@
 -- Numbers of channels by lane.
-use Rattle.std.proofs.Common.{◌≡◌, ◌<◌, ◌+◌, ◌*◌, ◌/◌, ℕ, Bool, List, [], ◌∷◌, sym, ap, ◌∙◌, subst, arith}
-use Rattle.std.specs.Prelude.{slice_index_or}
+use Rattle.std.proofs.Common.{◌≡◌, ◌<◌, ◌+◌, ◌*◌, ◌/◌, ℕ, zero, suc, Bool, List, [], ◌∷◌, arith}
+use Rattle.std.specs.Prelude.{Option, None, Some, slice_index_or}
+use Rattle.port_graph.specs.declared.edge.Edge.{Edge}
 use Rattle.fact_store.specs.View.{cells_of}
+use Rattle.held_tables.specs.Held.{HeldPlan}
+use Rattle.packet_walks.specs.Edges.{edges_of}
 use Rattle.audit_channels.specs.Columns.{TakesAcross, number_of}
-use Rattle.audit_channels.specs.Waiting.{RiseOnWays}
 use Rattle.lane_channels.specs.LaneNetwork.{SeenByLane}
 use Rattle.lane_channels.specs.LaneLaws.{NeverBothByLane, OneLaneSuffices}
-use Rattle.lane_channels.specs.Stops.{lane_between, lane_by, port_across}
-use Rattle.lane_channels.specs.Waiting.{RiseByLane, WaitOn, WaitsByLane, column_for}
+use Rattle.lane_channels.specs.Stops.{HasEdge, lane_between, lane_by, port_across}
+use Rattle.lane_channels.specs.AnyTables.{RiseByAny, WaitOnByAny}
+use Rattle.lane_channels.specs.Waiting.{WaitsByLane}
+use Rattle.lane_channels.proofs.Visits.{no_column}
 
 -- the channel without its lane
 without_lane : (channel n lane : ℕ) → channel ≡ 16 * n + lane → lane < 15 → channel / 16 ≡ n
 without_lane channel n lane e less = omega arith
+
+-- an edge by the only column
+sole : (column : List (Option Edge)) (index : ℕ) (edge : Edge) → HasEdge (column ∷ []) index edge → slice_index_or column index None ≡ Some edge
+sole column index edge (zero, is) = is
+sole column index edge (suc nth, is) = absurd (no_column index edge is)
 
 pub one_lane_suffices : OneLaneSuffices
 one_lane_suffices s answers numbers rise = record { number = λ c. slice_index_or numbers (c / 16) 0; rises = rises }
@@ -26,16 +35,23 @@ one_lane_suffices s answers numbers rise = record { number = λ c. slice_index_o
         let b_is : b / 16 ≡ number_of t.first.to t.second =
         without_lane b (number_of t.first.to t.second) (lane_between s.said cells one.level t.first.to (port_across cells (one.stop / 256) t.first.port) t.second.port) t.next_is
         t.lane_there_is in
-        let takes : TakesAcross (column_for s w.lid) (column_for s w.lid) (one.stop / 256) (a / 16) (b / 16) =
-        record { first = t.first; second = t.second; leaves = t.leaves; leaves_there = t.leaves_there; channel_is = a_is; next_is = b_is } in
+        let takes : TakesAcross (edges_of cells s.seen.held w.lid) (edges_of cells s.seen.held w.lid) (one.stop / 256) (a / 16) (b / 16) =
+        record {
+          first = t.first;
+          second = t.second;
+          leaves = sole (edges_of cells s.seen.held w.lid) (one.stop / 256) t.first t.leaves;
+          leaves_there = sole (edges_of cells s.seen.held w.lid) t.first.to t.second t.leaves_there;
+          channel_is = a_is;
+          next_is = b_is;
+        } in
         rise.rises (a / 16) (b / 16) (record { lid = w.lid; is_lid = w.is_lid; switch = (one.stop / 256); takes = takes })
 
-rise_along : (s : SeenByLane) (answers : Bool) (r : RiseByLane s answers) (channel last : ℕ) (later : List ℕ) → WaitOn s answers channel later last
-    → r.number channel < r.number last
-rise_along s answers r channel last [] h = r.rises channel last h
-rise_along s answers r channel last (next ∷ later) h =
-    let one = r.rises channel next h.0 in let more = rise_along s answers r next last later h.1 in omega arith
+rise_along : (s : SeenByLane) (others : List HeldPlan) (answers : Bool) (r : RiseByAny s others answers) (channel last : ℕ) (later : List ℕ)
+    → WaitOnByAny s others answers channel later last → r.number channel < r.number last
+rise_along s others answers r channel last [] h = r.rises channel last h
+rise_along s others answers r channel last (next ∷ later) h =
+    let one = r.rises channel next h.0 in let more = rise_along s others answers r next last later h.1 in omega arith
 
 pub never_both_by_lane : NeverBothByLane
 never_both_by_lane s answers [] r h = h
-never_both_by_lane s answers (channel ∷ later) r h = let more = rise_along s answers r channel channel later h in omega arith
+never_both_by_lane s answers (channel ∷ later) r h = let more = rise_along s [] answers r channel channel later h in omega arith

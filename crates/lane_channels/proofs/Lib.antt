@@ -4,4 +4,5 @@ pub mod LaneLaws
 pub mod LidWaits
 pub mod Orders
 pub mod Senders
+pub mod Visits
 pub mod Walks

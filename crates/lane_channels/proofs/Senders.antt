@@ -1,10 +1,9 @@
 -- Senders, and whom they answer, one after the other.
-use Rattle.std.proofs.Common.{◌≡◌, ◌<◌, ◌≤◌, ◌+◌, ℕ, zero, suc, Bool, true, false, List, [], ◌∷◌, get_or, map, refl, sym, ap, ◌∙◌, subst, arith, inl, inr, ◌⊎◌}
-use Rattle.std.specs.Prelude.{Option, None, Some, length, option_map, slice_get}
+use Rattle.std.proofs.Common.{◌≡◌, ◌<◌, ◌+◌, ℕ, zero, suc, Bool, true, false, List, [], ◌∷◌, get_or, map, refl, sym, ap, ◌∙◌, subst, arith, inl, inr, ◌⊎◌}
+use Rattle.std.specs.Prelude.{Option, Some, length, option_map, slice_get}
 use Rattle.std.proofs.lemmas.Bool.{cases_lt}
 use Rattle.std.proofs.lemmas.Option.{same_Some}
 use Rattle.fact_store.specs.View.{cells_of}
-use Rattle.port_graph.specs.declared.edge.Edge.{Edge}
 use Rattle.subnet_view.specs.Reading.{Cells}
 use Rattle.subnet_view.specs.EndPorts.{end_ports}
 use Rattle.subnet_view.specs.declared.end_port.EndPort.{EndPort}
@@ -13,9 +12,9 @@ use Rattle.held_tables.specs.Tables.{owners_of}
 use Rattle.held_tables.specs.declared.senders.Sender.{Sender}
 use Rattle.lanes_file.specs.Lanes.{LanesSaid, level_of}
 use Rattle.lane_channels.specs.LaneNetwork.{SeenByLane}
-use Rattle.lane_channels.specs.Levels.{HasLevel, IsAsked, lids_held}
+use Rattle.lane_channels.specs.Levels.{HasLevel, lids_held}
 use Rattle.lane_channels.specs.Senders.{AnswersOf, AnswersTo, SentFor, SentFrom}
-use Rattle.lane_channels.specs.Stops.{first_stop}
+use Rattle.lane_channels.specs.Stops.{Columns, first_stop}
 use Rattle.lane_channels.specs.Walks.{AreFollowed, BeginsIf, Walked}
 use Rattle.lane_channels.proofs.Walks.{followed_as, followed_then, none_followed}
 
@@ -73,27 +72,27 @@ pub record SentBySome (s : SeenByLane) (answers : Bool) (lid count level : ℕ) 
   pub below : index < count
   pub sent : SentFrom s answers lid index level begin
 
-module _ (said : LanesSaid) (cells : Cells) (column : List (Option Edge)) (lid : ℕ) (old : Walked) where
+module _ (said : LanesSaid) (cells : Cells) (columns : Columns) (lid : ℕ) (old : Walked) where
   -- none so far
-  pub no_lids : (asker : EndPort) (lids : List ℕ) (first : Option ℕ) → AreFollowed said cells column lid (AnswersOf said asker lids 0 first) old old
+  pub no_lids : (asker : EndPort) (lids : List ℕ) (first : Option ℕ) → AreFollowed said cells columns lid (AnswersOf said asker lids 0 first) old old
   no_lids asker lids first =
-      none_followed said cells column lid (AnswersOf said asker lids 0 first) old (λ l b a. (let below = a.below in
+      none_followed said cells columns lid (AnswersOf said asker lids 0 first) old (λ l b a. (let below = a.below in
       omega arith))
 
   pub no_owners : (owners : List EndPort) (lids : List ℕ) (first : Option ℕ)
-      → AreFollowed said cells column lid (AnswersToSome said owners lids 0 first) old old
+      → AreFollowed said cells columns lid (AnswersToSome said owners lids 0 first) old old
   no_owners owners lids first =
-      none_followed said cells column lid (AnswersToSome said owners lids 0 first) old (λ l b a. (let below = a.below in
+      none_followed said cells columns lid (AnswersToSome said owners lids 0 first) old (λ l b a. (let below = a.below in
       omega arith))
 
-module _ (said : LanesSaid) (cells : Cells) (column : List (Option Edge)) (lid : ℕ) (old w new : Walked) where
+module _ (said : LanesSaid) (cells : Cells) (columns : Columns) (lid : ℕ) (old w new : Walked) where
   -- one LID more
   pub one_asked : (asker : EndPort) (lids : List ℕ) (index asked : ℕ) (level first : Option ℕ)
-      → AreFollowed said cells column lid (AnswersOf said asker lids index first) old w → slice_get lids index ≡ Some asked
-      → level ≡ level_of said asker.node asker.port asked → AreFollowed said cells column lid (BeginsIf level first) w new
-      → AreFollowed said cells column lid (AnswersOf said asker lids (index + 1) first) old new
+      → AreFollowed said cells columns lid (AnswersOf said asker lids index first) old w → slice_get lids index ≡ Some asked
+      → level ≡ level_of said asker.node asker.port asked → AreFollowed said cells columns lid (BeginsIf level first) w new
+      → AreFollowed said cells columns lid (AnswersOf said asker lids (index + 1) first) old new
   one_asked asker lids index asked level first h is level_is one =
-      followed_then said cells column lid (AnswersOf said asker lids index first) (BeginsIf level first) (AnswersOf said asker lids (index + 1) first) old w new
+      followed_then said cells columns lid (AnswersOf said asker lids index first) (BeginsIf level first) (AnswersOf said asker lids (index + 1) first) old w new
       h one either earlier this
     where
       either : (l : ℕ) (b : Option ℕ) → AnswersOf said asker lids (index + 1) first l b
@@ -125,11 +124,11 @@ module _ (said : LanesSaid) (cells : Cells) (column : List (Option Edge)) (lid :
 
   -- one owner more
   pub one_owner : (owners : List EndPort) (lids : List ℕ) (nth : ℕ) (asker : EndPort) (first : Option ℕ)
-      → AreFollowed said cells column lid (AnswersToSome said owners lids nth first) old w → slice_get owners nth ≡ Some asker
-      → AreFollowed said cells column lid (AnswersOf said asker lids (length lids) first) w new
-      → AreFollowed said cells column lid (AnswersToSome said owners lids (nth + 1) first) old new
+      → AreFollowed said cells columns lid (AnswersToSome said owners lids nth first) old w → slice_get owners nth ≡ Some asker
+      → AreFollowed said cells columns lid (AnswersOf said asker lids (length lids) first) w new
+      → AreFollowed said cells columns lid (AnswersToSome said owners lids (nth + 1) first) old new
   one_owner owners lids nth asker first h is one =
-      followed_then said cells column lid (AnswersToSome said owners lids nth first) (AnswersOf said asker lids (length lids) first)
+      followed_then said cells columns lid (AnswersToSome said owners lids nth first) (AnswersOf said asker lids (length lids) first)
       (AnswersToSome said owners lids (nth + 1) first) old w new h one either earlier this
     where
       either : (l : ℕ) (b : Option ℕ) → AnswersToSome said owners lids (nth + 1) first l b
@@ -153,10 +152,10 @@ module _ (said : LanesSaid) (cells : Cells) (column : List (Option Edge)) (lid :
 
   -- all owners
   pub all_owners : (owners : List EndPort) (lids : List ℕ) (first : Option ℕ)
-      → AreFollowed said cells column lid (AnswersToSome said owners lids (length owners) first) old w
-      → AreFollowed said cells column lid (AnswersTo said owners lids first) old w
+      → AreFollowed said cells columns lid (AnswersToSome said owners lids (length owners) first) old w
+      → AreFollowed said cells columns lid (AnswersTo said owners lids first) old w
   all_owners owners lids first h =
-      followed_as said cells column lid (AnswersToSome said owners lids (length owners) first) (AnswersTo said owners lids first) old w h back to
+      followed_as said cells columns lid (AnswersToSome said owners lids (length owners) first) (AnswersTo said owners lids first) old w h back to
     where
       back : (l : ℕ) (b : Option ℕ) → AnswersTo said owners lids first l b → AnswersToSome said owners lids (length owners) first l b
       back l b a =
@@ -191,22 +190,22 @@ module _ (said : LanesSaid) (cells : Cells) (column : List (Option Edge)) (lid :
             },
           )
 
-pub no_senders : (s : SeenByLane) (answers : Bool) (column : List (Option Edge)) (lid : ℕ) (w : Walked)
-    → AreFollowed s.said (cells_of s.seen.facts) column lid (SentBySome s answers lid 0) w w
-no_senders s answers column lid w =
-    none_followed s.said (cells_of s.seen.facts) column lid (SentBySome s answers lid 0) w (λ l b a. (let below = a.below in
+pub no_senders : (s : SeenByLane) (answers : Bool) (columns : Columns) (lid : ℕ) (w : Walked)
+    → AreFollowed s.said (cells_of s.seen.facts) columns lid (SentBySome s answers lid 0) w w
+no_senders s answers columns lid w =
+    none_followed s.said (cells_of s.seen.facts) columns lid (SentBySome s answers lid 0) w (λ l b a. (let below = a.below in
     omega arith))
 
-module _ (s : SeenByLane) (answers : Bool) (column : List (Option Edge)) (lid : ℕ) (old w new : Walked) where
+module _ (s : SeenByLane) (answers : Bool) (columns : Columns) (lid : ℕ) (old w new : Walked) where
   abbrev cells : Cells
   cells = cells_of s.seen.facts
 
   -- one sender more
-  pub one_sender : (index : ℕ) → AreFollowed s.said cells column lid (SentBySome s answers lid index) old w
-      → AreFollowed s.said cells column lid (SentFrom s answers lid index) w new
-      → AreFollowed s.said cells column lid (SentBySome s answers lid (index + 1)) old new
+  pub one_sender : (index : ℕ) → AreFollowed s.said cells columns lid (SentBySome s answers lid index) old w
+      → AreFollowed s.said cells columns lid (SentFrom s answers lid index) w new
+      → AreFollowed s.said cells columns lid (SentBySome s answers lid (index + 1)) old new
   one_sender index h one =
-      followed_then s.said cells column lid (SentBySome s answers lid index) (SentFrom s answers lid index) (SentBySome s answers lid (index + 1)) old w new h one
+      followed_then s.said cells columns lid (SentBySome s answers lid index) (SentFrom s answers lid index) (SentBySome s answers lid (index + 1)) old w new h one
       either earlier (λ l b a. record { index = index; below = omega arith; sent = a })
     where
       either : (l : ℕ) (b : Option ℕ) → SentBySome s answers lid (index + 1) l b → SentBySome s answers lid index l b ⊎ SentFrom s answers lid index l b
@@ -222,10 +221,10 @@ module _ (s : SeenByLane) (answers : Bool) (column : List (Option Edge)) (lid : 
       earlier l b a = let below = a.below in record { index = a.index; below = omega arith; sent = a.sent }
 
   -- all senders
-  pub all_senders : AreFollowed s.said cells column lid (SentBySome s answers lid (length (end_ports cells))) old w
-      → AreFollowed s.said cells column lid (SentFor s answers lid) old w
+  pub all_senders : AreFollowed s.said cells columns lid (SentBySome s answers lid (length (end_ports cells))) old w
+      → AreFollowed s.said cells columns lid (SentFor s answers lid) old w
   all_senders h =
-      followed_as s.said cells column lid (SentBySome s answers lid (length (end_ports cells))) (SentFor s answers lid) old w h
+      followed_as s.said cells columns lid (SentBySome s answers lid (length (end_ports cells))) (SentFor s answers lid) old w h
       (λ l b a. record { index = a.0; below = below_length (end_ports cells) a.0 a.1.source a.1.source_is; sent = a.1 }) (λ l b a. (a.index, a.sent))
 
   module _ (index : ℕ) (source : EndPort) (first : Option ℕ) (source_is : slice_get (end_ports cells) index ≡ Some source)
@@ -246,10 +245,10 @@ module _ (s : SeenByLane) (answers : Bool) (column : List (Option Edge)) (lid : 
           a.begins ∙ ap (first_stop cells) same ∙ sym first_is,
         )
 
-    pub no_answers : answers ≡ false → AreFollowed s.said cells column lid (BeginsIf own first) old w
-        → AreFollowed s.said cells column lid (SentFrom s answers lid index) old w
+    pub no_answers : answers ≡ false → AreFollowed s.said cells columns lid (BeginsIf own first) old w
+        → AreFollowed s.said cells columns lid (SentFrom s answers lid index) old w
     no_answers off h =
-        followed_as s.said cells column lid (BeginsIf own first) (SentFrom s answers lid index) old w h back
+        followed_as s.said cells columns lid (BeginsIf own first) (SentFrom s answers lid index) old w h back
         (λ l b a. from l b (inl a.0) a.1)
       where
         back : (l : ℕ) (b : Option ℕ) → SentFrom s answers lid index l b → BeginsIf own first l b
@@ -257,11 +256,11 @@ module _ (s : SeenByLane) (answers : Bool) (column : List (Option Edge)) (lid : 
             let h = has_level l b a in
             (elim h.0 [ inl e ↦ e | inr t ↦ (let set = t.0 in absurd (cc)) ], h.1)
 
-    pub with_answers : answers ≡ true → AreFollowed s.said cells column lid (BeginsIf own first) old w
-        → AreFollowed s.said cells column lid (AnswersTo s.said (owners_of s.seen.held lid) (lids_held s.seen.held source) first) w new
-        → AreFollowed s.said cells column lid (SentFrom s answers lid index) old new
+    pub with_answers : answers ≡ true → AreFollowed s.said cells columns lid (BeginsIf own first) old w
+        → AreFollowed s.said cells columns lid (AnswersTo s.said (owners_of s.seen.held lid) (lids_held s.seen.held source) first) w new
+        → AreFollowed s.said cells columns lid (SentFrom s answers lid index) old new
     with_answers on h one =
-        followed_then s.said cells column lid (BeginsIf own first)
+        followed_then s.said cells columns lid (BeginsIf own first)
         (AnswersTo s.said (owners_of s.seen.held lid) (lids_held s.seen.held source) first) (SentFrom s answers lid index) old w new h one either
         (λ l b a. from l b (inl a.0) a.1) (λ l b a. from l b (inr (on, a.1)) a.0)
       where

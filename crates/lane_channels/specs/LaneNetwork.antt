@@ -8,8 +8,6 @@ use Rattle.subnet_view.specs.EndPorts.{end_ports}
 use Rattle.packet_walks.specs.Network.{Seen, seen_code}
 use Rattle.lanes_file.specs.contracts.lanes.Lanes as lanes
 use Rattle.lanes_file.specs.Lanes.{LanesSaid}
-use Rattle.held_tables.specs.Held.{HeldPlan}
-use Rattle.lane_channels.specs.Levels.{lids_held}
 use Rattle.lane_channels.specs.Stops.{far_port_by, first_stop}
 
 -- facts and tables, and what a text says about lanes
@@ -26,10 +24,7 @@ seen_by_lane_code = code_by (Seen × LanesSaid) (coded× seen_code (lanes.the_ro
 abbrev pub lists_of : List (Vec ℕ Global) → List (List ℕ)
 lists_of = map (λ lids. lids.items)
 
--- the ports at the far ends of the wires of usable switches, and where the packets of end ports first
--- reach a switch and which LIDs end ports hold
-pub record IsLaneNetwork (cells : Cells) (held : HeldPlan) (far_ports : List ℕ) (firsts : List (Option ℕ))
-    (held_by : List (List ℕ)) : Type 0 where
+-- the ports at the far ends of the wires of usable switches, and where the packets of end ports first reach a switch
+pub record IsLaneNetwork (cells : Cells) (far_ports : List ℕ) (firsts : List (Option ℕ)) : Type 0 where
   pub far_ports_are : far_ports ≡ map (far_port_by cells) (range_with_len 0 (256 * length (switches cells)))
   pub firsts_are : firsts ≡ map (first_stop cells) (end_ports cells)
-  pub held_by_is : held_by ≡ map (lids_held held) (end_ports cells)

@@ -1,3 +1,4 @@
+pub mod AnyTables
 pub mod Fabrics
 pub mod LaneLaws
 pub mod LaneNetwork
@@ -5,5 +6,6 @@ pub mod LaneTurns
 pub mod Levels
 pub mod Senders
 pub mod Stops
+pub mod Visits
 pub mod Waiting
 pub mod Walks

@@ -1,13 +1,12 @@
 -- The packets that end ports send for a LID, by level and by where they begin.
-use Rattle.std.specs.Prelude.{◌≡◌, ◌⊎◌, ◌<◌, ℕ, Bool, List, [], Option, None, Some, replicate, slice_get}
+use Rattle.std.specs.Prelude.{◌≡◌, ◌<◌, ℕ, Bool, List, [], Option, None, Some, map, replicate, slice_get, true}
 use Rattle.fact_store.specs.View.{cells_of}
-use Rattle.subnet_view.specs.Reading.{Cells}
 use Rattle.subnet_view.specs.EndPorts.{end_ports}
 use Rattle.subnet_view.specs.declared.end_port.EndPort.{EndPort}
-use Rattle.held_tables.specs.Held.{HeldPlan}
 use Rattle.lanes_file.specs.Lanes.{LanesSaid, level_of}
-use Rattle.lane_channels.specs.LaneNetwork.{SeenByLane}
-use Rattle.lane_channels.specs.Levels.{HasLevel, IsAsked}
+use Rattle.lane_channels.specs.declared.held_by.Asked.{Asked}
+use Rattle.lane_channels.specs.LaneNetwork.{SeenByLane, lists_of}
+use Rattle.lane_channels.specs.Levels.{HasLevel, IsAsked, lids_held}
 use Rattle.lane_channels.specs.Stops.{first_stop}
 use Rattle.lane_channels.specs.Walks.{Walked}
 
@@ -35,6 +34,12 @@ pub record SentFrom (s : SeenByLane) (answers : Bool) (lid index level : ℕ) (b
 -- the packets that end ports send for `lid`
 abbrev pub SentFor : SeenByLane → Bool → ℕ → ℕ → Option ℕ → Type 0
 SentFor s answers lid level begin = (index : ℕ) × SentFrom s answers lid index level begin
+
+-- `asked` has the LIDs that end ports hold, if answers are followed
+abbrev pub HasAsked : SeenByLane → Asked → Type 0
+HasAsked s asked =
+    asked.answers ≡ true
+    → lists_of asked.held_by.items ≡ map (lids_held s.seen.held) (end_ports (cells_of s.seen.facts))
 
 -- nothing was followed
 pub record IsNothing (count : ℕ) (w : Walked) : Type 0 where

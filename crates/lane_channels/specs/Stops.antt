@@ -1,6 +1,6 @@
 -- Where packets come in at usable switches, and where they go from there. A stop is a port by which packets come in at a
 -- usable switch: its number is 256 times the switch's index, plus the port, which is 0 for the switch's own packets.
-use Rattle.std.specs.Prelude.{ℕ, zero, suc, ◌/◌, ◌%◌, ◌+◌, ◌*◌, ◌&&◌, List, Option, None, Some, length, nat_lt, option_and_then, slice_get, slice_index_or, if◌then◌else◌}
+use Rattle.std.specs.Prelude.{◌≡◌, ℕ, zero, suc, ◌/◌, ◌%◌, ◌+◌, ◌*◌, ◌&&◌, List, [], Option, None, Some, length, nat_lt, slice_get, slice_index_or, if◌then◌else◌}
 use Rattle.std.specs.Option.{option_map_or}
 use Rattle.port_graph.specs.declared.edge.Edge.{Edge}
 use Rattle.subnet_view.specs.Reading.{Cells, switches}
@@ -68,19 +68,34 @@ lane_number index out lane = 16 * (256 * index + out) + lane
 abbrev pub port_across : Cells → ℕ → ℕ → ℕ
 port_across cells index out = far_port_by cells (256 * index + out)
 
--- where a packet at `stop` goes along `edge`, unless it is dropped; `count` is the number of switches
-abbrev pub carried : LanesSaid → Cells → ℕ → ℕ → ℕ → Edge → Option ℕ
-carried said cells count level stop edge =
-    if nat_lt edge.to count && nat_lt (lane_by said cells level stop edge) 15
+-- where a packet at `stop` goes along `edge`; None if it is dropped, or if there is no such switch
+abbrev pub carried : LanesSaid → Cells → ℕ → ℕ → Edge → Option ℕ
+carried said cells level stop edge =
+    if nat_lt edge.to (length (switches cells)) && nat_lt (lane_by said cells level stop edge) 15
     then Some (stop_at edge.to (port_across cells (stop / 256) edge.port)) else None
 
--- the next stop of a packet at `stop`, by the edges of its LID; None if it goes to no other switch
-abbrev pub next_stop : LanesSaid → Cells → List (Option Edge) → ℕ → ℕ → Option ℕ
-next_stop said cells column level stop =
-    option_and_then (carried said cells (length column) level stop) (slice_index_or column (stop / 256) None)
+-- for each of several tables a column: for each usable switch, by rising GUID, its edge for a LID
+abbrev pub Columns : Type 0
+Columns = List (List (Option Edge))
 
--- where a packet is after `count` stops more
-abbrev pub stop_after : LanesSaid → Cells → List (Option Edge) → ℕ → ℕ → Option ℕ → Option ℕ
-stop_after said cells column level zero stop = stop
-stop_after said cells column level (suc count) stop =
-    option_and_then (next_stop said cells column level) (stop_after said cells column level count stop)
+-- the edge of the switch at `index` by the column at `nth`; None if there is none
+abbrev pub edge_by : Columns → ℕ → ℕ → Option Edge
+edge_by columns index nth = slice_index_or (slice_index_or columns nth []) index None
+
+-- the switch at `index` has this edge by some column
+abbrev pub HasEdge : Columns → ℕ → Edge → Type 0
+HasEdge columns index edge = (nth : ℕ) × (edge_by columns index nth ≡ Some edge)
+
+-- a packet of `level` at `stop` goes to the stop `next`, along an edge of some column; it is not dropped
+pub record IsNextStop (said : LanesSaid) (cells : Cells) (columns : Columns) (level stop next : ℕ) : Type 0 where
+  pub edge : Edge
+  pub leaves : HasEdge columns (stop / 256) edge
+  pub carried_is : carried said cells level stop edge ≡ Some next
+
+-- a packet of `level` that begins at `first` is at `stop` after `count` stops more; at each of them it goes along an edge
+-- of some column
+abbrev pub ComesAfter : LanesSaid → Cells → Columns → ℕ → ℕ → Option ℕ → ℕ → Type 0
+ComesAfter said cells columns level zero first stop = first ≡ Some stop
+ComesAfter said cells columns level (suc count) first stop =
+    (before : ℕ) × ComesAfter said cells columns level count first before
+    × IsNextStop said cells columns level before stop

@@ -1,14 +1,12 @@
--- Packets for one LID followed from stop to stop. `column` has the LID's edges. A mark says from which stops packets of
+-- Packets for one LID followed from stop to stop. `columns` has the LID's edges by each table. A mark says from which stops packets of
 -- which level were followed; 4096 marks belong to each switch.
-use Rattle.std.specs.Prelude.{◌≡◌, ◌⊎◌, ◌↔◌, ◌<◌, ◌≤◌, ◌+◌, ◌*◌, ℕ, ◌==◌, ◌||◌, Bool, List, Option, None, Some, length, nat_le, option_and_then, slice_index_or, slice_set, if◌then◌else◌}
-use Rattle.port_graph.specs.declared.edge.Edge.{Edge}
-use Rattle.subnet_view.specs.Reading.{Cells}
+use Rattle.std.specs.Prelude.{◌≡◌, ◌⊎◌, ◌<◌, ◌≤◌, ◌+◌, ◌*◌, ℕ, ◌==◌, ◌||◌, Bool, List, Option, None, Some, length, nat_le, slice_index_or}
+use Rattle.subnet_view.specs.Reading.{Cells, switches}
 use Rattle.audit_channels.specs.Orders.{Follows}
 use Rattle.lanes_file.specs.Lanes.{LanesSaid}
 use Rattle.lane_channels.specs.declared.stop.Dropped.{Dropped}
-use Rattle.lane_channels.specs.Stops.{next_stop, stop_after}
-use Rattle.lane_channels.specs.LaneTurns.{DropsBefore, DropsNone, TakesByLane}
-use Rattle.lane_channels.specs.declared.walk.Walks.{Walks}
+use Rattle.lane_channels.specs.Stops.{Columns, ComesAfter, IsNextStop}
+use Rattle.lane_channels.specs.LaneTurns.{DropsBefore, TakesByLane}
 
 -- the number of the mark of a stop and a level
 abbrev pub mark_number : ℕ → ℕ → ℕ
@@ -27,50 +25,50 @@ abbrev pub IsDone : ℕ → ℕ → List ℕ → ℕ → ℕ → Type 0
 IsDone count lid marks level stop = IsMarked lid marks level stop ⊎ (256 * count ≤ stop)
 
 -- packets that were followed to a stop were followed from there
-abbrev pub IsClosed : LanesSaid → Cells → List (Option Edge) → ℕ → List ℕ → Type 0
-IsClosed said cells column lid marks =
+abbrev pub IsClosed : LanesSaid → Cells → Columns → ℕ → List ℕ → Type 0
+IsClosed said cells columns lid marks =
     (level : ℕ) (stop next : ℕ) → level < 16 → IsMarked lid marks level stop
-    → next_stop said cells column level stop ≡ Some next
-    → IsDone (length column) lid marks level next
+    → IsNextStop said cells columns level stop next
+    → IsDone (length (switches cells)) lid marks level next
 
 -- the channels that followed packets take in turn follow each other in `waits`
-abbrev pub AreRecorded : LanesSaid → Cells → List (Option Edge) → ℕ → List ℕ → List (List ℕ) → Type 0
-AreRecorded said cells column lid marks waits =
+abbrev pub AreRecorded : LanesSaid → Cells → Columns → ℕ → List ℕ → List (List ℕ) → Type 0
+AreRecorded said cells columns lid marks waits =
     (level stop : ℕ) (a b : ℕ) → level < 16 → IsMarked lid marks level stop
-    → TakesByLane said cells column level stop a b → Follows waits a b
+    → TakesByLane said cells columns level stop a b → Follows waits a b
 
 -- if no dropped packet is noted, no followed packet is dropped
-abbrev pub IsNoted : LanesSaid → Cells → List (Option Edge) → ℕ → List ℕ → Option Dropped → Type 0
-IsNoted said cells column lid marks dropped =
+abbrev pub IsNoted : LanesSaid → Cells → Columns → ℕ → List ℕ → Option Dropped → Type 0
+IsNoted said cells columns lid marks dropped =
     dropped ≡ None → (level stop : ℕ) (out : ℕ) → level < 16 → IsMarked lid marks level stop
-    → DropsBefore said cells column level stop out → ⊥
+    → DropsBefore said cells columns level stop out → ⊥
 
 -- packets of a level that begin at a stop, or nowhere
 abbrev pub Beginnings : Type 1
 Beginnings = ℕ → Option ℕ → Type 0
 
 -- a packet of `level`, one of these, comes to the stop
-pub record Reaches (said : LanesSaid) (cells : Cells) (column : List (Option Edge)) (these : Beginnings) (level : ℕ)
+pub record Reaches (said : LanesSaid) (cells : Cells) (columns : Columns) (these : Beginnings) (level : ℕ)
     (stop : ℕ) : Type 0 where
   pub first : Option ℕ
   pub begins : these level first
   pub count : ℕ
-  pub is_there : stop_after said cells column level count first ≡ Some stop
+  pub is_there : ComesAfter said cells columns level count first stop
 
 -- one of these packets takes `channel` and then `next`
-pub record OneTakes (said : LanesSaid) (cells : Cells) (column : List (Option Edge)) (these : Beginnings)
+pub record OneTakes (said : LanesSaid) (cells : Cells) (columns : Columns) (these : Beginnings)
     (channel next : ℕ) : Type 0 where
   pub level : ℕ
   pub stop : ℕ
-  pub reaches : Reaches said cells column these level stop
-  pub takes : TakesByLane said cells column level stop channel next
+  pub reaches : Reaches said cells columns these level stop
+  pub takes : TakesByLane said cells columns level stop channel next
 
 -- one of these packets, for `lid`, is dropped for want of a lane
-pub record IsDroppedOne (said : LanesSaid) (cells : Cells) (column : List (Option Edge)) (these : Beginnings) (lid : ℕ)
+pub record IsDroppedOne (said : LanesSaid) (cells : Cells) (columns : Columns) (these : Beginnings) (lid : ℕ)
     (dropped : Dropped) : Type 0 where
   pub lid_is : dropped.lid ≡ lid
-  pub reaches : Reaches said cells column these dropped.level dropped.stop
-  pub drops : DropsBefore said cells column dropped.level dropped.stop dropped.out
+  pub reaches : Reaches said cells columns these dropped.level dropped.stop
+  pub drops : DropsBefore said cells columns dropped.level dropped.stop dropped.out
 
 -- what is kept of packets that were followed
 pub record Walked : Type 0 where
@@ -79,13 +77,13 @@ pub record Walked : Type 0 where
   pub dropped : Option Dropped
 
 -- followed packets are followed to their ends, with what they take in turn and whether one is dropped
-pub record IsWhole (said : LanesSaid) (cells : Cells) (column : List (Option Edge)) (lid : ℕ) (w : Walked) : Type 0 where
-  pub closed : IsClosed said cells column lid w.marks
-  pub recorded : AreRecorded said cells column lid w.marks w.waits
-  pub noted : IsNoted said cells column lid w.marks w.dropped
+pub record IsWhole (said : LanesSaid) (cells : Cells) (columns : Columns) (lid : ℕ) (w : Walked) : Type 0 where
+  pub closed : IsClosed said cells columns lid w.marks
+  pub recorded : AreRecorded said cells columns lid w.marks w.waits
+  pub noted : IsNoted said cells columns lid w.marks w.dropped
 
 -- these packets for `lid` were also followed
-pub record AreFollowed (said : LanesSaid) (cells : Cells) (column : List (Option Edge)) (lid : ℕ) (these : Beginnings)
+pub record AreFollowed (said : LanesSaid) (cells : Cells) (columns : Columns) (lid : ℕ) (these : Beginnings)
     (old new : Walked) : Type 0 where
   pub as_many : length new.waits ≡ length old.waits
   pub as_many_marks : length new.marks ≡ length old.marks
@@ -93,14 +91,14 @@ pub record AreFollowed (said : LanesSaid) (cells : Cells) (column : List (Option
   pub kept : (level stop : ℕ) → IsMarked lid old.marks level stop → IsMarked lid new.marks level stop
   pub small : (level : ℕ) (first : Option ℕ) → these level first → level < 16
   pub begun : (level : ℕ) (first : Option ℕ) (stop : ℕ) → these level first → first ≡ Some stop
-      → IsDone (length column) lid new.marks level stop
-  pub whole : IsWhole said cells column lid old → IsWhole said cells column lid new
+      → IsDone (length (switches cells)) lid new.marks level stop
+  pub whole : IsWhole said cells columns lid old → IsWhole said cells columns lid new
   pub waits_kept : (a b : ℕ) → Follows old.waits a b → Follows new.waits a b
   pub waits_only : (a b : ℕ) → Follows new.waits a b
-      → Follows old.waits a b ⊎ OneTakes said cells column these a b
+      → Follows old.waits a b ⊎ OneTakes said cells columns these a b
   pub dropped_kept : (d : Dropped) → old.dropped ≡ Some d → new.dropped ≡ None → ⊥
   pub dropped_only : (d : Dropped) → new.dropped ≡ Some d
-      → (old.dropped ≡ Some d) ⊎ IsDroppedOne said cells column these lid d
+      → (old.dropped ≡ Some d) ⊎ IsDroppedOne said cells columns these lid d
 
 -- packets of `level` that begin at `first`
 abbrev pub Begins : ℕ → Option ℕ → Beginnings
@@ -109,34 +107,3 @@ Begins level first l f = (l ≡ level) × (f ≡ first)
 -- packets of `level`, if there is one, that begin at `first`
 abbrev pub BeginsIf : Option ℕ → Option ℕ → Beginnings
 BeginsIf level first l f = (level ≡ Some l) × (f ≡ first)
-
--- what is kept, as specified
-abbrev pub walked : Walks → Walked
-walked walks = record { marks = walks.marks.items; waits = walks.waits; dropped = walks.dropped }
-
--- the stop, unless nothing is left to follow from there
-abbrev pub if_not_done : ℕ → ℕ → List ℕ → ℕ → ℕ → Option ℕ
-if_not_done count lid marks level stop = if is_done count lid marks level stop then None else Some stop
-
-abbrev pub not_done : ℕ → ℕ → List ℕ → ℕ → Option ℕ → Option ℕ
-not_done count lid marks level next = option_and_then (if_not_done count lid marks level) next
-
--- `new` is `noted`, or else the packet of `level` at the stop if it is dropped there
-pub record IsDroppedNow (said : LanesSaid) (cells : Cells) (column : List (Option Edge)) (lid level : ℕ) (stop : ℕ)
-    (noted new : Option Dropped) : Type 0 where
-  pub none : new ≡ None → (noted ≡ None) × DropsNone said cells column level stop
-  pub some : (d : Dropped) → new ≡ Some d
-      → (noted ≡ Some d) ⊎ ((d.lid ≡ lid) × (d.level ≡ level) × (d.stop ≡ stop) × DropsBefore said cells column level stop d.out)
-
--- `new` is `old`, with the channels that a packet of `level` takes from the stop on one after the other
-pub record IsWithTurn (said : LanesSaid) (cells : Cells) (column : List (Option Edge)) (level stop : ℕ)
-    (old new : List (List ℕ)) : Type 0 where
-  pub as_many : length new ≡ length old
-  pub follows : (a b : ℕ) → Follows new a b ↔ (Follows old a b ⊎ TakesByLane said cells column level stop a b)
-
--- the stop is marked, and what a packet of `level` takes from there in turn, and whether it is dropped, is kept
-pub record IsVisit (said : LanesSaid) (cells : Cells) (column : List (Option Edge)) (lid level : ℕ) (stop : ℕ)
-    (old new : Walked) : Type 0 where
-  pub marks : new.marks ≡ slice_set old.marks (mark_number level stop) lid
-  pub turn : IsWithTurn said cells column level stop old.waits new.waits
-  pub dropped : IsDroppedNow said cells column lid level stop old.dropped new.dropped

@@ -1,18 +1,48 @@
-//! The LIDs that each end port holds.
+//! The LIDs that each end port holds, for which others send packets that it answers.
 ghost use Rattle.std.specs.Prelude.{◌≡◌, IfOk, map};
 ghost use Rattle.fact_store.specs.View.{cells_of};
 ghost use Rattle.subnet_view.specs.EndPorts.{end_ports};
 ghost use Rattle.lane_channels.specs.LaneNetwork.{lists_of};
 ghost use Rattle.lane_channels.specs.Levels.{lids_held, lids_on};
+ghost use Rattle.lane_channels.specs.Senders.{HasAsked};
 
+use crate::lane_network::LaneNetwork;
 use held_tables::{HeldLid, is_same_end};
 use packet_walks::Network;
 use smp_bytes::Lid;
 use std::alloc::{AllocError, Global};
 use subnet_view::EndPort;
 
+/// For what other end ports can ask each sender.
+#[derive(Drop)]
+pub(crate) struct Asked {
+    /// Whether packets that answer others are followed.
+    pub(crate) answers: bool,
+    /// For each sender, the LIDs that it holds, if answers are followed.
+    pub(crate) held_by: Vec<Vec<Lid>>,
+}
+
+/// Returns the LIDs that each sender holds, if `answers` is set. Then it walks the held LIDs for each end port.
+pub(crate) fn asked_of(
+    alloc: Global,
+    by_lane: &LaneNetwork,
+    answers: bool,
+) -> Result<Asked, AllocError>
+    ensures answers { IfOk result (λ asked. asked.answers ≡ answers) }
+    ensures held_by { IfOk result (λ asked. HasAsked by_lane.now asked) }
+{
+    if !answers {
+        return Ok(Asked {
+            answers,
+            held_by: Vec::new(alloc),
+        });
+    }
+    let held_by = held_by(alloc, by_lane.network())?;
+    Ok(Asked { answers, held_by })
+}
+
 /// Returns the LIDs that each end port holds, in the order of the end ports. Walks the held LIDs for each end port.
-pub(crate) fn held_by(alloc: Global, network: &Network) -> Result<Vec<Vec<Lid>>, AllocError>
+fn held_by(alloc: Global, network: &Network) -> Result<Vec<Vec<Lid>>, AllocError>
     ensures { IfOk result (λ held_by. lists_of held_by.items
         ≡ map (lids_held network.now.held) (end_ports (cells_of network.now.facts))) }
 {

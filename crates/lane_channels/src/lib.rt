@@ -8,10 +8,12 @@ mod lane_network;
 pub mod laws;
 mod loops_by_lane;
 mod stop;
+mod visit;
 mod waits_by_lane;
 mod walk;
+mod walk_state;
 
 pub use lane_network::LaneNetwork;
 pub use loops_by_lane::{LaneOrder, lane_order};
-pub use stop::{Dropped, LaneTurn};
+pub use stop::Dropped;
 pub use waits_by_lane::{LaneWaits, lane_waits};

@@ -4,14 +4,6 @@
 //! the usable switches, by rising GUID, plus the port; the port is 0 for packets that the switch itself sends.
 use smp_bytes::{Lid, PortNum};
 
-/// Two channels that a packet takes one after the other, by lane. The number of a channel is 16 times its number on one
-/// lane, plus the lane.
-#[derive(Clone, Copy, Debug, PartialEq, Eq)]
-pub struct LaneTurn {
-    pub channel: usize,
-    pub next: usize,
-}
-
 /// A packet that is dropped at a switch, since its service level has no lane there.
 #[derive(Clone, Copy, Debug, PartialEq, Eq)]
 pub struct Dropped {

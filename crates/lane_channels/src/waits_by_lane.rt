@@ -1,22 +1,26 @@
 //! The channels by lane that packets take one after the other.
-ghost use Rattle.std.specs.Prelude.{◌≡◌, ◌<◌, ◌≤◌, ◌*◌, ◌^◌, IfOk, IfSome, OnOk, Some, length, slice_get};
+ghost use Rattle.std.specs.Prelude.{◌≡◌, ◌<◌, ◌≤◌, ◌*◌, ◌^◌, [], ◌∷◌, IfOk, IfSome, OnOk, Some, length, slice_get};
 ghost use Rattle.std.specs.Option.{option_map};
-ghost use Rattle.lane_channels.specs.LaneNetwork.{lists_of};
 ghost use Rattle.fact_store.specs.View.{cells_of};
+ghost use Rattle.held_tables.specs.Tables.{owners_of};
+ghost use Rattle.lane_channels.specs.LaneNetwork.{lists_of};
+ghost use Rattle.lane_channels.specs.Senders.{AnswersOf, AnswersTo, HasAsked, IsNothing, SentFor, SentFrom};
+ghost use Rattle.lane_channels.specs.Visits.{AreWithin, columns_in, walked};
+ghost use Rattle.lane_channels.specs.Waiting.{AreLaneWaits, IsSomeDrop};
+ghost use Rattle.lane_channels.specs.Walks.{AreFollowed, BeginsIf};
+ghost use Rattle.lanes_file.specs.Lanes.{level_of};
 ghost use Rattle.subnet_view.specs.EndPorts.{end_ports};
 ghost use Rattle.subnet_view.specs.Reading.{switches};
-ghost use Rattle.held_tables.specs.Tables.{owners_of};
-ghost use Rattle.lane_channels.specs.Senders.{AnswersOf, AnswersTo, IsNothing, SentFor, SentFrom};
-ghost use Rattle.lanes_file.specs.Lanes.{level_of};
-ghost use Rattle.lane_channels.specs.Waiting.{AreLaneWaits, IsSomeDrop};
-ghost use Rattle.lane_channels.specs.Walks.{AreFollowed, BeginsIf, walked};
 
+use crate::held_by::{Asked, asked_of};
 use crate::lane_network::LaneNetwork;
 use crate::stop::Dropped;
-use crate::walk::{Column, Walks, walk};
+use crate::walk::walk;
+use crate::walk_state::{LidColumns, Walks};
 use audit_channels::Waits;
 use held_tables::Sender;
 use lanes_file::Lanes;
+use port_graph::Edge;
 use smp_bytes::Lid;
 use std::alloc::{AllocError, Global};
 use subnet_view::EndPort;
@@ -34,9 +38,9 @@ pub struct LaneWaits {
 /// others also have the level of what they answer.
 ///
 /// Takes a step for each port of each switch, and what `Network::blocks` takes for each 64 LIDs up to the greatest top
-/// of a usable switch. For each of these LIDs, it takes a step for each switch, a search for each end port, and a few
-/// searches for each port of a switch and each level by which packets come in there. If `answers` is set, it also takes
-/// a search for each LID of an end port and each end port that holds the LID.
+/// of a usable switch. For each of these LIDs, it takes a step for each switch, a search for each end port, and two
+/// searches for each port of a switch and each level by which packets come in there. If `answers` is set, it also walks
+/// the held LIDs for each end port, and takes a search for each LID of an end port and each end port that holds the LID.
 pub fn lane_waits(
     alloc: Global,
     by_lane: &LaneNetwork,
@@ -48,20 +52,31 @@ pub fn lane_waits(
     let network = by_lane.network();
     let count = network.switch_count().checked_mul(4096).ok_or(AllocError)?;
     let mut walks = nothing_followed(alloc, count)?;
+    let asked = asked_of(alloc, by_lane, answers)?;
     let mut blocks = network.blocks(alloc, 0)?;
     // No switch forwards packets above the greatest top.
     for below in 0..network.greatest_top().number() {
         let lid = Lid::new(below + 1);
         blocks = network.blocks_for(alloc, blocks, lid)?;
         let edges = network.edges(alloc, &blocks, lid)?;
-        let column = Column { lid, edges };
+        let columns = one_column(alloc, lid, edges)?;
         let owners = network.owners(alloc, lid)?;
-        follow_lid(by_lane, answers, &column, &owners, &mut walks)?;
+        follow_lid(by_lane, &asked, &columns, &owners, &mut walks)?;
     }
     Ok(LaneWaits {
         waits: walks.waits,
         dropped: walks.dropped,
     })
+}
+
+/// Returns the edges of `lid` by one table.
+fn one_column(alloc: Global, lid: Lid, edges: Vec<Option<Edge>>) -> Result<LidColumns, AllocError>
+    ensures lid { IfOk result (λ columns. columns.lid ≡ lid) }
+    ensures columns { IfOk result (λ columns. columns_in columns ≡ edges.items ∷ []) }
+{
+    let mut columns = Vec::with_capacity(alloc, 1)?;
+    columns.push(edges)?;
+    Ok(LidColumns { lid, columns })
 }
 
 /// Returns what is kept before a packet is followed, for `count` channels by lane.
@@ -74,28 +89,30 @@ fn nothing_followed(alloc: Global, count: usize) -> Result<Walks, AllocError>
         waits,
         marks,
         dropped: None,
+        stops: Vec::new(alloc),
     })
 }
 
 /// Follows the packets for a LID that end ports send. `owners` are the end ports that hold the LID.
 fn follow_lid(
     by_lane: &LaneNetwork,
-    answers: bool,
-    column: &Column,
+    asked: &Asked,
+    columns: &LidColumns,
     owners: &[EndPort],
     walks: &mut Walks,
 ) -> Result<(), AllocError>
-    requires column { length column.now.edges.items ≡ length (switches (cells_of by_lane.now.seen.facts)) }
-    requires room { 4096 * length column.now.edges.items < 2 ^ 64 }
-    requires lid { 1 ≤ column.now.lid }
-    requires owners { owners.now ≡ owners_of by_lane.now.seen.held column.now.lid }
-    requires waits { length walks.old.waits ≡ 4096 * length column.now.edges.items }
-    requires marks { length walks.old.marks.items ≡ 4096 * length column.now.edges.items }
-    ensures { OnOk result (AreFollowed by_lane.now.said (cells_of by_lane.now.seen.facts) column.now.edges.items
-        column.now.lid (SentFor by_lane.now answers column.now.lid) (walked walks.old) (walked walks.new)) }
+    requires columns { AreWithin (cells_of by_lane.now.seen.facts) (columns_in columns.now) }
+    requires room { 4096 * length (switches (cells_of by_lane.now.seen.facts)) < 2 ^ 64 }
+    requires lid { 1 ≤ columns.now.lid }
+    requires asked { HasAsked by_lane.now asked.now }
+    requires owners { owners.now ≡ owners_of by_lane.now.seen.held columns.now.lid }
+    requires waits { length walks.old.waits ≡ 4096 * length (switches (cells_of by_lane.now.seen.facts)) }
+    requires marks { length walks.old.marks.items ≡ 4096 * length (switches (cells_of by_lane.now.seen.facts)) }
+    ensures { OnOk result (AreFollowed by_lane.now.said (cells_of by_lane.now.seen.facts) (columns_in columns.now)
+        columns.now.lid (SentFor by_lane.now asked.now.answers columns.now.lid) (walked walks.old) (walked walks.new)) }
 {
     for index in 0..by_lane.network().sources().len() {
-        follow_sender(by_lane, answers, column, owners, index, walks)?;
+        follow_sender(by_lane, asked, columns, owners, index, walks)?;
     }
     Ok(())
 }
@@ -103,31 +120,32 @@ fn follow_lid(
 /// Follows the packets for a LID that the end port at `index` sends. `owners` are the end ports that hold the LID.
 fn follow_sender(
     by_lane: &LaneNetwork,
-    answers: bool,
-    column: &Column,
+    asked: &Asked,
+    columns: &LidColumns,
     owners: &[EndPort],
     index: usize,
     walks: &mut Walks,
 ) -> Result<(), AllocError>
-    requires column { length column.now.edges.items ≡ length (switches (cells_of by_lane.now.seen.facts)) }
-    requires room { 4096 * length column.now.edges.items < 2 ^ 64 }
-    requires lid { 1 ≤ column.now.lid }
-    requires owners { owners.now ≡ owners_of by_lane.now.seen.held column.now.lid }
+    requires columns { AreWithin (cells_of by_lane.now.seen.facts) (columns_in columns.now) }
+    requires room { 4096 * length (switches (cells_of by_lane.now.seen.facts)) < 2 ^ 64 }
+    requires lid { 1 ≤ columns.now.lid }
+    requires asked { HasAsked by_lane.now asked.now }
+    requires owners { owners.now ≡ owners_of by_lane.now.seen.held columns.now.lid }
     requires index { index < length (end_ports (cells_of by_lane.now.seen.facts)) }
-    requires waits { length walks.old.waits ≡ 4096 * length column.now.edges.items }
-    requires marks { length walks.old.marks.items ≡ 4096 * length column.now.edges.items }
-    ensures { OnOk result (AreFollowed by_lane.now.said (cells_of by_lane.now.seen.facts) column.now.edges.items
-        column.now.lid (SentFrom by_lane.now answers column.now.lid index) (walked walks.old) (walked walks.new)) }
+    requires waits { length walks.old.waits ≡ 4096 * length (switches (cells_of by_lane.now.seen.facts)) }
+    requires marks { length walks.old.marks.items ≡ 4096 * length (switches (cells_of by_lane.now.seen.facts)) }
+    ensures { OnOk result (AreFollowed by_lane.now.said (cells_of by_lane.now.seen.facts) (columns_in columns.now)
+        columns.now.lid (SentFrom by_lane.now asked.now.answers columns.now.lid index) (walked walks.old) (walked walks.new)) }
 {
     let first = first_at(by_lane.firsts(), index);
     let port = port_at(by_lane.network().sources(), index);
-    let level = level_from(by_lane.lanes(), port, column.lid);
-    walk_at_level(by_lane, column, level, first, walks)?;
-    if !answers {
+    let level = level_from(by_lane.lanes(), port, columns.lid);
+    walk_at_level(by_lane, columns, level, first, walks)?;
+    if !asked.answers {
         return Ok(());
     }
-    let lids = lids_at(by_lane.held_by(), index);
-    follow_answers(by_lane, column, owners, lids, first, walks)
+    let lids = lids_at(&asked.held_by, index);
+    follow_answers(by_lane, columns, owners, lids, first, walks)
 }
 
 /// Returns the first stop at `index`.
@@ -157,22 +175,22 @@ fn lids_at(held_by: &[Vec<Lid>], index: usize) -> &[Lid]
 /// Follows a packet of `level` from `first` on, or none if there is no level.
 fn walk_at_level(
     by_lane: &LaneNetwork,
-    column: &Column,
+    columns: &LidColumns,
     level: Option<u8>,
     first: Option<usize>,
     walks: &mut Walks,
 ) -> Result<(), AllocError>
-    requires column { length column.now.edges.items ≡ length (switches (cells_of by_lane.now.seen.facts)) }
-    requires room { 4096 * length column.now.edges.items < 2 ^ 64 }
+    requires columns { AreWithin (cells_of by_lane.now.seen.facts) (columns_in columns.now) }
+    requires room { 4096 * length (switches (cells_of by_lane.now.seen.facts)) < 2 ^ 64 }
     requires level { IfSome level (λ l. l < 16) }
-    requires lid { 1 ≤ column.now.lid }
-    requires waits { length walks.old.waits ≡ 4096 * length column.now.edges.items }
-    requires marks { length walks.old.marks.items ≡ 4096 * length column.now.edges.items }
-    ensures { OnOk result (AreFollowed by_lane.now.said (cells_of by_lane.now.seen.facts) column.now.edges.items
-        column.now.lid (BeginsIf level first) (walked walks.old) (walked walks.new)) }
+    requires lid { 1 ≤ columns.now.lid }
+    requires waits { length walks.old.waits ≡ 4096 * length (switches (cells_of by_lane.now.seen.facts)) }
+    requires marks { length walks.old.marks.items ≡ 4096 * length (switches (cells_of by_lane.now.seen.facts)) }
+    ensures { OnOk result (AreFollowed by_lane.now.said (cells_of by_lane.now.seen.facts) (columns_in columns.now)
+        columns.now.lid (BeginsIf level first) (walked walks.old) (walked walks.new)) }
 {
     match level {
-        Some(level) => walk(by_lane, column, level, first, walks),
+        Some(level) => walk(by_lane, columns, level, first, walks),
         None => Ok(()),
     }
 }
@@ -180,24 +198,24 @@ fn walk_at_level(
 /// Follows packets from `first` on that answer packets which one of `owners` sends for one of `lids`.
 fn follow_answers(
     by_lane: &LaneNetwork,
-    column: &Column,
+    columns: &LidColumns,
     owners: &[EndPort],
     lids: &[Lid],
     first: Option<usize>,
     walks: &mut Walks,
 ) -> Result<(), AllocError>
-    requires column { length column.now.edges.items ≡ length (switches (cells_of by_lane.now.seen.facts)) }
-    requires room { 4096 * length column.now.edges.items < 2 ^ 64 }
-    requires lid { 1 ≤ column.now.lid }
-    requires waits { length walks.old.waits ≡ 4096 * length column.now.edges.items }
-    requires marks { length walks.old.marks.items ≡ 4096 * length column.now.edges.items }
-    ensures { OnOk result (AreFollowed by_lane.now.said (cells_of by_lane.now.seen.facts) column.now.edges.items
-        column.now.lid (AnswersTo by_lane.now.said owners.now lids.now first) (walked walks.old)
+    requires columns { AreWithin (cells_of by_lane.now.seen.facts) (columns_in columns.now) }
+    requires room { 4096 * length (switches (cells_of by_lane.now.seen.facts)) < 2 ^ 64 }
+    requires lid { 1 ≤ columns.now.lid }
+    requires waits { length walks.old.waits ≡ 4096 * length (switches (cells_of by_lane.now.seen.facts)) }
+    requires marks { length walks.old.marks.items ≡ 4096 * length (switches (cells_of by_lane.now.seen.facts)) }
+    ensures { OnOk result (AreFollowed by_lane.now.said (cells_of by_lane.now.seen.facts) (columns_in columns.now)
+        columns.now.lid (AnswersTo by_lane.now.said owners.now lids.now first) (walked walks.old)
         (walked walks.new)) }
 {
     for nth in 0..owners.len() {
         let asker = &owners[nth];
-        follow_answers_to(by_lane, column, asker, lids, first, walks)?;
+        follow_answers_to(by_lane, columns, asker, lids, first, walks)?;
     }
     Ok(())
 }
@@ -213,24 +231,24 @@ fn level_from(lanes: &Lanes, port: &EndPort, lid: Lid) -> Option<u8>
 /// Follows packets from `first` on that answer packets which `asker` sends for one of `lids`.
 fn follow_answers_to(
     by_lane: &LaneNetwork,
-    column: &Column,
+    columns: &LidColumns,
     asker: &EndPort,
     lids: &[Lid],
     first: Option<usize>,
     walks: &mut Walks,
 ) -> Result<(), AllocError>
-    requires column { length column.now.edges.items ≡ length (switches (cells_of by_lane.now.seen.facts)) }
-    requires room { 4096 * length column.now.edges.items < 2 ^ 64 }
-    requires lid { 1 ≤ column.now.lid }
-    requires waits { length walks.old.waits ≡ 4096 * length column.now.edges.items }
-    requires marks { length walks.old.marks.items ≡ 4096 * length column.now.edges.items }
-    ensures { OnOk result (AreFollowed by_lane.now.said (cells_of by_lane.now.seen.facts) column.now.edges.items
-        column.now.lid (AnswersOf by_lane.now.said asker.now lids.now (length lids.now) first) (walked walks.old)
+    requires columns { AreWithin (cells_of by_lane.now.seen.facts) (columns_in columns.now) }
+    requires room { 4096 * length (switches (cells_of by_lane.now.seen.facts)) < 2 ^ 64 }
+    requires lid { 1 ≤ columns.now.lid }
+    requires waits { length walks.old.waits ≡ 4096 * length (switches (cells_of by_lane.now.seen.facts)) }
+    requires marks { length walks.old.marks.items ≡ 4096 * length (switches (cells_of by_lane.now.seen.facts)) }
+    ensures { OnOk result (AreFollowed by_lane.now.said (cells_of by_lane.now.seen.facts) (columns_in columns.now)
+        columns.now.lid (AnswersOf by_lane.now.said asker.now lids.now (length lids.now) first) (walked walks.old)
         (walked walks.new)) }
 {
     for index in 0..lids.len() {
         let level = level_from(by_lane.lanes(), asker, lids[index]);
-        walk_at_level(by_lane, column, level, first, walks)?;
+        walk_at_level(by_lane, columns, level, first, walks)?;
     }
     Ok(())
 }

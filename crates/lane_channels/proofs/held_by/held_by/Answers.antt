@@ -1,5 +1,5 @@
 -- An end port more.
-use Rattle.std.proofs.Common.{◌≡◌, ◌∙◌, ◌++◌, ◌∷◌, [], ℕ, List, sym, ap, map, take, arith}
+use Rattle.std.proofs.Common.{◌∙◌, arith}
 use Rattle.fact_store.specs.View.{cells_of}
 use Rattle.subnet_view.specs.EndPorts.{end_ports}
 use Rattle.lane_channels.specs.Levels.{lids_held, lids_on}

@@ -1,5 +1,5 @@
 -- By the ports at the far ends.
-use Rattle.std.proofs.Common.{◌≡◌, ◌∙◌, ◌+◌, ◌*◌, ℕ, List, ap, subst}
+use Rattle.std.proofs.Common.{◌≡◌, ◌∙◌, ◌+◌, ◌*◌, subst}
 use Rattle.std.specs.Prelude.{slice_index_or}
 use Rattle.fact_store.specs.View.{cells_of}
 use Rattle.lane_channels.specs.LaneNetwork.{SeenByLane}

@@ -1,0 +1,67 @@
+-- What packets do by lane while a switch may hold any of several tables: it forwards a packet by its entry in the table
+-- that it holds when the packet comes, the first table or one of `others`. LIDs and service levels are those of the
+-- first. InfiniBand Architecture Specification, Volume 1: link layer, virtual lanes, flow control by credits.
+use Rattle.std.specs.Prelude.{◌≡◌, ◌↔◌, ◌<◌, ◌≤◌, ◌*◌, ℕ, Bool, List, [], ◌∷◌, Option, None, Some, length, map}
+use Rattle.fact_store.specs.View.{cells_of}
+use Rattle.subnet_view.specs.Reading.{switches}
+use Rattle.held_tables.specs.Held.{HeldPlan}
+use Rattle.packet_walks.specs.Edges.{edges_of}
+use Rattle.audit_channels.specs.Orders.{Follows}
+use Rattle.lane_channels.specs.declared.stop.Dropped.{Dropped}
+use Rattle.lane_channels.specs.LaneNetwork.{SeenByLane}
+use Rattle.lane_channels.specs.Senders.{SentFor}
+use Rattle.lane_channels.specs.Stops.{Columns}
+use Rattle.lane_channels.specs.Walks.{IsDroppedOne, OneTakes}
+
+-- the edges of a LID, by each table
+abbrev pub columns_for : SeenByLane → List HeldPlan → ℕ → Columns
+columns_for s others lid = map (λ held. edges_of (cells_of s.seen.facts) held lid) (s.seen.held ∷ others)
+
+-- a packet that an end port sends for some LID takes `channel` and then `next`; both are channels by lane
+pub record WaitsByAny (s : SeenByLane) (others : List HeldPlan) (answers : Bool) (channel next : ℕ) : Type 0 where
+  pub lid : ℕ
+  pub is_lid : 1 ≤ lid
+  pub takes : OneTakes s.said (cells_of s.seen.facts) (columns_for s others lid) (SentFor s answers lid) channel next
+
+-- `waits` has, for each channel by lane, the channels that packets take next
+pub record AreWaitsByAny (s : SeenByLane) (others : List HeldPlan) (answers : Bool) (waits : List (List ℕ)) : Type 0
+  where
+    pub as_many : length waits ≡ 4096 * length (switches (cells_of s.seen.facts))
+    pub follows : (a b : ℕ) → Follows waits a b ↔ WaitsByAny s others answers a b
+
+-- a packet that an end port sends for some LID is dropped for want of a lane
+pub record IsDroppedByAny (s : SeenByLane) (others : List HeldPlan) (answers : Bool) (dropped : Dropped) : Type 0 where
+  pub is_lid : 1 ≤ dropped.lid
+  pub one : IsDroppedOne s.said (cells_of s.seen.facts) (columns_for s others dropped.lid) (SentFor s answers dropped.lid)
+      dropped.lid dropped
+
+-- `dropped` is such a packet, or None if there is none
+abbrev pub IsSomeDropByAny : SeenByLane → List HeldPlan → Bool → Option Dropped → Type 0
+IsSomeDropByAny s others answers None = (dropped : Dropped) → IsDroppedByAny s others answers dropped → ⊥
+IsSomeDropByAny s others answers (Some dropped) = IsDroppedByAny s others answers dropped
+
+-- channels by lane have numbers, each less than the numbers of the channels that packets take next
+pub record RiseByAny (s : SeenByLane) (others : List HeldPlan) (answers : Bool) : Type 0 where
+  pub number : ℕ → ℕ
+  pub rises : (a b : ℕ) → WaitsByAny s others answers a b → number a < number b
+
+-- in the list that has `channel`, then the given channels, then `last`, each channel waits for the next one
+abbrev pub WaitOnByAny : SeenByLane → List HeldPlan → Bool → ℕ → List ℕ → ℕ → Type 0
+WaitOnByAny s others answers channel [] last = WaitsByAny s others answers channel last
+WaitOnByAny s others answers channel (next ∷ later) last =
+    WaitsByAny s others answers channel next × WaitOnByAny s others answers next later last
+
+-- each channel waits for the next one, and the last waits for the first
+abbrev pub WaitInCycleByAny : SeenByLane → List HeldPlan → Bool → List ℕ → Type 0
+WaitInCycleByAny s others answers [] = ⊥
+WaitInCycleByAny s others answers (channel ∷ later) = WaitOnByAny s others answers channel later channel
+
+-- the channels are a credit loop; there is none if the list is empty
+abbrev pub IsCycleByAny : SeenByLane → List HeldPlan → Bool → List ℕ → Type 0
+IsCycleByAny s others answers [] = RiseByAny s others answers
+IsCycleByAny s others answers (channel ∷ later) = WaitInCycleByAny s others answers (channel ∷ later)
+
+-- no credit loop has fewer channels than `channels`
+abbrev pub NoneShorterByAny : SeenByLane → List HeldPlan → Bool → List ℕ → Type 0
+NoneShorterByAny s others answers channels =
+    (cycle : List ℕ) → WaitInCycleByAny s others answers cycle → length channels ≤ length cycle

@@ -1,0 +1,218 @@
+//! Visits of stops.
+ghost use Rattle.std.specs.Prelude.{◌≡◌, ◌<◌, ◌≤◌, ◌+◌, ◌*◌, ◌/◌, ◌^◌, None, OnOk, Some, length, slice_index_or, slice_set};
+ghost use Rattle.fact_store.specs.View.{cells_of};
+ghost use Rattle.subnet_view.specs.Reading.{switches};
+ghost use Rattle.lane_channels.specs.Stops.{HasEdge};
+ghost use Rattle.lane_channels.specs.Visits.{AreLeft, AreWithin, IsVisit, IsVisitIfNew, IsWithNexts, LeavesAlong, columns_in, walking};
+ghost use Rattle.lane_channels.specs.Walks.{is_done, mark_number};
+
+use crate::far_ports::stop_at;
+use crate::lane_network::{LaneNetwork, lane_number, port_of};
+use crate::stop::Dropped;
+use crate::walk_state::{LidColumns, Walks};
+use audit_channels::Waits;
+use port_graph::Edge;
+use smp_bytes::{Lid, PortNum};
+use std::alloc::AllocError;
+
+/// Visits `stop`, unless there is no such switch or packets of `level` for the LID were followed from there.
+pub(crate) fn visit_if_new(
+    by_lane: &LaneNetwork,
+    columns: &LidColumns,
+    level: u8,
+    stop: usize,
+    walks: &mut Walks,
+) -> Result<(), AllocError>
+    requires columns { AreWithin (cells_of by_lane.now.seen.facts) (columns_in columns.now) }
+    requires room { 4096 * length (switches (cells_of by_lane.now.seen.facts)) < 2 ^ 64 }
+    requires level { level < 16 }
+    requires waits { length walks.old.waits ≡ 4096 * length (switches (cells_of by_lane.now.seen.facts)) }
+    requires marks { length walks.old.marks.items ≡ 4096 * length (switches (cells_of by_lane.now.seen.facts)) }
+    ensures { OnOk result (IsVisitIfNew by_lane.now.said (cells_of by_lane.now.seen.facts) (columns_in columns.now)
+        columns.now.lid level stop (walking walks.old) (walking walks.new)) }
+{
+    let count = by_lane.network().switch_count();
+    if is_done(count, columns.lid, &walks.marks, level, stop) {
+        return Ok(());
+    }
+    visit(by_lane, columns, level, stop, walks)
+}
+
+/// Marks `stop`. Records the channels that a packet of `level` can take from there one after the other, notes it if it
+/// can be dropped there and no packet is noted yet, and adds the stops to which it can go. Takes a search for each column
+/// and one for each pair of columns.
+fn visit(
+    by_lane: &LaneNetwork,
+    columns: &LidColumns,
+    level: u8,
+    stop: usize,
+    walks: &mut Walks,
+) -> Result<(), AllocError>
+    requires columns { AreWithin (cells_of by_lane.now.seen.facts) (columns_in columns.now) }
+    requires room { 4096 * length (switches (cells_of by_lane.now.seen.facts)) < 2 ^ 64 }
+    requires level { level < 16 }
+    requires stop { stop < 256 * length (switches (cells_of by_lane.now.seen.facts)) }
+    requires waits { length walks.old.waits ≡ 4096 * length (switches (cells_of by_lane.now.seen.facts)) }
+    requires marks { length walks.old.marks.items ≡ 4096 * length (switches (cells_of by_lane.now.seen.facts)) }
+    ensures { OnOk result (IsVisit by_lane.now.said (cells_of by_lane.now.seen.facts) (columns_in columns.now)
+        columns.now.lid level stop (walking walks.old) (walking walks.new)) }
+{
+    mark(&mut walks.marks, mark_number(level, stop), columns.lid);
+    leave(by_lane, columns, level, stop, walks)
+}
+
+/// Keeps what a packet of `level` does at `stop`, along the edge of each column.
+fn leave(
+    by_lane: &LaneNetwork,
+    columns: &LidColumns,
+    level: u8,
+    stop: usize,
+    walks: &mut Walks,
+) -> Result<(), AllocError>
+    requires columns { AreWithin (cells_of by_lane.now.seen.facts) (columns_in columns.now) }
+    requires room { 4096 * length (switches (cells_of by_lane.now.seen.facts)) < 2 ^ 64 }
+    requires waits { length walks.old.waits ≡ 4096 * length (switches (cells_of by_lane.now.seen.facts)) }
+    ensures marks { walks.new.marks ≡ walks.old.marks }
+    ensures left { OnOk result (AreLeft by_lane.now.said (cells_of by_lane.now.seen.facts) (columns_in columns.now)
+        columns.now.lid level stop (HasEdge (columns_in columns.now) (stop / 256)) (walking walks.old)
+        (walking walks.new)) }
+{
+    for nth in 0..columns.columns.len() {
+        if let Some(edge) = columns.edge(stop / 256, nth) {
+            leave_along(by_lane, columns, level, stop, edge, walks)?;
+        }
+    }
+    Ok(())
+}
+
+/// Keeps what a packet of `level` does at `stop` along `edge`.
+fn leave_along(
+    by_lane: &LaneNetwork,
+    columns: &LidColumns,
+    level: u8,
+    stop: usize,
+    edge: Edge,
+    walks: &mut Walks,
+) -> Result<(), AllocError>
+    requires columns { AreWithin (cells_of by_lane.now.seen.facts) (columns_in columns.now) }
+    requires room { 4096 * length (switches (cells_of by_lane.now.seen.facts)) < 2 ^ 64 }
+    requires edge { HasEdge (columns_in columns.now) (stop / 256) edge }
+    requires waits { length walks.old.waits ≡ 4096 * length (switches (cells_of by_lane.now.seen.facts)) }
+    ensures marks { walks.new.marks ≡ walks.old.marks }
+    ensures left { OnOk result (AreLeft by_lane.now.said (cells_of by_lane.now.seen.facts) (columns_in columns.now)
+        columns.now.lid level stop (λ e. e ≡ edge) (walking walks.old) (walking walks.new)) }
+{
+    let at = stop / 256;
+    let out = edge.port;
+    let to = edge.to;
+    let Some(lane) = by_lane.lane(level, at, port_of(stop), out) else {
+        let dropped = Dropped {
+            lid: columns.lid,
+            level,
+            stop,
+            out,
+        };
+        walks.dropped = walks.dropped.or(Some(dropped));
+        return Ok(());
+    };
+    let channel = lane_number(at, out, lane);
+    let into_there = by_lane.port_across(at, out);
+    record(
+        by_lane,
+        columns,
+        level,
+        to,
+        into_there,
+        channel,
+        &mut walks.waits,
+    )?;
+    if to < by_lane.network().switch_count() {
+        walks.stops.push(stop_at(to, into_there))?;
+    }
+    Ok(())
+}
+
+/// Records that packets of `level` which come in at the switch at `index` by port `into` take, after `channel`, the
+/// channels by which they can leave.
+fn record(
+    by_lane: &LaneNetwork,
+    columns: &LidColumns,
+    level: u8,
+    index: usize,
+    into: PortNum,
+    channel: usize,
+    waits: &mut Waits,
+) -> Result<(), AllocError>
+    requires columns { AreWithin (cells_of by_lane.now.seen.facts) (columns_in columns.now) }
+    requires room { 4096 * length (switches (cells_of by_lane.now.seen.facts)) < 2 ^ 64 }
+    requires waits { length waits.old ≡ 4096 * length (switches (cells_of by_lane.now.seen.facts)) }
+    requires channel { channel < length waits.old }
+    ensures { OnOk result (IsWithNexts waits.old channel (LeavesAlong by_lane.now.said
+        (cells_of by_lane.now.seen.facts) (HasEdge (columns_in columns.now) index) level index into) waits.new) }
+{
+    for nth in 0..columns.columns.len() {
+        if let Some(edge) = columns.edge(index, nth) {
+            record_along(by_lane, level, index, into, edge, channel, waits)?;
+        }
+    }
+    Ok(())
+}
+
+/// Records that packets of `level` which come in at the switch at `index` by port `into` take, after `channel`, the
+/// channel along `edge`, unless they are dropped there.
+fn record_along(
+    by_lane: &LaneNetwork,
+    level: u8,
+    index: usize,
+    into: PortNum,
+    edge: Edge,
+    channel: usize,
+    waits: &mut Waits,
+) -> Result<(), AllocError>
+    requires room { 4096 * length (switches (cells_of by_lane.now.seen.facts)) < 2 ^ 64 }
+    requires index { index < length (switches (cells_of by_lane.now.seen.facts)) }
+    requires waits { length waits.old ≡ 4096 * length (switches (cells_of by_lane.now.seen.facts)) }
+    requires channel { channel < length waits.old }
+    ensures { OnOk result (IsWithNexts waits.old channel (LeavesAlong by_lane.now.said
+        (cells_of by_lane.now.seen.facts) (λ e. e ≡ edge) level index into) waits.new) }
+{
+    match by_lane.lane(level, index, into, edge.port) {
+        Some(lane) => waits.add(channel, lane_number(index, edge.port, lane)),
+        None => Ok(()),
+    }
+}
+
+/// Sets the mark at `number` to `lid`.
+fn mark(marks: &mut [u16], number: usize, lid: Lid)
+    requires { number < length marks.old }
+    ensures { marks.new ≡ slice_set marks.old number lid }
+{
+    marks[number] = lid.number();
+}
+
+/// Returns whether nothing is left to follow from `stop`: there is no such switch among `count`, or packets for `lid` of
+/// `level` were followed from there.
+fn is_done(count: usize, lid: Lid, marks: &[u16], level: u8, stop: usize) -> bool
+    requires level { level < 16 }
+    requires room { 4096 * count < 2 ^ 64 }
+    ensures { result ≡ is_done count lid marks.now level stop }
+{
+    256 * count <= stop || mark_at(marks, mark_number(level, stop)) == lid.number()
+}
+
+/// Returns the mark at `number`, or 0 if there is none.
+fn mark_at(marks: &[u16], number: usize) -> u16
+    ensures { result ≡ slice_index_or marks.now number 0 }
+{
+    marks.get(number).copied().unwrap_or(0)
+}
+
+/// Returns the number of the mark of `stop` and `level`.
+fn mark_number(level: u8, stop: usize) -> usize
+    requires level { level < 16 }
+    requires room { 16 * stop + 16 < 2 ^ 64 + 1 }
+    ensures is { result ≡ mark_number level stop }
+    ensures within { result < 16 * stop + 16 }
+{
+    16 * stop + usize::from(level)
+}

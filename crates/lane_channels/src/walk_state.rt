@@ -1,0 +1,42 @@
+//! What is kept while packets for one LID are followed from stop to stop.
+ghost use Rattle.std.specs.Prelude.{◌≡◌};
+ghost use Rattle.lane_channels.specs.Stops.{edge_by};
+ghost use Rattle.lane_channels.specs.Visits.{columns_in};
+
+use crate::stop::Dropped;
+use audit_channels::{Waits, edge_of};
+use port_graph::Edge;
+use smp_bytes::Lid;
+
+/// What is kept of packets that were followed.
+#[derive(Drop)]
+pub(crate) struct Walks {
+    /// For each channel by lane, the channels that follow it.
+    pub(crate) waits: Waits,
+    /// For each stop and level, the last LID whose packets of that level were followed from there; 0 if there is none.
+    pub(crate) marks: Vec<u16>,
+    /// A packet that is dropped for want of a lane, if one was found.
+    pub(crate) dropped: Option<Dropped>,
+    /// While a packet is followed, the stops that are left to visit.
+    pub(crate) stops: Vec<usize>,
+}
+
+/// The edges of a LID by each of several tables.
+#[derive(Drop)]
+pub(crate) struct LidColumns {
+    pub(crate) lid: Lid,
+    /// For each table, for each usable switch by rising GUID, the edge by which it forwards packets for the LID.
+    pub(crate) columns: Vec<Vec<Option<Edge>>>,
+}
+
+impl LidColumns {
+    /// Returns the edge of the switch at `index` by the column at `nth`, or `None` if there is none. Takes one step.
+    pub(crate) fn edge(&self, index: usize, nth: usize) -> Option<Edge>
+        ensures { result ≡ edge_by (columns_in self.now) index nth }
+    {
+        match self.columns.get(nth) {
+            Some(column) => edge_of(column, index),
+            None => None,
+        }
+    }
+}
