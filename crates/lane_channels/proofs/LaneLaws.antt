@@ -1,12 +1,13 @@
 -- Numbers of channels by lane.
-use Rattle.std.proofs.Common.{◌≡◌, ◌<◌, ◌+◌, ◌*◌, ◌/◌, ℕ, Bool, List, [], ◌∷◌, sym, ap, ◌∙◌, subst, arith}
+use Rattle.std.proofs.Common.{◌≡◌, ◌<◌, ◌+◌, ◌*◌, ◌/◌, ◌%◌, ℕ, Bool, List, [], ◌∷◌, inl, inr, sym, ap, ◌∙◌, subst, arith}
 use Rattle.std.specs.Prelude.{slice_index_or}
 use Rattle.fact_store.specs.View.{cells_of}
 use Rattle.audit_channels.specs.Columns.{TakesAcross, number_of}
 use Rattle.audit_channels.specs.Waiting.{RiseOnWays}
+use Rattle.lane_channels.specs.declared.stop.Dropped.{Dropped}
 use Rattle.lane_channels.specs.LaneNetwork.{SeenByLane}
-use Rattle.lane_channels.specs.LaneLaws.{NeverBothByLane, OneLaneSuffices}
-use Rattle.lane_channels.specs.Stops.{lane_between, lane_by, port_across}
+use Rattle.lane_channels.specs.LaneLaws.{AllCarried, NeverBothByLane, OneLaneSuffices}
+use Rattle.lane_channels.specs.Stops.{guid_at, lane_between, lane_by, port_across}
 use Rattle.lane_channels.specs.Waiting.{RiseByLane, WaitOn, WaitsByLane, column_for}
 
 -- the channel without its lane
@@ -39,3 +40,18 @@ rise_along s answers r channel last (next ∷ later) h =
 pub never_both_by_lane : NeverBothByLane
 never_both_by_lane s answers [] r h = h
 never_both_by_lane s answers (channel ∷ later) r h = let more = rise_along s answers r channel channel later h in omega arith
+
+-- a packet has a level of its own, or that of a packet that it answers; by either it has a lane where it is dropped
+pub all_carried : AllCarried
+all_carried s answers carried dropped d =
+    let level = dropped.level in
+    let stop = dropped.stop in
+    let edge = d.one.drops.edge in
+    let guid = guid_at (cells_of s.seen.facts) (stop / 256) in
+    let sent = d.one.reaches.begins.1 in
+    let below : lane_by s.said (cells_of s.seen.facts) level stop edge < 15 = elim sent.has_level [
+      | inl own ↦ carried sent.source.node sent.source.port dropped.lid level own guid (stop % 256) edge.port
+      | inr asked ↦ (
+          let by = asked.1 in carried by.asker.node by.asker.port by.asked level by.level_is guid (stop % 256) edge.port)
+    ] in
+    let none = d.one.drops.lane_is in omega arith
