@@ -1,5 +1,5 @@
 -- Numbers of channels by lane.
-use Rattle.std.proofs.Common.{◌≡◌, ◌<◌, ◌+◌, ◌*◌, ◌/◌, ℕ, zero, suc, Bool, List, [], ◌∷◌, arith}
+use Rattle.std.proofs.Common.{◌≡◌, ◌<◌, ◌+◌, ◌*◌, ◌/◌, ◌%◌, ℕ, zero, suc, Bool, List, [], ◌∷◌, inl, inr, arith}
 use Rattle.std.specs.Prelude.{Option, None, Some, slice_index_or}
 use Rattle.port_graph.specs.declared.edge.Edge.{Edge}
 use Rattle.fact_store.specs.View.{cells_of}
@@ -7,8 +7,8 @@ use Rattle.held_tables.specs.Held.{HeldPlan}
 use Rattle.packet_walks.specs.Edges.{edges_of}
 use Rattle.audit_channels.specs.Columns.{TakesAcross, number_of}
 use Rattle.lane_channels.specs.LaneNetwork.{SeenByLane}
-use Rattle.lane_channels.specs.LaneLaws.{NeverBothByLane, OneLaneSuffices}
-use Rattle.lane_channels.specs.Stops.{HasEdge, lane_between, lane_by, port_across}
+use Rattle.lane_channels.specs.LaneLaws.{AllCarried, NeverBothByLane, OneLaneSuffices}
+use Rattle.lane_channels.specs.Stops.{HasEdge, guid_at, lane_between, lane_by, port_across}
 use Rattle.lane_channels.specs.AnyTables.{RiseByAny, WaitOnByAny}
 use Rattle.lane_channels.specs.Waiting.{WaitsByLane}
 use Rattle.lane_channels.proofs.Visits.{no_column}
@@ -55,3 +55,18 @@ rise_along s others answers r channel last (next ∷ later) h =
 pub never_both_by_lane : NeverBothByLane
 never_both_by_lane s answers [] r h = h
 never_both_by_lane s answers (channel ∷ later) r h = let more = rise_along s [] answers r channel channel later h in omega arith
+
+-- a packet has a level of its own, or that of a packet that it answers; by either it has a lane where it is dropped
+pub all_carried : AllCarried
+all_carried s answers carried dropped d =
+    let level = dropped.level in
+    let stop = dropped.stop in
+    let edge = d.one.drops.edge in
+    let guid = guid_at (cells_of s.seen.facts) (stop / 256) in
+    let sent = d.one.reaches.begins.1 in
+    let below : lane_by s.said (cells_of s.seen.facts) level stop edge < 15 = elim sent.has_level [
+      | inl own ↦ carried sent.source.node sent.source.port dropped.lid level own guid (stop % 256) edge.port
+      | inr asked ↦ (
+          let by = asked.1 in carried by.asker.node by.asker.port by.asked level by.level_is guid (stop % 256) edge.port)
+    ] in
+    let none = d.one.drops.lane_is in omega arith

@@ -1,9 +1,11 @@
--- What numbers of channels by lane ensure.
+-- What numbers of channels by lane ensure, and lanes below 15.
 use Rattle.std.specs.Prelude.{ℕ, Bool, List}
 use Rattle.fact_store.specs.View.{cells_of}
 use Rattle.audit_channels.specs.Waiting.{RiseOnWays}
+use Rattle.lanes_file.specs.Carried.{CarriesAll}
+use Rattle.lane_channels.specs.declared.stop.Dropped.{Dropped}
 use Rattle.lane_channels.specs.LaneNetwork.{SeenByLane}
-use Rattle.lane_channels.specs.Waiting.{RiseByLane, WaitInCycle}
+use Rattle.lane_channels.specs.Waiting.{IsDroppedByLane, RiseByLane, WaitInCycle}
 
 -- if numbers of channels rise on one lane, numbers of channels by lane rise, whatever the lanes and the service levels
 abbrev pub OneLaneSuffices : Type 0
@@ -14,3 +16,8 @@ OneLaneSuffices =
 -- there is no credit loop by lane if numbers of channels by lane rise
 abbrev pub NeverBothByLane : Type 0
 NeverBothByLane = (s : SeenByLane) (answers : Bool) (cycle : List ℕ) → RiseByLane s answers → ¬ (WaitInCycle s answers cycle)
+
+-- no packet is dropped for want of a lane if packets that have a service level have a lane below 15
+abbrev pub AllCarried : Type 0
+AllCarried =
+    (s : SeenByLane) (answers : Bool) → CarriesAll s.said → (dropped : Dropped) → ¬ (IsDroppedByLane s answers dropped)

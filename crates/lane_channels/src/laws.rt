@@ -1,6 +1,6 @@
 //! The laws of channels by lane.
 ghost use Rattle.lane_channels.specs.Fabrics.{LaneChannelsRise};
-ghost use Rattle.lane_channels.specs.LaneLaws.{NeverBothByLane, OneLaneSuffices};
+ghost use Rattle.lane_channels.specs.LaneLaws.{AllCarried, NeverBothByLane, OneLaneSuffices};
 
 /// If numbers of channels rise on one lane, numbers of channels by lane rise, whatever the lanes and service levels are.
 #[tactic(auto, using(crate::proofs::LaneLaws::one_lane_suffices))]
@@ -12,6 +12,12 @@ pub fn one_lane_suffices()
 #[tactic(auto, using(crate::proofs::LaneLaws::never_both_by_lane))]
 pub fn never_both_by_lane()
     ensures law { NeverBothByLane }
+{}
+
+/// No packet is dropped for want of a lane if the text gives a lane below 15 to each packet that has a service level.
+#[tactic(auto, using(crate::proofs::LaneLaws::all_carried))]
+pub fn all_carried()
+    ensures law { AllCarried }
 {}
 
 /// If numbers of channels by lane rise by facts, tables and lanes, the facts describe all that is joined to an end port

@@ -1,4 +1,5 @@
 pub mod BareGuids
+pub mod Carried
 pub mod Folds
 pub mod KeySearch
 pub mod WellFormed

@@ -1,3 +1,4 @@
+pub mod Carried
 pub mod Keys
 pub mod Lanes
 pub mod LanesItem

@@ -1,5 +1,8 @@
 //! What a text of lanes says.
-ghost use Rattle.std.specs.Prelude.{◌≡◌, ◌<◌, IfSome, find, option_copied, slice_index_or};
+ghost use Rattle.std.specs.Prelude.{◌≡◌, ◌<◌, IfSome, IsTrue, find, option_copied, slice_index_or};
+ghost use Rattle.std.specs.List.{list_all, list_any};
+ghost use Rattle.lanes_file.specs.Carried.{CarriesAll, block_gives, carries, carries_all, each_is_carried};
+ghost use Rattle.lanes_file.specs.Carried.{gives, has_lane, has_level_for_all, map_has_lane};
 ghost use Rattle.lanes_file.specs.Lanes.{is_block, is_map, lane_of, lanes_between, level_of};
 ghost use Rattle.lanes_file.specs.WellFormed.{AreLanes, HasLanes, IsWellFormed};
 
@@ -103,6 +106,28 @@ impl Lanes {
         }
     }
 
+    /// Returns whether the lane of each service level that some packets have is below 15, in each switch. Then no packet
+    /// is dropped for want of a lane. Takes a walk along the maps for each of 16 levels, and one along the blocks for
+    /// each level that has no such lane.
+    pub fn carries_all(&self) -> bool
+        ensures is { result ≡ carries_all self.now }
+        ensures carried { IsTrue result → CarriesAll self.now }
+    {
+        each_is_carried(
+            self.lanes_without_map(),
+            &self.maps,
+            self.level,
+            &self.levels,
+        )
+    }
+
+    /// Returns whether there is a line `level`, so that each packet has a service level.
+    pub fn has_level_for_all(&self) -> bool
+        ensures { result ≡ has_level_for_all self.now }
+    {
+        self.level.is_some()
+    }
+
     /// Returns the lane of each service level from port `into` to port `out` of `node`; none if the text says none.
     fn lanes_between(&self, node: Guid, into: PortNum, out: PortNum) -> &[u8]
         ensures is { result.now ≡ lanes_between self.now node into out }
@@ -110,10 +135,18 @@ impl Lanes {
     {
         match self.map(node, into, out) {
             Some(map) => &map.lanes,
-            None => match &self.lanes {
-                Some(lanes) => lanes,
-                None => &[],
-            },
+            None => self.lanes_without_map(),
+        }
+    }
+
+    /// Returns the lane of each service level of packets that no map is for; none if the text says none.
+    fn lanes_without_map(&self) -> &[u8]
+        ensures is { result.now ≡ self.now.lanes }
+        ensures lanes { AreLanes result.now }
+    {
+        match &self.lanes {
+            Some(lanes) => lanes,
+            None => &[],
         }
     }
 
@@ -145,12 +178,62 @@ impl Lanes {
 
 /// Returns the lane of a service level, or 15 if there are fewer.
 fn lane_at(lanes: &[u8], level: u8) -> u8
-    requires { AreLanes lanes.now }
     ensures is { result ≡ slice_index_or lanes.now level 15 }
-    ensures within { result < 16 }
+    ensures within { AreLanes lanes.now → result < 16 }
 {
     match lanes.get(usize::from(level)) {
         Some(lane) => *lane,
         None => NO_LANE,
     }
+}
+
+/// Returns whether the lane of each service level that some packets have is below 15 by each map, and by `lanes`, those
+/// without a map. `own` is the level of packets without a block.
+fn each_is_carried(lanes: &[u8], maps: &[LaneMap], own: Option<u8>, blocks: &[LevelBlock]) -> bool
+    ensures { result ≡ each_is_carried lanes.now maps.now own blocks.now }
+{
+    (0..LEVEL_END).all(|level| carries(lanes, maps, level) || !gives(own, blocks, level))
+}
+
+/// Returns whether the lane of service level `level` is below 15 by each map, and by `lanes`, those without a map.
+fn carries(lanes: &[u8], maps: &[LaneMap], level: u8) -> bool
+    ensures { result ≡ carries lanes.now maps.now level }
+{
+    has_lane(lanes, level) && each_has_lane(maps, level)
+}
+
+/// Returns whether the lane of service level `level` is below 15 by each map.
+fn each_has_lane(maps: &[LaneMap], level: u8) -> bool
+    ensures { result ≡ list_all (map_has_lane level) maps.now }
+{
+    maps.iter().all(|map| has_lane(&map.lanes, level))
+}
+
+/// Returns whether service level `level` is `own`, that of packets without a block, or that of a LID of one of the
+/// blocks.
+fn gives(own: Option<u8>, blocks: &[LevelBlock], level: u8) -> bool
+    ensures { result ≡ gives own blocks.now level }
+{
+    own == Some(level) || any_gives(blocks, level)
+}
+
+/// Returns whether a LID of one of the blocks has service level `level`.
+fn any_gives(blocks: &[LevelBlock], level: u8) -> bool
+    ensures { result ≡ list_any (block_gives level) blocks.now }
+{
+    blocks.iter().any(|block| block_gives(block, level))
+}
+
+/// Returns whether the lane of service level `level` is below 15.
+fn has_lane(lanes: &[u8], level: u8) -> bool
+    ensures { result ≡ has_lane level lanes.now }
+{
+    lane_at(lanes, level) < NO_LANE
+}
+
+/// Returns whether a LID of the block has service level `level`.
+fn block_gives(block: &LevelBlock, level: u8) -> bool
+    ensures { result ≡ block_gives level block.now }
+{
+    (0..64).any(|index| block.levels[index] == level)
 }
