@@ -58,7 +58,7 @@ of_report = all_rule ∷ max_load_rule ∷ []
 abbrev pub answers_rule : Rule
 answers_rule = record (new_rule (codes "answers-as-asked")) { long = Some (codes "answers-as-asked"); action = Some SetTrue }
 
--- the options of an audit by lane: the file of lanes, and which service levels answers have
+-- the options of what is judged by lane: the file of lanes, and which service levels answers have
 abbrev pub of_lanes : List Rule
 of_lanes = option_rule (codes "lanes") ∷ answers_rule ∷ []
 
@@ -122,7 +122,7 @@ order_of_shape = subcommand_shape (codes "order-of") (text_rule (codes "TABLES")
 
 abbrev pub next_shape : Bor (List (Bor Text)) → Shape
 next_shape words =
-    subcommand_shape (codes "next") (text_rule (codes "TABLES") ∷ of_files ++ of_planning words ++ of_step)
+    subcommand_shape (codes "next") (text_rule (codes "TABLES") ∷ of_files ++ of_planning words ++ of_step ++ of_lanes)
 
 abbrev pub run_shape : Bor (List (Bor Text)) → Shape
 run_shape words =

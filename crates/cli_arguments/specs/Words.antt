@@ -77,7 +77,9 @@ lacks_lanes word = is_set (word (codes "answers-as-asked")) && not (is_some (wor
 abbrev pub has_conflict : List ℕ → (List ℕ → Option (List ℕ)) → Bool
 has_conflict name word =
     if bytes_eq name (codes "serve") then planning_conflict name word || is_wrong_seat word
-    else (if bytes_eq name (codes "audit") then lacks_lanes word else planning_conflict name word)
+    else (if bytes_eq name (codes "audit") then lacks_lanes word
+    else (if bytes_eq name (codes "next") then planning_conflict name word || lacks_lanes word
+    else planning_conflict name word))
 
 -- options contradict each other in the subcommand, or its GUID or SM_Key is not hex digits, if a subcommand was named
 abbrev pub has_conflict_behind : Option (List ℕ × List Row) → Bool

@@ -51,7 +51,7 @@ pub const ALL: &str = "all";
 /// The option for the maximum number of pairs of adapter ports that a channel may carry.
 pub const MAX_LOAD: &str = "max-load";
 
-/// The option for the file of lanes, by which an audit judges credit loops lane by lane.
+/// The option for the file of lanes, by which an audit or a step judges credit loops lane by lane.
 pub const LANES: &str = "lanes";
 
 /// The flag by which answers may also have the service level of what they answer.

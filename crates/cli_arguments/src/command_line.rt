@@ -221,10 +221,8 @@ fn next<'a>(alloc: Global, routings: &'a [&'a str]) -> Result<Command<'a>, Alloc
              all the files, so that no packet for a LID that stays is lost meanwhile",
         )
         .after_help(NEXT_END);
-    with_step(
-        alloc,
-        with_planning(alloc, routings, of_tables(alloc, command)?)?,
-    )
+    let command = with_planning(alloc, routings, of_tables(alloc, command)?)?;
+    with_lanes(alloc, with_step(alloc, command)?)
 }
 
 fn run<'a>(alloc: Global, routings: &'a [&'a str]) -> Result<Command<'a>, AllocError>
@@ -296,7 +294,7 @@ fn with_report<'a>(alloc: Global, command: Command<'a>) -> Result<Command<'a>, A
     command.arg(all(alloc))?.arg(max_load(alloc))
 }
 
-/// Adds the options of an audit by lane: the file of lanes, and which service levels answers have.
+/// Adds the options of what is judged by lane: the file of lanes, and which service levels answers have.
 fn with_lanes<'a>(alloc: Global, command: Command<'a>) -> Result<Command<'a>, AllocError>
     ensures { IfOk result (AddsRules of_lanes command.entry) }
 {
@@ -361,6 +359,7 @@ fn has_conflict_in(name: &str, words: &ArgMatches<'_>) -> bool
     match name {
         SERVE => planning_conflict(name, words) || has_wrong_seat(words),
         AUDIT => lacks_lanes(words),
+        NEXT => planning_conflict(name, words) || lacks_lanes(words),
         _ => planning_conflict(name, words),
     }
 }

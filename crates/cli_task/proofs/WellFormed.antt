@@ -8,8 +8,10 @@ use Rattle.cli_arguments.specs.Words.{files_named, has_conflict_of, is_guid, is_
 use Rattle.audit_report.specs.declared.audit_run.AuditAsked.{AuditAsked}
 use Rattle.sm_cli.specs.declared.asked.RuleAsked.{RuleAsked}
 use Rattle.sm_cli.specs.declared.asked.RuleAsked.TheVariants.{UpDown, Spread, SpreadFromRoots, SpreadInOrder, Balance, BalanceInOrder}
-use Rattle.next_run.specs.Asked.{is_named}
-use Rattle.cli_task.specs.Asked.{audit_by, floor_asked, followed_by, guid_asked, held_order_asked, lmc_asked, max_load_asked, number_in, port_asked, priority_asked, sm_key_asked, within, names_in, planning_asked, rule_asked, step_texts, task_behind, texts_of_rule}
+use Rattle.next_run.specs.Asked.{has_lanes, is_named}
+use Rattle.next_run.specs.declared.asked.StepLanes.{StepLanes}
+use Rattle.next_run.specs.declared.asked.StepLanes.TheVariants.{ByText, One}
+use Rattle.cli_task.specs.Asked.{audit_by, floor_asked, followed_by, guid_asked, held_order_asked, lanes_asked, lmc_asked, max_load_asked, number_in, port_asked, priority_asked, sm_key_asked, within, names_in, planning_asked, rule_asked, task_behind, text_if, texts_of_rule}
 use Rattle.cli_task.proofs.Guids.{guid_is_read}
 use Rattle.cli_task.proofs.Within.{number_within}
 
@@ -185,19 +187,27 @@ module _ (word : List ℕ → Option (List ℕ)) (files : Option (List (List ℕ
       let floor = known (floor_asked (word (codes "floor"))) (floor_there (word (codes "floor")) h.floor) in
       rw floor.1 (both_there (Some []) _ refl (both_there _ files (one_there (word (codes "TABLES")) t) h.named))
 
-  -- a step, with the order of the last one if its file is named, names its texts
-  step_there : (told : Bool) (order : Option (List ℕ)) → word (codes "last-order") ≡ order → IsGiven (word (codes "TABLES"))
-      → is_some (step_texts word (is_named (held_order_asked told (is_some order)))) ≡ true
-  step_there true None is t = one_there (word (codes "TABLES")) t
-  step_there false None is t = one_there (word (codes "TABLES")) t
-  step_there told (Some order) is t = two_there (word (codes "last-order")) (word (codes "TABLES")) (ap is_some is) t
+  -- the last step's order is named if it is asked for
+  order_there : (told : Bool) (order : Option (List ℕ)) → is_some (text_if (is_named (held_order_asked told (is_some order))) order) ≡ true
+  order_there true None = refl
+  order_there false None = refl
+  order_there told (Some order) = refl
 
-  next_asks : IsGiven (word (codes "TABLES")) → NamesFiles word files → NamesPlanning word → Asks (codes "next")
-  next_asks t h p =
+  -- so are the lanes
+  lanes_there : (lanes : Option (List ℕ)) (answers : Bool) → (answers && not (is_some lanes)) ≡ false
+      → (asked : StepLanes) × (lanes_asked (is_some lanes) answers ≡ Some asked) × (is_some (text_if (has_lanes asked) lanes) ≡ true)
+  lanes_there (Some lanes) answers apart = (ByText answers, refl, refl)
+  lanes_there None false apart = (One, refl, refl)
+  lanes_there None true apart = absurd (cc)
+
+  next_asks : IsGiven (word (codes "TABLES")) → NamesFiles word files → NamesPlanning word → lacks_lanes word ≡ false → Asks (codes "next")
+  next_asks t h p apart =
       let floor = known (floor_asked (word (codes "floor"))) (floor_there (word (codes "floor")) h.floor) in
       let by = planning_there p in
-      let texts = step_there (is_set (word (codes "told-order"))) (word (codes "last-order")) refl t in
-      rw (by.1, floor.1) (both_there (texts_of_rule word by.0.1) _ by.2 (both_there _ files texts h.named))
+      let lanes = lanes_there (word (codes "lanes")) (is_set (word (codes "answers-as-asked"))) apart in
+      let order = order_there (is_set (word (codes "told-order"))) (word (codes "last-order")) in
+      let texts = both_there _ _ lanes.2 (both_there _ _ order (one_there (word (codes "TABLES")) t)) in
+      rw (by.1, lanes.1, floor.1) (both_there (texts_of_rule word by.0.1) _ by.2 (both_there _ files texts h.named))
 
   run_asks : IsGiven (word (codes "TOPOLOGY")) → IsGiven (word (codes "SCHEDULE")) → NamesPlanning word → Asks (codes "run")
   run_asks t s p =
@@ -221,7 +231,7 @@ module _ (word : List ℕ → Option (List ℕ)) (files : Option (List (List ℕ
   words_ask name (order is h p) = subst Asks (sym is) (order_asks h p)
   words_ask name (audit is t h m apart) = subst Asks (sym is) (audit_asks t h m apart)
   words_ask name (order_of is t h) = subst Asks (sym is) (order_of_asks t h)
-  words_ask name (next is t h p) = subst Asks (sym is) (next_asks t h p)
+  words_ask name (next is t h p apart) = subst Asks (sym is) (next_asks t h p apart)
   words_ask name (run is t s p) = subst Asks (sym is) (run_asks t s p)
   words_ask name (serve is s p) = subst Asks (sym is) (serve_asks s p)
 

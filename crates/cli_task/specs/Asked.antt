@@ -14,7 +14,9 @@ use Rattle.sm_cli.specs.declared.asked.Output.{Output}
 use Rattle.sm_cli.specs.declared.asked.Output.TheVariants.{Facts, Join, Plan, Order}
 use Rattle.sm_cli.specs.declared.asked.RuleAsked.{RuleAsked}
 use Rattle.sm_cli.specs.declared.asked.RuleAsked.TheVariants.{UpDown, Spread, SpreadFromRoots, SpreadInOrder, Balance, BalanceInOrder}
-use Rattle.next_run.specs.Asked.{is_named}
+use Rattle.next_run.specs.Asked.{has_lanes, is_named}
+use Rattle.next_run.specs.declared.asked.StepLanes.{StepLanes}
+use Rattle.next_run.specs.declared.asked.StepLanes.TheVariants.{ByText, One}
 use Rattle.next_run.specs.declared.asked.HeldOrder.{HeldOrder}
 use Rattle.next_run.specs.declared.asked.HeldOrder.TheVariants.{Ignored, NearNamed, NearPlan}
 use Rattle.next_run.specs.declared.asked.StepAsked.{StepAsked}
@@ -116,11 +118,22 @@ held_order_asked false false = Ignored
 abbrev pub held_order_of : (List ℕ → Option (List ℕ)) → HeldOrder
 held_order_of word = held_order_asked (is_set (word (codes "told-order"))) (is_some (word (codes "last-order")))
 
+-- how credit loops in a step are judged: by lane if a file of lanes is named; None if `answers`, which is about lanes,
+-- is set without it
+abbrev pub lanes_asked : Bool → Bool → Option StepLanes
+lanes_asked true answers = Some (ByText answers)
+lanes_asked false false = Some One
+lanes_asked false true = None
+
+-- how the words ask that credit loops in a step are judged; None if one of them is wrong
+abbrev pub lanes_of : (List ℕ → Option (List ℕ)) → Option StepLanes
+lanes_of word = lanes_asked (is_some (word (codes "lanes"))) (is_set (word (codes "answers-as-asked")))
+
 -- the step that the words ask for; None if one of them is wrong
 abbrev pub step_asked : (List ℕ → Option (List ℕ)) → Option StepAsked
-step_asked word = option_and_then (λ by. option_map
-    (λ floor. record { lmc = by.0; rule = by.1; floor = floor; held_order = held_order_of word })
-    (floor_asked (word (codes "floor")))) (planning_asked word)
+step_asked word = option_and_then (λ by. option_and_then (λ lanes. option_map
+    (λ floor. record { lmc = by.0; rule = by.1; floor = floor; held_order = held_order_of word; lanes = lanes })
+    (floor_asked (word (codes "floor")))) (lanes_of word)) (planning_asked word)
 
 -- the GUID that 1 to 16 hex digits write; None if the word is missing or wrong
 abbrev pub guid_asked : Option (List ℕ) → Option ℕ
@@ -195,12 +208,21 @@ rule_of_task (Next asked) = asked.rule
 rule_of_task (Run lmc rule) = rule
 rule_of_task (Serve asked) = asked.rule
 
--- the names of the texts of a step: the text of the last step's order, if one is named, and the tables; None if one is
--- missing
-abbrev pub step_texts : (List ℕ → Option (List ℕ)) → Bool → Option (List (List ℕ))
-step_texts word false = option_map (λ tables. tables ∷ []) (word (codes "TABLES"))
-step_texts word true = option_and_then (λ order. option_map (λ tables. order ∷ tables ∷ []) (word (codes "TABLES")))
-    (word (codes "last-order"))
+-- `first` and then `later`; None if one of them is None
+abbrev pub followed_by : Option (List (List ℕ)) → Option (List (List ℕ)) → Option (List (List ℕ))
+followed_by first later = option_and_then (λ names. option_map (λ others. names ++ others) later) first
+
+-- the name of a text if there is one; None if it is missing
+abbrev pub text_if : Bool → Option (List ℕ) → Option (List (List ℕ))
+text_if false name = Some []
+text_if true name = option_map (λ text. text ∷ []) name
+
+-- the names of the texts of a step: the text of lanes and that of the last step's order, if there are such, and the
+-- tables; None if one is missing
+abbrev pub step_texts : (List ℕ → Option (List ℕ)) → Bool → Bool → Option (List (List ℕ))
+step_texts word by_lane ordered =
+    followed_by (text_if by_lane (word (codes "lanes"))) (followed_by (text_if ordered (word (codes "last-order")))
+    (option_map (λ tables. tables ∷ []) (word (codes "TABLES"))))
 
 -- the names of the other texts that a task takes; None if one is missing
 abbrev pub texts_asked : (List ℕ → Option (List ℕ)) → Task → Option (List (List ℕ))
@@ -209,7 +231,7 @@ texts_asked word (Audit asked) = option_map (λ tables. tables ∷ []) (word (co
 texts_asked word (AuditByLane asked) =
     option_and_then (λ lanes. option_map (λ tables. lanes ∷ tables ∷ []) (word (codes "TABLES"))) (word (codes "lanes"))
 texts_asked word (OrderOf floor) = option_map (λ tables. tables ∷ []) (word (codes "TABLES"))
-texts_asked word (Next asked) = step_texts word (is_named asked.held_order)
+texts_asked word (Next asked) = step_texts word (has_lanes asked.lanes) (is_named asked.held_order)
 texts_asked word (Run lmc rule) =
     option_and_then (λ topology. option_map (λ schedule. topology ∷ schedule ∷ []) (word (codes "SCHEDULE")))
     (word (codes "TOPOLOGY"))
@@ -228,10 +250,6 @@ takes_files (Serve asked) = false
 -- the names of the files that a task takes; empty if it takes no files
 abbrev pub files_asked : Option (List (List ℕ)) → Task → Option (List (List ℕ))
 files_asked files task = if takes_files task then files else Some []
-
--- `first` and then `later`; None if one of them is None
-abbrev pub followed_by : Option (List (List ℕ)) → Option (List (List ℕ)) → Option (List (List ℕ))
-followed_by first later = option_and_then (λ names. option_map (λ others. names ++ others) later) first
 
 -- the names of the inputs of a task, in the order in which they are read; None if one is missing
 abbrev pub names_in : (List ℕ → Option (List ℕ)) → Option (List (List ℕ)) → Task → Option (List (List ℕ))

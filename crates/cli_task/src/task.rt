@@ -3,7 +3,7 @@ ghost use Rattle.std.specs.Prelude.{◌≡◌, IfOk, codes, is_some, map, option
 ghost use Rattle.clap.specs.Matches.{first_value, found_of, matched_of, raw_values};
 ghost use Rattle.cli_task.specs.Asked.{audit_asked, audit_task, floor_asked, lmc_asked, max_load_asked, number_in};
 ghost use Rattle.cli_task.specs.Asked.{number_or, planning_asked, rule_asked};
-ghost use Rattle.cli_task.specs.Asked.{held_order_of, order_asked, output_asked, step_asked, task_asked, task_behind, within};
+ghost use Rattle.cli_task.specs.Asked.{held_order_of, lanes_of, order_asked, output_asked, step_asked, step_texts, task_asked, task_behind, within};
 ghost use Rattle.cli_task.specs.Asked.{balance_asked, names_asked, names_in, rule_of_task, spread_asked, takes_files, texts_asked};
 ghost use Rattle.cli_task.specs.Asked.{guid_asked, port_asked, priority_asked, serving_asked, sm_key_asked};
 ghost use Rattle.cli_task.specs.Asked.{texts_of_rule};
@@ -19,7 +19,7 @@ use cli_arguments::argument_names::{
 };
 use cli_arguments::is_set;
 use lane_report::LaneAuditAsked;
-use next_run::{HeldOrder, StepAsked};
+use next_run::{HeldOrder, StepAsked, StepLanes};
 use serve_lines::hex_number;
 use serve_task::Serving;
 use sm_cli::{Invocation, Output, RuleAsked};
@@ -151,13 +151,28 @@ fn step_of(words: &ArgMatches<'_>) -> Option<StepAsked>
     ensures { result ≡ step_asked (first_value (found_of words.now)) }
 {
     let (lmc, rule) = planning_of(words)?;
+    let lanes = lanes_of(words)?;
     let floor = floor_of(words)?;
     Some(StepAsked {
         lmc,
         rule,
         floor,
         held_order: held_order_of(words),
+        lanes,
     })
+}
+
+/// Returns how `words`, after a subcommand, ask that credit loops in a step are judged: lane by lane if a file of lanes
+/// is named. Returns `None` if a flag about lanes is set without a file of lanes.
+fn lanes_of(words: &ArgMatches<'_>) -> Option<StepLanes>
+    ensures { result ≡ lanes_of (first_value (found_of words.now)) }
+{
+    let answers = is_set(words, ANSWERS_AS_ASKED);
+    match words.get_str(LANES) {
+        Some(_) => Some(StepLanes::ByText { answers }),
+        None if !answers => Some(StepLanes::One),
+        None => None,
+    }
 }
 
 /// Returns the order that `words`, after a subcommand, let a step go by.
@@ -405,8 +420,29 @@ fn texts_of_rule<'a>(words: &ArgMatches<'a>, rule: RuleAsked) -> Option<ArrayVec
     Some(texts)
 }
 
+/// Returns the names of a step's texts: the text of lanes if `has_lanes` is set, the text of the last step's order if
+/// `has_order` is set, and the tables. Returns `None` if one is not named.
+fn texts_of_step<'a>(
+    words: &ArgMatches<'a>,
+    has_lanes: bool,
+    has_order: bool,
+) -> Option<ArrayVec<&'a str, 3>>
+    ensures { option_map (λ found. map (λ name. name.now) found.items) result
+        ≡ step_texts (first_value (found_of words.now)) has_lanes has_order }
+{
+    let mut texts = ArrayVec::new();
+    if has_lanes {
+        texts.push(words.get_str(LANES)?);
+    }
+    if has_order {
+        texts.push(words.get_str(LAST_ORDER)?);
+    }
+    texts.push(words.get_str(TABLES)?);
+    Some(texts)
+}
+
 /// Returns the names of the task's own texts, or `None` if one is not named.
-fn texts_of<'a>(words: &ArgMatches<'a>, task: &Task) -> Option<ArrayVec<&'a str, 2>>
+fn texts_of<'a>(words: &ArgMatches<'a>, task: &Task) -> Option<ArrayVec<&'a str, 3>>
     ensures { option_map (λ found. map (λ name. name.now) found.items) result
         ≡ texts_asked (first_value (found_of words.now)) task.now }
 {
@@ -415,10 +451,7 @@ fn texts_of<'a>(words: &ArgMatches<'a>, task: &Task) -> Option<ArrayVec<&'a str,
         Task::Answer(_) => {}
         Task::Audit(_) | Task::OrderOf(_) => texts.push(words.get_str(TABLES)?),
         Task::Next(asked) => {
-            if asked.held_order.is_named() {
-                texts.push(words.get_str(LAST_ORDER)?);
-            }
-            texts.push(words.get_str(TABLES)?);
+            return texts_of_step(words, asked.lanes.has_lanes(), asked.held_order.is_named());
         }
         Task::AuditByLane(_) => {
             texts.push(words.get_str(LANES)?);

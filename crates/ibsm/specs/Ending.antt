@@ -6,7 +6,6 @@ use Rattle.clap.specs.declared.parser.matches.ArgMatches.{ArgMatches}
 use Rattle.sm_cli.specs.Asked.{rule_for, texts_for}
 use Rattle.sm_cli.specs.ExitStatus.{status_of}
 use Rattle.sm_cli.specs.FaultText.{fault_text, program_line}
-use Rattle.sm_cli.specs.InputOrders.{texts_if}
 use Rattle.sm_cli.specs.Run.{HasAnswered, IsFaultOf}
 use Rattle.sm_cli.specs.declared.exit_status.ExitStatus.{ExitStatus}
 use Rattle.sm_cli.specs.declared.exit_status.ExitStatus.TheVariants.{Done, Failed}
@@ -14,8 +13,7 @@ use Rattle.sm_cli.specs.declared.fault.Fault.{Fault}
 use Rattle.sm_cli.specs.declared.fault.Fault.TheVariants.{Open, File, Text, NoRoom, Write, Memory}
 use Rattle.audit_report.specs.RunAudit.{HasAudited, IsAuditFault}
 use Rattle.lane_report.specs.RunLaneAudit.{HasAuditedByLane, IsLaneAuditFault}
-use Rattle.next_run.specs.Asked.{is_named}
-use Rattle.next_run.specs.RunNext.{HasStepped, IsStepFault}
+use Rattle.next_run.specs.RunNext.{HasStepped, IsStepFault, texts_before}
 use Rattle.order_run.specs.OrderRun.{HasTold, IsOrderFault}
 use Rattle.record_file.specs.declared.file_fault.FileFault.TheVariants.{Read}
 use Rattle.schedule_run.specs.Run.{HasRun, IsRunFault}
@@ -34,7 +32,7 @@ HasEnoughNames (Answer request) count = texts_for (rule_for request.output) ≤ 
 HasEnoughNames (Audit asked) count = 1 ≤ count
 HasEnoughNames (AuditByLane asked) count = 2 ≤ count
 HasEnoughNames (OrderOf floor) count = 1 ≤ count
-HasEnoughNames (Next asked) count = texts_for asked.rule + texts_if (is_named asked.held_order) + 1 ≤ count
+HasEnoughNames (Next asked) count = texts_before asked + 1 ≤ count
 HasEnoughNames (Run lmc rule) count = count ≡ texts_for rule + 2
 HasEnoughNames (Serve asked) count = count ≡ texts_for asked.rule + 1
 

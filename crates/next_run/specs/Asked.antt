@@ -1,9 +1,11 @@
--- The order that a step goes by, as it is asked for.
+-- The order that a step goes by and the lanes of packets in it, as they are asked for.
 use Rattle.std.specs.Prelude.{ℕ, Bool, true, false, List, Option, None, Some}
 use Rattle.subnet_view.specs.Reading.{Cells}
 use Rattle.lft_blocks.specs.Rules.{RuleValue, spread_in}
 use Rattle.plan_order.specs.PlanOrder.{positions_by}
 use Rattle.spread_routes.specs.SwitchOrders.{as_named}
+use Rattle.next_run.specs.declared.asked.StepLanes.{StepLanes}
+use Rattle.next_run.specs.declared.asked.StepLanes.TheVariants.{One, ByText}
 use Rattle.next_run.specs.declared.asked.HeldOrder.{HeldOrder}
 use Rattle.next_run.specs.declared.asked.HeldOrder.TheVariants.{Ignored, NearPlan, NearNamed}
 
@@ -18,6 +20,16 @@ abbrev pub is_named : HeldOrder → Bool
 is_named Ignored = false
 is_named NearPlan = false
 is_named NearNamed = true
+
+-- there is a text of lanes
+abbrev pub has_lanes : StepLanes → Bool
+has_lanes One = false
+has_lanes (ByText answers) = true
+
+-- packets that answer others also have the service level of what they answer
+abbrev pub has_answers : StepLanes → Bool
+has_answers One = false
+has_answers (ByText answers) = answers
 
 -- the rule of the order that a text names, or else the plan's rule
 abbrev pub rule_or : RuleValue → Option RuleValue → RuleValue

@@ -18,19 +18,18 @@ use Rattle.ordered_steps.specs.Rightness.{are_right}
 use Rattle.plan_order.specs.PlanOrder.{positions_by}
 use Rattle.next_tables.specs.declared.fault.StepFault.{StepFault}
 use Rattle.next_tables.specs.declared.fault.StepFault.TheVariants as steps
-use Rattle.step_loops.specs.LoopLids.{AreLoopLids}
-use Rattle.step_loops.specs.StepOrder.{NoneShorter, NumbersRise, WaitInCycle}
-use Rattle.next_run.specs.LoopText.{loop_text}
+use Rattle.lanes_file.specs.Lanes.{LanesSaid}
+use Rattle.next_run.specs.StepVerdict.{IsSound, IsVerdict, Verdict, verdict_text}
 use Rattle.sm_cli.specs.Asked.{texts_for}
 use Rattle.sm_cli.specs.InputOrders.{texts_if}
-use Rattle.sm_cli.specs.InputReaders.{order_reader}
+use Rattle.sm_cli.specs.InputReaders.{step_reader}
 use Rattle.sm_cli.specs.Inputs.{IsInputFault, Reader, WithInputs}
-use Rattle.sm_cli.specs.declared.input_orders.OrderAndTables.{OrderAndTables}
+use Rattle.sm_cli.specs.declared.input_steps.StepInputs.{StepInputs}
 use Rattle.sm_cli.specs.declared.fault.Fault.{Fault}
 use Rattle.sm_cli.specs.declared.fault.Fault.TheVariants.{NoRoom, Text, Write, Memory}
 use Rattle.sm_cli.specs.declared.text_fault.TextFault.TheVariants.{Moves}
 use Rattle.next_run.specs.declared.asked.StepAsked.{StepAsked}
-use Rattle.next_run.specs.Asked.{is_named, is_told, preferred_rule}
+use Rattle.next_run.specs.Asked.{has_answers, has_lanes, is_named, is_told, preferred_rule}
 use Rattle.next_run.specs.StepOrderText.{items_of, order_of_step, step_order_text, switches_by}
 use Rattle.next_run.specs.declared.step_choice.StepChoice.{StepChoice}
 
@@ -130,38 +129,26 @@ pub record IsMade (told : Bool) (rule preferred : RuleValue) (facts : Facts) (he
   pub is_next : IsNextStep told rule preferred facts held plan goal next
   pub order_is : order ≡ order_of_step (cells_of facts) goal
 
--- a shortest credit loop that some mixture of the two tables makes; empty if numbers rise
-abbrev pub IsCycleInStep : Cells → HeldPlan → HeldPlan → List ℕ → Type 0
-IsCycleInStep cells held next [] = (numbers : List ℕ) × NumbersRise cells held next numbers
-IsCycleInStep cells held next (channel ∷ later) =
-    WaitInCycle cells held next (channel ∷ later) × NoneShorter cells held next (channel ∷ later)
-
--- a credit loop in a step, and for each of its channels the least LID for which packets that hold it wait for the next
--- one
-abbrev pub IsLoopInStep : Cells → HeldPlan → HeldPlan → List ℕ → List ℕ → Type 0
-IsLoopInStep cells held next cycle lids = IsCycleInStep cells held next cycle × AreLoopLids cells held next cycle lids
-
 -- `text` was written, or the sink has failed
 abbrev pub IsSaid : {W : Type 0} → (W → Option (List ℕ)) → (W → Bool) → W → W → List ℕ → Type 0
 IsSaid written has_failed old new text = IsTrue (has_failed new) ⊎ Appends (written old) (written new) text
 
--- There is room for the plan, and no LID moves. `prints` holds of the step's text, and `says` of the text of a shortest
--- credit loop, or that there is none, and of the order that the step goes by, if the held tables imply it. `passed` says
--- whether there is no loop. `told` says whether the step may go by such an order, of several the one nearest to the
--- order of the rule `preferred`
-pub record IsStep (lmc : ℕ) (told : Bool) (rule preferred : RuleValue) (facts : Facts) (held : HeldPlan)
-    (prints says : List ℕ → Type 0) (passed : Bool) : Type 0 where
+-- There is room for the plan, and no LID moves. `prints` holds of the step's text, and `says` of the text of what can
+-- happen while the step is written, and of the order that it goes by, if the held tables imply it. `passed` says whether
+-- nothing bad can happen: on one lane, or by lane if a text gives `lanes`. `told` says whether the step may go by such an
+-- order, of several the one nearest to the order of the rule `preferred`
+pub record IsStep (lmc : ℕ) (told : Bool) (rule preferred : RuleValue) (lanes : Option LanesSaid) (answers : Bool)
+    (facts : Facts) (held : HeldPlan) (prints says : List ℕ → Type 0) (passed : Bool) : Type 0 where
   pub has_room : no_room lmc (cells_of facts) ≡ None
   pub no_move : first_moved held (planned lmc rule facts) ≡ None
   pub goal : Option Goal
   pub next : HeldPlan
   pub is_next : IsNextStep told rule preferred facts held (planned lmc rule facts) goal next
   pub written : prints (text_of_step lmc rule facts next)
-  pub cycle : List ℕ
-  pub lids : List ℕ
-  pub waits : IsLoopInStep (cells_of facts) held next cycle lids
-  pub said : says (loop_text (cells_of facts) cycle lids ++ step_order_text (order_of_step (cells_of facts) goal))
-  pub judged : IsTrue passed ↔ (cycle ≡ [])
+  pub verdict : Verdict
+  pub found : IsVerdict lanes answers facts held next verdict
+  pub said : says (verdict_text (cells_of facts) verdict ++ step_order_text (order_of_step (cells_of facts) goal))
+  pub judged : IsTrue passed ↔ IsSound verdict
 
 -- why there are no next tables, as a fault of the run; `at` is the input of the held tables
 abbrev pub fault_of_step : ℕ → StepFault → Fault
@@ -191,19 +178,28 @@ StopsStep at lmc rule facts held sink_failed fault = ⊥
 
 -- runs ------------------------------------------------------------------------------------------
 
--- the reader of the inputs after the text that the rule takes: the text of an order, if one is named, the tables and the
--- files
-abbrev pub reader_of : {S : Type 0} → (S → SourceState) → StepAsked → Reader S OrderAndTables
-reader_of state asked = order_reader state asked.floor (is_named asked.held_order)
+-- the reader of the inputs after the text that the rule takes: the text of lanes and the text of an order, if there are
+-- such, the tables and the files
+abbrev pub reader_of : {S : Type 0} → (S → SourceState) → StepAsked → Reader S StepInputs
+reader_of state asked = step_reader state asked.floor (has_lanes asked.lanes) (is_named asked.held_order)
 
--- the inputs were read (the text that the rule takes, the text of an order, if one is named, the tables and the files),
--- and the step was written
+-- the number of texts before the tables
+abbrev pub texts_before : StepAsked → ℕ
+texts_before asked = texts_for asked.rule + texts_if (has_lanes asked.lanes) + texts_if (is_named asked.held_order)
+
+-- the step that is asked for was written, from what its inputs say
+abbrev pub IsStepOf : StepAsked → RuleValue → StepInputs → (List ℕ → Type 0) → (List ℕ → Type 0) → Bool → Type 0
+IsStepOf asked rule told prints says passed =
+    IsStep asked.lmc (is_told asked.held_order) rule (preferred_rule asked.held_order rule told.others.order.items)
+    told.lanes (has_answers asked.lanes) told.others.read.store told.others.read.held prints says passed
+
+-- the inputs were read (the text that the rule takes, the text of lanes and that of an order, if there are such, the
+-- tables and the files), and the step was written
 abbrev pub HasStepped : {S : Type 0} → (S → SourceState) → StepAsked → List S → List S
     → (List ℕ → Type 0) → (List ℕ → Type 0) → Bool → Type 0
 HasStepped state asked olds news prints says passed =
     WithInputs state (reader_of state asked) asked.rule olds news
-    (λ rule told. IsStep asked.lmc (is_told asked.held_order) rule (preferred_rule asked.held_order rule told.order.items)
-    told.read.store told.read.held prints says passed)
+    (λ rule told. IsStepOf asked rule told prints says passed)
 
 -- why a step over open inputs fails: the inputs are not read, or the step is not written
 abbrev pub IsStepFault : {S : Type 0} → (S → SourceState) → StepAsked → List S → List S
@@ -211,5 +207,5 @@ abbrev pub IsStepFault : {S : Type 0} → (S → SourceState) → StepAsked → 
 IsStepFault state asked olds news sink_failed fault =
     IsInputFault state (reader_of state asked) asked.rule olds news fault
     ⊎ WithInputs state (reader_of state asked) asked.rule olds news
-    (λ rule told. StopsStep (texts_for asked.rule + texts_if (is_named asked.held_order)) asked.lmc rule
-    told.read.store told.read.held sink_failed fault)
+    (λ rule told. StopsStep (texts_before asked) asked.lmc rule told.others.read.store told.others.read.held sink_failed
+    fault)

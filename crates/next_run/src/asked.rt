@@ -1,6 +1,6 @@
 //! The options of a step.
 ghost use Rattle.std.specs.Prelude.{◌≡◌};
-ghost use Rattle.next_run.specs.Asked.{is_named, is_told};
+ghost use Rattle.next_run.specs.Asked.{has_lanes, has_answers, is_named, is_told};
 
 use attr_codec::Lmc;
 use sm_cli::RuleAsked;
@@ -39,6 +39,38 @@ impl HeldOrder {
     }
 }
 
+/// How credit loops in a step are judged.
+#[derive(Clone, Copy, Debug, PartialEq, Eq)]
+pub enum StepLanes {
+    /// On one lane.
+    One,
+    /// Lane by lane, by a text of lanes. If `answers` is set, packets that answer others also have the service level of
+    /// what they answer.
+    ByText { answers: bool },
+}
+
+impl StepLanes {
+    /// Returns whether there is a text of lanes.
+    pub fn has_lanes(self) -> bool
+        ensures { result ≡ has_lanes self }
+    {
+        match self {
+            StepLanes::One => false,
+            StepLanes::ByText { .. } => true,
+        }
+    }
+
+    /// Returns whether packets that answer others also have the service level of what they answer.
+    pub fn has_answers(self) -> bool
+        ensures { result ≡ has_answers self }
+    {
+        match self {
+            StepLanes::One => false,
+            StepLanes::ByText { answers } => answers,
+        }
+    }
+}
+
 /// The options of a step.
 #[derive(Clone, Copy, Debug, PartialEq, Eq)]
 pub struct StepAsked {
@@ -50,4 +82,6 @@ pub struct StepAsked {
     pub floor: Generation,
     /// Which order the step goes by if the held tables are not right by the order of the plan's switches.
     pub held_order: HeldOrder,
+    /// How credit loops are judged.
+    pub lanes: StepLanes,
 }

@@ -7,6 +7,7 @@ mod run_step;
 mod step_choice;
 mod step_loop;
 mod step_order;
+mod step_verdict;
 
-pub use asked::{HeldOrder, StepAsked};
+pub use asked::{HeldOrder, StepAsked, StepLanes};
 pub use run_step::run_next;

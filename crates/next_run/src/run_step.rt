@@ -5,12 +5,10 @@ ghost use Rattle.std.specs.Option.{option_map};
 ghost use Rattle.fact_store.specs.View.{cells_of};
 ghost use Rattle.lft_blocks.specs.Rules.{RuleValue, value_of};
 ghost use Rattle.lft_blocks.specs.WritesPart.{WritesPart};
-ghost use Rattle.sm_cli.specs.Asked.{texts_for};
-ghost use Rattle.sm_cli.specs.InputOrders.{texts_if};
-ghost use Rattle.next_run.specs.Asked.{is_named, is_told, preferred_rule, rule_or};
-ghost use Rattle.next_run.specs.LoopText.{loop_text};
-ghost use Rattle.next_run.specs.RunNext.{HasStepped, IsLoopInStep, IsMade, IsSaid, IsStep, IsStepFault, StopsNext};
-ghost use Rattle.next_run.specs.RunNext.{StopsStep, choice_of, fault_of_step, goal_or, next_by_choice};
+ghost use Rattle.next_run.specs.Asked.{preferred_rule, rule_or};
+ghost use Rattle.next_run.specs.RunNext.{HasStepped, IsMade, IsSaid, IsStep, IsStepFault, IsStepOf, StopsNext};
+ghost use Rattle.next_run.specs.RunNext.{StopsStep, choice_of, fault_of_step, goal_or, next_by_choice, texts_before};
+ghost use Rattle.next_run.specs.StepVerdict.{verdict_of, verdict_text};
 ghost use Rattle.next_run.specs.StepOrderText.{items_of, step_order_text};
 ghost use Rattle.next_tables.specs.NextTables.{first_moved, next_tables};
 ghost use Rattle.next_tables.specs.NextTables.{value_of as chosen_of};
@@ -18,20 +16,21 @@ ghost use Rattle.held_tables.specs.PlanTables.{held_plan};
 
 use crate::asked::{HeldOrder, StepAsked};
 use crate::step_choice::{StepChoice, step_choice};
-use crate::step_loop::StepLoop;
 use crate::step_order::write_step_order;
+use crate::step_verdict::StepVerdict;
 use attr_codec::Lmc;
 use byte_io::{Sink, Source, WriteFault};
 use fact_store::Store;
 use held_tables::Held;
+use lanes_file::Lanes;
 use lft_blocks::{Plan, Rule, SwitchOrder};
 use next_tables::{StepFault, StepRule, next_tables};
 use packet_walks::Network;
 use sm_cli::{
-    Fault, OrderAndTables, OrderTablesAndFiles, TablesAndFacts, TextFault, texts_if, read_inputs,
+    Fault, OrderAndTables, StepInputs, StepReader, TablesAndFacts, TextFault, read_inputs, texts_if,
 };
 use smp_bytes::Guid;
-use std::alloc::{AllocError, Global};
+use std::alloc::Global;
 use tables_file::write_next;
 
 /// A step from held tables.
@@ -43,11 +42,12 @@ struct MadeStep {
     order: Option<Vec<Guid>>,
 }
 
-/// Reads the inputs in order (`read_inputs`): the text that the rule takes, the text of an order, if one is named, the
-/// text of the held tables, then the files. Writes to `sink` the tables to write next, towards the plan of the subnet
-/// that the files describe together. Writes to `told` whether channels can wait for each other by any mixtures of both
-/// tables, in a line like an audit's. If they can, another line has the LIDs. If the step goes by an order that the held
-/// tables imply, a last line has the switches in this order. Returns whether the channels cannot wait for each other.
+/// Reads the inputs in order (`read_inputs`): the text that the rule takes, the text of lanes and the text of an order, if
+/// there are such, the text of the held tables, then the files. Writes to `sink` the tables to write next, towards the
+/// plan of the subnet that the files describe together. Writes to `told` whether channels can wait for each other by any
+/// mixtures of both tables, in a line like an audit's: on one lane and with a line of LIDs, or lane by lane. If the step
+/// goes by an order that the held tables imply, a last line has the switches in this order. Returns whether the channels
+/// cannot wait for each other and, lane by lane, each packet has a service level and a lane.
 ///
 /// # Errors
 ///
@@ -61,7 +61,7 @@ pub fn run_next<S: Source, W: Sink, E: Sink>(
     sink: &mut W,
     told: &mut E,
 ) -> Result<bool, Fault>
-    requires { texts_for asked.rule + texts_if (is_named asked.held_order) + 1 ≤ length inputs.old }
+    requires { texts_before asked + 1 ≤ length inputs.old }
     ensures done { IfOk result (HasStepped S.state asked inputs.old inputs.new
         (Appends (W.written sink.old) (W.written sink.new))
         (IsSaid E.written E.has_failed told.old told.new)) }
@@ -72,45 +72,52 @@ pub fn run_next<S: Source, W: Sink, E: Sink>(
     ensures nothing_written { OnErr result ((result ≡ Err Fault.Write) ⊎ (sink.new ≡ sink.old)) }
     ensures nothing_told { OnErr result (told.new ≡ told.old) }
 {
-    let has_order = asked.held_order.is_named();
-    let reader = OrderTablesAndFiles {
+    let reader = StepReader {
         floor: asked.floor,
-        has_order,
+        has_lanes: asked.lanes.has_lanes(),
+        has_order: asked.held_order.is_named(),
     };
-    let input = asked.rule.texts() + texts_if(has_order);
     match read_inputs(alloc, asked.rule, &reader, inputs) {
-        Ok((rule, found)) => step_from(alloc, input, asked, &rule, found, sink, told),
+        Ok((rule, found)) => step_from(alloc, asked, &rule, found, sink, told),
         Err(fault) => Err(fault),
     }
 }
 
-/// Writes the step that is asked for from what the inputs say. `input` is the number of the held tables' text. Writes
-/// to `told` what `run_next` does, and returns whether channels cannot wait for each other.
+/// Returns the number of texts before the text of the held tables.
+fn texts_before(asked: StepAsked) -> usize
+    ensures { result ≡ texts_before asked }
+{
+    asked.rule.texts() + texts_if(asked.lanes.has_lanes()) + texts_if(asked.held_order.is_named())
+}
+
+/// Writes the step that is asked for from what the inputs say. Writes to `told` what `run_next` does, and returns what
+/// it returns.
 fn step_from<W: Sink, E: Sink>(
     alloc: Global,
-    input: usize,
     asked: StepAsked,
     rule: &Rule,
-    found: OrderAndTables,
+    found: StepInputs,
     sink: &mut W,
     told: &mut E,
 ) -> Result<bool, Fault>
-    ensures done { IfOk result (IsStep asked.lmc (is_told asked.held_order) (value_of rule.now)
-        (preferred_rule asked.held_order (value_of rule.now) found.order.items) found.read.store found.read.held
+    ensures done { IfOk result (IsStepOf asked (value_of rule.now) found
         (Appends (W.written sink.old) (W.written sink.new))
         (IsSaid E.written E.has_failed told.old told.new)) }
     ensures flushed { OnOk result (IsTrue (W.is_flushed sink.new)) }
     ensures sink_works { OnOk result (W.has_failed sink.new ≡ false) }
-    ensures refused { IfErr result (StopsStep input asked.lmc (value_of rule.now) found.read.store found.read.held
-        (W.has_failed sink.new)) }
+    ensures refused { IfErr result (StopsStep (texts_before asked) asked.lmc (value_of rule.now)
+        found.others.read.store found.others.read.held (W.has_failed sink.new)) }
     ensures nothing_written { OnErr result ((result ≡ Err Fault.Write) ⊎ (sink.new ≡ sink.old)) }
     ensures nothing_told { OnErr result (told.new ≡ told.old) }
 {
-    let OrderAndTables { order, read } = found;
+    let StepInputs { lanes, others } = found;
+    let OrderAndTables { order, read } = others;
     let named = named_rule(asked.held_order, order);
+    let input = texts_before(asked);
     let by_told = asked.held_order.is_told();
+    let answers = asked.lanes.has_answers();
     step(
-        alloc, input, &read, asked.lmc, by_told, rule, &named, sink, told,
+        alloc, input, &read, &lanes, answers, asked.lmc, by_told, rule, &named, sink, told,
     )
 }
 
@@ -128,12 +135,14 @@ fn named_rule(held_order: HeldOrder, switches: Vec<Guid>) -> Option<Rule>
 
 /// Writes the step from the tables and files of `read` towards the plan by `rule`. `input` is the number of the held
 /// tables' text. `by_told` says whether the step may go by an order that the held tables imply, of several the one
-/// nearest to the order of `named`, or of `rule` if `named` is `None`. Writes to `told` what `run_next` does, and
-/// returns whether channels cannot wait for each other.
+/// nearest to the order of `named`, or of `rule` if `named` is `None`. Judges the step by `lanes` and `answers`
+/// (`StepVerdict::of`). Writes to `told` what `run_next` does, and returns what it returns.
 fn step<W: Sink, E: Sink>(
     alloc: Global,
     input: usize,
     read: &TablesAndFacts,
+    lanes: &Option<Lanes>,
+    answers: bool,
     lmc: Lmc,
     by_told: bool,
     rule: &Rule,
@@ -142,7 +151,7 @@ fn step<W: Sink, E: Sink>(
     told: &mut E,
 ) -> Result<bool, Fault>
     ensures done { IfOk result (IsStep lmc by_told (value_of rule.now)
-        (rule_or (value_of rule.now) (option_map value_of named.now)) read.now.store read.now.held
+        (rule_or (value_of rule.now) (option_map value_of named.now)) lanes.now answers read.now.store read.now.held
         (Appends (W.written sink.old) (W.written sink.new))
         (IsSaid E.written E.has_failed told.old told.new)) }
     ensures flushed { OnOk result (IsTrue (W.is_flushed sink.new)) }
@@ -160,26 +169,25 @@ fn step<W: Sink, E: Sink>(
         Ok(made) => made,
         Err(fault) => return Err(fault),
     };
-    let Ok(found) = loop_towards(alloc, &read.store, &from, &made.next) else {
+    let Ok(verdict) = StepVerdict::of(alloc, &read.store, lanes, answers, &from, &made.next) else {
         return Err(Fault::Memory);
     };
     write_next(sink, plan.lids(), &made.next)?;
-    let _ = write_told(told, &from, &found, &made.order);
-    Ok(found.is_none())
+    let _ = write_told(told, &from, &verdict, &made.order);
+    Ok(verdict.is_sound())
 }
 
-/// Writes the credit loop `found`, or that there is none, and the order that the step goes by, if there is one.
+/// Writes what can happen while the step is written, and the order that it goes by, if there is one.
 fn write_told<E: Sink>(
     told: &mut E,
     from: &Network,
-    found: &StepLoop,
+    verdict: &StepVerdict,
     order: &Option<Vec<Guid>>,
 ) -> Result<(), WriteFault>
     ensures { WritesPart E.written E.has_failed result told.old told.new
-        (loop_text (cells_of from.now.facts) found.now.channels.items found.now.lids.items
-        ++ step_order_text (items_of order.now)) }
+        (verdict_text (cells_of from.now.facts) (verdict_of verdict.now) ++ step_order_text (items_of order.now)) }
 {
-    found.write(told, from)?;
+    verdict.write(told, from)?;
     write_step_order(told, order)
 }
 
@@ -284,24 +292,6 @@ fn next_towards(
         Ok(next) => Ok(next),
         Err(fault) => Err(fault_of_step(input, &fault)),
     }
-}
-
-/// Returns a shortest credit loop that some mixture of the network's tables and the next tables makes, or an empty one
-/// if there is none.
-fn loop_towards(
-    alloc: Global,
-    store: &Store,
-    from: &Network,
-    next: &Held,
-) -> Result<StepLoop, AllocError>
-    requires { from.now.facts ≡ store.now }
-    ensures { IfOk result (λ found. IsLoopInStep (cells_of store.now) from.now.held next.now
-        found.channels.items found.lids.items) }
-{
-    let Ok(after) = Network::of(alloc, store, next) else {
-        return Err(AllocError);
-    };
-    StepLoop::of(alloc, from, &after)
 }
 
 /// Turns the reason why there is no step into a fault of the run. `input` is the number of the held tables' text.

@@ -18,7 +18,8 @@ use Rattle.between_orders.specs.Between.{Goal, IsGoal}
 use Rattle.between_orders.specs.BetweenLaws.{next_towards as next_to}
 use Rattle.between_orders.proofs.Safe.{goals_are_safe}
 use Rattle.ordered_steps.proofs.Waits.{numbers_rise_by_order}
-use Rattle.next_run.specs.RunNext.{IsCycleInStep, IsGoalFrom, planned, stepped}
+use Rattle.next_run.specs.RunNext.{IsGoalFrom, planned, stepped}
+use Rattle.next_run.specs.StepLoops.{IsCycleInStep}
 use Rattle.step_ends.specs.StepEnds.{IsFreeByTold, RightTablesMakeNoLoop, ToldStepsMakeNoLoop}
 
 module _ (cells : Cells) (held next : HeldPlan) (numbers : List ℕ) (rise : RiseInStep cells held next numbers) where

@@ -21,7 +21,8 @@ use Rattle.ordered_steps.specs.Rightness.{are_right}
 use Rattle.plan_order_laws.specs.PlanLaws.{plan_position}
 use Rattle.between_orders.specs.Between.{Goal}
 use Rattle.next_tables.specs.EntriesByOrder.{position_at}
-use Rattle.next_run.specs.RunNext.{IsGoalOf, IsLoopInStep, IsNextStep, next_towards, planned, step_text, stepped}
+use Rattle.next_run.specs.StepLoops.{IsLoopInStep}
+use Rattle.next_run.specs.RunNext.{IsGoalOf, IsNextStep, next_towards, planned, step_text, stepped}
 
 -- if some tables deliver from a switch to the end port that alone holds a LID in these tables and in the plan, the plan
 -- delivers from that switch too

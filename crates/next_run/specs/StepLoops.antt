@@ -1,0 +1,17 @@
+-- Credit loops in a step, on one lane.
+use Rattle.std.specs.Prelude.{ℕ, List, [], ◌∷◌}
+use Rattle.subnet_view.specs.Reading.{Cells}
+use Rattle.held_tables.specs.Held.{HeldPlan}
+use Rattle.step_loops.specs.LoopLids.{AreLoopLids}
+use Rattle.step_loops.specs.StepOrder.{NoneShorter, NumbersRise, WaitInCycle}
+
+-- a shortest credit loop that some mixture of the two tables makes; empty if numbers rise
+abbrev pub IsCycleInStep : Cells → HeldPlan → HeldPlan → List ℕ → Type 0
+IsCycleInStep cells held next [] = (numbers : List ℕ) × NumbersRise cells held next numbers
+IsCycleInStep cells held next (channel ∷ later) =
+    WaitInCycle cells held next (channel ∷ later) × NoneShorter cells held next (channel ∷ later)
+
+-- a credit loop in a step, and for each of its channels the least LID for which packets that hold it wait for the next
+-- one
+abbrev pub IsLoopInStep : Cells → HeldPlan → HeldPlan → List ℕ → List ℕ → Type 0
+IsLoopInStep cells held next cycle lids = IsCycleInStep cells held next cycle × AreLoopLids cells held next cycle lids

@@ -1,0 +1,57 @@
+-- What can happen while a step is written, and its text.
+use Rattle.std.specs.Prelude.{◌≡◌, ◌⊎◌, ℕ, Bool, List, [], ◌∷◌, Option, None, Some}
+use Rattle.fact_store.specs.View.{Facts, cells_of}
+use Rattle.subnet_view.specs.Reading.{Cells}
+use Rattle.held_tables.specs.Held.{HeldPlan}
+use Rattle.audit_counts.specs.FirstFew.{Listed, all_listed}
+use Rattle.audit_report.specs.RunAudit.{most_told}
+use Rattle.lanes_file.specs.Lanes.{LanesSaid}
+use Rattle.lane_channels.specs.AnyTables.{IsCycleByAny, IsSomeDropByAny, NoneShorterByAny}
+use Rattle.lane_channels.specs.declared.stop.Dropped.{Dropped}
+use Rattle.lane_report.specs.declared.levels_missing.PacketPair.{PacketPair}
+use Rattle.lane_report.specs.LaneText.{lanes_text}
+use Rattle.lane_report.specs.LevelsMissing.{missing_levels}
+use Rattle.lane_report.specs.RunLaneAudit.{IsSoundByLane, seen_of}
+use Rattle.next_run.specs.LoopText.{loop_text}
+use Rattle.next_run.specs.StepLoops.{IsLoopInStep}
+use Rattle.next_run.specs.declared.step_verdict.StepVerdict.{StepVerdict}
+use Rattle.next_run.specs.declared.step_verdict.StepVerdict.TheVariants.{ByLane, OnOneLane}
+
+-- what is found in a step: on one lane a credit loop and its LIDs, both empty if there is none; or by lane the packets
+-- without a service level, a packet that is dropped for want of a lane, if one is, and a credit loop, empty if there is
+-- none
+pub data Verdict : Type 0 where
+  on_one_lane : List ℕ → List ℕ → Verdict
+  by_lane : Listed PacketPair → Option Dropped → List ℕ → Verdict
+
+abbrev pub verdict_of : StepVerdict → Verdict
+verdict_of (OnOneLane found) = on_one_lane found.channels.items found.lids.items
+verdict_of (ByLane found) = by_lane found.missing found.order.dropped found.order.cycle.items
+
+-- what is found by lane in the step from `held` to `next`: the first packets to LIDs of `next` that have no service
+-- level; a packet that some mixture of the two tables drops for want of a lane, if one does; and a shortest credit loop
+-- of some mixtures
+pub record IsFoundInStep (said : LanesSaid) (answers : Bool) (facts : Facts) (held next : HeldPlan)
+    (missing : Listed PacketPair) (dropped : Option Dropped) (cycle : List ℕ) : Type 0 where
+  pub missing_are : missing ≡ all_listed (most_told false) (missing_levels said (cells_of facts) next)
+  pub drop : IsSomeDropByAny (seen_of facts held said) (next ∷ []) answers dropped
+  pub waits : IsCycleByAny (seen_of facts held said) (next ∷ []) answers cycle
+  pub shortest : NoneShorterByAny (seen_of facts held said) (next ∷ []) answers cycle
+
+-- the verdict on the step from `held` to `next`: on one lane, or by lane if a text gives lanes
+abbrev pub IsVerdict : Option LanesSaid → Bool → Facts → HeldPlan → HeldPlan → Verdict → Type 0
+IsVerdict None answers facts held next (on_one_lane cycle lids) = IsLoopInStep (cells_of facts) held next cycle lids
+IsVerdict None answers facts held next (by_lane missing dropped cycle) = ⊥
+IsVerdict (Some said) answers facts held next (on_one_lane cycle lids) = ⊥
+IsVerdict (Some said) answers facts held next (by_lane missing dropped cycle) =
+    IsFoundInStep said answers facts held next missing dropped cycle
+
+-- the text of a verdict
+abbrev pub verdict_text : Cells → Verdict → List ℕ
+verdict_text cells (on_one_lane cycle lids) = loop_text cells cycle lids
+verdict_text cells (by_lane missing dropped cycle) = lanes_text cells missing dropped cycle
+
+-- nothing was found that is wrong
+abbrev pub IsSound : Verdict → Type 0
+IsSound (on_one_lane cycle lids) = cycle ≡ []
+IsSound (by_lane missing dropped cycle) = IsSoundByLane missing dropped cycle
