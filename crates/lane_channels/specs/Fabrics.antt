@@ -1,6 +1,6 @@
 -- The lanes that packets take in a fabric, and the numbers of their channels. InfiniBand Architecture Specification,
 -- Volume 1: link layer, virtual lanes, service level and SL-to-VL mapping, flow control by credits.
-use Rattle.std.specs.Prelude.{◌≡◌, ◌<◌, ◌≤◌, ◌+◌, ◌*◌, ℕ, zero, suc, Bool, List, Some, IsTrue, slice_get}
+use Rattle.std.specs.Prelude.{◌≡◌, ◌<◌, ◌≤◌, ◌+◌, ◌*◌, ℕ, zero, suc, Bool, List, [], ◌∷◌, Some, IsTrue, slice_get}
 use Rattle.std.specs.Option.{option_map_or}
 use Rattle.fabric_model.specs.declared.cable.NodePort.{NodePort}
 use Rattle.smp_bytes.specs.NodeType.{is_switch}
@@ -12,7 +12,10 @@ use Rattle.subnet_view.specs.Reading.{Cells}
 use Rattle.subnet_view.specs.Agreement.{Part, IsEndPortIn}
 use Rattle.packet_walks.specs.Fabrics.{IsSeenIn}
 use Rattle.audit_channels.specs.Fabrics.{IsChannel}
+use Rattle.held_tables.specs.Held.{HeldPlan}
+use Rattle.next_tables.specs.Mixtures.{IsMixed}
 use Rattle.lanes_file.specs.Lanes.{LanesSaid, lane_of}
+use Rattle.lane_channels.specs.AnyTables.{RiseByAny}
 use Rattle.lane_channels.specs.LaneNetwork.{SeenByLane}
 use Rattle.lane_channels.specs.Levels.{HasLevel}
 use Rattle.lane_channels.specs.Waiting.{RiseByLane}
@@ -72,6 +75,21 @@ LaneChannelsRise =
     → IsSeenIn (IsJoinedTo f origin) (cells_of s.seen.facts) s.seen.held f
     → HoldLanes (IsJoinedTo f origin) s.said f vl → (r : RiseByLane s answers) (level : ℕ) (hops : List Hop)
     → TravelsAt s answers (IsJoinedTo f origin) f level hops → (nth channel next : ℕ)
+    → IsCarried (cells_of s.seen.facts) f vl level hops (nth + 2)
+    → IsLaneChannel (cells_of s.seen.facts) f vl level hops nth channel
+    → IsLaneChannel (cells_of s.seen.facts) f vl level hops (nth + 1) next
+    → r.number channel < r.number next
+
+-- as `LaneChannelsRise`, in a step: numbers rise by the tables of `s` and by those of `next_held`, and for the packet's
+-- LID each switch holds its entry of either
+abbrev pub StepLaneChannelsRise : Type 0
+StepLaneChannelsRise =
+    (s : SeenByLane) (next_held : HeldPlan) (answers : Bool) (f : Fabric) (origin : NodePort) (vl : LaneMaps)
+    → IsEndPort f origin → HoldLanes (IsJoinedTo f origin) s.said f vl
+    → (r : RiseByAny s (next_held ∷ []) answers) (level : ℕ) (hops : List Hop)
+    → (t : TravelsAt s answers (IsJoinedTo f origin) f level hops) (mixed : HeldPlan)
+    → IsMixed (cells_of s.seen.facts) s.seen.held next_held t.lid mixed
+    → IsSeenIn (IsJoinedTo f origin) (cells_of s.seen.facts) mixed f → (nth channel next : ℕ)
     → IsCarried (cells_of s.seen.facts) f vl level hops (nth + 2)
     → IsLaneChannel (cells_of s.seen.facts) f vl level hops nth channel
     → IsLaneChannel (cells_of s.seen.facts) f vl level hops (nth + 1) next

@@ -1,5 +1,5 @@
 //! The laws of channels by lane.
-ghost use Rattle.lane_channels.specs.Fabrics.{LaneChannelsRise};
+ghost use Rattle.lane_channels.specs.Fabrics.{LaneChannelsRise, StepLaneChannelsRise};
 ghost use Rattle.lane_channels.specs.LaneLaws.{AllCarried, NeverBothByLane, OneLaneSuffices};
 
 /// If numbers of channels rise on one lane, numbers of channels by lane rise, whatever the lanes and service levels are.
@@ -26,4 +26,12 @@ pub fn all_carried()
 /// channels by lane with rising numbers, wire after wire.
 pub fn lane_channels_rise()
     ensures law { LaneChannelsRise }
+{}
+
+/// If numbers of channels by lane rise in a step, the facts describe all that is joined to an end port of a fabric, and
+/// the end ports and switches there hold the lanes and, for one LID, each switch its entry in the held or in the next
+/// tables, each packet that such an end port sends for that LID, at its own service level or that of a packet that it
+/// answers, and that is not dropped, takes channels by lane with rising numbers, wire after wire.
+pub fn step_lane_channels_rise()
+    ensures law { StepLaneChannelsRise }
 {}

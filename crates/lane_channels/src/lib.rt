@@ -7,6 +7,7 @@ mod held_by;
 mod lane_network;
 pub mod laws;
 mod loops_by_lane;
+mod step_by_lane;
 mod stop;
 mod visit;
 mod waits_by_lane;
@@ -15,5 +16,6 @@ mod walk_state;
 
 pub use lane_network::LaneNetwork;
 pub use loops_by_lane::{LaneOrder, lane_order};
+pub use step_by_lane::{step_lane_order, step_lane_waits};
 pub use stop::Dropped;
 pub use waits_by_lane::{LaneWaits, lane_waits};

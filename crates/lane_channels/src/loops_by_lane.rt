@@ -37,7 +37,7 @@ pub fn lane_order(
 }
 
 /// Returns the channels of a cycle, or none if numbers rise.
-fn cycle_in(alloc: Global, order: ChannelOrder) -> Vec<usize>
+pub(crate) fn cycle_in(alloc: Global, order: ChannelOrder) -> Vec<usize>
     ensures { result.items ≡ cycle_in order }
 {
     match order {

@@ -80,7 +80,7 @@ fn one_column(alloc: Global, lid: Lid, edges: Vec<Option<Edge>>) -> Result<LidCo
 }
 
 /// Returns what is kept before a packet is followed, for `count` channels by lane.
-fn nothing_followed(alloc: Global, count: usize) -> Result<Walks, AllocError>
+pub(crate) fn nothing_followed(alloc: Global, count: usize) -> Result<Walks, AllocError>
     ensures { IfOk result (λ walks. IsNothing count (walked walks)) }
 {
     let waits = Waits::new(alloc, count)?;
@@ -94,7 +94,7 @@ fn nothing_followed(alloc: Global, count: usize) -> Result<Walks, AllocError>
 }
 
 /// Follows the packets for a LID that end ports send. `owners` are the end ports that hold the LID.
-fn follow_lid(
+pub(crate) fn follow_lid(
     by_lane: &LaneNetwork,
     asked: &Asked,
     columns: &LidColumns,

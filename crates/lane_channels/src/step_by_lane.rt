@@ -1,0 +1,98 @@
+//! Channels by lane that packets take one after the other while switches change from the held tables to the next ones.
+ghost use Rattle.std.specs.Prelude.{◌≡◌, ◌/◌, [], ◌∷◌, IfOk};
+ghost use Rattle.fact_store.specs.View.{cells_of};
+ghost use Rattle.held_tables.specs.Blocks.{AreBlocks};
+ghost use Rattle.packet_walks.specs.Edges.{edges_of};
+ghost use Rattle.lane_channels.specs.AnyTables.{AreWaitsByAny, IsCycleByAny, IsSomeDropByAny, NoneShorterByAny};
+ghost use Rattle.lane_channels.specs.Visits.{columns_in};
+
+use crate::held_by::asked_of;
+use crate::lane_network::LaneNetwork;
+use crate::loops_by_lane::{LaneOrder, cycle_in};
+use crate::waits_by_lane::{LaneWaits, follow_lid, nothing_followed};
+use crate::walk_state::LidColumns;
+use audit_channels::order_channels;
+use next_tables::greater;
+use packet_walks::{Blocks, Network};
+use smp_bytes::Lid;
+use std::alloc::{AllocError, Global};
+
+/// Finds a shortest credit loop of channels by lane, and a packet that is dropped for want of a lane, in a step: each
+/// switch forwards packets for a LID by its entry in the held tables or in those of `next`. LIDs and service levels stay
+/// as they are. If `answers` is set, packets that answer others also have the level of what they answer. Takes what
+/// `step_lane_waits` and `order_channels` take.
+pub fn step_lane_order(
+    alloc: Global,
+    by_lane: &LaneNetwork,
+    next: &Network,
+    answers: bool,
+) -> Result<LaneOrder, AllocError>
+    requires facts { next.now.facts ≡ by_lane.now.seen.facts }
+    ensures cycle { IfOk result (λ found. IsCycleByAny by_lane.now (next.now.held ∷ []) answers found.cycle.items) }
+    ensures shortest { IfOk result (λ found.
+        NoneShorterByAny by_lane.now (next.now.held ∷ []) answers found.cycle.items) }
+    ensures dropped { IfOk result (λ found. IsSomeDropByAny by_lane.now (next.now.held ∷ []) answers found.dropped) }
+{
+    let found = step_lane_waits(alloc, by_lane, next, answers)?;
+    let order = order_channels(alloc, &found.waits)?;
+    let cycle = cycle_in(alloc, order);
+    let dropped = found.dropped;
+    Ok(LaneOrder { cycle, dropped })
+}
+
+/// Follows the packets of each service level that end ports send, for each LID, at each switch by its entry in the held
+/// tables and by that in those of `next`. If `answers` is set, packets that answer others also have the level of what
+/// they answer. Takes what `lane_waits` takes for both tables, but six searches in place of two where packets come in.
+pub fn step_lane_waits(
+    alloc: Global,
+    by_lane: &LaneNetwork,
+    next: &Network,
+    answers: bool,
+) -> Result<LaneWaits, AllocError>
+    requires facts { next.now.facts ≡ by_lane.now.seen.facts }
+    ensures waits { IfOk result (λ found. AreWaitsByAny by_lane.now (next.now.held ∷ []) answers found.waits) }
+    ensures dropped { IfOk result (λ found. IsSomeDropByAny by_lane.now (next.now.held ∷ []) answers found.dropped) }
+{
+    let held = by_lane.network();
+    let count = held.switch_count().checked_mul(4096).ok_or(AllocError)?;
+    let mut walks = nothing_followed(alloc, count)?;
+    let asked = asked_of(alloc, by_lane, answers)?;
+    let mut held_blocks = held.blocks(alloc, 0)?;
+    let mut next_blocks = next.blocks(alloc, 0)?;
+    // No switch forwards packets above both greatest tops.
+    for below in 0..greater(held.greatest_top(), next.greatest_top()).number() {
+        let lid = Lid::new(below + 1);
+        held_blocks = held.blocks_for(alloc, held_blocks, lid)?;
+        next_blocks = next.blocks_for(alloc, next_blocks, lid)?;
+        let columns = two_columns(alloc, held, next, &held_blocks, &next_blocks, lid)?;
+        let owners = held.owners(alloc, lid)?;
+        follow_lid(by_lane, &asked, &columns, &owners, &mut walks)?;
+    }
+    Ok(LaneWaits {
+        waits: walks.waits,
+        dropped: walks.dropped,
+    })
+}
+
+/// Returns the edges of `lid` by the held tables and by the next ones, from the blocks with its entries.
+fn two_columns(
+    alloc: Global,
+    held: &Network,
+    next: &Network,
+    held_blocks: &Blocks,
+    next_blocks: &Blocks,
+    lid: Lid,
+) -> Result<LidColumns, AllocError>
+    requires held { AreBlocks held.now.held held_blocks.now.number held_blocks.now.rows.items }
+    requires held_number { held_blocks.now.number ≡ lid / 64 }
+    requires next { AreBlocks next.now.held next_blocks.now.number next_blocks.now.rows.items }
+    requires next_number { next_blocks.now.number ≡ lid / 64 }
+    ensures lid { IfOk result (λ columns. columns.lid ≡ lid) }
+    ensures columns { IfOk result (λ columns. columns_in columns
+        ≡ edges_of (cells_of held.now.facts) held.now.held lid ∷ edges_of (cells_of next.now.facts) next.now.held lid ∷ []) }
+{
+    let mut columns = Vec::with_capacity(alloc, 2)?;
+    columns.push(held.edges(alloc, held_blocks, lid)?)?;
+    columns.push(next.edges(alloc, next_blocks, lid)?)?;
+    Ok(LidColumns { lid, columns })
+}
