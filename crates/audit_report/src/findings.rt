@@ -6,8 +6,8 @@ ghost use Rattle.audit_ways.specs.Ways.{AreTold, IsToldOfWays, loads_of};
 ghost use Rattle.audit_counts.specs.Packets.{packets_of};
 ghost use Rattle.audit_counts.specs.PacketTally.{IsTally};
 ghost use Rattle.audit_counts.specs.Unmatched.{IsUnmatched};
-ghost use Rattle.audit_report.specs.Passing.{DeliversWithin, EachArrives, EachHasTables, EachHoldsLid, EachNodeIsKnown};
-ghost use Rattle.audit_report.specs.Passing.{IsCycle, IsFound};
+ghost use Rattle.audit_report.specs.Passing.{CanRise, DeliversWithin, EachArrives, EachHasTables, EachHoldsLid};
+ghost use Rattle.audit_report.specs.Passing.{EachNodeIsKnown, IsCycle, IsFound};
 ghost use Rattle.audit_report.specs.Passing.{IsSound, IsWholeFor, Passes, PassesWithin, is_within};
 
 use audit_channels::{ChannelOrder, channel_order};
@@ -140,7 +140,15 @@ impl<'a> Audit<'a> {
     fn is_sound(&self) -> bool
         ensures { IsTrue result ↔ IsSound (cells_of self.now.facts) self.now.held }
     {
-        self.all_arrive() && self.findings.cycle.is_empty()
+        self.all_arrive() && self.can_rise()
+    }
+
+    /// Returns whether channels can be numbered so that the numbers rise along the route of every packet. Then there is
+    /// no credit loop. Takes one step.
+    pub fn can_rise(&self) -> bool
+        ensures { IsTrue result ↔ CanRise (cells_of self.now.facts) self.now.held }
+    {
+        self.findings.cycle.is_empty()
     }
 
     /// Returns whether nothing is missing, each packet arrives, and no channel carries more pairs of adapter ports than

@@ -1,21 +1,8 @@
--- Packets arrive, and by the cycle.
-use Rattle.std.proofs.Common.{◌≡◌, ◌∙◌, ap, subst, arith, length}
-use Rattle.std.specs.Prelude.{IsTrue, ◌↔◌, ◌==◌}
-use Rattle.std.specs.Vec.{vec_len}
-use Rattle.fact_store.specs.View.{cells_of}
-use Rattle.audit_report.specs.Passing.{Audited, CanRise}
-use Rattle.audit_report.proofs.Judged.{rise_is}
+-- Packets arrive, and numbers rise.
 use Rattle.audit_report.proofs.findings.Audit.is_sound.Goals as goal
 
 pub returns-then-all_arrive : goal.returns-then-all_arrive
-returns-then-all_arrive c =
-    let a = c.self.inside in
-    let f = a.findings in
-    let b = c.is_empty.result in
-    let Judges = λ (x : Audited). IsTrue b ↔ CanRise (cells_of x.facts) x.held in
-    let long : vec_len f.cycle ≡ length f.cycle.items = omega (arith, f.cycle.ok.0) in
-    let rise = subst Judges c.self.view_is
-    (rise_is (cells_of a.network.facts) a.network.held f.cycle.items b c.self.invariant.waits (c.is_empty.ensures ∙ ap (λ n. n == 0) long)) in (
-      λ t. record { arrive = c.all_arrive.ensures.0 c.if-all_arrive.true; rise = rise.0 t },
-      λ w. rise.1 w.rise,
-    )
+returns-then-all_arrive c = (
+  λ t. record { arrive = c.all_arrive.ensures.0 c.if-all_arrive.true; rise = c.can_rise.ensures.0 t },
+  λ w. c.can_rise.ensures.1 w.rise,
+)
