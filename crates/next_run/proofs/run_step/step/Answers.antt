@@ -1,5 +1,5 @@
 -- All was made of the same facts and tables.
-use Rattle.std.proofs.Common.{Bool, subst, sym}
+use Rattle.std.proofs.Common.{◌∙◌, Bool, ap, subst, sym}
 use Rattle.std.specs.Io.KnownBytes.{Appends}
 use Rattle.lid_assign.specs.Lids.{Given}
 use Rattle.lft_blocks.specs.Rules.{RuleValue, value_of}
@@ -24,7 +24,7 @@ returns-clause-done g c =
     (next_text given made.next) in
     let Made : Bool × RuleValue → Type 0 =
     λ x. IsMade x.0 rule x.1 store c.in-Ok.from.held (held_plan c.in_ok-plan.plan) made.next (items_of made.order) in
-    let named_is = sym (c.in-Ok-named_rule.ensures rule) in
+    let named_is = sym (c.in-Ok-named_rule.ensures rule) ∙ ap (preferred_rule asked.held_order rule) c.deref.ensures.value in
     let is_made = subst Made (λ i. (c.is_told-by_told.ensures i, named_is i)) c.in-Ok-made_step.ensures.made in
     let Judged : Bool → Type 0 = λ answers. IsVerdict found.lanes answers store c.in-Ok.from.held made.next (verdict_of c.in-Ok-of.verdict) in
     step_is asked.lmc (is_told asked.held_order) rule preferred found.lanes (has_answers asked.lanes)
