@@ -1,10 +1,8 @@
 -- Numbers of channels by lane.
-use Rattle.std.proofs.Common.{◌≡◌, ◌<◌, ◌+◌, ◌*◌, ◌/◌, ◌%◌, ℕ, Bool, List, [], ◌∷◌, inl, inr, sym, ap, ◌∙◌, subst, arith}
+use Rattle.std.proofs.Common.{◌≡◌, ◌<◌, ◌+◌, ◌*◌, ◌/◌, ◌%◌, ℕ, Bool, List, [], ◌∷◌, inl, inr, arith}
 use Rattle.std.specs.Prelude.{slice_index_or}
 use Rattle.fact_store.specs.View.{cells_of}
 use Rattle.audit_channels.specs.Columns.{TakesAcross, number_of}
-use Rattle.audit_channels.specs.Waiting.{RiseOnWays}
-use Rattle.lane_channels.specs.declared.stop.Dropped.{Dropped}
 use Rattle.lane_channels.specs.LaneNetwork.{SeenByLane}
 use Rattle.lane_channels.specs.LaneLaws.{AllCarried, NeverBothByLane, OneLaneSuffices}
 use Rattle.lane_channels.specs.Stops.{guid_at, lane_between, lane_by, port_across}
