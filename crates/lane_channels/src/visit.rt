@@ -1,5 +1,6 @@
 //! Visits of stops.
 ghost use Rattle.std.specs.Prelude.{◌≡◌, ◌<◌, ◌≤◌, ◌+◌, ◌*◌, ◌/◌, ◌^◌, None, OnOk, Some, length, slice_index_or, slice_set};
+ghost use Rattle.std.specs.Option.{option_or};
 ghost use Rattle.fact_store.specs.View.{cells_of};
 ghost use Rattle.subnet_view.specs.Reading.{switches};
 ghost use Rattle.lane_channels.specs.Stops.{HasEdge};
@@ -112,7 +113,7 @@ fn leave_along(
             stop,
             out,
         };
-        walks.dropped = walks.dropped.or(Some(dropped));
+        note(&mut walks.dropped, dropped);
         return Ok(());
     };
     let channel = lane_number(at, out, lane);
@@ -130,6 +131,13 @@ fn leave_along(
         walks.stops.push(stop_at(to, into_there))?;
     }
     Ok(())
+}
+
+/// Notes `dropped` if no packet is noted yet.
+fn note(noted: &mut Option<Dropped>, dropped: Dropped)
+    ensures { noted.new ≡ option_or noted.old (Some dropped) }
+{
+    *noted = noted.or(Some(dropped));
 }
 
 /// Records that packets of `level` which come in at the switch at `index` by port `into` take, after `channel`, the
