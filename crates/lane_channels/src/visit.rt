@@ -40,8 +40,8 @@ pub(crate) fn visit_if_new(
 }
 
 /// Marks `stop`. Records the channels that a packet of `level` can take from there one after the other, notes it if it
-/// can be dropped there and no packet is noted yet, and adds the stops to which it can go. Takes a search for each column
-/// and one for each pair of columns.
+/// can be dropped there and no packet is noted yet, and adds the stops to which it can go. Takes a search for each edge here
+/// and one for each edge of the next switch.
 fn visit(
     by_lane: &LaneNetwork,
     columns: &LidColumns,
@@ -79,7 +79,7 @@ fn leave(
         (walking walks.new)) }
 {
     for nth in 0..columns.columns.len() {
-        if let Some(edge) = columns.edge(stop / 256, nth) {
+        if let Some(edge) = columns.other_edge(stop / 256, nth) {
             leave_along(by_lane, columns, level, stop, edge, walks)?;
         }
     }
@@ -159,7 +159,7 @@ fn record(
         (cells_of by_lane.now.seen.facts) (HasEdge (columns_in columns.now) index) level index into) waits.new) }
 {
     for nth in 0..columns.columns.len() {
-        if let Some(edge) = columns.edge(index, nth) {
+        if let Some(edge) = columns.other_edge(index, nth) {
             record_along(by_lane, level, index, into, edge, channel, waits)?;
         }
     }
