@@ -2,7 +2,8 @@
 use Rattle.std.proofs.Common.{◌≡◌, ◌∙◌, ◌==◌, ◌↔◌, ◌++◌, ℕ, Bool, List, [], ◌∷◌, Option, None, Result, Ok, Err, IsTrue, length, ap, inl, inr, subst, sym}
 use Rattle.std.proofs.lemmas.Bool.{eqb-true}
 use Rattle.std.proofs.lemmas.List.{nil_from_length}
-use Rattle.std.specs.Prelude.{OnErr, OnOk}
+use Rattle.std.specs.Prelude.{◌⊎◌, IfErr, OnErr, OnOk}
+use Rattle.std.specs.Result.{IsErrAnd}
 use Rattle.std.specs.Io.KnownBytes.{Appends}
 use Rattle.byte_io.specs.declared.sink.WriteFault.{WriteFault}
 use Rattle.fact_store.specs.View.{Facts, cells_of}
@@ -14,6 +15,8 @@ use Rattle.held_tables.specs.Held.{HeldPlan}
 use Rattle.held_tables.specs.PlanTables.{held_plan}
 use Rattle.tables_file.specs.TablesText.{next_text}
 use Rattle.next_tables.specs.NextTables.{first_moved}
+use Rattle.sm_cli.specs.declared.fault.Fault.{Fault}
+use Rattle.sm_cli.specs.declared.fault.Fault.TheVariants.{Write}
 use Rattle.sm_cli.proofs.Plans.{has_room}
 use Rattle.step_loops.specs.StepOrder.{NoneShorter, WaitInCycle}
 use Rattle.lanes_file.specs.Lanes.{LanesSaid}
@@ -36,6 +39,16 @@ pub was_said : {W : Type 0} (written : W → Option (List ℕ)) (has_failed : W 
     → OnOk result (Appends (written old) (written new) text) → OnErr result (IsTrue (has_failed new)) → IsSaid written has_failed old new text
 was_said written has_failed (Ok u) old new text ok err = inr ok
 was_said written has_failed (Err fault) old new text ok err = inl err
+
+-- a write that fails is told as such
+pub not_written : {A : Type 0} (result : Result A Fault) (P : Type 0) → IsErrAnd result (λ fault. fault ≡ Write) → OnErr result ((result ≡ Err Write) ⊎ P)
+not_written (Ok a) P gives = tt
+not_written (Err fault) P gives = inl (ap Err gives)
+
+pub stops : {A : Type 0} (result : Result A Fault) (Stops : Fault → Type 0) → IsErrAnd result (λ fault. fault ≡ Write) → Stops Write
+    → IfErr result Stops
+stops (Ok a) Stops gives so = tt
+stops (Err fault) Stops gives so = subst Stops (sym gives) so
 
 module _ (lmc : ℕ) (told : Bool) (rule preferred : RuleValue) (lanes : Option LanesSaid) (answers : Bool) (facts : Facts) (held : HeldPlan) (plan : PlanValue)
     (is_plan : plan ≡ plan_of rule lmc (cells_of facts)) (from next : HeldPlan) (order : Option (List ℕ)) (is_from : from ≡ held)

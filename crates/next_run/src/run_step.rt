@@ -24,9 +24,7 @@ use held_tables::Held;
 use lft_blocks::{Plan, Rule, SwitchOrder};
 use next_tables::{StepFault, StepRule, next_tables};
 use packet_walks::Network;
-use sm_cli::{
-    Fault, StepInputs, StepReader, TextFault, read_inputs, texts_if,
-};
+use sm_cli::{Fault, StepInputs, StepReader, TextFault, read_inputs, texts_if};
 use smp_bytes::Guid;
 use std::alloc::{AllocError, Global};
 use tables_file::write_next;
@@ -120,7 +118,16 @@ fn step<W: Sink, E: Sink>(
         return Err(Fault::Memory);
     };
     let input = texts_before(asked);
-    let made = match made_step(alloc, input, by_told, &read.store, rule, &named, &from, &plan) {
+    let made = match made_step(
+        alloc,
+        input,
+        by_told,
+        &read.store,
+        rule,
+        &named,
+        &from,
+        &plan,
+    ) {
         Ok(made) => made,
         Err(fault) => return Err(fault),
     };

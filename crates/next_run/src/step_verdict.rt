@@ -3,7 +3,7 @@ ghost use Rattle.std.specs.Prelude.{◌≡◌, ◌↔◌, [], ◌∷◌, IfOk, I
 ghost use Rattle.fact_store.specs.View.{cells_of};
 ghost use Rattle.lft_blocks.specs.WritesPart.{WritesPart};
 ghost use Rattle.lane_channels.specs.AnyTables.{IsCycleByAny, IsSomeDropByAny, NoneShorterByAny};
-ghost use Rattle.lane_report.specs.RunLaneAudit.{seen_by};
+ghost use Rattle.lane_report.specs.RunLaneAudit.{seen_of};
 ghost use Rattle.next_run.specs.StepVerdict.{CanRise, IsFoundInStep, IsSound, IsVerdict, verdict_of, verdict_text};
 
 use crate::step_loop::StepLoop;
@@ -103,12 +103,12 @@ fn order_in_step(
     after: &Network,
 ) -> Result<LaneOrder, Refused>
     requires { after.now.facts ≡ from.now.facts }
-    ensures cycle { IfOk result (λ found. IsCycleByAny (seen_by from.now lanes.now) (after.now.held ∷ []) answers
+    ensures cycle { IfOk result (λ found. IsCycleByAny (seen_of from.now.facts from.now.held lanes.now) (after.now.held ∷ []) answers
         found.cycle.items) }
     ensures shortest { IfOk result (λ found.
-        NoneShorterByAny (seen_by from.now lanes.now) (after.now.held ∷ []) answers found.cycle.items) }
+        NoneShorterByAny (seen_of from.now.facts from.now.held lanes.now) (after.now.held ∷ []) answers found.cycle.items) }
     ensures dropped { IfOk result (λ found.
-        IsSomeDropByAny (seen_by from.now lanes.now) (after.now.held ∷ []) answers found.dropped) }
+        IsSomeDropByAny (seen_of from.now.facts from.now.held lanes.now) (after.now.held ∷ []) answers found.dropped) }
 {
     if lanes.carries_all() && can_rise(alloc, from, after)? {
         return Ok(LaneOrder {

@@ -1,15 +1,16 @@
 -- All was made of the same facts and tables.
-use Rattle.std.proofs.Common.{◌∙◌, Bool, ap, subst, sym}
+use Rattle.std.proofs.Common.{◌∙◌, Bool, ap, refl, subst, sym}
 use Rattle.std.specs.Io.KnownBytes.{Appends}
 use Rattle.lid_assign.specs.Lids.{Given}
 use Rattle.lft_blocks.specs.Rules.{RuleValue, value_of}
 use Rattle.held_tables.specs.PlanTables.{held_plan}
+use Rattle.sm_cli.specs.declared.fault.Fault.{Fault}
 use Rattle.tables_file.specs.TablesText.{next_text}
 use Rattle.next_run.specs.Asked.{has_answers, is_told, preferred_rule}
-use Rattle.next_run.specs.RunNext.{IsMade, IsSaid}
+use Rattle.next_run.specs.RunNext.{IsMade, IsSaid, StopsStep, texts_before}
 use Rattle.next_run.specs.StepOrderText.{items_of}
 use Rattle.next_run.specs.StepVerdict.{IsVerdict, verdict_of}
-use Rattle.next_run.proofs.StepIs.{step_is, was_said}
+use Rattle.next_run.proofs.StepIs.{not_written, step_is, stops, was_said}
 use Rattle.next_run.proofs.run_step.step.Goals as goal
 
 pub returns-clause-done : goal.returns-clause-done
@@ -37,3 +38,14 @@ returns-clause-done g c =
     (subst Printed c.lids.ensures c.in_ok-write_next.ensures.writes.ok)
     (was_said g.E.Sink.written g.E.Sink.has_failed c.write_told.result _ _ _ c.write_told.ensures.ok c.write_told.ensures.err)
     c.is_sound.ensures
+
+pub returns-in_err-write_next-clause-refused : goal.returns-in_err-write_next-clause-refused
+returns-in_err-write_next-clause-refused g c =
+    let read = c.args.found.now.others.read in
+    let Stops : Fault → Type 0 = λ fault. StopsStep (texts_before c.args.asked) c.args.asked.lmc (value_of c.args.rule.now) read.store read.held
+    (g.W.Sink.has_failed c.write_next.new.sink) fault in
+    stops c.from_residual-in_err-write_next.result Stops c.from_residual-in_err-write_next.ensures.1 (c.in_err-write_next.ensures.writes.failed.0 refl)
+
+pub returns-in_err-write_next-clause-nothing_written : goal.returns-in_err-write_next-clause-nothing_written
+returns-in_err-write_next-clause-nothing_written g c =
+    not_written c.from_residual-in_err-write_next.result _ c.from_residual-in_err-write_next.ensures.1

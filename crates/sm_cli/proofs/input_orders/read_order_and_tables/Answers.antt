@@ -31,13 +31,16 @@ pub returns-in-Err-read_tables_and_files-clause-refused : goal.returns-in-Err-re
 returns-in-Err-read_tables_and_files-clause-refused g c =
     let Refused : ℕ → Type 0 = λ texts. AreNoTablesAndFiles g.S.Source.state (c.args.before + texts) c.split_at_mut-texts.result.1.now
     c.read_tables_and_files.new.inputs c.in-Err-read_tables_and_files.fault in
-    inr (c.in-Ok.order.items, record {
-      were = record {
-        first = c.split_at_mut-texts.result.0.now;
-        others = c.split_at_mut-texts.result.1.now;
-        are = c.split_at_mut-texts.ensures.value;
-      };
-      are = record { first = c.read_order.new.texts; others = c.read_tables_and_files.new.inputs; are = refl };
-      first_is = c.in-Ok.ensures.read;
-      others_are = subst Refused c.texts_if-count.ensures c.in-Err-read_tables_and_files.ensures.refused;
-    })
+    inr (
+      c.in-Ok.order.items,
+      record {
+        were = record {
+          first = c.split_at_mut-texts.result.0.now;
+          others = c.split_at_mut-texts.result.1.now;
+          are = c.split_at_mut-texts.ensures.value;
+        };
+        are = record { first = c.read_order.new.texts; others = c.read_tables_and_files.new.inputs; are = refl };
+        first_is = c.in-Ok.ensures.read;
+        others_are = subst Refused c.texts_if-count.ensures c.in-Err-read_tables_and_files.ensures.refused;
+      },
+    )

@@ -31,13 +31,16 @@ pub returns-in-Err-read_order_and_tables-clause-refused : goal.returns-in-Err-re
 returns-in-Err-read_order_and_tables-clause-refused g c =
     let Refused : ℕ → Type 0 = λ texts. AreNoOrderAndTables g.S.Source.state c.args.asked.now.has_order (c.args.before + texts)
     c.split_at_mut-texts.result.1.now c.read_order_and_tables.new.inputs c.in-Err-read_order_and_tables.fault in
-    inr (c.in-Ok.lanes, record {
-      were = record {
-        first = c.split_at_mut-texts.result.0.now;
-        others = c.split_at_mut-texts.result.1.now;
-        are = c.split_at_mut-texts.ensures.value;
-      };
-      are = record { first = c.read_lanes_if.new.texts; others = c.read_order_and_tables.new.inputs; are = refl };
-      first_is = c.in-Ok.ensures.read;
-      others_are = subst Refused c.texts_if-count.ensures c.in-Err-read_order_and_tables.ensures.refused;
-    })
+    inr (
+      c.in-Ok.lanes,
+      record {
+        were = record {
+          first = c.split_at_mut-texts.result.0.now;
+          others = c.split_at_mut-texts.result.1.now;
+          are = c.split_at_mut-texts.ensures.value;
+        };
+        are = record { first = c.read_lanes_if.new.texts; others = c.read_order_and_tables.new.inputs; are = refl };
+        first_is = c.in-Ok.ensures.read;
+        others_are = subst Refused c.texts_if-count.ensures c.in-Err-read_order_and_tables.ensures.refused;
+      },
+    )
