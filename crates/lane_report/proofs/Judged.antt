@@ -1,6 +1,5 @@
 -- When tables pass by lane.
-use Rattle.std.proofs.Common.{◌≡◌, ℕ, List, [], ◌∷◌, Option, None, Some, refl, sym, ap, ◌∙◌, subst, arith, Bool, length}
-use Rattle.std.specs.Prelude.{IsTrue, ◌↔◌}
+use Rattle.std.proofs.Common.{◌≡◌, ℕ, List, [], ◌∷◌, Option, None, Some, refl, sym, ap, ◌∙◌, arith, Bool, length}
 use Rattle.fact_store.specs.View.{cells_of}
 use Rattle.audit_counts.specs.FirstFew.{Listed}
 use Rattle.audit_report.specs.Passing.{DeliversWithin}

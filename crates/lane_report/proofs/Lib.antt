@@ -1,2 +1,3 @@
 pub mod Judged
 pub mod Leveled
+pub mod NoneMissing

@@ -1,5 +1,5 @@
 -- Packets without a service level.
-use Rattle.std.specs.Prelude.{Bool, not, ◌&&◌, List, [], Option, None, Some, filter, map, is_some, if◌then◌else◌}
+use Rattle.std.specs.Prelude.{Bool, not, ◌&&◌, List, [], filter, map, is_some, if◌then◌else◌}
 use Rattle.std.specs.List.{flat_map}
 use Rattle.subnet_view.specs.Reading.{Cells}
 use Rattle.subnet_view.specs.EndPorts.{end_ports}

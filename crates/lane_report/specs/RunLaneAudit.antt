@@ -4,7 +4,6 @@ use Rattle.std.specs.Prelude.{◌≡◌, ◌↔◌, ◌⊎◌, ◌++◌, ℕ, Bo
 use Rattle.byte_io.specs.Source.{SourceState}
 use Rattle.fact_store.specs.View.{Facts, cells_of}
 use Rattle.held_tables.specs.Held.{HeldPlan}
-use Rattle.packet_walks.specs.Network.{Seen}
 use Rattle.audit_counts.specs.FirstFew.{Listed, all_listed}
 use Rattle.audit_report.specs.AuditText.{findings_text}
 use Rattle.audit_report.specs.Passing.{DeliversWithin}
@@ -22,11 +21,8 @@ use Rattle.sm_cli.specs.InputLanes.{AreLanesAndFiles, AreNoLanesAndFiles}
 use Rattle.sm_cli.specs.declared.input_lanes.LanesAndFiles.{LanesAndFiles}
 
 -- facts, tables and lanes
-abbrev pub seen_by : Seen → LanesSaid → SeenByLane
-seen_by seen said = record { seen = seen; said = said }
-
 abbrev pub seen_of : Facts → HeldPlan → LanesSaid → SeenByLane
-seen_of facts held said = seen_by (record { facts = facts; held = held }) said
+seen_of facts held said = record { seen = record { facts = facts; held = held }; said = said }
 
 -- what is found by lane: packets without a service level, at most `most` of them listed, a packet that is dropped for
 -- want of a lane, if one is, and a shortest credit loop, if there is one

@@ -1,24 +1,23 @@
 //! An audit by lane of a text of lanes, of tables and of files of records.
-ghost use Rattle.std.specs.Prelude.{◌≡◌, ◌≤◌, ◌↔◌, ◌⊎◌, ◌++◌, Err, IfErr, IfOk, IsTrue, OnErr, OnOk, false, length};
+ghost use Rattle.std.specs.Prelude.{◌≡◌, ◌≤◌, ◌⊎◌, ◌++◌, Err, IfErr, IfOk, IsTrue, OnErr, OnOk, false, length};
 ghost use Rattle.std.specs.Io.KnownBytes.{Appends};
 ghost use Rattle.fact_store.specs.View.{cells_of};
 ghost use Rattle.audit_report.specs.AuditText.{findings_text};
 ghost use Rattle.audit_report.specs.RunAudit.{IsAnswerFault};
 ghost use Rattle.lane_report.specs.LaneText.{lanes_text};
 ghost use Rattle.lane_report.specs.RunLaneAudit.{HasAuditedByLane, IsAuditedByLane, IsFoundByLane, IsLaneAuditFault};
-ghost use Rattle.lane_report.specs.RunLaneAudit.{IsSoundByLane, IsTold, seen_by, seen_of};
+ghost use Rattle.lane_report.specs.RunLaneAudit.{IsTold, seen_of};
+ghost use Rattle.lane_channels.specs.Waiting.{IsLaneCycle, IsSomeDrop, NoneShorter};
 ghost use Rattle.byte_io.specs.Writes.{Writes};
 ghost use Rattle.sm_cli.specs.InputLanes.{AreLanesAndFiles, AreNoLanesAndFiles};
 
-use crate::lane_text::{write_dropped, write_lane_cycle, write_missing};
-use crate::levels_missing::{PacketPair, pairs_without_level};
-use audit_counts::{FirstFew, sites};
+use crate::lane_findings::LaneFindings;
+use crate::levels_missing::pairs_without_level;
 use audit_report::{Audit, AuditAsked, most_told, write_findings};
 use byte_io::{Sink, Source, WriteFault};
 use fact_store::Refused;
 use lane_channels::{LaneNetwork, LaneOrder, lane_order};
 use lanes_file::Lanes;
-use packet_walks::Network;
 use sm_cli::{Fault, LanesAndFiles, TablesAndFacts, read_lanes_and_files};
 use std::alloc::Global;
 
@@ -29,15 +28,6 @@ pub struct LaneAuditAsked {
     pub audit: AuditAsked,
     /// Whether packets that answer others also have the service level of what they answer.
     pub answers: bool,
-}
-
-/// What an audit finds by lane.
-#[derive(Drop)]
-struct LaneFindings {
-    /// The packets without a service level.
-    missing: FirstFew<PacketPair>,
-    /// A credit loop and a packet that is dropped, if there are any.
-    order: LaneOrder,
 }
 
 /// Reads the lanes from the first input, the tables from the second and then the files in order. Writes what these
@@ -114,7 +104,7 @@ fn answer<W: Sink>(
     let Ok(audit) = Audit::of(alloc, most, &read.store, &read.held) else {
         return Err(Fault::Memory);
     };
-    let Ok(found) = findings(alloc, most, audit.network(), lanes, asked.answers) else {
+    let Ok(found) = findings(alloc, most, &audit, lanes, asked.answers) else {
         return Err(Fault::Memory);
     };
     tell(sink, asked, &audit, lanes, &found)
@@ -125,18 +115,42 @@ fn answer<W: Sink>(
 fn findings(
     alloc: Global,
     most: usize,
-    network: &Network,
+    audit: &Audit,
     lanes: &Lanes,
     answers: bool,
 ) -> Result<LaneFindings, Refused>
-    ensures { IfOk result (λ found. IsFoundByLane most (seen_by network.now lanes.now) answers found.missing
-        found.order.dropped found.order.cycle.items) }
+    ensures { IfOk result (λ found. IsFoundByLane most (seen_of audit.now.facts audit.now.held lanes.now) answers
+        found.missing found.order.dropped found.order.cycle.items) }
 {
-    let sites = sites(alloc, network.store())?;
-    let missing = pairs_without_level(alloc, most, network, &sites, lanes)?;
-    let by_lane = LaneNetwork::of(alloc, network, lanes)?;
-    let order = lane_order(alloc, &by_lane, answers)?;
+    let missing = pairs_without_level(alloc, most, audit.network(), lanes)?;
+    let order = order_by_lane(alloc, audit, lanes, answers)?;
     Ok(LaneFindings { missing, order })
+}
+
+/// Finds a shortest credit loop of channels by lane, and a packet that is dropped for want of a lane. There is neither,
+/// whatever lanes packets take, if numbers of channels rise on one lane and each packet has a lane below 15: only
+/// otherwise packets are followed by lane.
+fn order_by_lane(
+    alloc: Global,
+    audit: &Audit,
+    lanes: &Lanes,
+    answers: bool,
+) -> Result<LaneOrder, Refused>
+    ensures cycle { IfOk result (λ found. IsLaneCycle (seen_of audit.now.facts audit.now.held lanes.now) answers
+        found.cycle.items) }
+    ensures shortest { IfOk result (λ found. NoneShorter (seen_of audit.now.facts audit.now.held lanes.now) answers
+        found.cycle.items) }
+    ensures dropped { IfOk result (λ found. IsSomeDrop (seen_of audit.now.facts audit.now.held lanes.now) answers
+        found.dropped) }
+{
+    if audit.can_rise() && lanes.carries_all() {
+        return Ok(LaneOrder {
+            cycle: Vec::new(alloc),
+            dropped: None,
+        });
+    }
+    let by_lane = LaneNetwork::of(alloc, audit.network(), lanes)?;
+    Ok(lane_order(alloc, &by_lane, answers)?)
 }
 
 /// Writes what an audit found, and flushes. Returns whether the tables pass by lane and no channel carries more pairs
@@ -159,16 +173,9 @@ fn tell<W: Sink>(
     ensures refused { IfErr result (IsAnswerFault (W.has_failed sink.new)) }
     ensures nothing_written { OnErr result ((result ≡ Err Fault.Write) ⊎ (sink.new ≡ sink.old)) }
 {
-    let passed = audit.delivers_within(asked.audit.max_load) && is_sound(found);
+    let passed = audit.delivers_within(asked.audit.max_load) && found.is_sound();
     write_all(sink, audit, found)?;
     Ok(passed)
-}
-
-/// Returns whether each packet has a service level, none is dropped for want of a lane, and there is no credit loop.
-fn is_sound(found: &LaneFindings) -> bool
-    ensures { IsTrue result ↔ IsSoundByLane found.now.missing found.now.order.dropped found.now.order.cycle.items }
-{
-    found.missing.count() == 0 && found.order.dropped.is_none() && found.order.cycle.is_empty()
 }
 
 /// Writes an audit with what was found by lane in place of its credit loop, and flushes.
@@ -179,8 +186,6 @@ fn write_all<W: Sink>(sink: &mut W, audit: &Audit, found: &LaneFindings) -> Resu
     ensures flushed { OnOk result (IsTrue (W.is_flushed sink.new)) }
 {
     write_findings(sink, audit)?;
-    write_missing(sink, &found.missing)?;
-    write_dropped(sink, audit.network(), found.order.dropped)?;
-    write_lane_cycle(sink, audit.network(), &found.order.cycle)?;
+    found.write(sink, audit.network())?;
     sink.flush()
 }

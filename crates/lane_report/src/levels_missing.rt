@@ -7,7 +7,8 @@ ghost use Rattle.audit_counts.specs.Sites.{site_of};
 ghost use Rattle.lane_report.specs.declared.levels_missing.PacketPair.{PacketPair as Pair};
 ghost use Rattle.lane_report.specs.LevelsMissing.{lacks_level, missing_for, missing_levels};
 
-use audit_counts::{FirstFew, Site, are_adapters, index_of, site_in};
+use audit_counts::{FirstFew, Site, are_adapters, index_of, site_in, sites};
+use fact_store::Refused;
 use held_tables::HeldLid;
 use lanes_file::Lanes;
 use packet_walks::{Network, is_same_end};
@@ -23,9 +24,27 @@ pub struct PacketPair {
 }
 
 /// Finds the packets without a service level that adapter ports send to the LIDs of other adapter ports of their
-/// components. Keeps the first `most`, in the order of the LIDs and then of the end ports. Takes a search for each LID
-/// and each end port.
+/// components. Keeps the first `most`, in the order of the LIDs and then of the end ports. Takes one step if the text
+/// gives each packet a level, else what `sites` takes, and a search for each LID and each end port.
 pub fn pairs_without_level(
+    alloc: Global,
+    most: usize,
+    network: &Network,
+    lanes: &Lanes,
+) -> Result<FirstFew<PacketPair>, Refused>
+    ensures { IfOk result (λ few. few
+        ≡ all_listed most (missing_levels lanes.now (cells_of network.now.facts) network.now.held)) }
+{
+    if lanes.has_level_for_all() {
+        return Ok(FirstFew::new(alloc, most));
+    }
+    let sites = sites(alloc, network.store())?;
+    Ok(pairs_at_sites(alloc, most, network, &sites, lanes)?)
+}
+
+/// Finds the packets without a service level. `sites` has the site of each end port. Takes a search for each LID and
+/// each end port.
+fn pairs_at_sites(
     alloc: Global,
     most: usize,
     network: &Network,

@@ -1,7 +1,5 @@
 -- What was written, and whether the tables pass.
 use Rattle.std.proofs.Common.{◌∙◌, sym}
-use Rattle.audit_report.specs.Passing.{DeliversWithin}
-use Rattle.fact_store.specs.View.{cells_of}
 use Rattle.lane_report.specs.RunLaneAudit.{seen_of}
 use Rattle.lane_report.proofs.Judged.{is_sound, passes}
 use Rattle.lane_report.proofs.lane_run.tell.Goals as goal

@@ -1,52 +1,10 @@
--- A LID more.
-use Rattle.std.proofs.Common.{◌≡◌, ◌∙◌, ◌++◌, ◌+◌, List, [], sym, ap, subst, arith, cond, take}
-use Rattle.std.specs.Prelude.{Option, map}
-use Rattle.std.specs.List.{flat_map}
+-- A level for all, or a search.
+use Rattle.std.proofs.Common.{◌∙◌, sym}
 use Rattle.fact_store.specs.View.{cells_of}
-use Rattle.subnet_view.specs.EndPorts.{end_ports}
-use Rattle.held_tables.specs.Tables.{is_owner}
-use Rattle.audit_counts.specs.declared.site.Site.{Site}
-use Rattle.audit_counts.specs.FirstFew.{all_listed}
-use Rattle.audit_counts.specs.Sites.{IsSiteOf, site_of}
-use Rattle.audit_counts.proofs.Sited.{no_site, site_is}
-use Rattle.lane_report.specs.declared.levels_missing.PacketPair.{PacketPair}
-use Rattle.lane_report.specs.LevelsMissing.{missing_at, missing_for}
-use Rattle.lane_report.proofs.Leveled.{flat_all, flat_none, flat_one}
+use Rattle.lane_report.proofs.NoneMissing.{nothing_listed}
 use Rattle.lane_report.proofs.levels_missing.pairs_without_level.Goals as goal
-use Rattle.lane_report.proofs.levels_missing.pairs_without_level.Goals.{in-Some+in_ok-add_for, in_default}
 
-pub loop-line-preserved : goal.loop-line-preserved
-loop-line-preserved c =
-    let cells = cells_of c.args.network.now.facts in
-    let said = c.args.lanes.now in
-    let sites = c.args.sites.now in
-    let lines = c.lids-line-items.result.now in
-    let line = c.line-item.result in
-    let port = line.port in
-    let n = c.loop-line.line-index in
-    let few = c.loop-line.few in
-    let most = c.args.most in
-    let f = missing_at said cells in
-    elim c.match-site_in.branch [
-      | in-Some+in_ok-add_for w ↦
-          let is = site_is cells port (end_ports cells) sites c.requires w.in-Some.owner
-          (subst (λ (o : Option Site). IsSiteOf sites port o) (sym c.site_in.ensures ∙ w.in-Some.is) c.index_of-index.ensures) in
-          let same : missing_for said sites line w.in-Some.owner ≡ f line =
-          (λ i. missing_for said (c.requires i) line (is.0 i))
-          ∙ sym (ap (λ t. cond t (missing_for said (map (site_of cells) (end_ports cells)) line (site_of cells port)) []) is.1) in
-          flat_one most f lines n line c.match-site_in.few c.loop-line-test.true c.line-item.is
-          (w.few-is ∙ w.in_ok-add_for.ensures most (flat_map f (take n lines)) c.loop-line.invariant ∙ ap (λ t. all_listed most (flat_map f (take n lines) ++ t)) same)
-      | in_default w ↦
-          flat_none most f lines n line few c.match-site_in.few c.loop-line.invariant c.loop-line-test.true c.line-item.is
-          (ap (λ t. cond t (missing_for said (map (site_of cells) (end_ports cells)) line (site_of cells port)) [])
-          (no_site cells port (end_ports cells) sites c.requires
-          (subst (λ (o : Option Site). IsSiteOf sites port o) (sym c.site_in.ensures ∙ w.in_default.is) c.index_of-index.ensures)))
-          w.few-is
-    ]
-
-pub returns : goal.returns
-returns c =
-    let cells = cells_of c.args.network.now.facts in
-    let f = missing_at c.args.lanes.now cells in
-    flat_all c.args.most f c.lids-line-items.result.now c.loop-line.line-index c.loop-line.few c.loop-line.invariant (omega arith)
-    ∙ ap (λ lines. all_listed c.args.most (flat_map f lines)) c.lids-line-items.ensures
+pub returns-then-has_level_for_all : goal.returns-then-has_level_for_all
+returns-then-has_level_for_all c =
+    nothing_listed c.args.lanes.now (cells_of c.args.network.now.facts) (sym c.has_level_for_all.ensures ∙ c.if-has_level_for_all.true) c.args.most
+    c.args.network.now.held c.new.result c.new.ensures

@@ -3,7 +3,7 @@ use Rattle.std.specs.List.{flat_map}
 use Rattle.fact_store.specs.View.{cells_of}
 use Rattle.audit_counts.specs.FirstFew.{all_listed}
 use Rattle.lane_report.specs.LevelsMissing.{missing_at}
-use Rattle.lane_report.proofs.levels_missing.pairs_without_level.Given as goal
+use Rattle.lane_report.proofs.levels_missing.pairs_at_sites.Given as goal
 
 -- those for the LIDs so far
 abbrev pub invariant-loop-line : goal.invariant-loop-line

@@ -1,0 +1,42 @@
+//! What is found by lane, and its text.
+ghost use Rattle.std.specs.Prelude.{◌↔◌, IsTrue};
+ghost use Rattle.fact_store.specs.View.{cells_of};
+ghost use Rattle.lft_blocks.specs.WritesPart.{WritesPart};
+ghost use Rattle.lane_report.specs.LaneText.{lanes_text};
+ghost use Rattle.lane_report.specs.RunLaneAudit.{IsSoundByLane};
+
+use crate::lane_text::{write_dropped, write_lane_cycle, write_missing};
+use crate::levels_missing::PacketPair;
+use audit_counts::FirstFew;
+use byte_io::{Sink, WriteFault};
+use lane_channels::LaneOrder;
+use packet_walks::Network;
+
+/// What is found by lane.
+#[derive(Drop)]
+pub struct LaneFindings {
+    /// The packets without a service level.
+    pub missing: FirstFew<PacketPair>,
+    /// A credit loop and a packet that is dropped for want of a lane, if there are any.
+    pub order: LaneOrder,
+}
+
+impl LaneFindings {
+    /// Returns whether each packet has a service level, none is dropped for want of a lane, and there is no credit loop.
+    pub fn is_sound(&self) -> bool
+        ensures { IsTrue result ↔ IsSoundByLane self.now.missing self.now.order.dropped self.now.order.cycle.items }
+    {
+        self.missing.count() == 0 && self.order.dropped.is_none() && self.order.cycle.is_empty()
+    }
+
+    /// Writes the first packets without a service level and how many more there are, then a packet that is dropped, if
+    /// one is, and then the credit loop, or that there is none.
+    pub fn write<W: Sink>(&self, sink: &mut W, network: &Network) -> Result<(), WriteFault>
+        ensures { WritesPart W.written W.has_failed result sink.old sink.new
+            (lanes_text (cells_of network.now.facts) self.now.missing self.now.order.dropped self.now.order.cycle.items) }
+    {
+        write_missing(sink, &self.missing)?;
+        write_dropped(sink, network, self.order.dropped)?;
+        write_lane_cycle(sink, network, &self.order.cycle)
+    }
+}
