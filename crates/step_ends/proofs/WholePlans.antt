@@ -1,5 +1,5 @@
 -- The plans of views with room are whole.
-use Rattle.std.proofs.Common.{◌≡◌, ◌∙◌, ◌<◌, ◌≤◌, ◌⊎◌, ℕ, true, false, cond, List, [], ◌∷◌, Option, None, Some, length, refl, sym, ap, subst, arith, inl, inr}
+use Rattle.std.proofs.Common.{◌≡◌, ◌∙◌, ◌<◌, ◌≤◌, ◌⊎◌, ℕ, true, false, cond, List, [], ◌∷◌, Option, Some, length, sym, ap, subst, arith, inl, inr}
 use Rattle.std.specs.Prelude.{Contains, slice_get}
 use Rattle.std.specs.Option.{option_map_or}
 use Rattle.std.proofs.lemmas.Nat.{pow_pos}
@@ -26,7 +26,7 @@ use Rattle.held_tables.specs.Held.{HeldPlan, nothing_held}
 use Rattle.held_tables.specs.PlanTables.{held_plan}
 use Rattle.held_tables.specs.Tables.{is_owner, owners_of, top_of}
 use Rattle.held_tables.proofs.HeldPlans.{made, top_of_switch}
-use Rattle.held_tables.proofs.OwnedLids.{line_owned, owner_at, owner_listed as owner_has_line}
+use Rattle.held_tables.proofs.OwnedLids.{owner_at, owner_listed as owner_has_line}
 use Rattle.packet_walks.specs.declared.packet_end.End.TheVariants.{Taken}
 use Rattle.packet_walks.specs.declared.next_hop.NextHop.TheVariants.{Ends}
 use Rattle.packet_walks.proofs.OwnerLines.{line_owner}
@@ -40,7 +40,7 @@ use Rattle.between_orders.specs.HandedSteps.{IsOwnLid}
 use Rattle.between_orders.proofs.Arrivals.{arrives_at, own_switch}
 use Rattle.step_ends.specs.Stages.{PlansAreWhole, PlansGiveOwnLids}
 use Rattle.step_ends.proofs.Alone.{each_alone, given as given_line, line_there}
-use Rattle.step_ends.proofs.Reached.{owner_listed, plans_deliver_what_tables_can}
+use Rattle.step_ends.proofs.Reached.{plans_deliver_what_tables_can}
 
 not_both : true ≡ false → ⊥
 not_both e = absurd (cc)
