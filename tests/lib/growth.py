@@ -301,9 +301,10 @@ def remarked(costs: Costs, count: int) -> str:
 
 
 def one_lane(costs: Costs, maps: int) -> str:
-    """Makes a text of lanes by which all packets have one level and one lane, with `maps` maps that say the same."""
+    """Makes a text of lanes by which all packets have one level and one lane, with `maps` maps of switches that are not
+    there, by which that level has lane 15. If there is such a map, packets are followed by lane."""
     lanes = "00" * 16
-    said = "".join(f"sl2vl {0x8000 + it // 200:x} 1 {it % 200} {lanes}\n" for it in range(maps))
+    said = "".join(f"sl2vl {0x8000 + it // 200:x} 1 {it % 200} 0f{lanes[2:]}\n" for it in range(maps))
     return costs.put(f"lanes{maps}", lambda: f"lanes {lanes}\nlevel 0\n{said}")
 
 
@@ -366,6 +367,8 @@ GROWING = (
         lambda c, n: ("audit", "--lanes", one_lane(c, 1), planned(c, n, 4), known(c, n, 4)), 60, SQUARED),
     Row("audit by lane by maps",
         lambda c, n: ("audit", "--lanes", one_lane(c, n), planned(c, 8, 10), known(c, 8, 10)), 5000, LINEAR),
+    Row("audit by lane, each packet carried",
+        lambda c, n: ("audit", "--lanes", one_lane(c, 0), planned(c, 8, n), known(c, 8, n)), 100, LINEAR),
     Row("order-of by adapters", lambda c, n: ("order-of", planned(c, 8, n), known(c, 8, n)), 100, LINEAR),
     Row("order-of by switches", lambda c, n: ("order-of", planned(c, n, 4), known(c, n, 4)), 60, SQUARED),
     Row("next by adapters", lambda c, n: ("next", planned(c, 8, n), known(c, 8, n)), 100, LINEAR),

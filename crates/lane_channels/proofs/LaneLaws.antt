@@ -9,12 +9,12 @@ use Rattle.audit_channels.specs.Columns.{TakesAcross, number_of}
 use Rattle.lane_channels.specs.LaneNetwork.{SeenByLane}
 use Rattle.lane_channels.specs.LaneLaws.{AllCarried, NeverBothByLane, OneLaneSuffices}
 use Rattle.lane_channels.specs.Stops.{HasEdge, guid_at, lane_between, lane_by, port_across}
-use Rattle.lane_channels.specs.AnyTables.{RiseByAny, WaitOnByAny}
+use Rattle.lane_channels.specs.AnyTables.{RiseByAny, WaitInCycleByAny, WaitOnByAny}
 use Rattle.lane_channels.specs.Waiting.{WaitsByLane}
 use Rattle.lane_channels.proofs.Visits.{no_column}
 
 -- the channel without its lane
-without_lane : (channel n lane : ℕ) → channel ≡ 16 * n + lane → lane < 15 → channel / 16 ≡ n
+pub without_lane : (channel n lane : ℕ) → channel ≡ 16 * n + lane → lane < 15 → channel / 16 ≡ n
 without_lane channel n lane e less = omega arith
 
 -- an edge by the only column
@@ -52,13 +52,17 @@ rise_along s others answers r channel last [] h = r.rises channel last h
 rise_along s others answers r channel last (next ∷ later) h =
     let one = r.rises channel next h.0 in let more = rise_along s others answers r next last later h.1 in omega arith
 
+pub never_both_by_any : (s : SeenByLane) (others : List HeldPlan) (answers : Bool) (cycle : List ℕ) → RiseByAny s others answers
+    → ¬ (WaitInCycleByAny s others answers cycle)
+never_both_by_any s others answers [] r h = h
+never_both_by_any s others answers (channel ∷ later) r h = let more = rise_along s others answers r channel channel later h in omega arith
+
 pub never_both_by_lane : NeverBothByLane
-never_both_by_lane s answers [] r h = h
-never_both_by_lane s answers (channel ∷ later) r h = let more = rise_along s [] answers r channel channel later h in omega arith
+never_both_by_lane s answers cycle r h = never_both_by_any s [] answers cycle r h
 
 -- a packet has a level of its own, or that of a packet that it answers; by either it has a lane where it is dropped
 pub all_carried : AllCarried
-all_carried s answers carried dropped d =
+all_carried s others answers carried dropped d =
     let level = dropped.level in
     let stop = dropped.stop in
     let edge = d.one.drops.edge in

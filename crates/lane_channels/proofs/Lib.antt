@@ -4,5 +4,6 @@ pub mod LaneLaws
 pub mod LidWaits
 pub mod Orders
 pub mod Senders
+pub mod StepLaws
 pub mod Visits
 pub mod Walks

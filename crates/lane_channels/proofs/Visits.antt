@@ -13,7 +13,7 @@ use Rattle.lanes_file.specs.Lanes.{LanesSaid}
 use Rattle.lane_channels.specs.declared.stop.Dropped.{Dropped}
 use Rattle.lane_channels.specs.Stops.{Columns, HasEdge, carried, edge_by, lane_between, lane_by, lane_if_carried, lane_number, port_across, stop_at}
 use Rattle.lane_channels.specs.LaneTurns.{TakesByLane}
-use Rattle.lane_channels.specs.Visits.{AreLeft, AreWithin, DropsAlong, Edges, FirstEdges, GoesAlong, IsWithNexts, LeavesAlong, TakesAlong, Walking}
+use Rattle.lane_channels.specs.Visits.{AreLeft, AreWithin, DropsAlong, Edges, FirstEdges, GoesAlong, IsNoOther, IsWithNexts, LeavesAlong, TakesAlong, Walking}
 
 -- a lane, if packets on it are carried
 pub is_carried : (lane n : ℕ) → lane_if_carried lane ≡ Some n → (n ≡ lane) × (lane < 15)
@@ -157,13 +157,13 @@ module _ (said : LanesSaid) (cells : Cells) (level index into channel : ℕ) whe
             | inr last ↦ inr (record { edge = l.edge; is_one = same_Some l.edge edge (sym last ∙ is); lane_is = l.lane_is; channel_is = l.channel_is })
           ]
 
-  pub no_column_along : (columns : Columns) (nth : ℕ) (old new : List (List ℕ)) → edge_by columns index nth ≡ None
+  pub no_column_along : (columns : Columns) (nth : ℕ) (old new : List (List ℕ)) → IsNoOther columns index nth
       → IsWithNexts old channel (Along (FirstEdges columns index nth)) new → IsWithNexts old channel (Along (FirstEdges columns index (nth + 1))) new
   no_column_along columns nth old new none f =
       nexts_as old new channel (Along (FirstEdges columns index nth)) (Along (FirstEdges columns index (nth + 1))) f
       (along_too (FirstEdges columns index (nth + 1)) (FirstEdges columns index nth) (λ e h. (elim (first_more columns index nth e h) [
         | inl first ↦ first
-        | inr last ↦ absurd (cc)
+        | inr last ↦ none e last
       ])))
       (along_too (FirstEdges columns index nth) (FirstEdges columns index (nth + 1)) (first_kept columns index nth))
 
@@ -272,11 +272,11 @@ module _ (said : LanesSaid) (cells : Cells) (columns : Columns) (lid level stop 
       either : (e : Edge) → FirstEdges columns at (nth + 1) e → FirstEdges columns at nth e ⊎ (e ≡ edge)
       either e h = elim (first_more columns at nth e h) [ inl first ↦ inl first | inr last ↦ inr (same_Some e edge (sym last ∙ is)) ]
 
-  pub no_column_left : (nth : ℕ) (old new : Walking) → edge_by columns at nth ≡ None → Left (FirstEdges columns at nth) old new
+  pub no_column_left : (nth : ℕ) (old new : Walking) → IsNoOther columns at nth → Left (FirstEdges columns at nth) old new
       → Left (FirstEdges columns at (nth + 1)) old new
   no_column_left nth old new none f =
       left_as (FirstEdges columns at nth) (FirstEdges columns at (nth + 1)) old new f
-      (λ e h. (elim (first_more columns at nth e h) [ inl first ↦ first | inr last ↦ absurd (cc) ])) (first_kept columns at nth)
+      (λ e h. (elim (first_more columns at nth e h) [ inl first ↦ first | inr last ↦ none e last ])) (first_kept columns at nth)
 
   pub none_left : (w : Walking) → Left (FirstEdges columns at 0) w w
   none_left w = left_none (FirstEdges columns at 0) w (λ e f. (let below = f.1 in omega arith))

@@ -2,10 +2,12 @@
 use Rattle.std.specs.Prelude.{ℕ, Bool, List}
 use Rattle.fact_store.specs.View.{cells_of}
 use Rattle.audit_channels.specs.Waiting.{RiseOnWays}
+use Rattle.held_tables.specs.Held.{HeldPlan}
 use Rattle.lanes_file.specs.Carried.{CarriesAll}
 use Rattle.lane_channels.specs.declared.stop.Dropped.{Dropped}
 use Rattle.lane_channels.specs.LaneNetwork.{SeenByLane}
-use Rattle.lane_channels.specs.Waiting.{IsDroppedByLane, RiseByLane, WaitInCycle}
+use Rattle.lane_channels.specs.AnyTables.{IsDroppedByAny}
+use Rattle.lane_channels.specs.Waiting.{RiseByLane, WaitInCycle}
 
 -- if numbers of channels rise on one lane, numbers of channels by lane rise, whatever the lanes and the service levels
 abbrev pub OneLaneSuffices : Type 0
@@ -17,7 +19,8 @@ OneLaneSuffices =
 abbrev pub NeverBothByLane : Type 0
 NeverBothByLane = (s : SeenByLane) (answers : Bool) (cycle : List ℕ) → RiseByLane s answers → ¬ (WaitInCycle s answers cycle)
 
--- no packet is dropped for want of a lane if packets that have a service level have a lane below 15
+-- no packet is dropped for want of a lane, in a step either, if packets that have a service level have a lane below 15
 abbrev pub AllCarried : Type 0
 AllCarried =
-    (s : SeenByLane) (answers : Bool) → CarriesAll s.said → (dropped : Dropped) → ¬ (IsDroppedByLane s answers dropped)
+    (s : SeenByLane) (others : List HeldPlan) (answers : Bool) → CarriesAll s.said → (dropped : Dropped)
+    → ¬ (IsDroppedByAny s others answers dropped)

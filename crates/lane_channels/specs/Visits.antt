@@ -19,6 +19,10 @@ Edges = Edge → Type 0
 abbrev pub FirstEdges : Columns → ℕ → ℕ → Edges
 FirstEdges columns index count edge = (nth : ℕ) × (nth < count) × (edge_by columns index nth ≡ Some edge)
 
+-- the edge of the switch at `index` by the column at `nth`, if there is one, is one by an earlier column
+abbrev pub IsNoOther : Columns → ℕ → ℕ → Type 0
+IsNoOther columns index nth = (edge : Edge) → edge_by columns index nth ≡ Some edge → FirstEdges columns index nth edge
+
 -- packets of `level` that come in at the switch at `index` by port `into` leave it by `channel`, along one of these edges;
 -- they are not dropped there
 pub record LeavesAlong (said : LanesSaid) (cells : Cells) (these : Edges) (level index into channel : ℕ) : Type 0 where

@@ -1,6 +1,7 @@
 //! The laws of channels by lane.
 ghost use Rattle.lane_channels.specs.Fabrics.{LaneChannelsRise, StepLaneChannelsRise};
 ghost use Rattle.lane_channels.specs.LaneLaws.{AllCarried, NeverBothByLane, OneLaneSuffices};
+ghost use Rattle.lane_channels.specs.StepLaws.{HeldRiseInStep, NeverBothByLaneInStep, OneLaneSufficesInStep};
 
 /// If numbers of channels rise on one lane, numbers of channels by lane rise, whatever the lanes and service levels are.
 #[tactic(auto, using(crate::proofs::LaneLaws::one_lane_suffices))]
@@ -34,4 +35,22 @@ pub fn lane_channels_rise()
 /// answers, and that is not dropped, takes channels by lane with rising numbers, wire after wire.
 pub fn step_lane_channels_rise()
     ensures law { StepLaneChannelsRise }
+{}
+
+/// If numbers of channels rise on one lane in a step, numbers of channels by lane rise in it, whatever the lanes and
+/// service levels are.
+pub fn one_lane_suffices_in_step()
+    ensures law { OneLaneSufficesInStep }
+{}
+
+/// No channels by lane wait for each other in a cycle in a step if numbers of channels by lane rise in it.
+#[tactic(auto, using(crate::proofs::StepLaws::never_both_by_lane_in_step))]
+pub fn never_both_by_lane_in_step()
+    ensures law { NeverBothByLaneInStep }
+{}
+
+/// If numbers of channels by lane rise in a step, they rise by the held tables.
+#[tactic(auto, using(crate::proofs::StepLaws::held_rise_in_step))]
+pub fn held_rise_in_step()
+    ensures law { HeldRiseInStep }
 {}

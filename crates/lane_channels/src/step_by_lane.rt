@@ -42,7 +42,8 @@ pub fn step_lane_order(
 
 /// Follows the packets of each service level that end ports send, for each LID, at each switch by its entry in the held
 /// tables and by that in those of `next`. If `answers` is set, packets that answer others also have the level of what
-/// they answer. Takes what `lane_waits` takes for both tables, but six searches in place of two where packets come in.
+/// they answer. Takes what `lane_waits` takes for both tables, but up to six searches in place of two where packets come
+/// in, if entries differ there.
 pub fn step_lane_waits(
     alloc: Global,
     by_lane: &LaneNetwork,

@@ -1,5 +1,6 @@
 //! Visits of stops.
 ghost use Rattle.std.specs.Prelude.{◌≡◌, ◌<◌, ◌≤◌, ◌+◌, ◌*◌, ◌/◌, ◌^◌, None, OnOk, Some, length, slice_index_or, slice_set};
+ghost use Rattle.std.specs.Option.{option_or};
 ghost use Rattle.fact_store.specs.View.{cells_of};
 ghost use Rattle.subnet_view.specs.Reading.{switches};
 ghost use Rattle.lane_channels.specs.Stops.{HasEdge};
@@ -39,8 +40,8 @@ pub(crate) fn visit_if_new(
 }
 
 /// Marks `stop`. Records the channels that a packet of `level` can take from there one after the other, notes it if it
-/// can be dropped there and no packet is noted yet, and adds the stops to which it can go. Takes a search for each column
-/// and one for each pair of columns.
+/// can be dropped there and no packet is noted yet, and adds the stops to which it can go. Takes a search for each edge here
+/// and one for each edge of the next switch.
 fn visit(
     by_lane: &LaneNetwork,
     columns: &LidColumns,
@@ -78,7 +79,7 @@ fn leave(
         (walking walks.new)) }
 {
     for nth in 0..columns.columns.len() {
-        if let Some(edge) = columns.edge(stop / 256, nth) {
+        if let Some(edge) = columns.other_edge(stop / 256, nth) {
             leave_along(by_lane, columns, level, stop, edge, walks)?;
         }
     }
@@ -112,7 +113,7 @@ fn leave_along(
             stop,
             out,
         };
-        walks.dropped = walks.dropped.or(Some(dropped));
+        note(&mut walks.dropped, dropped);
         return Ok(());
     };
     let channel = lane_number(at, out, lane);
@@ -130,6 +131,13 @@ fn leave_along(
         walks.stops.push(stop_at(to, into_there))?;
     }
     Ok(())
+}
+
+/// Notes `dropped` if no packet is noted yet.
+fn note(noted: &mut Option<Dropped>, dropped: Dropped)
+    ensures { noted.new ≡ option_or noted.old (Some dropped) }
+{
+    *noted = noted.or(Some(dropped));
 }
 
 /// Records that packets of `level` which come in at the switch at `index` by port `into` take, after `channel`, the
@@ -151,7 +159,7 @@ fn record(
         (cells_of by_lane.now.seen.facts) (HasEdge (columns_in columns.now) index) level index into) waits.new) }
 {
     for nth in 0..columns.columns.len() {
-        if let Some(edge) = columns.edge(index, nth) {
+        if let Some(edge) = columns.other_edge(index, nth) {
             record_along(by_lane, level, index, into, edge, channel, waits)?;
         }
     }

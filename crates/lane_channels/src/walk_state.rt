@@ -1,7 +1,7 @@
 //! What is kept while packets for one LID are followed from stop to stop.
-ghost use Rattle.std.specs.Prelude.{◌≡◌};
+ghost use Rattle.std.specs.Prelude.{◌≡◌, MatchOption, Some};
 ghost use Rattle.lane_channels.specs.Stops.{edge_by};
-ghost use Rattle.lane_channels.specs.Visits.{columns_in};
+ghost use Rattle.lane_channels.specs.Visits.{IsNoOther, columns_in};
 
 use crate::stop::Dropped;
 use audit_channels::{Waits, edge_of};
@@ -30,8 +30,22 @@ pub(crate) struct LidColumns {
 }
 
 impl LidColumns {
+    /// Returns the edge of the switch at `index` by the column at `nth`, or `None` if there is none or the first column
+    /// has the same. Takes a few steps.
+    pub(crate) fn other_edge(&self, index: usize, nth: usize) -> Option<Edge>
+        ensures { MatchOption result (IsNoOther (columns_in self.now) index nth)
+            (λ edge. edge_by (columns_in self.now) index nth ≡ Some edge) }
+    {
+        let edge = self.edge(index, nth);
+        if nth == 0 {
+            return edge;
+        }
+        let first = self.edge(index, 0);
+        if edge == first { None } else { edge }
+    }
+
     /// Returns the edge of the switch at `index` by the column at `nth`, or `None` if there is none. Takes one step.
-    pub(crate) fn edge(&self, index: usize, nth: usize) -> Option<Edge>
+    fn edge(&self, index: usize, nth: usize) -> Option<Edge>
         ensures { result ≡ edge_by (columns_in self.now) index nth }
     {
         match self.columns.get(nth) {

@@ -1,12 +1,12 @@
 -- When tables pass by lane.
-use Rattle.std.proofs.Common.{◌≡◌, ℕ, List, [], ◌∷◌, Option, None, Some, refl, sym, ap, ◌∙◌, arith, Bool, length}
+use Rattle.std.proofs.Common.{◌≡◌, ℕ, List, [], ◌∷◌, Option, None, Some, refl, sym, ap, ◌∙◌, arith, Bool, length, subst}
 use Rattle.fact_store.specs.View.{cells_of}
 use Rattle.audit_counts.specs.FirstFew.{Listed}
-use Rattle.audit_report.specs.Passing.{DeliversWithin}
+use Rattle.audit_report.specs.Passing.{CanRise, DeliversWithin}
 use Rattle.lane_channels.specs.declared.stop.Dropped.{Dropped}
 use Rattle.lane_channels.specs.LaneNetwork.{SeenByLane}
 use Rattle.lane_channels.specs.Waiting.{IsDroppedByLane, IsLaneCycle, IsSomeDrop, RiseByLane}
-use Rattle.lane_channels.proofs.LaneLaws.{never_both_by_lane}
+use Rattle.lane_channels.proofs.LaneLaws.{never_both_by_lane, one_lane_suffices}
 use Rattle.lane_report.specs.declared.levels_missing.PacketPair.{PacketPair}
 use Rattle.lane_report.specs.RunLaneAudit.{IsFoundByLane, IsSoundByLane, PassesByLane}
 use Rattle.lane_report.specs.LevelsMissing.{missing_levels}
@@ -32,6 +32,10 @@ module _ (s : SeenByLane) (answers : Bool) where
   no_cycle : (cycle : List ℕ) → IsLaneCycle s answers cycle → RiseByLane s answers → cycle ≡ []
   no_cycle [] h r = refl
   no_cycle (channel ∷ later) h r = absurd (never_both_by_lane s answers (channel ∷ later) r h)
+
+  -- there is no credit loop by lane if numbers rise on one lane
+  pub none_by_lane : (cycle : List ℕ) → CanRise (cells_of s.seen.facts) s.seen.held → cycle ≡ [] → IsLaneCycle s answers cycle
+  none_by_lane cycle rise e = subst (IsLaneCycle s answers) (sym e) (one_lane_suffices s answers rise.0 rise.1)
 
   module _ (bound : Option ℕ) (most : ℕ) (missing : Listed PacketPair) (dropped : Option Dropped) (cycle : List ℕ)
       (found : IsFoundByLane most s answers missing dropped cycle) where

@@ -130,6 +130,7 @@ fn findings(
 /// Finds a shortest credit loop of channels by lane, and a packet that is dropped for want of a lane. There is neither,
 /// whatever lanes packets take, if numbers of channels rise on one lane and each packet has a lane below 15: only
 /// otherwise packets are followed by lane.
+#[tactic(auto, using(crate::proofs::Judged::none_by_lane, lane_channels::proofs::LaneLaws::all_carried))]
 fn order_by_lane(
     alloc: Global,
     audit: &Audit,

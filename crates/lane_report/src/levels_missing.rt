@@ -26,6 +26,7 @@ pub struct PacketPair {
 /// Finds the packets without a service level that adapter ports send to the LIDs of other adapter ports of their
 /// components. Keeps the first `most`, in the order of the LIDs and then of the end ports. Takes one step if the text
 /// gives each packet a level, else what `sites` takes, and a search for each LID and each end port.
+#[tactic(auto, using(crate::proofs::NoneMissing::nothing_listed))]
 pub fn pairs_without_level(
     alloc: Global,
     most: usize,

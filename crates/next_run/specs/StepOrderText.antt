@@ -1,21 +1,17 @@
 -- The line of the order that a step goes by.
-use Rattle.std.specs.Prelude.{◌==◌, ℕ, List, [], ◌++◌, Option, None, Some, Vec, codes, length, map, option_map, position}
+use Rattle.std.specs.Prelude.{ℕ, List, [], ◌++◌, Option, None, Some, Vec, codes, length, map, option_map}
 use Rattle.std.specs.List.{flat_map, range_with_len}
-use Rattle.std.specs.Option.{option_map_or}
 use Rattle.std.specs.declared.alloc.Global.{Global}
 use Rattle.smp_bytes.specs.Text.{guid_text}
 use Rattle.subnet_view.specs.Reading.{Cells}
+use Rattle.spread_labels.specs.Orders.{position_of}
 use Rattle.next_tables.specs.EntriesByOrder.{switch_at}
 use Rattle.between_orders.specs.Between.{Goal}
-
--- the index of the switch at position `nth`, or 0 if there is none
-abbrev pub index_at : List ℕ → ℕ → ℕ
-index_at positions nth = option_map_or (λ (i : ℕ). i) (position (λ p. p == nth) positions) 0
 
 -- the usable switches in the order of their positions
 abbrev pub switches_by : Cells → List ℕ → List ℕ
 switches_by cells positions =
-    map (λ nth. switch_at cells (index_at positions nth)) (range_with_len 0 (length positions))
+    map (λ nth. switch_at cells (position_of positions nth)) (range_with_len 0 (length positions))
 
 -- the switches in the order that a step goes by, if it is one that the held tables imply
 abbrev pub order_of_step : Cells → Option Goal → Option (List ℕ)

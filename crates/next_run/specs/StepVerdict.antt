@@ -1,5 +1,5 @@
 -- What can happen while a step is written, and its text.
-use Rattle.std.specs.Prelude.{◌≡◌, ◌⊎◌, ℕ, Bool, List, [], ◌∷◌, Option, None, Some}
+use Rattle.std.specs.Prelude.{◌≡◌, ℕ, Bool, false, List, [], ◌∷◌, Option, None, Some}
 use Rattle.fact_store.specs.View.{Facts, cells_of}
 use Rattle.subnet_view.specs.Reading.{Cells}
 use Rattle.held_tables.specs.Held.{HeldPlan}
@@ -12,6 +12,7 @@ use Rattle.lane_report.specs.declared.levels_missing.PacketPair.{PacketPair}
 use Rattle.lane_report.specs.LaneText.{lanes_text}
 use Rattle.lane_report.specs.LevelsMissing.{missing_levels}
 use Rattle.lane_report.specs.RunLaneAudit.{IsSoundByLane, seen_of}
+use Rattle.step_loops.specs.StepOrder.{NumbersRise}
 use Rattle.next_run.specs.LoopText.{loop_text}
 use Rattle.next_run.specs.StepLoops.{IsLoopInStep}
 use Rattle.next_run.specs.declared.step_verdict.StepVerdict.{StepVerdict}
@@ -27,6 +28,10 @@ pub data Verdict : Type 0 where
 abbrev pub verdict_of : StepVerdict → Verdict
 verdict_of (OnOneLane found) = on_one_lane found.channels.items found.lids.items
 verdict_of (ByLane found) = by_lane found.missing found.order.dropped found.order.cycle.items
+
+-- numbers of channels rise on one lane in the step from `held` to `next`
+abbrev pub CanRise : Cells → HeldPlan → HeldPlan → Type 0
+CanRise cells held next = (numbers : List ℕ) × NumbersRise cells held next numbers
 
 -- what is found by lane in the step from `held` to `next`: the first packets to LIDs of `next` that have no service
 -- level; a packet that some mixture of the two tables drops for want of a lane, if one does; and a shortest credit loop

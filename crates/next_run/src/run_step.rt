@@ -6,7 +6,7 @@ ghost use Rattle.fact_store.specs.View.{cells_of};
 ghost use Rattle.lft_blocks.specs.Rules.{RuleValue, value_of};
 ghost use Rattle.lft_blocks.specs.WritesPart.{WritesPart};
 ghost use Rattle.next_run.specs.Asked.{preferred_rule, rule_or};
-ghost use Rattle.next_run.specs.RunNext.{HasStepped, IsMade, IsSaid, IsStep, IsStepFault, IsStepOf, StopsNext};
+ghost use Rattle.next_run.specs.RunNext.{HasStepped, IsMade, IsSaid, IsStepFault, IsStepOf, StopsNext};
 ghost use Rattle.next_run.specs.RunNext.{StopsStep, choice_of, fault_of_step, goal_or, next_by_choice, texts_before};
 ghost use Rattle.next_run.specs.StepVerdict.{verdict_of, verdict_text};
 ghost use Rattle.next_run.specs.StepOrderText.{items_of, step_order_text};
@@ -18,19 +18,17 @@ use crate::asked::{HeldOrder, StepAsked};
 use crate::step_choice::{StepChoice, step_choice};
 use crate::step_order::write_step_order;
 use crate::step_verdict::StepVerdict;
-use attr_codec::Lmc;
 use byte_io::{Sink, Source, WriteFault};
 use fact_store::Store;
 use held_tables::Held;
-use lanes_file::Lanes;
 use lft_blocks::{Plan, Rule, SwitchOrder};
 use next_tables::{StepFault, StepRule, next_tables};
 use packet_walks::Network;
 use sm_cli::{
-    Fault, OrderAndTables, StepInputs, StepReader, TablesAndFacts, TextFault, read_inputs, texts_if,
+    Fault, StepInputs, StepReader, TextFault, read_inputs, texts_if,
 };
 use smp_bytes::Guid;
-use std::alloc::Global;
+use std::alloc::{AllocError, Global};
 use tables_file::write_next;
 
 /// A step from held tables.
@@ -78,7 +76,7 @@ pub fn run_next<S: Source, W: Sink, E: Sink>(
         has_order: asked.held_order.is_named(),
     };
     match read_inputs(alloc, asked.rule, &reader, inputs) {
-        Ok((rule, found)) => step_from(alloc, asked, &rule, found, sink, told),
+        Ok((rule, found)) => step(alloc, asked, &rule, &found, sink, told),
         Err(fault) => Err(fault),
     }
 }
@@ -90,91 +88,69 @@ fn texts_before(asked: StepAsked) -> usize
     asked.rule.texts() + texts_if(asked.lanes.has_lanes()) + texts_if(asked.held_order.is_named())
 }
 
-/// Writes the step that is asked for from what the inputs say. Writes to `told` what `run_next` does, and returns what
-/// it returns.
-fn step_from<W: Sink, E: Sink>(
+/// Writes the step that is asked for from what the inputs say, towards the plan by `rule`. Writes to `told` what
+/// `run_next` does, and returns what it returns.
+fn step<W: Sink, E: Sink>(
     alloc: Global,
     asked: StepAsked,
     rule: &Rule,
-    found: StepInputs,
+    found: &StepInputs,
     sink: &mut W,
     told: &mut E,
 ) -> Result<bool, Fault>
-    ensures done { IfOk result (IsStepOf asked (value_of rule.now) found
+    ensures done { IfOk result (IsStepOf asked (value_of rule.now) found.now
         (Appends (W.written sink.old) (W.written sink.new))
         (IsSaid E.written E.has_failed told.old told.new)) }
     ensures flushed { OnOk result (IsTrue (W.is_flushed sink.new)) }
     ensures sink_works { OnOk result (W.has_failed sink.new ≡ false) }
     ensures refused { IfErr result (StopsStep (texts_before asked) asked.lmc (value_of rule.now)
-        found.others.read.store found.others.read.held (W.has_failed sink.new)) }
+        found.now.others.read.store found.now.others.read.held (W.has_failed sink.new)) }
     ensures nothing_written { OnErr result ((result ≡ Err Fault.Write) ⊎ (sink.new ≡ sink.old)) }
     ensures nothing_told { OnErr result (told.new ≡ told.old) }
 {
-    let StepInputs { lanes, others } = found;
-    let OrderAndTables { order, read } = others;
-    let named = named_rule(asked.held_order, order);
-    let input = texts_before(asked);
+    let read = &found.others.read;
+    let lmc = asked.lmc;
     let by_told = asked.held_order.is_told();
     let answers = asked.lanes.has_answers();
-    step(
-        alloc, input, &read, &lanes, answers, asked.lmc, by_told, rule, &named, sink, told,
-    )
-}
-
-/// Returns the rule that spreads in the order of `switches`, which a text names, or `None` if no text names an order.
-fn named_rule(held_order: HeldOrder, switches: Vec<Guid>) -> Option<Rule>
-    ensures { (rule : RuleValue) → preferred_rule held_order rule switches.items ≡ rule_or rule (option_map value_of result) }
-{
-    match held_order {
-        HeldOrder::Ignored | HeldOrder::NearPlan => None,
-        HeldOrder::NearNamed => Some(Rule::Spread {
-            order: SwitchOrder::AsNamed { switches },
-        }),
-    }
-}
-
-/// Writes the step from the tables and files of `read` towards the plan by `rule`. `input` is the number of the held
-/// tables' text. `by_told` says whether the step may go by an order that the held tables imply, of several the one
-/// nearest to the order of `named`, or of `rule` if `named` is `None`. Judges the step by `lanes` and `answers`
-/// (`StepVerdict::of`). Writes to `told` what `run_next` does, and returns what it returns.
-fn step<W: Sink, E: Sink>(
-    alloc: Global,
-    input: usize,
-    read: &TablesAndFacts,
-    lanes: &Option<Lanes>,
-    answers: bool,
-    lmc: Lmc,
-    by_told: bool,
-    rule: &Rule,
-    named: &Option<Rule>,
-    sink: &mut W,
-    told: &mut E,
-) -> Result<bool, Fault>
-    ensures done { IfOk result (IsStep lmc by_told (value_of rule.now)
-        (rule_or (value_of rule.now) (option_map value_of named.now)) lanes.now answers read.now.store read.now.held
-        (Appends (W.written sink.old) (W.written sink.new))
-        (IsSaid E.written E.has_failed told.old told.new)) }
-    ensures flushed { OnOk result (IsTrue (W.is_flushed sink.new)) }
-    ensures sink_works { OnOk result (W.has_failed sink.new ≡ false) }
-    ensures refused { IfErr result (StopsStep input lmc (value_of rule.now) read.now.store read.now.held
-        (W.has_failed sink.new)) }
-    ensures nothing_written { OnErr result ((result ≡ Err Fault.Write) ⊎ (sink.new ≡ sink.old)) }
-    ensures nothing_told { OnErr result (told.new ≡ told.old) }
-{
     let plan = Plan::of(alloc, &read.store, lmc, rule)?;
     let Ok(from) = Network::of(alloc, &read.store, &read.held) else {
         return Err(Fault::Memory);
     };
-    let made = match made_step(alloc, input, by_told, &read.store, rule, named, &from, &plan) {
+    let Ok(named) = named_rule(alloc, asked.held_order, &found.others.order) else {
+        return Err(Fault::Memory);
+    };
+    let input = texts_before(asked);
+    let made = match made_step(alloc, input, by_told, &read.store, rule, &named, &from, &plan) {
         Ok(made) => made,
         Err(fault) => return Err(fault),
     };
+    let lanes = &found.lanes;
     let Ok(verdict) = StepVerdict::of(alloc, &read.store, lanes, answers, &from, &made.next) else {
         return Err(Fault::Memory);
     };
     write_next(sink, plan.lids(), &made.next)?;
     let _ = write_told(told, &from, &verdict, &made.order);
     Ok(verdict.is_sound())
+}
+
+/// Returns the rule that spreads in the order of `switches`, which a text names, or `None` if no text names an order.
+fn named_rule(
+    alloc: Global,
+    held_order: HeldOrder,
+    switches: &[Guid],
+) -> Result<Option<Rule>, AllocError>
+    ensures { IfOk result (λ named. (rule : RuleValue)
+        → preferred_rule held_order rule switches.now ≡ rule_or rule (option_map value_of named)) }
+{
+    match held_order {
+        HeldOrder::Ignored | HeldOrder::NearPlan => Ok(None),
+        HeldOrder::NearNamed => {
+            let switches = Vec::from_slice(alloc, switches)?;
+            Ok(Some(Rule::Spread {
+                order: SwitchOrder::AsNamed { switches },
+            }))
+        }
+    }
 }
 
 /// Writes what can happen while the step is written, and the order that it goes by, if there is one.

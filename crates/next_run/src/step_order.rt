@@ -4,8 +4,9 @@ ghost use Rattle.std.specs.List.{flat_map};
 ghost use Rattle.fact_store.specs.View.{cells_of};
 ghost use Rattle.lft_blocks.specs.WritesPart.{WritesPart};
 ghost use Rattle.byte_io.specs.Writes.{Writes};
+ghost use Rattle.spread_labels.specs.Orders.{position_of};
 ghost use Rattle.next_tables.specs.EntriesByOrder.{switch_at};
-ghost use Rattle.next_run.specs.StepOrderText.{index_at, items_of, step_order_text, switch_word, switches_by};
+ghost use Rattle.next_run.specs.StepOrderText.{items_of, step_order_text, switch_word, switches_by};
 
 use byte_io::{Sink, WriteFault, write_guid};
 use packet_walks::Network;
@@ -22,18 +23,20 @@ pub(crate) fn switches_by(
     ensures { IfOk result (λ switches. switches.items ≡ switches_by (cells_of network.now.facts) positions.now) }
 {
     (0..positions.len())
-        .map(|nth| switch_at(network, index_at(positions, nth)))
+        .map(|nth| switch_at(network, position_of(positions, nth)))
         .collect(alloc)
 }
 
-/// Returns the index of the switch at position `nth`, or 0 if there is none.
-fn index_at(positions: &[usize], nth: usize) -> usize
-    ensures { result ≡ index_at positions.now nth }
+/// Returns the index of `nth` in `positions`, or the length of the list if it is not there.
+fn position_of(positions: &[usize], nth: usize) -> usize
+    ensures { result ≡ position_of positions.now nth }
 {
-    positions
-        .iter()
-        .position(|position| *position == nth)
-        .unwrap_or(0)
+    for (index, position) in positions.iter().enumerate() {
+        if *position == nth {
+            return index;
+        }
+    }
+    positions.len()
 }
 
 /// Returns the GUID of the usable switch at `index`, or 0 if there is none.

@@ -25,20 +25,20 @@ loop-nth-preserved c =
     let nth = c.loop-nth.nth in
     let Done = λ (walks : Walks). AreLeft said cells columns lid c.args.level c.args.stop (FirstEdges columns (c.args.stop / 256) (nth + 1))
     (walking c.args.walks.now) (walking walks) in
-    elim c.match-edge.branch [
+    elim c.match-other_edge.branch [
       | in-Some+in_ok-leave_along w ↦ record {
         marks = ap (λ (x : Walks). x.marks) w.walks-is ∙ w.leave_along.ensures.marks ∙ c.loop-nth.invariant.marks;
         left =
             subst Done (sym w.walks-is)
             (column_left said cells columns lid c.args.level c.args.stop nth w.in-Some.edge (walking c.args.walks.now) (walking c.loop-nth.walks)
-            (walking w.leave_along.new.walks) (sym c.edge.ensures ∙ w.in-Some.is) c.loop-nth.invariant.left w.in_ok-leave_along.ensures.left);
+            (walking w.leave_along.new.walks) w.in-Some.ensures c.loop-nth.invariant.left w.in_ok-leave_along.ensures.left);
       }
       | in_default w ↦ record {
         marks = ap (λ (x : Walks). x.marks) w.walks-is ∙ c.loop-nth.invariant.marks;
         left =
             subst Done (sym w.walks-is)
             (no_column_left said cells columns lid c.args.level c.args.stop nth (walking c.args.walks.now) (walking c.loop-nth.walks)
-            (sym c.edge.ensures ∙ w.in_default.is) c.loop-nth.invariant.left);
+            w.in_default.ensures c.loop-nth.invariant.left);
       }
     ]
 

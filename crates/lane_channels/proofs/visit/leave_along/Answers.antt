@@ -17,10 +17,10 @@ returns-in_default-clause-left c =
     let none = sym c.lane.ensures ∙ c.in_default.is in
     let past = is_not_carried (lane_between said cells c.args.level (c.args.stop / 256) c.port_of.result c.args.edge.port) none in
     dropped_there said cells columns c.args.columns.now.lid c.args.level c.args.stop c.args.edge c.requires.edge (walking c.args.walks.now)
-    (walking (record { waits = c.args.walks.now.waits; marks = c.args.walks.now.marks; dropped = c.or-walks.result; stops = c.args.walks.now.stops }))
+    (walking (record { waits = c.args.walks.now.waits; marks = c.args.walks.now.marks; dropped = c.note.new.noted; stops = c.args.walks.now.stops }))
     (record { lid = c.args.columns.now.lid; level = c.args.level; stop = c.args.stop; out = c.args.edge.port })
     (subst (λ (p : ℕ). 15 ≤ lane_between said cells c.args.level (c.args.stop / 256) p c.args.edge.port) c.port_of.ensures past)
-    refl refl refl c.or-walks.ensures
+    refl refl refl c.note.ensures
 
 pub returns-in_ok-push-clause-left : goal.returns-in_ok-push-clause-left
 returns-in_ok-push-clause-left c =

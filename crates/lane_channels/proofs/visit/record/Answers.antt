@@ -1,5 +1,5 @@
 -- The edge of a column more, and those of all.
-use Rattle.std.proofs.Common.{◌≡◌, ◌+◌, length, sym, ◌∙◌, arith, subst, List, ℕ}
+use Rattle.std.proofs.Common.{◌≡◌, ◌+◌, length, sym, arith, subst, List, ℕ}
 use Rattle.std.proofs.lemmas.List.{length-map}
 use Rattle.fact_store.specs.View.{cells_of}
 use Rattle.lane_channels.specs.Visits.{FirstEdges, IsWithNexts, LeavesAlong, columns_in}
@@ -20,15 +20,15 @@ loop-nth-preserved c =
     let nth = c.loop-nth.nth in
     let Done = λ (waits : List (List ℕ)). IsWithNexts c.args.waits.now c.args.channel
     (LeavesAlong said cells (FirstEdges columns c.args.index (nth + 1)) c.args.level c.args.index c.args.into) waits in
-    elim c.match-edge.branch [
+    elim c.match-other_edge.branch [
       | in-Some+in_ok-record_along w ↦
           subst Done (sym w.waits-is)
           (column_along said cells c.args.level c.args.index c.args.into c.args.channel columns nth w.in-Some.edge c.args.waits.now c.loop-nth.waits
-          w.record_along.new.waits (sym c.edge.ensures ∙ w.in-Some.is) c.loop-nth.invariant w.in_ok-record_along.ensures)
+          w.record_along.new.waits w.in-Some.ensures c.loop-nth.invariant w.in_ok-record_along.ensures)
       | in_default w ↦
           subst Done (sym w.waits-is)
           (no_column_along said cells c.args.level c.args.index c.args.into c.args.channel columns nth c.args.waits.now c.loop-nth.waits
-          (sym c.edge.ensures ∙ w.in_default.is) c.loop-nth.invariant)
+          w.in_default.ensures c.loop-nth.invariant)
     ]
 
 pub returns : goal.returns
