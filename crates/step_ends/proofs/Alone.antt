@@ -49,7 +49,7 @@ module _ (rule : RuleValue) (lmc : ℕ) (facts : Facts) (has_room : ¬ (IsNoRoom
   cells = cells_of facts
 
   -- what the plan's text tells is what was given
-  given : (o : Option ℕ) → (line : HeldLid) → Contains (option_map_or (λ top. made rule lmc cells top) o nothing_held).lids line
+  pub given : (o : Option ℕ) → (line : HeldLid) → Contains (option_map_or (λ top. made rule lmc cells top) o nothing_held).lids line
       → owner_of (lids lmc cells) line.lid ≡ Some line.port
   given None line there = absurd (contains_none line there)
   given (Some top) line there = line_owned lmc facts has_room line there

@@ -26,7 +26,7 @@ use Rattle.next_tables.proofs.Plain.{dropped, plain, plain_after, plain_taken}
 use Rattle.next_tables.proofs.StepLaws.{steps_end_in_the_plan}
 use Rattle.next_tables.proofs.Steps.{at_index, next_deliver_or_drop, planned_there}
 use Rattle.next_tables.proofs.Whole.{entry_next, is_next, kept_owners, owners_next, top_next}
-use Rattle.step_ends.proofs.Same.{AreAlikeAt, next_same}
+use Rattle.between_orders.proofs.SameTables.{AreAlikeAt, next_same}
 use Rattle.step_ends.specs.StepEnds.{DeliversWhatTablesCan, MeetAtMost, StepsEnd}
 
 -- where a LID has a keeper, it is held by that end port alone
@@ -170,7 +170,7 @@ module _ (cells : Cells) (held plan : HeldPlan) (most : ℕ) (can : DeliversWhat
       ∙ entry_next cells settled_first (T (suc k)) plan g lid here
 
   alike : (k i g : ℕ) → most ≤ suc (suc k) → slice_get (switches cells) i ≡ Some g
-      → AreAlikeAt cells settled_first settled_first (T (suc (suc k))) (T (suc k)) plan g
+      → AreAlikeAt cells settled_first settled_first (T (suc (suc k))) plan (T (suc k)) plan g
   alike k i g le at_g = record {
     top = ap (λ t. max t (top_of plan g)) (top_next cells settled_first (T (suc k)) plan g (contains_at (switches cells) i g at_g))
         ∙ once_more (top_of (T (suc k)) g) (top_of plan g);
@@ -180,7 +180,7 @@ module _ (cells : Cells) (held plan : HeldPlan) (most : ℕ) (can : DeliversWhat
   ended : (n : ℕ) → most ≤ n → 2 ≤ n → T (suc n) ≡ T n
   ended zero le two = absurd (omega (arith, two))
   ended (suc zero) le two = absurd (omega (arith, two))
-  ended (suc (suc k)) le two = next_same cells settled_first settled_first (T (suc (suc k))) (T (suc k)) plan (λ i g at_g. alike k i g le at_g)
+  ended (suc (suc k)) le two = next_same cells settled_first settled_first (T (suc (suc k))) plan (T (suc k)) plan refl (λ i g at_g. alike k i g le at_g)
 
 pub steps_end : StepsEnd
 steps_end cells held plan most n can meet le two = ended cells held plan most can meet n le two

@@ -6,6 +6,6 @@ pub mod OneStep
 pub mod OrderedLast
 pub mod Own
 pub mod Reached
-pub mod Same
 pub mod Steps
 pub mod Texts
+pub mod WholePlans

@@ -54,24 +54,25 @@ right_tables_make_no_loop rule lmc facts held range has_room right =
     }
 
 -- nor in a step by the order that the held tables tell
-free_by_told : (facts : Facts) (held plan : HeldPlan) (by : List ℕ) (goal : Goal) → IsGoal (cells_of facts) held plan by (Some goal)
+free_by_told : (facts : Facts) (held plan : HeldPlan) (by preferred : List ℕ) (goal : Goal) → IsGoal (cells_of facts) held plan by preferred (Some goal)
     → IsFreeByTold facts held (next_to facts held goal) goal
-free_by_told facts held plan by goal is =
+free_by_told facts held plan by preferred goal is =
     let cells = cells_of facts in
     let q = position_at goal.positions in
     let next = next_to facts held goal in
-    let safe = goals_are_safe facts held plan by goal is in
+    let safe = goals_are_safe facts held plan by preferred goal is in
     record {
       loops = λ cycle lids found. none_in_cycle cells held next (numbers_by cells q) (numbers_rise_by_order cells q held goal.tables next safe.0) cycle found.0;
       right = (rightness_is_told cells q next).1 safe.1;
     }
 
 pub told_steps_make_no_loop : ToldStepsMakeNoLoop
-told_steps_make_no_loop rule lmc facts held goal is =
+told_steps_make_no_loop rule preferred lmc facts held goal is =
     let positions = positions_by rule (cells_of facts) in
     by_test (are_right (cells_of facts) (position_at positions) held) is
   where
-    by_test : (b : Bool) → IsGoalFrom true b (cells_of facts) held (planned lmc rule facts) (positions_by rule (cells_of facts)) (Some goal)
+    by_test : (b : Bool)
+        → IsGoalFrom true b (cells_of facts) held (planned lmc rule facts) (positions_by rule (cells_of facts)) (positions_by preferred (cells_of facts)) (Some goal)
         → IsFreeByTold facts held (next_to facts held goal) goal
     by_test true is = absurd (cc)
-    by_test false is = free_by_told facts held (planned lmc rule facts) (positions_by rule (cells_of facts)) goal is
+    by_test false is = free_by_told facts held (planned lmc rule facts) (positions_by rule (cells_of facts)) (positions_by preferred (cells_of facts)) goal is

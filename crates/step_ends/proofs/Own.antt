@@ -51,7 +51,7 @@ use Rattle.step_ends.proofs.Alone.{each_alone}
 use Rattle.step_ends.proofs.Last.{AreLast, EachAlone, way_or_none}
 use Rattle.step_ends.proofs.Reached.{owner_listed}
 use Rattle.step_ends.proofs.Steps.{in_the_end, steps}
-use Rattle.step_ends.proofs.Same.{same_mapped, table_by}
+use Rattle.between_orders.proofs.SameTables.{same_mapped, table_by}
 use Rattle.step_ends.proofs.Texts.{printed_is}
 
 -- a way by wires stays in a component

@@ -1,5 +1,5 @@
 -- Steps of `next`, one after the other: by settled entries, and from tables that are right on by the order.
-use Rattle.std.proofs.Common.{◌≡◌, ◌≤◌, ◌<◌, ◌+◌, ◌-◌, ℕ, zero, suc, max, Bool, true, false, cond, [], Some, refl, sym, ap, ◌∙◌, subst, arith, inl, inr, ◌⊎◌}
+use Rattle.std.proofs.Common.{◌≡◌, ◌≤◌, ◌<◌, ◌+◌, ◌-◌, ℕ, zero, suc, max, Bool, true, false, cond, Some, refl, sym, ap, ◌∙◌, subst, arith, inl, inr, ◌⊎◌}
 use Rattle.std.specs.Prelude.{slice_get}
 use Rattle.std.proofs.lemmas.Bool.{cases_lt}
 use Rattle.fact_store.specs.View.{Facts, cells_of, AreInRange}
@@ -23,7 +23,7 @@ use Rattle.step_ends.proofs.Ended.{steps_end}
 use Rattle.step_ends.proofs.Last.{AreLast, last_same, settled_last}
 use Rattle.step_ends.proofs.OrderedLast.{after_steps, onward, ordered_last, right_after}
 use Rattle.step_ends.proofs.Reached.{plans_deliver_what_tables_can}
-use Rattle.step_ends.proofs.Same.{AreAlikeAt, next_same}
+use Rattle.between_orders.proofs.SameTables.{AreAlikeAt, next_same}
 
 once_more : (a b : ℕ) → max (max a b) b ≡ max a b
 once_more a b = omega arith
@@ -123,7 +123,7 @@ module _ (rule : RuleValue) (lmc : ℕ) (facts : Facts) (range : AreInRange fact
     more n are = record { most = are.most; meet = are.meet; two = are.two; enough = omega (arith, are.enough) }
 
     alike : (k i g : ℕ) → AreEnough rule lmc facts (suc k) → slice_get (switches cells) i ≡ Some g
-        → AreAlikeAt cells (step_rule rule facts (U (suc k))) (step_rule rule facts (U k)) (U (suc k)) (U k) plan g
+        → AreAlikeAt cells (step_rule rule facts (U (suc k))) (step_rule rule facts (U k)) (U (suc k)) plan (U k) plan g
     alike k i g are at =
         let here = contains_at (switches cells) i g at in
         let one = step_rule rule facts (U (suc k)) in
@@ -138,4 +138,4 @@ module _ (rule : RuleValue) (lmc : ℕ) (facts : Facts) (range : AreInRange fact
 
     pub repeated : (k : ℕ) → AreEnough rule lmc facts (suc k) → U (suc (suc k)) ≡ U (suc k)
     repeated k are =
-        next_same cells (step_rule rule facts (U (suc k))) (step_rule rule facts (U k)) (U (suc k)) (U k) plan (λ i g at. alike k i g are at)
+        next_same cells (step_rule rule facts (U (suc k))) (step_rule rule facts (U k)) (U (suc k)) plan (U k) plan refl (λ i g at. alike k i g are at)

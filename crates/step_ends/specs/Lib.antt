@@ -1,1 +1,2 @@
 pub mod StepEnds
+pub mod Stages

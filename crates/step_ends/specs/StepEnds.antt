@@ -1,5 +1,5 @@
 -- When steps of whole tables towards a plan end.
-use Rattle.std.specs.Prelude.{◌≡◌, ◌≤◌, ◌+◌, ◌*◌, ℕ, Bool, zero, suc, true, Contains, List, [], ◌∷◌, Some, length}
+use Rattle.std.specs.Prelude.{◌≡◌, ◌≤◌, ◌+◌, ◌*◌, ℕ, Bool, zero, suc, true, Contains, List, [], ◌∷◌, Option, Some, length}
 use Rattle.fact_store.specs.View.{Facts, cells_of, AreInRange}
 use Rattle.subnet_view.specs.Reading.{Cells, switches}
 use Rattle.lid_assign.specs.Lids.{IsNoRoom, lids, top_of as greatest_of}
@@ -66,11 +66,13 @@ RightTablesMakeNoLoop =
     → ¬ (IsNoRoom lmc (cells_of facts)) → are_right (cells_of facts) (plan_position rule (cells_of facts)) held ≡ true
     → IsFreeOfLoops lmc rule facts held
 
--- equal facts, options and held tables give equal next tables
+-- equal facts, options and held tables give equal next tables, by the same order
 abbrev pub StepsHaveOneResult : Type 0
 StepsHaveOneResult =
-    (told : Bool) (rule : RuleValue) (facts : Facts) (held plan next other : HeldPlan)
-    → IsNextStep told rule facts held plan next → IsNextStep told rule facts held plan other → next ≡ other
+    (told : Bool) (rule preferred : RuleValue) (facts : Facts) (held plan : HeldPlan)
+    (goal other_goal : Option Goal) (next other : HeldPlan)
+    → IsNextStep told rule preferred facts held plan goal next
+    → IsNextStep told rule preferred facts held plan other_goal other → (goal ≡ other_goal) × (next ≡ other)
 
 -- a step by the order that held tables imply, towards tables between that order and the plan's, makes no credit loop,
 -- and the next tables are right by that order
@@ -81,8 +83,8 @@ pub record IsFreeByTold (facts : Facts) (held next : HeldPlan) (goal : Goal) : T
 -- a step by the order that the held tables imply is free of loops
 abbrev pub ToldStepsMakeNoLoop : Type 0
 ToldStepsMakeNoLoop =
-    (rule : RuleValue) (lmc : ℕ) (facts : Facts) (held : HeldPlan) (goal : Goal)
-    → IsGoalOf true rule facts held (planned lmc rule facts) (Some goal)
+    (rule preferred : RuleValue) (lmc : ℕ) (facts : Facts) (held : HeldPlan) (goal : Goal)
+    → IsGoalOf true rule preferred facts held (planned lmc rule facts) (Some goal)
     → IsFreeByTold facts held (next_towards rule facts held (planned lmc rule facts) (Some goal)) goal
 
 -- what `next` prints after n steps from the tables of a text, each step from what was printed before

@@ -2,6 +2,7 @@
 ghost use Rattle.step_ends.specs.StepEnds.{LastTextIsThePlans, PlansDeliverWhatTablesCan, PrintedStepsEnd};
 ghost use Rattle.step_ends.specs.StepEnds.{RightTablesMakeNoLoop, StepsEnd, StepsHaveOneResult};
 ghost use Rattle.step_ends.specs.StepEnds.{ToldStepsMakeNoLoop, WaysMeetAtMostAll};
+ghost use Rattle.step_ends.specs.Stages.{PlansAreWhole, PlansGiveOwnLids};
 
 /// Repeated, `next_tables` by settled entries returns what it was given after as many steps as the longest route of the
 /// plan passes switches, and at least two, if the plan delivers from each switch from which some tables deliver.
@@ -22,14 +23,15 @@ pub fn right_tables_make_no_loop()
     ensures law { RightTablesMakeNoLoop }
 {}
 
-/// Equal facts, rules and held tables give equal next tables, with `--told-order` and without.
+/// Equal facts, rules and held tables give equal next tables, by the same order, with `--told-order` or `--last-order`
+/// and without.
 pub fn steps_have_one_result()
     ensures law { StepsHaveOneResult }
 {}
 
-/// A step of `next --told-order` by the order that the held tables imply can make no credit loop in any mixture, and
-/// its tables are right by that order. The step goes by that order if the held tables are not right by the order of the
-/// plan's switches, but imply an order.
+/// A step of `next` by the order that the held tables imply can make no credit loop in any mixture, and its tables are
+/// right by that order, whatever `--last-order` names. The step goes by that order if the held tables are not right by
+/// the order of the plan's switches, but imply an order.
 pub fn told_steps_make_no_loop()
     ensures law { ToldStepsMakeNoLoop }
 {}
@@ -50,4 +52,15 @@ pub fn last_text_is_the_plans()
 /// No route of a plan passes more switches than there are.
 pub fn ways_meet_at_most_all()
     ensures law { WaysMeetAtMostAll }
+{}
+
+/// The plan of a view with room is whole, as `handed_steps_end`, `stages_stay_whole` and `stages_are_few` want it
+/// (`between_orders`).
+pub fn plans_are_whole()
+    ensures law { PlansAreWhole }
+{}
+
+/// Each usable switch has a LID in the plan of a view with room, if its port 0 is an end port, whose GUID is known.
+pub fn plans_give_own_lids()
+    ensures law { PlansGiveOwnLids }
 {}

@@ -1,0 +1,28 @@
+-- Stages of steps towards the plan of a view.
+use Rattle.std.specs.Prelude.{ℕ, Contains}
+use Rattle.fact_store.specs.View.{Facts, cells_of, AreInRange}
+use Rattle.subnet_view.specs.Reading.{Cells, switches}
+use Rattle.subnet_view.specs.EndPorts.{end_ports}
+use Rattle.lid_assign.specs.Lids.{IsNoRoom}
+use Rattle.lft_blocks.specs.Plan.{plan_of}
+use Rattle.lft_blocks.specs.Rules.{RuleValue}
+use Rattle.held_tables.specs.PlanTables.{held_plan}
+use Rattle.between_orders.specs.HandedSteps.{HaveOwnLids, IsWholePlan}
+
+-- the plan of a view with room is whole
+abbrev pub PlansAreWhole : Type 0
+PlansAreWhole =
+    (rule : RuleValue) (lmc : ℕ) (facts : Facts) → AreInRange facts → ¬ (IsNoRoom lmc (cells_of facts))
+    → IsWholePlan (cells_of facts) (held_plan (plan_of rule lmc (cells_of facts)))
+
+-- the port 0 of each usable switch is an end port: its GUID is known
+abbrev pub SwitchesAreEndPorts : Cells → Type 0
+SwitchesAreEndPorts cells =
+    (g : ℕ) → Contains (switches cells) g → Contains (end_ports cells) (record { node = g; port = 0 })
+
+-- each usable switch has a LID in the plan of a view with room, if its port 0 is an end port
+abbrev pub PlansGiveOwnLids : Type 0
+PlansGiveOwnLids =
+    (rule : RuleValue) (lmc : ℕ) (facts : Facts) → AreInRange facts → ¬ (IsNoRoom lmc (cells_of facts))
+    → SwitchesAreEndPorts (cells_of facts)
+    → HaveOwnLids (cells_of facts) (held_plan (plan_of rule lmc (cells_of facts)))
