@@ -40,8 +40,8 @@ pub(crate) fn visit_if_new(
 }
 
 /// Marks `stop`. Records the channels that a packet of `level` can take from there one after the other, notes it if it
-/// can be dropped there and no packet is noted yet, and adds the stops to which it can go. Takes a search for each edge here
-/// and one for each edge of the next switch.
+/// can be dropped there and no packet is noted yet, and adds the stops to which it can go. Takes, for each edge, a search
+/// and one for each edge of the switch to which it leads.
 fn visit(
     by_lane: &LaneNetwork,
     columns: &LidColumns,

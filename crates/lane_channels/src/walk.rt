@@ -11,10 +11,9 @@ use crate::visit::visit_if_new;
 use crate::walk_state::{LidColumns, Walks};
 use std::alloc::AllocError;
 
-/// Follows a packet of `level` from `first` on: along the edge of each column, and from where it comes to so, again.
-/// Records the channels that it can take one after the other, and notes it if it can be dropped for want of a lane and no
-/// packet is noted yet. Goes on nowhere from a stop from which packets of this LID and level were followed before. Takes
-/// what `visit_if_new` takes for each other stop.
+/// Follows a packet of `level` from `first` on, at each stop along the edge of each column. Records the channels that it
+/// can take one after the other, and notes it if it can be dropped for want of a lane and no packet is noted yet. Visits
+/// no stop from which packets of this LID and level were followed before. Takes what a visit takes for each other stop.
 pub(crate) fn walk(
     by_lane: &LaneNetwork,
     columns: &LidColumns,
