@@ -188,15 +188,15 @@ module _ (word : List ℕ → Option (List ℕ)) (files : Option (List (List ℕ
       rw floor.1 (both_there (Some []) _ refl (both_there _ files (one_there (word (codes "TABLES")) t) h.named))
 
   -- the last step's order is named if it is asked for
-  order_there : (told : Bool) (order : Option (List ℕ)) → is_some (text_if (is_named (held_order_asked told (is_some order))) order) ≡ true
+  order_there : (told : Bool) (last : Option (List ℕ)) → is_some (text_if (is_named (held_order_asked told (is_some last))) last) ≡ true
   order_there true None = refl
   order_there false None = refl
-  order_there told (Some order) = refl
+  order_there told (Some name) = refl
 
   -- so are the lanes
   lanes_there : (lanes : Option (List ℕ)) (answers : Bool) → (answers && not (is_some lanes)) ≡ false
       → (asked : StepLanes) × (lanes_asked (is_some lanes) answers ≡ Some asked) × (is_some (text_if (has_lanes asked) lanes) ≡ true)
-  lanes_there (Some lanes) answers apart = (ByText answers, refl, refl)
+  lanes_there (Some name) answers apart = (ByText answers, refl, refl)
   lanes_there None false apart = (One, refl, refl)
   lanes_there None true apart = absurd (cc)
 
@@ -205,8 +205,8 @@ module _ (word : List ℕ → Option (List ℕ)) (files : Option (List (List ℕ
       let floor = known (floor_asked (word (codes "floor"))) (floor_there (word (codes "floor")) h.floor) in
       let by = planning_there p in
       let lanes = lanes_there (word (codes "lanes")) (is_set (word (codes "answers-as-asked"))) apart in
-      let order = order_there (is_set (word (codes "told-order"))) (word (codes "last-order")) in
-      let texts = both_there _ _ lanes.2 (both_there _ _ order (one_there (word (codes "TABLES")) t)) in
+      let last = order_there (is_set (word (codes "told-order"))) (word (codes "last-order")) in
+      let texts = both_there _ _ lanes.2 (both_there _ _ last (one_there (word (codes "TABLES")) t)) in
       rw (by.1, lanes.1, floor.1) (both_there (texts_of_rule word by.0.1) _ by.2 (both_there _ files texts h.named))
 
   run_asks : IsGiven (word (codes "TOPOLOGY")) → IsGiven (word (codes "SCHEDULE")) → NamesPlanning word → Asks (codes "run")
