@@ -27,7 +27,7 @@ module _ {S : Type 0} (state : S → SourceState) (lmc : ℕ) (asked : RuleAsked
   where
     has_run : (prints : List ℕ → Type 0) → prints (script_text planning setting.topology setting.schedule) → HasRun state lmc asked olds news prints
     has_run prints p =
-        let told = inputs.read.others_read in
+        let told = inputs.read.others_are in
         let Printed : Planning → Type 0 = λ way. prints (run_text way told.topology told.schedule) in record {
           rule = rule;
           setting = setting;

@@ -55,31 +55,34 @@ pub record TellsTopology (text : List ℕ) (layout : Layout) : Type 0 where
   pub utf8 : is_utf8 text ≡ true
   pub told : topology_of text ≡ Ok layout
 
--- the fault is that of one of the two texts, inputs `first` and `first` + 1; unless it is lack of memory, it is the
--- fault `found`
+-- the texts are refused for a fault of one of the two, the inputs `first` and `first` + 1, which is `found` unless it
+-- is lack of memory
 abbrev pub IsRefused : ℕ → Option Fault → Fault → Type 0
 IsRefused first found (Text input fault) =
     ((input ≡ first) ⊎ (input ≡ first + 1)) × (is_of_text fault ≡ true → found ≡ Some (Text input fault))
 IsRefused first found fault = ⊥
 
--- if memory ran out for a topology, no line has a fault, except for faults of a link's peer and ports
+-- if a topology is refused for lack of memory, none of its lines has a fault, except for faults of a link's peer and
+-- ports
 abbrev pub HidesLinksAlone : List ℕ → Fault → Type 0
 HidesLinksAlone topology (Text input (Topology topologies.Memory)) = first_line_fault topology ≡ None
 HidesLinksAlone topology _ = Unit {0}
 
--- if memory ran out for a schedule, no line has a fault, except for lines below more than 64 managers
+-- if a schedule is refused for lack of memory, none of its lines has a fault, except for lines below more than 64
+-- managers
 abbrev pub HidesBelowManagers : List Node → List ℕ → Fault → Type 0
 HidesBelowManagers nodes schedule (Text input (Schedule schedules.Memory)) = IsSoundOrCrowded nodes (lines schedule)
 HidesBelowManagers nodes schedule _ = Unit {0}
 
--- the text of a schedule, after the topology at `first`, is refused for its first fault, or memory ran out as it was
--- judged
+-- the text of a schedule, the input after the topology at `first`, is refused for `fault`: its first one, or lack of
+-- memory as it was judged
 pub record RefusesScript (first : ℕ) (nodes : List Node) (text : List ℕ) (fault : Fault) : Type 0 where
   pub refused : IsRefused first (schedule_fault (first + 1) nodes text) fault
   pub hides : HidesBelowManagers nodes text fault
   pub no_topology : (topology : List ℕ) → HidesLinksAlone topology fault
 
--- the texts are refused for their first fault, or memory ran out as they were judged
+-- the texts of a topology and a schedule are refused for `fault`: the first one of both, or lack of memory as they were
+-- judged
 pub record RefusesTexts (first : ℕ) (topology schedule : List ℕ) (fault : Fault) : Type 0 where
   pub refused : IsRefused first (input_fault first topology schedule) fault
   pub hides : HidesLinksAlone topology fault
@@ -100,14 +103,14 @@ pub record AreRead {S : Type 0} (state : S → SourceState) (old new : S) (old' 
   pub topology_read : IsReadWhole state old new topology
   pub schedule_read : IsReadWhole state old' new' schedule
 
--- the topology cannot be read whole, and the schedule was not touched
+-- the topology, the input `first`, cannot be read whole for `fault`, and the schedule was not touched
 pub record FailsAtTopology {S : Type 0} (state : S → SourceState) (first : ℕ) (old new old' new' : S)
     (input : ℕ) (fault : FileFault) : Type 0 where
   pub is_first : input ≡ first
   pub fails : FailsToRead state old new fault
   pub untouched : new' ≡ old'
 
--- the topology was read, and the schedule cannot be read whole
+-- the topology, the input `first`, was read, and the schedule, the next input, cannot be read whole for `fault`
 pub record FailsAtSchedule {S : Type 0} (state : S → SourceState) (first : ℕ) (old new old' new' : S)
     (input : ℕ) (fault : FileFault) : Type 0 where
   pub is_second : input ≡ first + 1
@@ -115,8 +118,8 @@ pub record FailsAtSchedule {S : Type 0} (state : S → SourceState) (first : ℕ
   pub read : IsReadWhole state old new topology
   pub fails : FailsToRead state old' new' fault
 
--- the fault is that of the source that cannot be read whole; the topology is at input `first`, and its fault comes
--- first
+-- a fault of the run is that of the first of two sources that cannot be read whole: the topology, the input `first`, or
+-- the schedule
 abbrev pub FailsToReadThem : {S : Type 0} → (S → SourceState) → ℕ → S → S → S → S → Fault
     → Type 0
 FailsToReadThem state first old new old' new' (File input fault) =
@@ -124,7 +127,7 @@ FailsToReadThem state first old new old' new' (File input fault) =
     ⊎ FailsAtSchedule state first old new old' new' input fault
 FailsToReadThem state first old new old' new' fault = ⊥
 
--- the texts describe this topology and this schedule for it
+-- the texts describe the topology `layout` and the schedule `script` for it
 pub record Tells (topology schedule : List ℕ) (layout : Layout) (script : Script) : Type 0 where
   pub topology_told : TellsTopology topology layout
   pub schedule_told : schedule_of layout.nodes schedule ≡ Ok script
@@ -139,7 +142,7 @@ pub record AreTold {S : Type 0} (state : S → SourceState) (olds news : List S)
   pub tells : Tells topology schedule setting.topology setting.schedule
   pub is_script : IsScript setting.topology.nodes setting.schedule
 
--- both sources were read to their ends, and their texts are refused with `fault`
+-- both sources were read to their ends, and their texts are refused for `fault`
 pub record AreRefused {S : Type 0} (state : S → SourceState) (first : ℕ) (old new old' new' : S)
     (fault : Fault) : Type 0 where
   pub topology : List ℕ
@@ -147,14 +150,15 @@ pub record AreRefused {S : Type 0} (state : S → SourceState) (first : ℕ) (ol
   pub read : AreRead state old new old' new' topology schedule
   pub refuses : RefusesTexts first topology schedule fault
 
--- a source cannot be read whole, or the texts are refused
+-- for `fault`, one of the two sources cannot be read whole, or their texts are refused
 abbrev pub IsTextsFault : {S : Type 0} → (S → SourceState) → ℕ → S → S → S → S → Fault
     → Type 0
 IsTextsFault state first old new old' new' fault =
     FailsToReadThem state first old new old' new' fault
     ⊎ AreRefused state first old new old' new' fault
 
--- why the two texts are not read or are refused; the topology is at input `first`
+-- there are two sources, a topology, the input `first`, and a schedule, and for `fault` one is not read, or the texts
+-- are refused
 pub record AreNotTold {S : Type 0} (state : S → SourceState) (first : ℕ) (olds news : List S)
     (fault : Fault) : Type 0 where
   pub were : AreTexts olds
@@ -163,7 +167,7 @@ pub record AreNotTold {S : Type 0} (state : S → SourceState) (first : ℕ) (ol
 
 -- running ---------------------------------------------------------------------------------------
 
--- a reader of both texts, which knows the switches of the topology
+-- the reader of a topology and a schedule, which knows the switches of the topology
 abbrev pub texts_reader : {S : Type 0} → (S → SourceState) → Reader S Setting
 texts_reader state = record {
   reads = AreTold state;
@@ -172,23 +176,24 @@ texts_reader state = record {
 }
 
 -- The inputs were read: the text that the rule takes, the topology and the schedule. `prints` holds of what their run
--- prints, with managers that plan under `lmc` and by the rule
+-- prints, with managers that plan under `lmc` and by the rule.
 pub record HasRun {S : Type 0} (state : S → SourceState) (lmc : ℕ) (asked : RuleAsked) (olds news : List S)
     (prints : List ℕ → Type 0) : Type 0 where
   pub rule : RuleValue
   pub setting : Setting
   pub inputs : AreInputs state (texts_reader state) asked olds news rule setting
-  pub printed : prints (run_text (record { lmc = lmc; rule = rule }) inputs.read.others_read.topology
-      inputs.read.others_read.schedule)
+  pub printed : prints (run_text (record { lmc = lmc; rule = rule }) inputs.read.others_are.topology
+      inputs.read.others_are.schedule)
 
 -- the source of the topology when the run began
 abbrev pub topology_source : {S : Type 0} {state : S → SourceState} {lmc : ℕ} {asked : RuleAsked} {olds news : List S}
     {prints : List ℕ → Type 0} → HasRun state lmc asked olds news prints → S
-topology_source run = run.inputs.read.others_read.were.topology
+topology_source run = run.inputs.read.others_are.were.topology
 
+-- the source of the schedule when the run began
 abbrev pub schedule_source : {S : Type 0} {state : S → SourceState} {lmc : ℕ} {asked : RuleAsked} {olds news : List S}
     {prints : List ℕ → Type 0} → HasRun state lmc asked olds news prints → S
-schedule_source run = run.inputs.read.others_read.were.schedule
+schedule_source run = run.inputs.read.others_are.were.schedule
 
 -- faults ----------------------------------------------------------------------------------------
 
@@ -197,7 +202,8 @@ abbrev pub fault_of_run : RunFault → Fault
 fault_of_run runs.Write = Write
 fault_of_run runs.Memory = Memory
 
--- why a run ends early: a write failed, or memory ran out, and then `prints` holds of what it would have printed
+-- a run ends early for a fault: the inputs were read and a write failed, or memory ran out, and then `prints` holds of
+-- what the run would have printed
 abbrev pub StopsEarly : {S : Type 0} → (S → SourceState) → ℕ → RuleAsked → List S → List S
     → (List ℕ → Type 0) → Bool → Fault → Type 0
 StopsEarly state lmc asked olds news prints sink_failed Write =
@@ -206,7 +212,7 @@ StopsEarly state lmc asked olds news prints sink_failed Memory =
     HasRun state lmc asked olds news prints
 StopsEarly state lmc asked olds news prints sink_failed fault = ⊥
 
--- why a run over open inputs fails
+-- a run over open inputs fails for `fault`: the inputs are not read or refused, or it ends early
 abbrev pub IsRunFault : {S : Type 0} → (S → SourceState) → ℕ → RuleAsked → List S → List S
     → (List ℕ → Type 0) → Bool
     → Fault → Type 0

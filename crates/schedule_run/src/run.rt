@@ -15,18 +15,16 @@ use sm_cli::{Fault, RuleAsked, read_inputs};
 use std::alloc::Global;
 
 /// Runs a schedule in the simulated fabric of a topology, with managers that plan 2^LMC LIDs for each adapter port by
-/// the rule `asked`. The inputs are the text that the rule takes, the topology and the schedule (`read_inputs`). Reads
-/// the topology and the schedule to their ends, and judges both, the topology first. Then runs the commands in their
-/// order, and flushes their output.
+/// the rule `asked`. The inputs must be the text that the rule takes, if any, the topology and the schedule
+/// (`read_inputs`). Reads them to their ends, and judges the topology, the schedule and then any roots. Then runs the
+/// commands in their order, and flushes their output.
 ///
-/// Writes `run_text` of the two texts: the lines of all commands in turn. If an input is refused, writes nothing. If
-/// memory runs out while the commands are run, writes a beginning of that text. If a write fails, how much was written
-/// is unspecified. If the fabric or a manager refuses a call, writes a line with the fault's name and goes on. Only
-/// lack of memory and a failed write end the run. `docs/FORMATS.md` has the table of the commands.
+/// Writes `run_text` of the topology and the schedule: the lines of all commands in turn. If an input is refused,
+/// writes nothing. If memory is refused while the commands are run, writes a beginning of that text. If a write fails,
+/// how much was written is unspecified. If the fabric or a manager refuses a call, writes a line with the fault's name
+/// and goes on. Only lack of memory and a failed write end the run. `docs/FORMATS.md` has the table of the commands.
 ///
-/// Takes memory for the texts, the fabric, the packets in flight, and the facts of managers. A delivery takes one step
-/// for the packet of the least serial number (as in `drain`), and a search for another packet. If the packet reaches a
-/// manager, the manager's work is added.
+/// Allocates for the texts, the fabric, the packets in flight, and the facts of managers.
 pub fn run_schedule<S: Source, W: Sink>(
     alloc: Global,
     inputs: &mut [S],
@@ -56,7 +54,7 @@ pub fn run_schedule<S: Source, W: Sink>(
     }
 }
 
-/// Returns the fault of a run as a fault of the program.
+/// Returns `fault`, that of a run of commands, as a fault of the program.
 fn fault_of_run(fault: RunFault) -> Fault
     ensures { result ≡ fault_of_run fault }
 {

@@ -28,7 +28,7 @@ pub(crate) struct Setting {
     pub(crate) schedule: Schedule,
 }
 
-/// Reads the text of a topology and then that of a schedule. Finds switches in the topology that was read.
+/// A reader of the text of a topology and then of that of a schedule. It finds switches in the topology that it read.
 #[derive(Clone, Copy, Debug, PartialEq, Eq)]
 pub(crate) struct TopologyAndSchedule;
 
@@ -51,11 +51,13 @@ impl<S: Source> InputReader<S> for TopologyAndSchedule {
     }
 }
 
-/// Reads both texts to their ends, the topology first, and returns what they describe. `before` inputs precede them.
+/// Reads both texts to their ends, the topology first, and returns what they describe. There must be these two.
+/// `before` inputs precede them.
 ///
 /// # Errors
 ///
-/// Returns the first fault. A fault of reading comes before a fault of a text.
+/// Returns the fault of the first text that cannot be read. If both were read, returns the fault of the topology if it
+/// is refused, otherwise that of the schedule.
 fn read_setting<S: Source>(alloc: Global, before: usize, texts: &mut [S]) -> Result<Setting, Fault>
     requires two { length texts.old ≡ 2 }
     requires counted { before + length texts.old ≤ usize.MAX }
@@ -74,7 +76,7 @@ fn read_setting<S: Source>(alloc: Global, before: usize, texts: &mut [S]) -> Res
     }
 }
 
-/// Reads both texts, the topology first. `first` is the number of the topology's input.
+/// Reads both texts to their ends, the topology first. `first` is the index of the topology's input.
 fn read_texts<S: Source>(
     alloc: Global,
     first: usize,
@@ -105,7 +107,7 @@ fn read_texts<S: Source>(
     Ok(Texts { topology, schedule })
 }
 
-/// Parses both texts, the topology first. `first` is the number of the topology's input.
+/// Parses both texts, the topology first. `first` is the index of the topology's input.
 #[tactic(auto, using(crate::proofs::Judging::behind, crate::proofs::Judging::refused_behind))]
 fn judge(alloc: Global, first: usize, texts: &Texts) -> Result<Setting, Fault>
     requires { first < usize.MAX }
@@ -122,7 +124,7 @@ fn judge(alloc: Global, first: usize, texts: &Texts) -> Result<Setting, Fault>
     Ok(Setting { topology, schedule })
 }
 
-/// Parses the topology. `first` is the number of its input.
+/// Parses the topology. `first` is the index of its input.
 fn judge_topology(alloc: Global, first: usize, bytes: &[u8]) -> Result<Topology, Fault>
     ensures sound { IfOk result (λ topology. TellsTopology bytes.now topology) }
     ensures refused { (schedule : List ℕ) → IfErr result (RefusesTexts first bytes.now schedule) }
@@ -136,7 +138,8 @@ fn judge_topology(alloc: Global, first: usize, bytes: &[u8]) -> Result<Topology,
     }
 }
 
-/// Parses the schedule for `topology`. `first` is the number of the topology's input.
+/// Parses the schedule for `topology`. `first` is the index of the topology's input, after which that of the schedule
+/// comes.
 fn judge_schedule(
     alloc: Global,
     first: usize,
@@ -159,7 +162,7 @@ fn judge_schedule(
     }
 }
 
-/// Returns the fault of the text at `input`.
+/// Returns `fault` as that of the text at `input`.
 fn refused(input: usize, fault: TextFault) -> Fault
     ensures { result ≡ Fault.Text input fault }
 {

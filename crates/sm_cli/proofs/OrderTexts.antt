@@ -1,5 +1,6 @@
 -- An order that is printed and given back is the same order.
-use Rattle.std.proofs.Common.{◌≡◌, ◌≢◌, ◌<◌, ◌+◌, ◌^◌, ◌==◌, ℕ, suc, List, [], ◌∷◌, ◌++◌, Bool, true, false, leb, Some, Ok, inl, inr, refl, sym, ap, ◌∙◌, subst, arith, length, map, append_assoc, append-nil}
+use Rattle.std.proofs.Common.{◌≡◌, ◌≢◌, ◌<◌, ◌+◌, ◌^◌, ◌==◌, ℕ, suc, List, [], ◌∷◌, ◌++◌, Bool, true, false, leb, Some, Ok, inl, inr, refl, sym, ap, ◌∙◌, subst}
+use Rattle.std.proofs.Common.{arith, length, map, append_assoc, append-nil}
 use Rattle.std.proofs.lemmas.Bool.{eqb-true, ne_eqb}
 use Rattle.std.proofs.lemmas.List.Concat.{flat_map-cons}
 use Rattle.std.proofs.lemmas.List.Elements.{Contains-append_cases}
@@ -151,7 +152,8 @@ order_is_read order facts range none =
     let graph = graph_of cells in
     let keys = keys_by graph (adapters_of cells) order in
     text_is_read (switches_by_keys graph keys) (stand_once graph keys (graph_law facts))
-    (λ g h. let there : Contains (switches cells) g = subst (λ (gs : List ℕ). Contains gs g) (graph_guids cells) (are_switches graph keys (graph_law facts) g h) in
+    (λ g h. let there : Contains (switches cells) g = subst (λ (gs : List ℕ). Contains gs g) (graph_guids cells)
+    (are_switches graph keys (graph_law facts) g h) in
     (switch_small facts range g there, λ zero_is. none (subst (λ (y : ℕ). Contains (switches cells) y) zero_is there)))
 
 pub printed_orders_stand : PrintedOrdersStand

@@ -14,7 +14,7 @@ texts_for SpreadInOrder = 1
 texts_for Balance = 0
 texts_for BalanceInOrder = 1
 
--- the rule of a plan or of an order; `UpDown`, which takes no text, if the output needs none
+-- the rule of routing that a plan or an order is asked for by; `UpDown`, which takes no text, for facts and joins
 abbrev pub rule_for : Output → RuleAsked
 rule_for Facts = UpDown
 rule_for Join = UpDown

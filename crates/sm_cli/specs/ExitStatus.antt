@@ -1,7 +1,8 @@
--- The exit status of a run.
+-- The exit status of a run, and which fault ends with which.
 use Rattle.std.specs.Prelude.{ℕ, if◌then◌else◌}
 use Rattle.record_file.specs.declared.file_fault.FileFault.{FileFault}
-use Rattle.record_file.specs.declared.file_fault.FileFault.TheVariants.{Magic, Truncated, BadReport, BadCell, CellOrder, Read, Memory as NoMemoryForFile, TooLong, BadFloor}
+use Rattle.record_file.specs.declared.file_fault.FileFault.TheVariants.{Magic, Truncated, BadReport, BadCell, CellOrder, Read, Memory as NoMemoryForFile}
+use Rattle.record_file.specs.declared.file_fault.FileFault.TheVariants.{TooLong, BadFloor}
 use Rattle.sm_cli.specs.declared.fault.Fault.{Fault}
 use Rattle.sm_cli.specs.declared.fault.Fault.TheVariants.{Open, File, Text, NoRoom, Write, Memory as NoMemory}
 use Rattle.sm_cli.specs.TextFault.{is_of_text}
@@ -17,7 +18,7 @@ code_of Refused = 3
 code_of InputOutput = 4
 code_of Memory = 5
 
--- the exit status for the fault of a file
+-- the exit status of a run that ends with the fault of a file
 abbrev pub file_status : FileFault → ExitStatus
 file_status Magic = Refused
 file_status (Truncated offset) = Refused
@@ -29,7 +30,7 @@ file_status NoMemoryForFile = Memory
 file_status TooLong = Refused
 file_status BadFloor = Refused
 
--- the exit status for a fault
+-- the exit status of a run that ends with a fault
 abbrev pub status_of : Fault → ExitStatus
 status_of (Open input) = InputOutput
 status_of (File input fault) = file_status fault

@@ -18,17 +18,17 @@ name_text name = name ++ codes ": "
 abbrev pub named_text : List ℕ → List ℕ → List ℕ
 named_text name words = name_text name ++ words
 
--- the number with which the words end; empty if there is none
+-- the number in decimal; empty for None
 abbrev pub number_text : Option ℕ → List ℕ
 number_text None = []
 number_text (Some number) = decimal number
 
--- the name of the report's fault; empty if there is none
+-- a colon and the name of the report's fault; empty for None
 abbrev pub cause_text : Option ReportFault → List ℕ
 cause_text None = []
 cause_text (Some fault) = codes ": " ++ report_fault_name fault
 
--- what is written about a fault, without the file's name
+-- what is written about a file's fault, without the file's name
 abbrev pub words_of : FileFault → List ℕ
 words_of fault = fault_words fault ++ number_text (fault_number fault) ++ cause_text (fault_of_report fault)
 
@@ -40,15 +40,15 @@ file_fault_text name fault = if is_of_file fault then named_text name (words_of 
 abbrev pub text_fault_text : List ℕ → TextFault → List ℕ
 text_fault_text name fault = if is_of_text fault then named_text name (said_of_text fault) else said_of_text fault
 
--- the number of end ports
+-- `endports`, followed by the words `end ports`
 abbrev pub count_text : ℕ → List ℕ
 count_text endports = decimal endports ++ codes " end ports"
 
--- the number of end ports, and the room for their LIDs
+-- the message that there is no room: the number of end ports, and the room for their LIDs
 abbrev pub no_room_text : Lack → List ℕ
 no_room_text why = codes "no room: " ++ count_text why.endports ++ codes ", room " ++ decimal why.room
 
--- the message of a run that ends with the fault; `name` is the name of the file that it concerns
+-- the message of a run that ends with a fault; `name` is the name of the input that it concerns, if it concerns one
 abbrev pub fault_text : List ℕ → Fault → List ℕ
 fault_text name (Open input) = named_text name (codes "cannot open")
 fault_text name (File input fault) = file_fault_text name fault

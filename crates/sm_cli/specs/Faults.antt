@@ -4,7 +4,7 @@ use Rattle.lid_assign.specs.declared.fault.LidFault.TheVariants as lids
 use Rattle.sm_cli.specs.declared.fault.Fault.{Fault}
 use Rattle.sm_cli.specs.declared.fault.Fault.TheVariants.{NoRoom, Memory}
 
--- why LIDs cannot be assigned, as a fault of a run
+-- the fault of assigning LIDs as a fault of a run
 abbrev pub fault_of_lids : LidFault → Fault
 fault_of_lids (lids.NoRoom why) = NoRoom why
 fault_of_lids lids.Memory = Memory

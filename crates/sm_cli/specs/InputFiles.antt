@@ -12,29 +12,29 @@ use Rattle.record_file.specs.declared.file_fault.FileFault.TheVariants.{Read, Me
 use Rattle.sm_cli.specs.declared.fault.Fault.{Fault}
 use Rattle.sm_cli.specs.declared.fault.Fault.TheVariants.{File}
 
--- the greatest of `floor` and the floors of the files
+-- the greatest of `floor` and the floors of `files`
 abbrev pub floor_among : ℕ → List (List ℕ) → ℕ
 floor_among floor files = fold max floor (map floor_in files)
 
--- what the files say together, by their records before the first bad one, at the greatest of `floor` and the floors of
--- the files
+-- what `files` say together, by their records before the first bad one of each, at the greatest of `floor` and their
+-- floors
 abbrev pub facts_of : ℕ → List (List ℕ) → Facts
 facts_of floor files = view_at (floor_among floor files) (flat_map kept files)
 
--- the source was read to its end, and its bytes are `file`, which is accepted
+-- the source was read to its end without a failure, and its bytes are `file`, which is accepted
 pub record IsReadAs {S : Type 0} (state : S → SourceState) (old new : S) (file : List ℕ) : Type 0 where
   pub consumed : Consumes (state old).left (state new).left file
   pub at_end : IsAtEnd (state new).left
   pub accepted : outcome file ≡ Ok tt
   pub works : (state new).has_failed ≡ false
 
--- the source was read to its end, and what its file says was merged into the facts
+-- the source was read to its end, and what its file says was merged into `facts`, which gives `facts'`
 pub record ReadsInto {S : Type 0} (state : S → SourceState) (old new : S) (facts facts' : Facts) : Type 0 where
   pub file : List ℕ
   pub read : IsReadAs state old new file
   pub merged : facts' ≡ merge facts (facts_in file)
 
--- the source at `input` was read as `file`
+-- the source at `input` was read to its end without a failure, and its bytes are `file`, which is accepted
 pub record IsReadAt {S : Type 0} (state : S → SourceState) (olds news : List S) (input : ℕ)
     (file : List ℕ) : Type 0 where
   pub old : S
@@ -43,12 +43,12 @@ pub record IsReadAt {S : Type 0} (state : S → SourceState) (olds news : List S
   pub there_after : slice_get news input ≡ Some new
   pub read : IsReadAs state old new file
 
--- the first sources were read, one for each of `files`
+-- the first sources were read, one as each of `files`
 abbrev pub AreReadAs : {S : Type 0} → (S → SourceState) → List S → List S → List (List ℕ) → Type 0
 AreReadAs state olds news files =
     (input : ℕ) (file : List ℕ) → slice_get files input ≡ Some file → IsReadAt state olds news input file
 
--- all sources were read, and `facts` is what their files say
+-- all sources were read, and `facts` is what their files say together, at `floor` or their greatest floor
 pub record HasRead {S : Type 0} (state : S → SourceState) (floor : ℕ) (olds news : List S)
     (facts : Facts) : Type 0 where
   pub files : List (List ℕ)
@@ -56,8 +56,8 @@ pub record HasRead {S : Type 0} (state : S → SourceState) (floor : ℕ) (olds 
   pub read : AreReadAs state olds news files
   pub told : facts ≡ facts_of floor files
 
--- reading the source ended with `fault`: it is the fault of the bytes taken, or a read or an allocation failed before
--- any fault
+-- reading the source ended with `fault`: it is the first fault of the bytes taken, or a read or an allocation failed
+-- before any
 pub record Refuses {S : Type 0} (state : S → SourceState) (old new : S) (fault : FileFault) : Type 0 where
   pub taken : List ℕ
   pub consumed : Consumes (state old).left (state new).left taken
@@ -81,14 +81,14 @@ pub record RefusesFile {S : Type 0} (state : S → SourceState) (olds news : Lis
   pub there_after : slice_get news input ≡ Some new
   pub refuses : Refuses state old new fault
 
--- a file is refused: `fault` is at input `input`, counted with the `before` inputs that precede the files
+-- the file at the input `input`, counted with the `before` inputs that precede the files, is refused for `fault`
 pub record IsRefusedAt {S : Type 0} (state : S → SourceState) (before : ℕ) (olds news : List S)
     (input : ℕ) (fault : FileFault) : Type 0 where
   pub index : ℕ
   pub is : input ≡ before + index
   pub refuses : RefusesFile state olds news index fault
 
--- why a file is refused, as a fault of a run
+-- reading the files ends with `fault`, which is that of one of them; `before` inputs precede the files
 abbrev pub IsRefusedFile : {S : Type 0} → (S → SourceState) → ℕ → List S → List S → Fault
     → Type 0
 IsRefusedFile state before olds news (File input fault) =

@@ -12,7 +12,7 @@ use Rattle.sm_cli.specs.declared.text_fault.TextFault.{TextFault}
 use Rattle.sm_cli.specs.declared.text_fault.TextFault.TheVariants as texts
 use Rattle.sm_cli.specs.declared.input_lanes.LanesAndFiles.{LanesAndFiles}
 use Rattle.sm_cli.specs.InputTables.{AreNoTablesAndFiles, AreTablesAndFiles}
-use Rattle.sm_cli.specs.Sources.{IsOneRead, Parts}
+use Rattle.sm_cli.specs.Sources.{AreReadInParts, IsOneRead}
 
 -- the source was read to its end, and its text has no fault and says `said`
 pub record IsLanes {S : Type 0} (state : S → SourceState) (old new : S) (said : LanesSaid) : Type 0 where
@@ -21,27 +21,27 @@ pub record IsLanes {S : Type 0} (state : S → SourceState) (old new : S) (said 
   pub sound : first_fault text ≡ None
   pub told : said ≡ lanes_said text
 
--- there is one source, and it was read as `said`
+-- there is one source, and its text of lanes was read to its end and says `said`
 abbrev pub AreLanes : {S : Type 0} → (S → SourceState) → List S → List S → LanesSaid → Type 0
 AreLanes state olds news said = IsOneRead olds news (λ old new. IsLanes state old new said)
 
--- the fault is the first one of the text, or the text has none and memory ran out
+-- the fault is the first one of `text`, or `text` has none and memory ran out
 abbrev pub IsFaultOfText : List ℕ → LanesFault → Type 0
 IsFaultOfText text (wrong.Line fault) = first_fault text ≡ Some fault
 IsFaultOfText text wrong.Memory = first_fault text ≡ None
 
--- the source was read to its end, and its text is refused
+-- the source was read to its end, and its text of lanes is refused for `fault`
 pub record RefusesLanes {S : Type 0} (state : S → SourceState) (old new : S) (fault : LanesFault) : Type 0 where
   pub text : List ℕ
   pub read : IsReadWhole state old new text
   pub refused : IsFaultOfText text fault
 
--- why the text of lanes is refused, as a fault of a text
+-- the source's text of lanes is refused for a fault of a text
 abbrev pub IsTextRefused : {S : Type 0} → (S → SourceState) → S → S → TextFault → Type 0
 IsTextRefused state old new (texts.Lanes fault) = RefusesLanes state old new fault
 IsTextRefused state old new fault = ⊥
 
--- why the lanes, the input `at`, are not read
+-- the text of lanes, the input `at`, is not read for a fault of the run: the source fails, or its text is refused
 abbrev pub IsLanesFault : {S : Type 0} → (S → SourceState) → ℕ → S → S → Fault → Type 0
 IsLanesFault state at old new (File input fault) =
     (input ≡ at) × FailsToRead state old new fault
@@ -49,35 +49,29 @@ IsLanesFault state at old new (Text input fault) =
     (input ≡ at) × IsTextRefused state old new fault
 IsLanesFault state at old new fault = ⊥
 
--- there is one source, and its lanes are not read
+-- there is one source, the input `at`, and its text of lanes is not read for `fault`
 abbrev pub AreNoLanes : {S : Type 0} → (S → SourceState) → ℕ → List S → List S → Fault → Type 0
 AreNoLanes state at olds news fault = IsOneRead olds news (λ old new. IsLanesFault state at old new fault)
 
 -- tables and files -------------------------------------------------------------------------------
 
 -- the lanes, then the tables and then the files were read, and say `told`
-pub record AreLanesAndFiles {S : Type 0} (state : S → SourceState) (floor : ℕ) (olds news : List S)
-    (told : LanesAndFiles) : Type 0 where
-  pub were : Parts olds
-  pub are : Parts news
-  pub lanes_read : AreLanes state were.first are.first told.lanes
-  pub others_read : AreTablesAndFiles state floor were.others are.others told.read
+abbrev pub AreLanesAndFiles : {S : Type 0} → (S → SourceState) → ℕ → List S → List S → LanesAndFiles → Type 0
+AreLanesAndFiles state floor olds news told =
+    AreReadInParts olds news (λ os ns. AreLanes state os ns told.lanes)
+    (λ os ns. AreTablesAndFiles state floor os ns told.read)
 
--- the lanes are refused, and no other input was touched
-pub record StopsAtLanes {S : Type 0} (state : S → SourceState) (olds news : List S) (fault : Fault) : Type 0 where
-  pub were : Parts olds
-  pub are : Parts news
-  pub why : AreNoLanes state 0 were.first are.first fault
-  pub untouched : are.others ≡ were.others
+-- the text of lanes, the first input, is refused for `fault`, and no other input was touched
+abbrev pub StopsAtLanes : {S : Type 0} → (S → SourceState) → List S → List S → Fault → Type 0
+StopsAtLanes state olds news fault =
+    AreReadInParts olds news (λ os ns. AreNoLanes state 0 os ns fault) (λ os ns. ns ≡ os)
 
--- the lanes were read, and the tables or a file after them are refused
-pub record StopsBehindLanes {S : Type 0} (state : S → SourceState) (olds news : List S) (fault : Fault) : Type 0 where
-  pub were : Parts olds
-  pub are : Parts news
-  pub said : LanesSaid
-  pub lanes_read : AreLanes state were.first are.first said
-  pub why : AreNoTablesAndFiles state 1 were.others are.others fault
+-- the text of lanes was read, and the tables or a file after it are refused for `fault`
+abbrev pub StopsBehindLanes : {S : Type 0} → (S → SourceState) → List S → List S → Fault → Type 0
+StopsBehindLanes state olds news fault =
+    (said : LanesSaid) × AreReadInParts olds news (λ os ns. AreLanes state os ns said)
+    (λ os ns. AreNoTablesAndFiles state 1 os ns fault)
 
--- why the lanes, or the tables and files after them, are not read
+-- the lanes, or the tables and files after them, are not read for `fault`
 abbrev pub AreNoLanesAndFiles : {S : Type 0} → (S → SourceState) → List S → List S → Fault → Type 0
 AreNoLanesAndFiles state olds news fault = StopsAtLanes state olds news fault ⊎ StopsBehindLanes state olds news fault

@@ -7,17 +7,18 @@ use Rattle.sm_cli.specs.InputTables.{AreNoTablesAndFiles, AreTablesAndFiles}
 use Rattle.sm_cli.specs.Inputs.{IsRoots, IsRootsFault}
 use Rattle.sm_cli.specs.Sources.{AreReadInParts, IsOneRead}
 
--- the number of texts of which there is one if `has_text` is true
+-- how many texts are read where one may be asked for: 1 if it is (true), otherwise 0
 abbrev pub texts_if : Bool → ℕ
 texts_if false = 0
 texts_if true = 1
 
--- the text of the order was read and names these switches; without such a text there are none
+-- the text of an order was read and names `switches`; if there is no such text (false), there are none, and no input
+-- was touched
 abbrev pub AreSwitches : {S : Type 0} → (S → SourceState) → Bool → List S → List S → List ℕ → Type 0
 AreSwitches state false olds news switches = (news ≡ olds) × (switches ≡ [])
 AreSwitches state true olds news switches = IsOneRead olds news (λ old new. IsRoots state old new switches)
 
--- why the text of the order, the input `at`, is not read
+-- the text of an order, the input `at`, is not read for `fault`; never if there is no such text (false)
 abbrev pub AreNoSwitches : {S : Type 0} → (S → SourceState) → Bool → ℕ → List S → List S → Fault → Type 0
 AreNoSwitches state false at olds news fault = ⊥
 AreNoSwitches state true at olds news fault = IsOneRead olds news (λ old new. IsRootsFault state at old new fault)
@@ -28,18 +29,19 @@ AreOrderAndTables state floor has_order olds news told =
     AreReadInParts olds news (λ os ns. AreSwitches state has_order os ns told.order.items)
     (λ os ns. AreTablesAndFiles state floor os ns told.read)
 
--- the text of the order, the input `at`, is refused, and no other input was touched
+-- the text of the order, the input `at`, is refused for `fault`, and no other input was touched
 abbrev pub StopsAtOrder : {S : Type 0} → (S → SourceState) → Bool → ℕ → List S → List S → Fault → Type 0
 StopsAtOrder state has_order at olds news fault =
     AreReadInParts olds news (λ os ns. AreNoSwitches state has_order at os ns fault) (λ os ns. ns ≡ os)
 
--- the text of the order was read, and the tables or a file after it are refused
+-- the text of the order, the input `at`, was read, if there is one, and the tables or a file after it are refused for
+-- `fault`
 abbrev pub StopsBehindOrder : {S : Type 0} → (S → SourceState) → Bool → ℕ → List S → List S → Fault → Type 0
 StopsBehindOrder state has_order at olds news fault =
     (switches : List ℕ) × AreReadInParts olds news (λ os ns. AreSwitches state has_order os ns switches)
     (λ os ns. AreNoTablesAndFiles state (at + texts_if has_order) os ns fault)
 
--- why the text of the order in the input `at`, or the tables and files after it, are not read
+-- the text of the order in the input `at`, or the tables and files after it, are not read for `fault`
 abbrev pub AreNoOrderAndTables : {S : Type 0} → (S → SourceState) → Bool → ℕ → List S → List S → Fault → Type 0
 AreNoOrderAndTables state has_order at olds news fault =
     StopsAtOrder state has_order at olds news fault ⊎ StopsBehindOrder state has_order at olds news fault

@@ -10,7 +10,7 @@ use Rattle.sm_cli.specs.Inputs.{Reader}
 use Rattle.sm_cli.specs.declared.input_steps.StepInputs.{StepInputs}
 use Rattle.sm_cli.specs.declared.input_tables.TablesAndFacts.{TablesAndFacts}
 
--- a reader of files, from `floor` on
+-- the reader of files, at `floor` or their greatest floor
 abbrev pub files_reader : {S : Type 0} → (S → SourceState) → ℕ → Reader S Facts
 files_reader state floor = record {
   reads = HasRead state floor;
@@ -18,7 +18,7 @@ files_reader state floor = record {
   has_switch = λ facts. is_usable (cells_of facts);
 }
 
--- a reader of a text of tables and then files, from `floor` on
+-- the reader of a text of tables and then files, at `floor` or their greatest floor
 abbrev pub tables_reader : {S : Type 0} → (S → SourceState) → ℕ → Reader S TablesAndFacts
 tables_reader state floor = record {
   reads = AreTablesAndFiles state floor;
@@ -26,7 +26,8 @@ tables_reader state floor = record {
   has_switch = λ told. is_usable (cells_of told.store);
 }
 
--- a reader of the inputs of a step, from `floor` on
+-- the reader of the inputs of a step: lanes and an order, if there are such, tables and files, at `floor` or the files'
+-- greatest floor
 abbrev pub step_reader : {S : Type 0} → (S → SourceState) → ℕ → Bool → Bool → Reader S StepInputs
 step_reader state floor has_lanes has_order = record {
   reads = AreStepInputs state floor has_lanes has_order;

@@ -12,7 +12,7 @@ use Rattle.sm_cli.specs.declared.text_fault.TextFault.{TextFault}
 use Rattle.sm_cli.specs.declared.text_fault.TextFault.TheVariants as texts
 use Rattle.sm_cli.specs.declared.input_tables.TablesAndFacts.{TablesAndFacts}
 use Rattle.sm_cli.specs.InputFiles.{HasRead, IsRefusedFile}
-use Rattle.sm_cli.specs.Sources.{IsOneRead, Parts}
+use Rattle.sm_cli.specs.Sources.{AreReadInParts, IsOneRead}
 
 -- the source was read to its end, and its text has no fault and says `held`
 pub record IsTables {S : Type 0} (state : S → SourceState) (old new : S) (held : HeldPlan) : Type 0 where
@@ -21,27 +21,27 @@ pub record IsTables {S : Type 0} (state : S → SourceState) (old new : S) (held
   pub sound : first_fault text ≡ None
   pub told : held ≡ held_of text
 
--- there is one source, and it was read as `held`
+-- there is one source, and its text of tables was read to its end and says `held`
 abbrev pub AreTables : {S : Type 0} → (S → SourceState) → List S → List S → HeldPlan → Type 0
 AreTables state olds news held = IsOneRead olds news (λ old new. IsTables state old new held)
 
--- the fault is the first one of the text, or the text has none and memory ran out
+-- the fault is the first one of `text`, or `text` has none and memory ran out
 abbrev pub IsFaultOfText : List ℕ → TablesFault → Type 0
 IsFaultOfText text (wrong.Line fault) = first_fault text ≡ Some fault
 IsFaultOfText text wrong.Memory = first_fault text ≡ None
 
--- the source was read to its end, and its text is refused
+-- the source was read to its end, and its text of tables is refused for `fault`
 pub record RefusesTables {S : Type 0} (state : S → SourceState) (old new : S) (fault : TablesFault) : Type 0 where
   pub text : List ℕ
   pub read : IsReadWhole state old new text
   pub refused : IsFaultOfText text fault
 
--- why the text of tables is refused, as a fault of a text
+-- the source's text of tables is refused for a fault of a text
 abbrev pub IsTextRefused : {S : Type 0} → (S → SourceState) → S → S → TextFault → Type 0
 IsTextRefused state old new (texts.Tables fault) = RefusesTables state old new fault
 IsTextRefused state old new fault = ⊥
 
--- why the tables in the input `at` are not read
+-- the text of tables, the input `at`, is not read for a fault of the run: the source fails, or its text is refused
 abbrev pub IsTablesFault : {S : Type 0} → (S → SourceState) → ℕ → S → S → Fault → Type 0
 IsTablesFault state at old new (File input fault) =
     (input ≡ at) × FailsToRead state old new fault
@@ -49,7 +49,7 @@ IsTablesFault state at old new (Text input fault) =
     (input ≡ at) × IsTextRefused state old new fault
 IsTablesFault state at old new fault = ⊥
 
--- there is one source, and its tables are not read
+-- there is one source, the input `at`, and its text of tables is not read for `fault`
 abbrev pub AreNoTables : {S : Type 0} → (S → SourceState) → ℕ → List S → List S → Fault
     → Type 0
 AreNoTables state at olds news fault =
@@ -58,31 +58,22 @@ AreNoTables state at olds news fault =
 -- files ------------------------------------------------------------------------------------------
 
 -- the tables and then the files were read, and say `told`
-pub record AreTablesAndFiles {S : Type 0} (state : S → SourceState) (floor : ℕ) (olds news : List S)
-    (told : TablesAndFacts) : Type 0 where
-  pub were : Parts olds
-  pub are : Parts news
-  pub tables_read : AreTables state were.first are.first told.held
-  pub files_read : HasRead state floor were.others are.others told.store
+abbrev pub AreTablesAndFiles : {S : Type 0} → (S → SourceState) → ℕ → List S → List S → TablesAndFacts → Type 0
+AreTablesAndFiles state floor olds news told =
+    AreReadInParts olds news (λ os ns. AreTables state os ns told.held) (λ os ns. HasRead state floor os ns told.store)
 
--- the tables, the input `at`, are refused, and no file was touched
-pub record StopsAtTables {S : Type 0} (state : S → SourceState) (at : ℕ) (olds news : List S) (fault : Fault) :
-    Type 0 where
-  pub were : Parts olds
-  pub are : Parts news
-  pub why : AreNoTables state at were.first are.first fault
-  pub untouched : are.others ≡ were.others
+-- the tables, the input `at`, are refused for `fault`, and no file was touched
+abbrev pub StopsAtTables : {S : Type 0} → (S → SourceState) → ℕ → List S → List S → Fault → Type 0
+StopsAtTables state at olds news fault =
+    AreReadInParts olds news (λ os ns. AreNoTables state at os ns fault) (λ os ns. ns ≡ os)
 
--- the tables were read, and a file after them is refused
-pub record StopsAtFiles {S : Type 0} (state : S → SourceState) (at : ℕ) (olds news : List S) (fault : Fault) :
-    Type 0 where
-  pub were : Parts olds
-  pub are : Parts news
-  pub held : HeldPlan
-  pub tables_read : AreTables state were.first are.first held
-  pub why : IsRefusedFile state (at + 1) were.others are.others fault
+-- the tables, the input `at`, were read, and a file after them is refused for `fault`
+abbrev pub StopsAtFiles : {S : Type 0} → (S → SourceState) → ℕ → List S → List S → Fault → Type 0
+StopsAtFiles state at olds news fault =
+    (held : HeldPlan) × AreReadInParts olds news (λ os ns. AreTables state os ns held)
+    (λ os ns. IsRefusedFile state (at + 1) os ns fault)
 
--- why the tables in the input `at`, or the files after them, are not read
+-- the tables in the input `at`, or the files after them, are not read for `fault`
 abbrev pub AreNoTablesAndFiles : {S : Type 0} → (S → SourceState) → ℕ → List S → List S → Fault → Type 0
 AreNoTablesAndFiles state at olds news fault =
     StopsAtTables state at olds news fault ⊎ StopsAtFiles state at olds news fault

@@ -9,7 +9,7 @@ use Rattle.text_words.specs.declared.fault.LinesFault.TheVariants as wrong
 use Rattle.lft_blocks.specs.Rules.{RuleValue, spread_in, up_and_down}
 use Rattle.spread_routes.specs.SwitchOrders.{OrderValue, as_named, balanced_as, from_roots, least_loaded}
 use Rattle.sm_cli.specs.Asked.{texts_for}
-use Rattle.sm_cli.specs.Sources.{IsOneRead, Parts}
+use Rattle.sm_cli.specs.Sources.{AreReadInParts, IsOneRead}
 use Rattle.sm_cli.specs.declared.asked.RuleAsked.{RuleAsked}
 use Rattle.sm_cli.specs.declared.asked.RuleAsked.TheVariants.{UpDown, Spread, SpreadFromRoots, SpreadInOrder, Balance, BalanceInOrder}
 use Rattle.sm_cli.specs.declared.fault.Fault.{Fault}
@@ -19,21 +19,22 @@ use Rattle.sm_cli.specs.declared.text_fault.TextFault.TheVariants as texts
 
 -- checking --------------------------------------------------------------------------------------
 
--- the first root that is not a usable switch, by `usable`; None if all are usable switches
+-- the first of `roots` that is not a usable switch, by `usable`; None if all are usable switches
 abbrev pub first_unusable : (ℕ → Bool) → List ℕ → Option ℕ
 first_unusable usable roots = find (λ root. not (usable root)) roots
 
--- why no plan can be made from the roots: there is no root, or `unusable` is the first that is not a usable switch;
--- None if a plan can be made
+-- why no plan can be made from `roots`: there is no root, or `unusable` is the first that is not a usable switch; None
+-- if a plan can be made
 abbrev pub fault_of_first : List ℕ → Option ℕ → Option TextFault
 fault_of_first [] unusable = Some texts.NoRoot
 fault_of_first (root ∷ roots) unusable = option_map texts.NoSwitch unusable
 
--- why no plan can be made from the roots: there is no root, or one is not a usable switch; None if a plan can be made
+-- why no plan can be made from `roots`: there is no root, or one is not a usable switch, by `usable`; None if a plan
+-- can be made
 abbrev pub roots_fault : (ℕ → Bool) → List ℕ → Option TextFault
 roots_fault usable roots = fault_of_first roots (first_unusable usable roots)
 
--- why no plan can be made by an order: only its roots can be at fault; None if a plan can be made
+-- why no plan can be made by an order: only roots that it grows from can be at fault; None if a plan can be made
 abbrev pub order_fault : (ℕ → Bool) → OrderValue → Option TextFault
 order_fault usable (from_roots roots) = roots_fault usable roots
 order_fault usable (as_named switches) = None
@@ -59,23 +60,24 @@ pub record IsRoots {S : Type 0} (state : S → SourceState) (old new : S) (roots
   pub read : IsReadWhole state old new text
   pub told : roots_of text ≡ Ok roots
 
--- the fault is the first one of the text, or the text has none and memory ran out
+-- the fault is the first one of `text`, or `text` has none and memory ran out
 abbrev pub IsFaultOfText : List ℕ → RootsFault → Type 0
 IsFaultOfText text (wrong.Line fault) = roots_of text ≡ Err fault
 IsFaultOfText text wrong.Memory = (roots : List ℕ) × (roots_of text ≡ Ok roots)
 
--- the source was read to its end, and its text is refused
+-- the source was read to its end, and its text of switches is refused for `fault`
 pub record RefusesRootsText {S : Type 0} (state : S → SourceState) (old new : S) (fault : RootsFault) : Type 0 where
   pub text : List ℕ
   pub read : IsReadWhole state old new text
   pub refused : IsFaultOfText text fault
 
--- why the text of roots or of an order is refused, as a fault of a text
+-- the source's text of roots or of an order is refused for a fault of a text
 abbrev pub IsTextRefused : {S : Type 0} → (S → SourceState) → S → S → TextFault → Type 0
 IsTextRefused state old new (texts.Roots fault) = RefusesRootsText state old new fault
 IsTextRefused state old new fault = ⊥
 
--- why the text of roots or of an order, the input `at`, is not read
+-- the text of roots or of an order, the input `at`, is not read for a fault of the run: the source fails, or its text
+-- is refused
 abbrev pub IsRootsFault : {S : Type 0} → (S → SourceState) → ℕ → S → S → Fault → Type 0
 IsRootsFault state at old new (File input fault) =
     (input ≡ at) × FailsToRead state old new fault
@@ -83,14 +85,16 @@ IsRootsFault state at old new (Text input fault) =
     (input ≡ at) × IsTextRefused state old new fault
 IsRootsFault state at old new fault = ⊥
 
--- the text that the rule takes was read, and `grows` makes the order from the GUIDs that it names
+-- there is one source, and it was read as the text that the rule takes; `rule` spreads in the order that `grows` makes
+-- from the GUIDs that it names
 pub record IsOrderRead {S : Type 0} (state : S → SourceState) (grows : List ℕ → OrderValue) (olds news : List S)
     (rule : RuleValue) : Type 0 where
   pub guids : List ℕ
   pub read : IsOneRead olds news (λ old new. IsRoots state old new guids)
   pub is : rule ≡ spread_in (grows guids)
 
--- `rule` is the rule that was asked for; the text that it takes was read, if it takes one
+-- `rule` is the rule that was asked for; the text that it takes was read, if it takes one, and otherwise no input was
+-- touched
 abbrev pub IsRuleRead : {S : Type 0} → (S → SourceState) → RuleAsked → List S → List S → RuleValue
     → Type 0
 IsRuleRead state UpDown olds news rule = (news ≡ olds) × (rule ≡ up_and_down)
@@ -100,7 +104,7 @@ IsRuleRead state SpreadInOrder olds news rule = IsOrderRead state as_named olds 
 IsRuleRead state Balance olds news rule = (news ≡ olds) × (rule ≡ spread_in least_loaded)
 IsRuleRead state BalanceInOrder olds news rule = IsOrderRead state balanced_as olds news rule
 
--- why the rule is not read: its text is not read
+-- the rule that was asked for is not read for `fault`: that of its text, the input 0; never if it takes no text
 abbrev pub IsRuleFault : {S : Type 0} → (S → SourceState) → RuleAsked → List S → List S
     → Fault → Type 0
 IsRuleFault state UpDown olds news fault = ⊥
@@ -125,40 +129,34 @@ pub record Reader (S T : Type 0) : Type 1 where
 
 module _ {S T : Type 0} (state : S → SourceState) (reader : Reader S T) (asked : RuleAsked) (olds news : List S) where
   -- the inputs were read, first the text that the rule takes: `rule` is the rule, and `told` is what the others say
-  pub record AreRead (rule : RuleValue) (told : T) : Type 0 where
-    pub were : Parts olds
-    pub are : Parts news
-    pub rule_read : IsRuleRead state asked were.first are.first rule
-    pub others_read : reader.reads were.others are.others told
+  abbrev pub AreRead : RuleValue → T → Type 0
+  AreRead rule told =
+      AreReadInParts olds news (λ os ns. IsRuleRead state asked os ns rule) (λ os ns. reader.reads os ns told)
 
-  -- the inputs were read, and the roots, if a text names them, are not at fault
+  -- the inputs were read, and if a text names roots there is one, and all are usable switches
   pub record AreInputs (rule : RuleValue) (told : T) : Type 0 where
     pub read : AreRead rule told
     pub sound : rule_fault (reader.has_switch told) asked rule ≡ None
 
-  -- the inputs were read, the roots are not at fault, and `holds` holds of the rule and of what the inputs say
+  -- the inputs were read, roots that a text names are not at fault, and `holds` holds of the rule and of what the
+  -- inputs say
   pub record WithInputs (holds : RuleValue → T → Type 0) : Type 0 where
     pub rule : RuleValue
     pub told : T
     pub inputs : AreInputs rule told
     pub so : holds rule told
 
-  -- the text that the rule takes is refused, and no other input was touched
-  pub record RefusesRule (fault : Fault) : Type 0 where
-    pub were : Parts olds
-    pub are : Parts news
-    pub why : IsRuleFault state asked were.first are.first fault
-    pub untouched : are.others ≡ were.others
+  -- the text that the rule takes is refused for `fault`, and no other input was touched
+  abbrev pub RefusesRule : Fault → Type 0
+  RefusesRule fault = AreReadInParts olds news (λ os ns. IsRuleFault state asked os ns fault) (λ os ns. ns ≡ os)
 
-  -- the text that the rule takes was read, and an input after it is refused
-  pub record RefusesOthers (fault : Fault) : Type 0 where
-    pub were : Parts olds
-    pub are : Parts news
-    pub rule : RuleValue
-    pub rule_read : IsRuleRead state asked were.first are.first rule
-    pub why : reader.refuses (texts_for asked) were.others are.others fault
+  -- the text that the rule takes was read, if it takes one, and an input after it is refused for `fault`
+  abbrev pub RefusesOthers : Fault → Type 0
+  RefusesOthers fault =
+      (rule : RuleValue) × AreReadInParts olds news (λ os ns. IsRuleRead state asked os ns rule)
+      (λ os ns. reader.refuses (texts_for asked) os ns fault)
 
-  -- all inputs were read, and no plan can be made from the roots
+  -- all inputs were read, and no plan can be made from the roots, which is `fault`, that of the input 0
   pub record RefusesRoots (fault : Fault) : Type 0 where
     pub rule : RuleValue
     pub told : T
@@ -167,6 +165,6 @@ module _ {S T : Type 0} (state : S → SourceState) (reader : Reader S T) (asked
     pub is : fault ≡ Text 0 why
     pub refused : rule_fault (reader.has_switch told) asked rule ≡ Some why
 
-  -- why the inputs are not read, or no plan can be made from the roots
+  -- the inputs are not read for `fault`, or no plan can be made from the roots
   abbrev pub IsInputFault : Fault → Type 0
   IsInputFault fault = RefusesRule fault ⊎ (RefusesOthers fault ⊎ RefusesRoots fault)

@@ -22,12 +22,12 @@ use Rattle.sm_cli.specs.OrderText.{order_text}
 
 -- answers ---------------------------------------------------------------------------------------
 
--- the usable switches in the order by which a rule plans; none for up and down
+-- the usable switches in the order by which a rule plans; none for up and down, which has no order
 abbrev pub order_by : RuleValue → Cells → List ℕ
 order_by up_and_down cells = []
 order_by (spread_in order) cells = order_of order cells
 
--- what is written from the facts; a plan or an order is by `rule`
+-- what a run writes from `facts`: their text, a store file, a plan or an order; a plan or an order is by `rule`
 abbrev pub answer_to : Output → RuleValue → Facts → List ℕ
 answer_to output.Facts rule facts = facts_text facts
 answer_to output.Join rule facts = store_bytes facts.floor (cells_of facts)
@@ -42,48 +42,49 @@ IsAnswered output.Join facts = AreInRange facts
 IsAnswered (output.Plan lmc asked) facts = no_room lmc (cells_of facts) ≡ None
 IsAnswered (output.Order asked) facts = ⊤
 
--- a plan is asked for, and `why` says why it has no room, or is None if it has room; or an order is asked for, and
--- `why` is None
+-- `output` is a plan, and `why` says why it has no room, or is None if it has room; or it is an order, and `why` is
+-- None
 abbrev pub IsPlanned : Output → Facts → Option LacksRoom → Type 0
 IsPlanned output.Facts facts why = ⊥
 IsPlanned output.Join facts why = ⊥
 IsPlanned (output.Plan lmc asked) facts why = no_room lmc (cells_of facts) ≡ why
 IsPlanned (output.Order asked) facts why = why ≡ None
 
--- why the plan of facts is not written
+-- the plan of `facts` is not written for a fault: it has no room, a write failed, or it has room and memory ran out
 abbrev pub IsWritingFault : ℕ → Facts → Bool → Fault → Type 0
 IsWritingFault lmc facts sink_failed (NoRoom why) = no_room lmc (cells_of facts) ≡ Some why
 IsWritingFault lmc facts sink_failed Write = IsTrue sink_failed
 IsWritingFault lmc facts sink_failed Memory = no_room lmc (cells_of facts) ≡ None
 IsWritingFault lmc facts sink_failed fault = ⊥
 
--- why an order is not written
+-- an order is not written for a fault: a write failed, or memory ran out
 abbrev pub IsOrderFault : Bool → Fault → Type 0
 IsOrderFault sink_failed Write = IsTrue sink_failed
 IsOrderFault sink_failed Memory = ⊤
 IsOrderFault sink_failed fault = ⊥
 
--- why the output is not made from the facts
+-- an output is not made from `facts` for a fault: a plan has no room, a write failed, or memory ran out, which is
+-- possible for an order and for a plan with room
 abbrev pub IsAnswerFault : Output → Facts → Bool → Fault → Type 0
 IsAnswerFault what facts sink_failed (NoRoom why) = IsPlanned what facts (Some why)
 IsAnswerFault what facts sink_failed Write = IsTrue sink_failed
 IsAnswerFault what facts sink_failed Memory = IsPlanned what facts None
 IsAnswerFault what facts sink_failed fault = ⊥
 
--- `prints` holds of what is written from the facts, by `rule` if it is a plan or an order; and the output can be made
+-- the output can be made, and `prints` holds of what is written from `facts`, by `rule` if it is a plan or an order
 pub record IsAnswer (output : Output) (rule : RuleValue) (facts : Facts) (prints : List ℕ → Type 0) : Type 0 where
   pub can_be : IsAnswered output facts
   pub answered : prints (answer_to output rule facts)
 
 -- runs ------------------------------------------------------------------------------------------
 
--- the inputs were read, and the output was made from what the files say
+-- the inputs were read, and the output that is asked for can be made from what the files say; `prints` holds of it
 abbrev pub HasAnswered : {S : Type 0} → (S → SourceState) → Invocation → List S → List S → (List ℕ → Type 0) → Type 0
 HasAnswered state request olds news prints =
     WithInputs state (files_reader state request.floor) (rule_for request.output) olds news
     (λ rule facts. IsAnswer request.output rule facts prints)
 
--- why a run over open inputs fails: the inputs are not read, or the output is not made
+-- a run over open inputs fails for `fault`: the inputs are not read, or the output is not made
 abbrev pub IsFaultOf : {S : Type 0} → (S → SourceState) → Invocation → List S → List S → Bool
     → Fault → Type 0
 IsFaultOf state request olds news sink_failed fault =

@@ -1,4 +1,4 @@
--- What the answer of a run depends on.
+-- What the answer of a run depends on: the sightings of its files, at their greatest floor.
 use Rattle.std.specs.Prelude.{◌≡◌, ℕ, max, List, ◌∷◌, ◌++◌, Option, Ok, Contains}
 use Rattle.std.specs.List.{flat_map}
 use Rattle.fact_join.specs.declared.cell.Cell.{Cell}
@@ -26,7 +26,7 @@ pub record SayTheSame (floor : ℕ) (files others : List (List ℕ)) : Type 0 wh
   pub sightings : HaveSameMembers (flat_map kept files) (flat_map kept others)
   pub floors : floor_among floor files ≡ floor_among floor others
 
--- the sightings that files keep and their greatest floor decide the answer
+-- if two lists of files keep the same sightings and have the same greatest floor, the answer to a request is the same
 abbrev pub SightingsDecideAnswer : Type 0
 SightingsDecideAnswer = (request : Invocation) (rule : RuleValue) (files others : List (List ℕ))
     → SayTheSame request.floor files others → answer_to request.output rule (facts_of request.floor files)
@@ -37,13 +37,13 @@ pub record AreSameFiles (files others : List (List ℕ)) : Type 0 where
   pub there : (file : List ℕ) → Contains files file → Contains others file
   pub here : (file : List ℕ) → Contains others file → Contains files file
 
--- the answer does not depend on the order of the files, nor on how often each is named
+-- if two lists have the same files, in any order and each any number of times, the answer to a request is the same
 abbrev pub FilesDecideAnswer : Type 0
 FilesDecideAnswer = (request : Invocation) (rule : RuleValue) (files others : List (List ℕ)) → AreSameFiles files others
     → answer_to request.output rule (facts_of request.floor files)
     ≡ answer_to request.output rule (facts_of request.floor others)
 
--- a store file into which files were joined at a floor is accepted, and stands for them at that floor, alone or among
+-- a store file into which `files` were joined at `floor` is accepted, and stands for them at that floor, alone or among
 -- other files
 abbrev pub JoinedFileStands : Type 0
 JoinedFileStands =
@@ -52,7 +52,7 @@ JoinedFileStands =
     × (answer_to request.output rule (facts_of request.floor (joined ∷ others))
     ≡ answer_to request.output rule (facts_of (max request.floor floor) (files ++ others)))
 
--- the files `front` and `back` are accepted, and stand for `whole`, alone or among other files
+-- the files `front` and `back` are accepted, and give the same answer to `request` as `whole`, alone or among `others`
 pub record StandFor (request : Invocation) (rule : RuleValue) (whole front back : List ℕ) (others : List (List ℕ)) :
     Type 0 where
   pub front_accepted : outcome front ≡ Ok tt
@@ -60,14 +60,15 @@ pub record StandFor (request : Invocation) (rule : RuleValue) (whole front back 
   pub same : answer_to request.output rule (facts_of request.floor (whole ∷ others))
       ≡ answer_to request.output rule (facts_of request.floor (front ∷ back ∷ others))
 
--- the parts of a report file that is split between its records stand for it
+-- if a report file is split between its records, the two report files of the parts are accepted, and stand for it
 abbrev pub SplitFileStands : Type 0
 SplitFileStands =
     (request : Invocation) (rule : RuleValue) (whole front back : List ℕ) (first second : List (List ℕ))
     (others : List (List ℕ)) → IsReportFile whole (first ++ second) → front ≡ report_file first → back
     ≡ report_file second → StandFor request rule whole front back others
 
--- the parts of a store file, each with the floor of the whole, stand for it
+-- if a store file is split between its cells, the two store files of the parts, each with the floor of the whole, are
+-- accepted, and stand for it
 abbrev pub SplitStoreStands : Type 0
 SplitStoreStands =
     (request : Invocation) (rule : RuleValue) (told : Option ℕ) (whole front back : List ℕ) (facts : Facts)
@@ -75,7 +76,7 @@ SplitStoreStands =
     → cells_of facts ≡ first ++ second → front ≡ cells_file told first → back ≡ cells_file told second
     → StandFor request rule whole front back others
 
--- a printed order is read as switches, and an order that grows as these are named is printed the same and gives the
+-- the printed order is read as switches, and the order that grows as these are named is printed the same and gives the
 -- same plans
 pub record OrderStands (order : OrderValue) (asked again : RuleAsked) (facts : Facts) : Type 0 where
   pub named : List ℕ

@@ -1,7 +1,7 @@
 -- Sources of a run: a list of sources in two parts, and a list of one source.
 use Rattle.std.specs.Prelude.{◌≡◌, List, [], ◌∷◌, ◌++◌}
 
--- the sources, divided into the first and the others
+-- `sources` divided into the first and the others
 pub record Parts {S : Type 0} (sources : List S) : Type 0 where
   pub first : List S
   pub others : List S

@@ -13,6 +13,7 @@ use Rattle.smp_bytes.specs.Text.{guid_text}
 use Rattle.sm_cli.specs.declared.text_fault.TextFault.{TextFault}
 use Rattle.sm_cli.specs.declared.text_fault.TextFault.TheVariants.{NotUtf8, Topology, Schedule, Tables, Lanes, Roots, NoRoot, NoSwitch, Moves}
 
+-- the number of the line that a text is refused for; None if it is refused for no line
 abbrev pub text_fault_line : TextFault → Option ℕ
 text_fault_line NotUtf8 = None
 text_fault_line (Topology fault) = topologies.fault_line fault
@@ -24,6 +25,7 @@ text_fault_line NoRoot = None
 text_fault_line (NoSwitch guid) = None
 text_fault_line (Moves lid) = None
 
+-- what a text is refused for, in a word or a few
 abbrev pub text_fault_word : TextFault → List ℕ
 text_fault_word NotUtf8 = codes "not UTF-8"
 text_fault_word (Topology fault) = topologies.fault_word fault
@@ -54,17 +56,17 @@ is_of_text (Lanes line.Memory) = false
 is_of_text (Roots line.Memory) = false
 is_of_text _ = true
 
--- the number of the faulty line, written before the fault; empty if there is none
+-- the number of the faulty line, written before the fault; empty for None
 abbrev pub line_text : Option ℕ → List ℕ
 line_text None = []
 line_text (Some line) = codes "line " ++ decimal line ++ codes ": "
 
--- the LID that a fault concerns, written before its word; empty if there is none
+-- the LID that a fault concerns, written before its word; empty for None
 abbrev pub lid_before : Option ℕ → List ℕ
 lid_before None = []
 lid_before (Some lid) = codes "lid " ++ decimal lid ++ codes " "
 
--- the GUID that a fault concerns, written after its word; empty if there is none
+-- the GUID that a fault concerns, written after its word; empty for None
 abbrev pub guid_behind : Option ℕ → List ℕ
 guid_behind None = []
 guid_behind (Some guid) = codes " " ++ guid_text guid

@@ -4,7 +4,7 @@ ghost use Rattle.std.specs.Prelude.{◌≡◌};
 use attr_codec::Lmc;
 use smp_bytes::Generation;
 
-/// The rule of routing that is asked for.
+/// A rule of routing that can be asked for.
 #[derive(Clone, Copy, Debug, PartialEq, Eq)]
 pub enum RuleAsked {
     /// Up towards the root of each component, and then down, by the least ports.
@@ -45,15 +45,15 @@ pub enum Output {
     /// The LID of each end port, with 2^LMC of them for each adapter port, and the forwarding blocks of each switch,
     /// planned from the facts by a rule of routing.
     Plan(Lmc, RuleAsked),
-    /// The usable switches in the order by which a rule of routing plans; none for up and down.
+    /// The usable switches in the order by which a rule of routing plans; none by `UpDown`.
     Order(RuleAsked),
 }
 
 impl Output {
     ghost use Rattle.sm_cli.specs.Asked.{rule_for};
 
-    /// Returns the rule of routing by which the output is made, or `UpDown`, which takes no text, if the output needs
-    /// none.
+    /// Returns the rule of routing by which the output is made. Returns `UpDown`, which takes no text, for facts and
+    /// joined files.
     pub fn rule(self) -> RuleAsked
         ensures { result ≡ rule_for self }
     {
@@ -68,6 +68,6 @@ impl Output {
 #[derive(Clone, Copy, Debug, PartialEq, Eq)]
 pub struct Invocation {
     pub output: Output,
-    /// The generation below which facts are ignored.
+    /// The least floor of what is read: older facts are ignored.
     pub floor: Generation,
 }

@@ -7,7 +7,7 @@ use record_file::FileFault;
 #[derive(Clone, Copy, Debug, PartialEq, Eq)]
 pub enum ExitStatus {
     Done = 0,
-    /// The run was completed, and what it checked does not pass.
+    /// The run was completed, but what it checked does not pass.
     Failed = 1,
     Usage = 2,
     Refused = 3,

@@ -7,16 +7,16 @@ use lid_assign::{LidFault, NoRoom};
 use record_file::FileFault;
 use thiserror::Error;
 
-/// Why a run failed. `input` is the index of an input among the inputs of the run, from 0.
+/// Why a run failed. `input` is the index of an input among the inputs of the run.
 #[derive(Clone, Copy, Debug, PartialEq, Eq, Error)]
 pub enum Fault {
     /// The file cannot be opened.
     #[error("cannot open")]
     Open { input: usize },
-    /// The file has a fault, or memory ran out while it was read.
+    /// The file has a fault, a read failed, or memory was refused while it was read.
     #[error("{fault}")]
     File { input: usize, fault: FileFault },
-    /// The text has a fault, or memory ran out while it was checked.
+    /// The text has a fault, or memory was refused while it was checked.
     #[error("{fault}")]
     Text { input: usize, fault: TextFault },
     /// The smallest forwarding table lacks room for the LIDs of all end ports and LID 0.
@@ -25,7 +25,7 @@ pub enum Fault {
     /// A write to the output failed.
     #[error("write failed")]
     Write,
-    /// Memory ran out, but not while a file was read or a text was checked.
+    /// Memory was refused, but not while a file was read or a text was checked.
     #[error("out of memory")]
     Memory,
 }

@@ -12,7 +12,7 @@ use lid_assign::NoRoom;
 use record_file::FileFault;
 use smp_bytes::{Guid, Lid};
 
-/// Writes the line of `fault`. `name` is the name of the file that it concerns.
+/// Writes the line of `fault`. `name` is the name of the input that it concerns, if it concerns one.
 pub fn write_fault<W: Sink>(sink: &mut W, fault: &Fault, name: &str) -> Result<(), WriteFault>
     ensures writes { Writes W.written W.has_failed result sink.old sink.new
         (program_line (fault_text name.now fault.now)) }
@@ -49,7 +49,7 @@ fn write_no_room<W: Sink>(sink: &mut W, why: NoRoom) -> Result<(), WriteFault>
     write_number(sink, u64::from(why.room))
 }
 
-/// Writes the number of end ports.
+/// Writes `endports`, the number of end ports.
 fn write_count<W: Sink>(sink: &mut W, endports: usize) -> Result<(), WriteFault>
     ensures writes { Writes W.written W.has_failed result sink.old sink.new (count_text endports) }
 {
@@ -67,7 +67,7 @@ fn write_file_fault<W: Sink>(sink: &mut W, fault: &FileFault, name: &[u8]) -> Re
     write_words(sink, fault)
 }
 
-/// Writes what `fault` says, without the file's name.
+/// Writes what `fault` says, without a file's name.
 fn write_words<W: Sink>(sink: &mut W, fault: &FileFault) -> Result<(), WriteFault>
     ensures writes { Writes W.written W.has_failed result sink.old sink.new (words_of fault.now) }
 {
@@ -76,7 +76,7 @@ fn write_words<W: Sink>(sink: &mut W, fault: &FileFault) -> Result<(), WriteFaul
     write_cause(sink, fault.report_fault())
 }
 
-/// Writes the number that the words end with, if there is one.
+/// Writes `number`, with which the words of a fault end, unless it is `None`.
 fn write_number_if_any<W: Sink>(sink: &mut W, number: Option<u64>) -> Result<(), WriteFault>
     ensures writes { Writes W.written W.has_failed result sink.old sink.new (number_text number) }
 {
@@ -86,7 +86,7 @@ fn write_number_if_any<W: Sink>(sink: &mut W, number: Option<u64>) -> Result<(),
     }
 }
 
-/// Writes the name of the report's fault, if there is one.
+/// Writes the name of the report's fault, unless `fault` is `None`.
 fn write_cause<W: Sink>(sink: &mut W, fault: Option<ReportFault>) -> Result<(), WriteFault>
     ensures writes { Writes W.written W.has_failed result sink.old sink.new (cause_text fault) }
 {
@@ -109,7 +109,7 @@ fn write_text_fault<W: Sink>(sink: &mut W, fault: &TextFault, name: &[u8]) -> Re
     write_said(sink, fault)
 }
 
-/// Writes what `fault` says, without the text's name.
+/// Writes what `fault` says, without a text's name.
 fn write_said<W: Sink>(sink: &mut W, fault: &TextFault) -> Result<(), WriteFault>
     ensures writes { Writes W.written W.has_failed result sink.old sink.new (said_of_text fault.now) }
 {
@@ -119,7 +119,7 @@ fn write_said<W: Sink>(sink: &mut W, fault: &TextFault) -> Result<(), WriteFault
     write_guid_if_any(sink, fault.guid())
 }
 
-/// Writes the number of the faulty line, if there is one.
+/// Writes `line`, the number of the faulty line, unless it is `None`.
 fn write_line_if_any<W: Sink>(sink: &mut W, line: Option<usize>) -> Result<(), WriteFault>
     ensures writes { Writes W.written W.has_failed result sink.old sink.new (line_text line) }
 {
@@ -133,7 +133,7 @@ fn write_line_if_any<W: Sink>(sink: &mut W, line: Option<usize>) -> Result<(), W
     }
 }
 
-/// Writes the LID that a fault concerns, if there is one.
+/// Writes `lid`, the LID that a fault concerns, unless it is `None`.
 fn write_lid_if_any<W: Sink>(sink: &mut W, lid: Option<Lid>) -> Result<(), WriteFault>
     ensures writes { Writes W.written W.has_failed result sink.old sink.new (lid_before lid) }
 {
@@ -147,7 +147,7 @@ fn write_lid_if_any<W: Sink>(sink: &mut W, lid: Option<Lid>) -> Result<(), Write
     }
 }
 
-/// Writes the GUID that a fault concerns, if there is one.
+/// Writes `guid`, the GUID that a fault concerns, unless it is `None`.
 fn write_guid_if_any<W: Sink>(sink: &mut W, guid: Option<Guid>) -> Result<(), WriteFault>
     ensures writes { Writes W.written W.has_failed result sink.old sink.new (guid_behind guid) }
 {
@@ -160,7 +160,7 @@ fn write_guid_if_any<W: Sink>(sink: &mut W, guid: Option<Guid>) -> Result<(), Wr
     }
 }
 
-/// Writes the name of a file, and then a colon and a space.
+/// Writes `name`, a colon and a space.
 fn write_name<W: Sink>(sink: &mut W, name: &[u8]) -> Result<(), WriteFault>
     ensures writes { Writes W.written W.has_failed result sink.old sink.new (name_text name.now) }
 {

@@ -14,7 +14,7 @@ use subnet_view::is_usable;
 /// A reader of files, which knows the usable switches from their facts.
 #[derive(Clone, Copy, Debug, PartialEq, Eq)]
 pub struct FilesFrom {
-    /// The generation below which facts are ignored.
+    /// The least floor of what is read: older facts are ignored.
     pub floor: Generation,
 }
 
@@ -36,11 +36,12 @@ impl<S: Source> InputReader<S> for FilesFrom {
     }
 }
 
-/// Reads all `files` and returns what they say together, from `floor` on. `before` inputs precede them.
+/// Reads all `files` to their ends, and returns what they say together, at the greatest of `floor` and their floors.
+/// `before` inputs precede them.
 ///
 /// # Errors
 ///
-/// Returns the fault of the first file that is refused.
+/// Returns the fault of the first file that is refused, also if memory is refused.
 pub(crate) fn read_files<S: Source>(
     alloc: Global,
     before: usize,
@@ -65,7 +66,7 @@ pub(crate) fn read_files<S: Source>(
     Ok(all)
 }
 
-/// Reads one file into a new store, and merges this store into `all`.
+/// Reads `source` to its end into a new store, and merges this store into `all`.
 fn read_into<S: Source>(all: &mut Store, alloc: Global, source: &mut S) -> Result<(), FileFault>
     ensures read { OnOk result (ReadsInto S.state
         source.old source.new all.old all.new) }

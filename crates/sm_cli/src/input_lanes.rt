@@ -17,16 +17,16 @@ use std::alloc::Global;
 pub struct LanesAndFiles {
     /// The lanes of packets in each switch, and their service levels.
     pub lanes: Lanes,
-    /// What the tables and the files say.
+    /// What the tables and the files after the lanes say.
     pub read: TablesAndFacts,
 }
 
 /// Reads the text of lanes, the first of `inputs`, then the text of tables, the second, and then the files after them,
-/// from `floor` on.
+/// at least at `floor`. There must be at least two inputs.
 ///
 /// # Errors
 ///
-/// Returns the first fault of an input.
+/// Returns the fault of the first input that is refused, also if memory is refused.
 pub fn read_lanes_and_files<S: Source>(
     alloc: Global,
     inputs: &mut [S],
@@ -47,7 +47,7 @@ pub fn read_lanes_and_files<S: Source>(
     }
 }
 
-/// Reads the lanes from the only source of `texts`, to its end. `input` is its number in the run.
+/// Reads the lanes from the only source of `texts`, to its end. There must be one. `input` is its index in the run.
 pub(crate) fn read_lanes<S: Source>(
     alloc: Global,
     input: usize,
@@ -63,7 +63,7 @@ pub(crate) fn read_lanes<S: Source>(
     }
 }
 
-/// Reads the lanes from `source`, to its end. `input` is its number in the run.
+/// Reads the lanes from `source`, to its end. `input` is its index in the run.
 fn read_text<S: Source>(alloc: Global, input: usize, source: &mut S) -> Result<Lanes, Fault>
     ensures read { IfOk result (IsLanes S.state source.old source.new) }
     ensures refused { IfErr result (IsLanesFault S.state input source.old source.new) }

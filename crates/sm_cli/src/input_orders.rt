@@ -13,25 +13,25 @@ use std::alloc::Global;
 /// What a text of an order, a text of tables and the files after them say.
 #[derive(Drop)]
 pub struct OrderAndTables {
-    /// The switches that the order names, from the first on; empty without a text of an order.
+    /// The switches that the text names, from the first on; empty without a text of an order.
     pub order: Vec<Guid>,
-    /// What the tables and the files say.
+    /// What the tables and the files after the order say.
     pub read: TablesAndFacts,
 }
 
-/// Returns the number of texts of which there is one if `has_text` is true: 1 then, and otherwise 0.
+/// Returns 1 if `has_text` is true, otherwise 0: the number of texts.
 pub fn texts_if(has_text: bool) -> usize
     ensures { result ≡ texts_if has_text }
 {
     if has_text { 1 } else { 0 }
 }
 
-/// Reads the text of an order, if there is one, then the text of tables, and then the files, from `floor` on.
-/// `before` inputs precede them.
+/// Reads the text of an order, if there is one, then the text of tables, and then the files, at least at `floor`.
+/// `before` inputs precede them. There must be an input for each text.
 ///
 /// # Errors
 ///
-/// Returns the first fault of an input.
+/// Returns the fault of the first input that is refused, also if memory is refused.
 pub(crate) fn read_order_and_tables<S: Source>(
     alloc: Global,
     before: usize,
@@ -56,8 +56,8 @@ pub(crate) fn read_order_and_tables<S: Source>(
     }
 }
 
-/// Reads the order from the only source of `texts`, to its end, if there is one, and returns the switches that it
-/// names. `input` is its number in the run.
+/// Reads the order from the only source of `texts`, to its end, and returns the switches that it names. Returns none if
+/// `has_order` is false; there must then be no source. `input` is the index of the source in the run.
 fn read_order<S: Source>(
     alloc: Global,
     input: usize,

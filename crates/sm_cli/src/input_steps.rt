@@ -19,14 +19,14 @@ use subnet_view::is_usable;
 pub struct StepInputs {
     /// The lanes of packets in each switch, and their service levels; `None` without a text of lanes.
     pub lanes: Option<Lanes>,
-    /// What the order, the tables and the files say.
+    /// What the order, the tables and the files after the lanes say.
     pub others: OrderAndTables,
 }
 
 /// A reader of the inputs of a step, which knows the usable switches from the files' facts.
 #[derive(Clone, Copy, Debug, PartialEq, Eq)]
 pub struct StepReader {
-    /// The generation below which facts are ignored.
+    /// The least floor of what is read: older facts are ignored.
     pub floor: Generation,
     /// Whether the first input is a text of lanes.
     pub has_lanes: bool,
@@ -55,11 +55,12 @@ impl<S: Source> InputReader<S> for StepReader {
 }
 
 /// Reads the text of lanes, if there is one, then the text of an order, if there is one, then the text of tables, and
-/// then the files, from the floor on. `before` inputs precede them.
+/// then the files, at least at the floor of `asked`. `before` inputs precede them. There must be an input for each
+/// text.
 ///
 /// # Errors
 ///
-/// Returns the first fault of an input.
+/// Returns the fault of the first input that is refused, also if memory is refused.
 fn read_step_inputs<S: Source>(
     alloc: Global,
     before: usize,
@@ -85,7 +86,8 @@ fn read_step_inputs<S: Source>(
     }
 }
 
-/// Reads the lanes from the only source of `texts`, to its end, if there is one. `input` is its number in the run.
+/// Reads the lanes from the only source of `texts`, to its end. Returns `None` if `has_lanes` is false; there must then
+/// be no source. `input` is the index of the source in the run.
 fn read_lanes_if<S: Source>(
     alloc: Global,
     input: usize,

@@ -28,7 +28,7 @@ pub struct TablesAndFacts {
 /// A reader of a text of tables and the files after it, which knows the usable switches from the files' facts.
 #[derive(Clone, Copy, Debug, PartialEq, Eq)]
 pub struct TablesAndFiles {
-    /// The generation below which facts are ignored.
+    /// The least floor of what is read: older facts are ignored.
     pub floor: Generation,
 }
 
@@ -56,8 +56,8 @@ impl<S: Source> InputReader<S> for TablesAndFiles {
     }
 }
 
-/// Reads the text of tables, the first of `inputs`, and the files after it, from `floor` on. `before` inputs precede
-/// them.
+/// Reads the text of tables, the first of `inputs`, which there must be, and the files after it, at least at `floor`.
+/// `before` inputs precede them. Returns the fault of the first input that is refused, also if memory is refused.
 pub fn read_tables_and_files<S: Source>(
     alloc: Global,
     before: usize,
@@ -80,7 +80,7 @@ pub fn read_tables_and_files<S: Source>(
     }
 }
 
-/// Reads the tables from the only source of `texts`, to its end. `input` is its number in the run.
+/// Reads the tables from the only source of `texts`, to its end. There must be one. `input` is its index in the run.
 fn read_tables<S: Source>(alloc: Global, input: usize, texts: &mut [S]) -> Result<Held, Fault>
     requires { length texts.old ≡ 1 }
     ensures read { IfOk result (AreTables S.state texts.old texts.new) }
@@ -93,7 +93,7 @@ fn read_tables<S: Source>(alloc: Global, input: usize, texts: &mut [S]) -> Resul
     }
 }
 
-/// Reads the tables from `source`, to its end. `input` is its number in the run.
+/// Reads the tables from `source`, to its end. `input` is its index in the run.
 fn read_text<S: Source>(alloc: Global, input: usize, source: &mut S) -> Result<Held, Fault>
     ensures read { IfOk result (IsTables S.state source.old source.new) }
     ensures refused { IfErr result

@@ -29,7 +29,8 @@ pub trait InputReader<S: Source> {
     // Which numbers of inputs can be read.
     ghost takes: { Self → ℕ → Type 0 };
 
-    /// Reads `inputs`. `before` other inputs precede them.
+    /// Reads `inputs` and returns what they say, or why one is refused. `before` other inputs precede them. There must
+    /// be as many as the reader takes.
     fn read(&self, alloc: Global, before: usize, inputs: &mut [S]) -> Result<Self::Told, Fault>
         requires enough { takes self.now (length inputs.old) }
         requires counted { before + length inputs.old ≤ usize.MAX }
@@ -42,12 +43,12 @@ pub trait InputReader<S: Source> {
 }
 
 /// Returns the rule that is asked for, and what the inputs after its text say. Reads the inputs in order, each to its
-/// end.
+/// end. There must be a text if the rule takes one, and as many inputs after it as `reader` takes.
 ///
 /// # Errors
 ///
-/// Returns the first fault of an input. If a text names roots, there must be at least one, and each must be a usable
-/// switch; this is checked last.
+/// Returns the fault of the first input that is refused, also if memory is refused. If a text names roots, and there is
+/// none or one is not a usable switch, returns that as a fault of the first input, once all are read.
 pub fn read_inputs<S: Source, R: InputReader<S>>(
     alloc: Global,
     asked: RuleAsked,
@@ -75,8 +76,8 @@ pub fn read_inputs<S: Source, R: InputReader<S>>(
     }
 }
 
-/// Reads the rule that is asked for. If a text names its roots or its order, it is the only one of `texts`, and is
-/// read to its end.
+/// Reads the rule that is asked for. If it takes a text, which names its roots or its order, reads it to its end.
+/// `texts` must have this text alone, or be empty if the rule takes none.
 fn read_rule<S: Source>(alloc: Global, asked: RuleAsked, texts: &mut [S]) -> Result<Rule, Fault>
     requires { length texts.old ≡ texts_for asked }
     ensures read { IfOk result (λ rule.
@@ -115,7 +116,7 @@ fn read_rule<S: Source>(alloc: Global, asked: RuleAsked, texts: &mut [S]) -> Res
     }
 }
 
-/// Reads a text of roots, or of the switches of an order, to its end. `input` is its number in the run.
+/// Reads a text of roots, or of the switches of an order, to its end. `input` is its index in the run.
 pub(crate) fn read_switches<S: Source>(
     alloc: Global,
     input: usize,
@@ -139,7 +140,7 @@ pub(crate) fn read_switches<S: Source>(
     }
 }
 
-/// Returns why no plan can be made by the rule: a text names roots for it, but there is no root or one is not a usable
+/// Returns why no plan can be made by `rule`: a text names roots for it, but there is no root or one is not a usable
 /// switch. Returns `None` if a plan can be made.
 fn rule_fault<S: Source, R: InputReader<S>>(
     asked: RuleAsked,
@@ -155,8 +156,8 @@ fn rule_fault<S: Source, R: InputReader<S>>(
     }
 }
 
-/// Returns why no plan can be made by the order: it grows from roots, but there is no root or one is not a usable
-/// switch. Returns `None` if a plan can be made.
+/// Returns why no plan can be made by `order`: it grows from roots, but there is no root or one is not a usable switch.
+/// Returns `None` if a plan can be made.
 fn order_fault<S: Source, R: InputReader<S>>(
     order: &SwitchOrder,
     reader: &R,
@@ -173,8 +174,8 @@ fn order_fault<S: Source, R: InputReader<S>>(
     }
 }
 
-/// Returns the fault of `roots`: there is no root, or `unusable` is the first that is not a usable switch. Returns
-/// `None` if all are usable.
+/// Returns the fault of `roots`: there is no root, or else `unusable`, the first that is not a usable switch, if it is
+/// not `None`. Returns `None` if there is no fault.
 fn fault_of_first(roots: &[Guid], unusable: Option<Guid>) -> Option<TextFault>
     ensures { result ≡ fault_of_first roots.now unusable }
 {
@@ -185,7 +186,7 @@ fn fault_of_first(roots: &[Guid], unusable: Option<Guid>) -> Option<TextFault>
     }
 }
 
-/// Returns the first of `roots` that is not a usable switch, or `None` if all are.
+/// Returns the first of `roots` that is not a usable switch, or `None` if all are usable.
 fn first_unusable<S: Source, R: InputReader<S>>(
     roots: &[Guid],
     reader: &R,

@@ -25,14 +25,14 @@ pub fn split_file_stands()
     ensures { SplitFileStands }
 {}
 
-/// The parts of a store file that is split between its records are accepted, and give the answer of the whole file,
-/// alone or among other files.
+/// The parts of a store file that is split between its records, each with the floor of the whole, are accepted, and
+/// give the answer of the whole file, alone or among other files.
 pub fn split_store_stands()
     ensures { SplitStoreStands }
 {}
 
 /// A printed order, given back as the order of a plan, is printed as the same text again and gives the same plan, byte
-/// for byte, if the facts are in range and no switch has the GUID 0.
+/// for byte, if the facts are in range and no usable switch has the GUID 0.
 pub fn printed_orders_stand()
     ensures { PrintedOrdersStand }
 {}

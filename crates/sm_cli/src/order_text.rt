@@ -8,7 +8,7 @@ ghost use Rattle.sm_cli.specs.OrderText.{order_line, order_text};
 use byte_io::{Sink, WriteFault, write_guid};
 use smp_bytes::Guid;
 
-/// Writes a line for each switch, `0x` and its GUID, and flushes.
+/// Writes a line for each of `switches`, with `0x` and its GUID, and flushes.
 pub fn write_order<W: Sink>(sink: &mut W, switches: &[Guid]) -> Result<(), WriteFault>
     ensures writes { Writes W.written W.has_failed result sink.old sink.new (order_text switches.now) }
     ensures flushed { OnOk result (IsTrue (W.is_flushed sink.new)) }
@@ -17,7 +17,7 @@ pub fn write_order<W: Sink>(sink: &mut W, switches: &[Guid]) -> Result<(), Write
     sink.flush()
 }
 
-/// Writes the line of each switch.
+/// Writes the line of each of `switches`.
 fn write_lines<W: Sink>(sink: &mut W, switches: &[Guid]) -> Result<(), WriteFault>
     ensures { WritesPart W.written W.has_failed result sink.old sink.new
         (flat_map order_line switches.now) }

@@ -24,9 +24,10 @@ use record_file::{write_facts, write_store};
 use smp_bytes::Guid;
 use std::alloc::Global;
 
-/// Reads the inputs in order: the text that the rule takes, if any, and then the files (`read_inputs`). Writes what is
-/// asked for, from all that the files say together, and flushes. If it fails, writes nothing, unless a write fails: how
-/// much was written is then unspecified.
+/// Reads the inputs in order: the text that the rule takes, if any, and then the files (`read_inputs`). Writes what
+/// `request` asks for, from all that the files say together, and flushes. There must be a text if the rule takes one.
+/// Returns an error if an input is refused, there is no room for a plan, memory is refused, or a write fails. Nothing
+/// is written unless a write fails; how much is written then is unspecified.
 pub fn run_files<S: Source, W: Sink>(
     alloc: Global,
     inputs: &mut [S],
@@ -51,7 +52,8 @@ pub fn run_files<S: Source, W: Sink>(
     }
 }
 
-/// Writes what `output` asks for from the facts in `store`, and flushes. A plan or an order is by `rule`.
+/// Writes what `output` asks for from the facts in `store`, and flushes. A plan or an order is by `rule`, whatever rule
+/// `output` names.
 fn write_answer<W: Sink>(
     alloc: Global,
     sink: &mut W,
@@ -75,7 +77,8 @@ fn write_answer<W: Sink>(
     Ok(())
 }
 
-/// Writes the plan of the facts in `store`, under `lmc` and by `rule`, and flushes.
+/// Writes the plan of the facts in `store`, under `lmc` and by `rule`, and flushes. Returns `NoRoom` if there is no
+/// room for its LIDs, `Memory` if memory is refused, or `Write` if a write fails.
 #[tactic(auto, using(crate::proofs::Plans::has_room, crate::proofs::Plans::plan_fault))]
 fn write_plan_by<W: Sink>(
     alloc: Global,
@@ -116,7 +119,7 @@ fn write_order_by<W: Sink>(
     Ok(())
 }
 
-/// Returns the usable switches in the order by which `rule` plans; none for up and down.
+/// Returns the usable switches in the order by which `rule` plans; none by `UpDown`.
 fn order_by(alloc: Global, store: &Store, rule: &Rule) -> Result<Vec<Guid>, Refused>
     ensures { IfOk result (λ found. found.items ≡ order_by (value_of rule.now) (cells_of store.now)) }
 {

@@ -11,22 +11,22 @@ pub enum TextFault {
     /// The text is not UTF-8.
     #[error("not UTF-8")]
     NotUtf8,
-    /// The topology has a fault, or memory ran out while it was checked.
+    /// The topology has a fault, or memory was refused while it was checked.
     #[error("{0}")]
     Topology(TopoFault),
-    /// The schedule has a fault, or memory ran out while it was checked.
+    /// The schedule has a fault, or memory was refused while it was checked.
     #[error("{0}")]
     Schedule(ScheduleFault),
-    /// The text of tables has a fault, or memory ran out while it was checked.
+    /// The text of tables has a fault, or memory was refused while it was checked.
     #[error("{0}")]
     Tables(tables_file::TablesTextFault),
-    /// The text of lanes has a fault, or memory ran out while it was checked.
+    /// The text of lanes has a fault, or memory was refused while it was checked.
     #[error("{0}")]
     Lanes(lanes_file::LanesTextFault),
-    /// The text of roots or of an order has a fault, or memory ran out while it was checked.
+    /// The text of roots or of an order has a fault, or memory was refused while it was checked.
     #[error("{0}")]
     Roots(roots_file::RootsTextFault),
-    /// The text names no root.
+    /// The text of roots names no root.
     #[error("no root")]
     NoRoot,
     /// The text names a root that is not a usable switch of the facts, or not a switch of the topology.
@@ -41,7 +41,7 @@ impl TextFault {
     ghost use Rattle.sm_cli.specs.TextFault.{text_fault_guid, text_fault_lid, text_fault_line, text_fault_word};
     ghost use Rattle.sm_cli.specs.TextFault.{is_of_text};
 
-    /// Returns the number of the faulty line, from 1, or `None` if the fault is in no line.
+    /// Returns the number of the faulty line, from 1, or `None` if the fault is of no line.
     pub fn line(&self) -> Option<usize>
         ensures { result ≡ text_fault_line self.now }
     {
@@ -56,7 +56,7 @@ impl TextFault {
         }
     }
 
-    /// Returns what the message says about the line, or about the text if the fault is in no line.
+    /// Returns what the message says about the line, or about the text if the fault is of no line.
     pub fn word(&self) -> &'static str
         ensures { result.now ≡ text_fault_word self.now }
     {
@@ -93,7 +93,7 @@ impl TextFault {
         }
     }
 
-    /// Returns whether the text has the fault. Lack of memory is no fault of the text.
+    /// Returns whether the text has the fault, which is not so if memory was refused.
     pub fn is_of_text(&self) -> bool
         ensures { result ≡ is_of_text self.now }
     {

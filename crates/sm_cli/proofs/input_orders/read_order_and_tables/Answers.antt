@@ -1,31 +1,18 @@
 -- The inputs are two parts of their list, the order and the others.
 use Rattle.std.proofs.Common.{◌+◌, ℕ, inl, inr, refl, subst}
 use Rattle.sm_cli.specs.InputTables.{AreNoTablesAndFiles}
+use Rattle.sm_cli.proofs.InParts.{in_parts}
 use Rattle.sm_cli.proofs.input_orders.read_order_and_tables.Goals as goal
 
 pub returns-in-Err-clause-refused : goal.returns-in-Err-clause-refused
-returns-in-Err-clause-refused g c = inl (record {
-  were = record {
-    first = c.split_at_mut-texts.result.0.now;
-    others = c.split_at_mut-texts.result.1.now;
-    are = c.split_at_mut-texts.ensures.value;
-  };
-  are = record { first = c.read_order.new.texts; others = c.split_at_mut-texts.result.1.now; are = refl };
-  first_is = c.in-Err.ensures.refused;
-  others_are = refl;
-})
+returns-in-Err-clause-refused g c =
+    inl (in_parts c.args.inputs.now c.split_at_mut-texts.result.0.now c.split_at_mut-texts.result.1.now c.read_order.new.texts
+    c.split_at_mut-texts.result.1.now c.split_at_mut-texts.ensures.value c.in-Err.ensures.refused refl)
 
 pub returns-in-Ok-read_tables_and_files-clause-read : goal.returns-in-Ok-read_tables_and_files-clause-read
-returns-in-Ok-read_tables_and_files-clause-read g c = record {
-  were = record {
-    first = c.split_at_mut-texts.result.0.now;
-    others = c.split_at_mut-texts.result.1.now;
-    are = c.split_at_mut-texts.ensures.value;
-  };
-  are = record { first = c.read_order.new.texts; others = c.read_tables_and_files.new.inputs; are = refl };
-  first_is = c.in-Ok.ensures.read;
-  others_are = c.in-Ok-read_tables_and_files.ensures.read;
-}
+returns-in-Ok-read_tables_and_files-clause-read g c =
+    in_parts c.args.inputs.now c.split_at_mut-texts.result.0.now c.split_at_mut-texts.result.1.now c.read_order.new.texts
+    c.read_tables_and_files.new.inputs c.split_at_mut-texts.ensures.value c.in-Ok.ensures.read c.in-Ok-read_tables_and_files.ensures.read
 
 pub returns-in-Err-read_tables_and_files-clause-refused : goal.returns-in-Err-read_tables_and_files-clause-refused
 returns-in-Err-read_tables_and_files-clause-refused g c =
@@ -33,14 +20,7 @@ returns-in-Err-read_tables_and_files-clause-refused g c =
     c.read_tables_and_files.new.inputs c.in-Err-read_tables_and_files.fault in
     inr (
       c.in-Ok.order.items,
-      record {
-        were = record {
-          first = c.split_at_mut-texts.result.0.now;
-          others = c.split_at_mut-texts.result.1.now;
-          are = c.split_at_mut-texts.ensures.value;
-        };
-        are = record { first = c.read_order.new.texts; others = c.read_tables_and_files.new.inputs; are = refl };
-        first_is = c.in-Ok.ensures.read;
-        others_are = subst Refused c.texts_if-count.ensures c.in-Err-read_tables_and_files.ensures.refused;
-      },
+      in_parts c.args.inputs.now c.split_at_mut-texts.result.0.now c.split_at_mut-texts.result.1.now c.read_order.new.texts
+          c.read_tables_and_files.new.inputs c.split_at_mut-texts.ensures.value c.in-Ok.ensures.read
+          (subst Refused c.texts_if-count.ensures c.in-Err-read_tables_and_files.ensures.refused),
     )

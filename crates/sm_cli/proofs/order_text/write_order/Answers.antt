@@ -18,4 +18,5 @@ returns-clause-writes g c =
     let has_failed = g.W.Sink.has_failed in
     let text = order_text c.args.switches.now in
     subst (Writes written has_failed c.flush.result c.args.sink.now c.flush.new.self) (append-nil text)
-    (writes_then written has_failed c.flush.result c.args.sink.now c.write_lines.new.sink c.flush.new.self text [] c.in_ok-write_lines.ensures.ok c.flush.ensures.writes)
+    (writes_then written has_failed c.flush.result c.args.sink.now c.write_lines.new.sink c.flush.new.self text [] c.in_ok-write_lines.ensures.ok
+    c.flush.ensures.writes)
