@@ -1,6 +1,6 @@
 -- What is so of a reply that a sweep accepts.
 use Rattle.std.proofs.Common.{◌≡◌, ℕ, zero, suc, ◌+◌, ◌<◌, ◌≤◌, ◌^◌, Bool, true, false, cond, List, [], ◌∷◌, length, get_or, refl, sym, ap, ◌∙◌, arith}
-use Rattle.std.proofs.lemmas.Bool.{and_parts, eqb-true, ltb-false}
+use Rattle.std.proofs.lemmas.Bool.{and_parts, eqb-true, ltb-false, not-false}
 use Rattle.std.proofs.lemmas.List.{ext_get_or, get_or-drop, get_or-take, length-drop, length-take-le}
 use Rattle.std.specs.Prelude.{Option, Some, None, Result, Ok, Err, take, drop, option_map, slice_index, not, ◌==◌, ◌&&◌}
 use Rattle.smp_bytes.specs.declared.node_type.NodeType.{NodeType}
@@ -38,10 +38,6 @@ chosen_none : (b : Bool) (x : ReportFault) (y : Option ReportFault) → cond b (
 chosen_none true x y e = cc
 chosen_none false x y e = (refl, e)
 
-passes : (b : Bool) → not b ≡ false → b ≡ true
-passes true e = refl
-passes false e = cc
-
 -- an answer of an agent that did what was asked, back at the sender
 pub record IsGoodAnswer (packet : List ℕ) : Type 0 where
   pub directed : is_directed packet ≡ true
@@ -55,9 +51,9 @@ good_answer packet e =
     let back = chosen_none (not (is_returning packet && number_in hop_pointer packet == 0)) fault.Direction _ meth.1 in
     let stat = chosen_none (not (status packet == done)) fault.Status None back.1 in
     record {
-      directed = passes (is_directed packet) class.0;
-      returning = (and_parts (is_returning packet) (number_in hop_pointer packet == 0) (passes _ back.0)).0;
-      done_is = eqb-true (status packet) done (passes _ stat.0);
+      directed = not-false (is_directed packet) class.0;
+      returning = (and_parts (is_returning packet) (number_in hop_pointer packet == 0) (not-false _ back.0)).0;
+      done_is = eqb-true (status packet) done (not-false _ stat.0);
     }
 
 same_Ok : (r : Result Answer SweepFault) (x y : Answer) → r ≡ Ok x → r ≡ Ok y → x ≡ y
@@ -79,18 +75,14 @@ report_parts report e =
     or_none (packet_fault report.bytes) (attribute_fault report.context report.bytes) (chosen_none (report.generation == 0) fault.Generation _ e).1
 
 packet_good : (q : Question) (report : Report) → fault_by q report ≡ None → packet_fault report.bytes ≡ None
-packet_good ask.Node report e = (report_parts report e).0
-packet_good ask.Switch report e = (report_parts report e).0
-packet_good (ask.Port port) report e = (report_parts report e).0
 packet_good (ask.Manager guid port) report e = e
+packet_good question report e = (report_parts report e).0
 
 -- where a node was asked what it is, so is the attribute judged
 pub attribute_good : (q : Question) (report : Report) → fault_by q report ≡ None → attribute_asked q ≡ node_info → attribute_fault report.context report.bytes
     ≡ None
-attribute_good ask.Node report e asked = (report_parts report e).1
-attribute_good ask.Switch report e asked = (report_parts report e).1
-attribute_good (ask.Port port) report e asked = (report_parts report e).1
 attribute_good (ask.Manager guid port) report e asked = absurd (omega (arith, asked))
+attribute_good question report e asked = (report_parts report e).1
 
 module _ (s : Sweep) (packet : List ℕ) (answer : Answer) where
   by_room : (r : Request) → request_of s packet ≡ Some r → fault_for s r packet ≡ None → (b : Bool) → is_spent s r packet ≡ b

@@ -1,8 +1,8 @@
 -- From the writing on: each step that counts is still to be sent, or waits for its answer, or is held by its agent, or failed.
 use Rattle.std.proofs.Common.{◌≡◌, ◌⊎◌, inl, inr, ℕ, ◌+◌, ◌/◌, ◌%◌, ◌<◌, ◌≤◌, ◌^◌, Bool, true, false, cond, List, [], ◌∷◌, ◌++◌, length}
 use Rattle.std.proofs.Common.{refl, sym, ap, ◌∙◌, subst, arith}
-use Rattle.std.proofs.lemmas.Bool.{cond_both, and_parts, and_from, eqb-true, eqb-false, ltb-false, leb-false}
-use Rattle.std.proofs.lemmas.List.Elements.{All-head, All-tail}
+use Rattle.std.proofs.lemmas.Bool.{cond_both, and_parts, and_from, eqb-true, eqb-false, ltb-false, leb-false, or_left, or_right, not-true}
+use Rattle.std.proofs.lemmas.List.Elements.{All-head, All-tail, Contains-append_left, Contains-append_right, Contains-append_cases}
 use Rattle.std.specs.Prelude.{Contains, Option, Some, None, All, drop, is_none, nat_le, not, slice_get, ◌==◌, ◌&&◌, ◌||◌}
 use Rattle.std.specs.List.{list_any}
 use Rattle.fabric_model.specs.declared.cable.NodePort.{NodePort}
@@ -11,8 +11,8 @@ use Rattle.fabric_model.specs.Cables.{is_same_port}
 use Rattle.fabric_model.proofs.Cabled.{same_port-is}
 use Rattle.smp_bytes.specs.Header.{get_resp, sm_info}
 use Rattle.smp_bytes.specs.Field.{number_in}
-use Rattle.smp_bytes.specs.Packet.{attribute_id, attribute_modifier, hop_count, mgmt_class, status_word, method, transaction_id}
-use Rattle.smp_bytes.specs.Packet.{is_directed, is_response, status}
+use Rattle.smp_bytes.specs.Packet.{attribute_id, attribute_modifier, hop_count, method, transaction_id}
+use Rattle.smp_bytes.specs.Packet.{is_directed, is_response}
 use Rattle.smp_bytes.specs.Requests.{directed}
 use Rattle.smp_bytes.proofs.BitLaws.{byte-number_in}
 use Rattle.dr_forward.proofs.Trips.{field_kept}
@@ -48,7 +48,6 @@ use Rattle.manager_laws.proofs.Fair.{BesideCall, CanGo, IsFair, IsOwnPacket, own
 use Rattle.manager_laws.proofs.Fair.{fair_sent, fair_around}
 use Rattle.manager_laws.proofs.Generations.{all_small, generation_small}
 use Rattle.manager_laws.proofs.Goes.{heard_at_seat, phase_fair}
-use Rattle.manager_laws.proofs.WritingLists.{in_left, in_right, in_either}
 use Rattle.manager_laws.proofs.Numbered.{AreOnce, HasNumber, from_passed, least_number, length-sent_from, most_number, next_is_of}
 use Rattle.manager_laws.proofs.Numbered.{next_or_rest, next_sent, none_left_counts}
 use Rattle.manager_laws.proofs.Numbered.{none_pending_counts, numbered_from, once_without, one_of_number, others_wait, others_waited}
@@ -56,16 +55,9 @@ use Rattle.manager_laws.proofs.Numbered.{out_of, passed_is_of, pending_of}
 use Rattle.manager_laws.proofs.Numbered.{rest_is_of, waits_as, as_waits}
 use Rattle.manager_laws.proofs.Scenes.{Sends, Tells, AnswersStep, IsOld, same_agents, Stays}
 use Rattle.manager_laws.proofs.Steps.{IsOf, StepSent}
+use Rattle.manager_laws.proofs.Returned.{same_status}
 use Rattle.manager_laws.proofs.WritingSweeps.{Ground, SweepSide, begun, facts_merged, rises}
 use Rattle.manager_laws.proofs.WritingTaken.{IsGood, IsDone, done_stays}
-
-or_left : (a b : Bool) → a ≡ true → (a || b) ≡ true
-or_left true b e = refl
-or_left false b e = absurd (cc)
-
-or_right : (a b : Bool) → b ≡ true → (a || b) ≡ true
-or_right true b e = refl
-or_right false b e = e
 
 -- an answer has its R bit
 responds : (bytes : List ℕ) → number_in method bytes ≡ get_resp → is_response bytes ≡ true
@@ -105,14 +97,8 @@ module _ (start : Simulation) (seat : NodePort) (plan : PlanValue) (c : ℕ) (ph
 
   module _ (s : Simulation) (all : List StepSent) (pending : List Pending) (counter : ℕ) (v : Writing) (from : c ≤ counter)
       (way : IsOnWay s all pending counter v) where
-    new : List StepSent
-    new = next_sent counter v.later
-
-    steps : List Step
-    steps = (next_phase v.later).steps
-
     among : (x : StepSent) → Contains (all ++ next_sent counter v.later) x → Contains all x ⊎ Contains (next_sent counter v.later) x
-    among x there = in_either all (next_sent counter v.later) x there
+    among x there = Contains-append_cases all (next_sent counter v.later) x there
 
     new_from : (x : StepSent) → Contains (next_sent counter v.later) x → counter ≤ x.number
     new_from x there = least_number counter (next_sent counter v.later) x (numbered_from (next_phase v.later).counts counter (next_phase v.later).steps) there
@@ -139,17 +125,21 @@ module _ (start : Simulation) (seat : NodePort) (plan : PlanValue) (c : ℕ) (ph
           below = λ x there. elim (among x there) [ inl i ↦ let low = way.below x i in omega (arith, low) | inr k ↦ new_below x k ];
           once = λ x y there also same. all_once x y (among x there) (among y also) same;
           known = λ x there. elim (among x there) [ inl i ↦ way.known x i | inr k ↦ way.later x.counts x.step (next_is_of counter v.later x k) ];
-          waits = λ p there is. elim (in_either pending (next_pending counter v.later) p there) [
-            | inl i ↦ let w = way.waits p i is in record { step = w.step; there = in_left all (next_sent counter v.later) w.step w.there; is = w.is }
+          waits = λ p there is. elim (Contains-append_cases pending (next_pending counter v.later) p there) [
+            | inl i ↦ let w = way.waits p i is in
+                record { step = w.step; there = Contains-append_left all (next_sent counter v.later) w.step w.there; is = w.is }
             | inr k ↦ let w = waits_as (next_phase v.later).counts counter (next_phase v.later).steps p k in
-                record { step = w.sent; there = in_right all (next_sent counter v.later) w.sent w.there; is = w.is }
+                record { step = w.sent; there = Contains-append_right all (next_sent counter v.later) w.sent w.there; is = w.is }
           ];
           each = λ x there counts. elim (among x there) [
             | inl i ↦ elim (way.each x i counts) [
               | inl failed ↦ inl failed
-              | inr y ↦ inr (elim y [ inl is_done ↦ inl is_done | inr waiting ↦ inr (in_left pending (next_pending counter v.later) (pending_of x) waiting) ])
+              | inr y ↦ inr (elim y [
+                | inl is_done ↦ inl is_done
+                | inr waiting ↦ inr (Contains-append_left pending (next_pending counter v.later) (pending_of x) waiting)
+              ])
             ]
-            | inr k ↦ inr (inr (in_right pending (next_pending counter v.later) (pending_of x)
+            | inr k ↦ inr (inr (Contains-append_right pending (next_pending counter v.later) (pending_of x)
                 (as_waits (next_phase v.later).counts counter (next_phase v.later).steps x k)))
           ];
           later = λ counts t is. way.later counts t (rest_is_of v.later counts t (from_passed (drop 1 v.later) counts t is));
@@ -157,7 +147,7 @@ module _ (start : Simulation) (seat : NodePort) (plan : PlanValue) (c : ℕ) (ph
             | inl left ↦ elim (next_or_rest counter v.later counts t left) [
               | inl has ↦ inr (record {
                 sent = has.sent;
-                there = in_right all (next_sent counter v.later) has.sent has.there;
+                there = Contains-append_right all (next_sent counter v.later) has.sent has.there;
                 counts_is = has.counts_is;
                 step_is = has.step_is;
               })
@@ -165,7 +155,7 @@ module _ (start : Simulation) (seat : NodePort) (plan : PlanValue) (c : ℕ) (ph
             ]
             | inr has ↦ inr (record {
               sent = has.sent;
-              there = in_left all (next_sent counter v.later) has.sent has.there;
+              there = Contains-append_left all (next_sent counter v.later) has.sent has.there;
               counts_is = has.counts_is;
               step_is = has.step_is;
             })
@@ -265,13 +255,6 @@ module _ (start : Simulation) (seat : NodePort) (plan : PlanValue) (c : ℕ) (ph
   -- what an answer says ----------------------------------------------------------------------------------------
 
   module _ (all : List StepSent) where
-    same_status : (s : Simulation) (bytes : List ℕ) (r : IsAnswerFor (Sends start seat plan c all) (Tells start seat plan c all s) start seat bytes)
-        → status r.answer ≡ status bytes
-    same_status s bytes r =
-        let class = field_kept mgmt_class r.answer bytes (inl (omega arith)) r.kept in
-        let word = field_kept status_word r.answer bytes (inl (omega arith)) r.kept in
-        sym (λ j. cond (class j == 0x81) (word j % 2 ^ 15) (word j))
-
     -- the answer to a step that says that it was done was made when it was
     heard_is_done : (s : Simulation) (bytes : List ℕ) (p : Pending) → ((x y : StepSent) → Contains all x → Contains all y → x.number ≡ y.number → x ≡ y)
         → ((x : StepSent) → Contains all x → c ≤ x.number) → (f : WaitsFor all p) → (f.step.step.attribute ≡ sm_info → ⊥)
@@ -343,7 +326,8 @@ module _ (start : Simulation) (seat : NodePort) (plan : PlanValue) (c : ℕ) (ph
               ]
               | inr x ↦
                   let same : x.step ≡ f.step = once x.step f.step x.there f.there (sym x.number ∙ sym kept ∙ number) in
-                  subst (λ (q : StepSent). IsDone start seat plan s q) same (x.is_done (same_status s bytes r ∙ heard.done_is))
+                  subst (λ (q : StepSent). IsDone start seat plan s q) same
+                  (x.is_done (sym (same_status (Sends start seat plan c all) (Tells start seat plan c all s) start seat bytes r) ∙ heard.done_is))
             ]
 
   -- steps that are good ----------------------------------------------------------------------------------------
@@ -360,7 +344,7 @@ module _ (start : Simulation) (seat : NodePort) (plan : PlanValue) (c : ℕ) (ph
     phase_writes w m v all fair from outgoing side once way most =
         let more = all ++ next_sent m.counter v.later in
         let grown = fair_later start seat plan c c all (all ++ next_sent m.counter v.later) (omega arith)
-        (λ x there. in_left all (next_sent m.counter v.later) x there) ⊥ w fair in
+        (λ x there. Contains-append_left all (next_sent m.counter v.later) x there) ⊥ w fair in
         record {
           all = all ++ next_sent m.counter v.later;
           fair = phase_fair start seat plan ⊥ c (all ++ next_sent m.counter v.later) w grown m v outgoing side once
@@ -380,7 +364,7 @@ module _ (start : Simulation) (seat : NodePort) (plan : PlanValue) (c : ℕ) (ph
             let below = new_below w.scene.fabric all m.pending m.counter v from way x there in
             step_is_own start seat plan c (all ++ next_sent m.counter v.later) w.scene.handed x
             (can_go x (good x (way.later x.counts x.step (next_is_of m.counter v.later x there))))
-            (omega (arith, below, most)) (inr (in_right all (next_sent m.counter v.later) x there))
+            (omega (arith, below, most)) (inr (Contains-append_right all (next_sent m.counter v.later) x there))
 
     -- a step ends
     module _ (w : Managing) (g : Writes w) (p : Pending) (there : Contains w.manager.pending p) (is : is_step p ≡ true) (was_done : Bool)
@@ -587,7 +571,7 @@ module _ (start : Simulation) (seat : NodePort) (plan : PlanValue) (c : ℕ) (ph
   pub written_done : (w : Managing) → Writes w → is_written w.manager ≡ true → (t : Step) → IsOf phases true t → WasDone w.scene.fabric t
   written_done w g written t of =
       elim (g.way.sent true t of) [
-        | inl left ↦ absurd (none_left_counts g.now.later t (from_not _ inner.0) left)
+        | inl left ↦ absurd (none_left_counts g.now.later t (not-true _ inner.0) left)
         | inr has ↦ record {
           step = has.sent;
           is = has.step_is;
@@ -597,10 +581,6 @@ module _ (start : Simulation) (seat : NodePort) (plan : PlanValue) (c : ℕ) (ph
         }
       ]
     where
-      from_not : (b : Bool) → not b ≡ true → b ≡ false
-      from_not true e = absurd (cc)
-      from_not false e = refl
-
       now : is_written_by w.manager.pending (Some g.now) ≡ true
       now = ap (is_written_by w.manager.pending) (sym g.writing) ∙ written
 

@@ -46,12 +46,6 @@ pub record AsksFor (s : Step) (packet : List ℕ) : Type 0 where
   pub payload : bytes_in attribute_data packet ≡ s.payload
 
 module _ (a : Agent) (packet : List ℕ) (arrival : ℕ) (is : IsAgent a) (whole : IsPacket packet) (upto : arrival ≤ a.node.ports) where
-  after : Agent
-  after = (after_answer a packet arrival).agent
-
-  told : List ℕ
-  told = bytes_in attribute_data (after_answer a packet arrival).packet
-
   -- only a Set changes it
   pub unset : (number_in method packet == set) ≡ false → (after_answer a packet arrival).agent ≡ a
   unset e =

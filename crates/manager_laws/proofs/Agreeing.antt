@@ -70,7 +70,7 @@ module _ {f : Fabric} {seat : NodePort} (can : CanBeSwept f seat) (is_fabric : I
   seat_reached : Reaches seat
   seat_reached = has_as (IsOrigin f seat) (λ (v : Vertex). (v.guid ≡ guid_at f seat seat.node) × (v.port ≡ seat.port)) (λ v is. (is.0, is.1)) s.reached start
 
-  joined_reached : (p : NodePort) → IsJoinedTo f seat p → Reaches p
+  pub joined_reached : (p : NodePort) → IsJoinedTo f seat p → IsReached f seat s.reached p
   joined_reached p (n, w) = all_reached n seat p seat_reached w
 
   -- what is known of a vertex that was reached ---------------------------------------------------------------

@@ -1,22 +1,17 @@
 -- Whatever happens, each directed packet that comes back tells of the end of its path.
-use Rattle.std.proofs.Common.{◌≡◌, ◌⊎◌, inl, inr, ℕ, ◌+◌, ◌/◌, ◌%◌, ◌^◌, ◌<◌, ◌≤◌, true, cond, List, [], ◌∷◌, length, get_or, refl, sym, ap, ◌∙◌, subst, arith}
+use Rattle.std.proofs.Common.{◌≡◌, inl, inr, ℕ, ◌/◌, ◌%◌, ◌^◌, ◌<◌, ◌≤◌, true, List, [], ◌∷◌, length, refl, sym, ap, ◌∙◌, subst, arith}
 use Rattle.std.proofs.lemmas.Bool.{cond_both, and_parts, leb-true}
 use Rattle.std.proofs.lemmas.Option.{slice_get-map}
-use Rattle.std.proofs.lemmas.List.{ext_get_or, get_or-drop, get_or-take, length-drop, length-take-le}
 use Rattle.std.proofs.lemmas.List.Elements.{All-nil, All-head, All-tail, All-cons}
-use Rattle.std.specs.Prelude.{Option, Some, None, All, option_map, slice_get, slice_index, take, drop, nat_le, ◌==◌}
+use Rattle.std.specs.Prelude.{Option, Some, None, All, option_map, slice_get, nat_le, ◌==◌}
 use Rattle.fabric_model.specs.declared.cable.NodePort.{NodePort}
 use Rattle.smp_bytes.specs.Header.{sm_info, node_info, port_info, switch_info}
-use Rattle.smp_bytes.specs.Field.{Field, number_in, bits_in, bytes_in}
-use Rattle.smp_bytes.specs.Packet.{mgmt_class, attribute_id, attribute_modifier, attribute_data, hop_count, status_word, is_directed, status}
+use Rattle.smp_bytes.specs.Field.{number_in, bits_in, bytes_in}
+use Rattle.smp_bytes.specs.Packet.{attribute_id, attribute_modifier, attribute_data, is_directed}
 use Rattle.smp_bytes.specs.Requests.{directed, answer_packet}
 use Rattle.smp_bytes.specs.ReadBack.{FitsRequest}
-use Rattle.fabric_model.specs.DirectedWalk.{directed_end}
-use Rattle.smp_bytes.proofs.BitLaws.{byte-number_in}
 use Rattle.smp_bytes.proofs.FieldLaws.{number_in-alike}
-use Rattle.smp_bytes.proofs.OffsetLaws.{bytes_in-alike}
 use Rattle.node_agents.specs.Agent.{node_of}
-use Rattle.dr_forward.proofs.Trips.{field_kept}
 use Rattle.fabric_sim.specs.declared.packet.Packet.{Packet}
 use Rattle.fabric_sim.specs.Simulation.{Simulation, AreCables, port_count, is_seat_at, fabric_of}
 use Rattle.fabric_sim.specs.Delivery.{after_deliver}
@@ -24,7 +19,7 @@ use Rattle.fabric_sim.specs.ThereAndBack.{BeginsWith}
 use Rattle.attr_codec.specs.NodeInfo.{node_info_in}
 use Rattle.attr_codec.specs.PortInfo.{port_state}
 use Rattle.attr_codec.specs.SwitchInfo.{linear_fdb_cap}
-use Rattle.fabric_sim.specs.ToldOfEnd.{path_of, port_asked, SaysNode, SaysPort, SaysSwitch, SaysOf, TellsOfEnd}
+use Rattle.fabric_sim.specs.ToldOfEnd.{port_asked, SaysNode, SaysPort, SaysSwitch, SaysOf, TellsOfEnd}
 use Rattle.fabric_sim.proofs.Carries.{Carries, deliveries_carry, deliveries_hand_up, injections_carry, copies_carry, losses_carry}
 use Rattle.fabric_sim.proofs.Courses.{AnySends, SaysSo, AreOnCourse, IsAnswerFor, IsOnCourse, IsForManager}
 use Rattle.fabric_sim.proofs.TripEnds.{few_ports, along_itself, agent_by_port}
@@ -32,50 +27,22 @@ use Rattle.fabric_sim.proofs.TripShapes.{port_count_stays}
 use Rattle.fabric_sim.proofs.TripsOut.{IsPortOf}
 use Rattle.manager_laws.specs.Scene.{Handed, Scene, ByLid, ByPath, Answer, Event, Deliver, Lose, Repeat, Send, CanHappen, sent_from, asks_manager, answer_to, answered_from, after_event, after_events, IsQuiet}
 use Rattle.manager_laws.specs.AnswersTell.{IsBack, AnswersTell}
+use Rattle.manager_laws.proofs.Returned as returned
 use Rattle.manager_laws.proofs.TracedScenes.{WereTraced, manager_traced, other_traced, sent_traced, traced_by, traced_more, traced_there}
 
 -- what came back tells -----------------------------------------------------------------------------
 
 module _ (start : Simulation) (at : NodePort) (bytes : List ℕ) (r : IsAnswerFor start at bytes) where
-  -- fields that no step writes
-  same : (f : Field) → (f.at + f.len ≤ 6) ⊎ ((7 ≤ f.at) × (f.at + f.len ≤ 192)) → number_in f bytes ≡ number_in f r.answer
-  same f apart = field_kept f r.answer bytes apart r.kept
-
   same_data : bytes_in attribute_data bytes ≡ bytes_in attribute_data r.answer
-  same_data = bytes_in-alike attribute_data bytes r.answer (omega (arith, r.count)) (omega (arith, r.is.count))
-      (λ id from less. r.kept id (inr (omega (arith, from), omega (arith, less))))
-
-  same_status : status bytes ≡ status r.answer
-  same_status =
-      let class = same mgmt_class (inl (omega arith)) in
-      let word = same status_word (inl (omega arith)) in
-      (λ j. cond (class j == 0x81) (word j % 2 ^ 15) (word j))
-
-  path_byte : (i : ℕ) → i < length r.path → get_or bytes (129 + i) 0 ≡ slice_index r.path i
-  path_byte i less =
-      r.kept (129 + i) (inr (omega arith, omega (arith, less, r.is.reads.short)))
-      ∙ ap (λ n. get_or r.answer n 0) (omega arith)
-      ∙ sym (byte-number_in (128 + (i + 1)) r.answer)
-      ∙ r.is.ports i less
-
-  path_is : path_of bytes ≡ r.path
-  path_is =
-      let hops : number_in hop_count bytes ≡ length r.path = same hop_count (inr (omega arith, omega arith)) ∙ r.is.reads.hops_are in
-      let size : length (take (length r.path) (drop 129 bytes)) ≡ length r.path =
-      length-take-le (length r.path) (drop 129 bytes) (omega (arith, r.is.reads.short, r.count, length-drop 129 bytes)) in
-      ap (λ n. take n (drop 129 bytes)) hops
-      ∙ ext_get_or 0 _ r.path size (λ i less.
-      get_or-take (length r.path) (drop 129 bytes) i 0 (omega (arith, less, size)) ∙ get_or-drop 129 bytes i 0 ∙ path_byte i (omega (arith, less, size)))
+  same_data = returned.same_data AnySends (SaysSo start) start at bytes r
 
   pub tells : TellsOfEnd (fabric_of start) at bytes
   tells =
       record {
         end = r.is.end;
-        leads = ap (directed_end (fabric_of start) at) path_is ∙ r.is.leads;
-        says = λ e. let said = r.is.tells (sym same_status ∙ e) in
-            let attribute = same attribute_id (inr (omega arith, omega arith)) in
-            let modifier = same attribute_modifier (inr (omega arith, omega arith)) in
-            said_same said attribute modifier;
+        leads = returned.comes_from AnySends (SaysSo start) start at bytes r;
+        says = λ e. let said = r.is.tells (sym (returned.same_status AnySends (SaysSo start) start at bytes r) ∙ e) in
+            said_same said (returned.same_attribute AnySends (SaysSo start) start at bytes r) (returned.same_modifier AnySends (SaysSo start) start at bytes r);
       }
     where
       said_same : SaysOf (fabric_of start) r.is.end r.answer → number_in attribute_id bytes ≡ number_in attribute_id r.answer

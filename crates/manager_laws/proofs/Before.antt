@@ -90,9 +90,6 @@ module _ (start : Simulation) (seat : NodePort) (plan : PlanValue) (ground : Gro
       → Goes start seat plan old (record w { manager = after_write_steps w.manager })
   write_goes old w g new none = by_sweep w.manager.sweep (swept_one w.manager.sweep g.fair.side.sweep) few
     where
-      m : Manager
-      m = w.manager
-
       may : MayWrite w.manager
       may = may_write w.manager none
 
@@ -195,16 +192,7 @@ module _ (start : Simulation) (seat : NodePort) (plan : PlanValue) (ground : Gro
   begins_first w Begin none g =
       subst (λ b. Goes start seat plan ⊥ (record w { manager = cond b (after_begin_sweep w.manager) w.manager })) (sym (none-is_none _ none))
       (begin_goes (Unit {0}) w g none)
-  begins_first w (Around event) none g = absurd none
-  begins_first w Write none g = absurd none
-  begins_first w Take none g = absurd none
-  begins_first w (Send which) none g = absurd none
-  begins_first w (Hear which) none g = absurd none
-  begins_first w (TimeOut transaction) none g = absurd none
-  begins_first w (Raise floor) none g = absurd none
-  begins_first w (Merge floor sightings) none g = absurd none
-  begins_first w (Poll lid) none g = absurd none
-  begins_first w HandOver none g = absurd none
+  begins_first w event none g = absurd none
 
   pub before_goes : (events : List ManagerEvent) (w : Managing) → SweepsFirst events w → Goes start seat plan (Unit {0}) w → All (CanBe seat) events
       → Goes start seat plan (Unit {0}) (after_manager_events events w)
@@ -214,3 +202,27 @@ module _ (start : Simulation) (seat : NodePort) (plan : PlanValue) (ground : Gro
   before_goes (event ∷ events) w (inr (quiet, first)) g all =
       before_goes events (after_manager_event w event) first
       (event_goes (Unit {0}) w event (inl quiet) g (All-head (CanBe seat) event events all)) (All-tail (CanBe seat) event events all)
+
+  -- what is so of any end and of one event more is so of the events until a writing
+  module _ (P : List ManagerEvent → Managing → Type 0) (none : (w : Managing) (old : Type 0) → Goes start seat plan old w → P [] w)
+      (some : (event : ManagerEvent) (events : List ManagerEvent) (w : Managing) (old : Type 0) → Goes start seat plan old w → CanBe seat event
+      → P events (after_manager_event w event) → P (event ∷ events) w) where
+    -- once a sweep began
+    pub by_swept : (events : List ManagerEvent) (w : Managing) → Goes start seat plan ⊥ w → All (CanBe seat) events → P events w
+    by_swept [] w g all = none w ⊥ g
+    by_swept (event ∷ events) w g all =
+        let can = All-head (CanBe seat) event events all in
+        some event events w ⊥ g can
+        (by_swept events (after_manager_event w event) (event_goes ⊥ w event (inr (λ none. none)) g can) (All-tail (CanBe seat) event events all))
+
+    -- and before one does
+    pub by_before : (events : List ManagerEvent) (w : Managing) → SweepsFirst events w → Goes start seat plan (Unit {0}) w → All (CanBe seat) events
+        → P events w
+    by_before [] w first g all = none w (Unit {0}) g
+    by_before (event ∷ events) w first g all =
+        let can = All-head (CanBe seat) event events all in
+        let later = All-tail (CanBe seat) event events all in
+        some event events w (Unit {0}) g can (elim first [
+          | inl begins ↦ by_swept events (after_manager_event w event) (begins_first w event begins g) later
+          | inr (quiet, next) ↦ by_before events (after_manager_event w event) next (event_goes (Unit {0}) w event (inl quiet) g can) later
+        ])

@@ -1,5 +1,6 @@
 -- What a call is to a manager: the end of a step that waits, or nothing to its writing.
 use Rattle.std.proofs.Common.{◌≡◌, ◌⊎◌, inl, inr, ℕ, ◌+◌, ◌<◌, ◌≤◌, ◌^◌, Bool, true, false, cond, List, [], ◌∷◌, ◌++◌, length, replicate, refl, sym, ap, ◌∙◌, subst, arith}
+use Rattle.std.proofs.lemmas.List.Elements.{Contains-append_left, Contains-append_cases}
 use Rattle.std.proofs.lemmas.Bool.{cond_both, and_parts, and_from, eqb-true, ltb-false, ltb-true}
 use Rattle.std.proofs.lemmas.List.{append_assoc, append-nil, length-drop, length-replicate, length-take-le}
 use Rattle.std.specs.Prelude.{Contains, Option, Some, None, drop, is_none, nat_le, nat_lt, not, option_and_then, slice_get, if◌then◌else◌, ◌==◌}
@@ -49,8 +50,7 @@ use Rattle.sm_state.specs.Standing.{after_request_heard, info_of, info_with, is_
 use Rattle.sm_state.specs.declared.state.SmState.TheVariants.{Standby}
 use Rattle.sm_manager.specs.Writing.{is_done_by, is_spent, after_step, without}
 use Rattle.manager_laws.specs.Scene.{Handed, asks_manager}
-use Rattle.manager_laws.proofs.Fair.{BesideCall, IsOwnPacket, answer_own, asked_are_own, lid_own, own_more, path_own}
-use Rattle.manager_laws.proofs.WritingLists.{in_left, in_either}
+use Rattle.manager_laws.proofs.Fair.{AreOwnPackets, BesideCall, IsOwnPacket, answer_own, asked_are_own, lid_own, own_more, path_own}
 use Rattle.manager_laws.proofs.Numbered.{AreOnce, once_more, once_without, one_once, others_wait, others_waited}
 use Rattle.manager_laws.proofs.Scenes.{SetsInfoAlone}
 use Rattle.manager_laws.proofs.Steps.{StepSent}
@@ -136,21 +136,30 @@ module _ (start : Simulation) (seat : NodePort) (plan : PlanValue) (g : Ground s
   Beside : Manager → Manager → Type 0
   Beside m after = BesideCall start seat plan old handed m after
 
+  -- a call by which no request comes to wait or ends
+  none_ends : (new : Type 0) (m after : Manager) (more : List Outgoing) → after.writing ≡ m.writing → after.pending ≡ m.pending → after.counter ≡ m.counter
+      → after.outgoing ≡ m.outgoing ++ more → AreOnce m.counter m.pending
+      → ((c : ℕ) (all : List StepSent) → AreOwnPackets start seat plan c all handed more) → SweepSide start seat new after
+      → BesideCall start seat plan new handed m after
+  none_ends new m after more writing pending counter outgoing once own side =
+      record {
+        writing = writing;
+        steps_stay = λ p there _. subst (λ ps. Contains ps p) (sym pending) there;
+        steps_were = λ p there _. subst (λ ps. Contains ps p) pending there;
+        upto = omega (arith, counter);
+        once = subst (λ n. AreOnce n after.pending) (sym counter) (subst (AreOnce m.counter) (sym pending) once);
+        more = more;
+        outgoing = outgoing;
+        own = own;
+        side = side;
+      }
+
   -- a call that is the sweep's business
   pub beside_swept : (new : Type 0) (m after : Manager) → AreOnce m.counter m.pending → SweepCall start seat new m after
       → BesideCall start seat plan new handed m after
   beside_swept new m after once call =
-      record {
-        writing = call.writing;
-        steps_stay = λ p there _. subst (λ ps. Contains ps p) (sym call.pending) there;
-        steps_were = λ p there _. subst (λ ps. Contains ps p) call.pending there;
-        upto = let same = call.counter in omega (arith, same);
-        once = subst (λ n. AreOnce n after.pending) (sym call.counter) (subst (AreOnce m.counter) (sym call.pending) once);
-        more = call.more;
-        outgoing = call.outgoing;
-        own = λ c all. asked_are_own start seat plan c all handed g call.more call.asks;
-        side = call.side;
-      }
+      none_ends new m after call.more call.writing call.pending call.counter call.outgoing once
+      (λ c all. asked_are_own start seat plan c all handed g call.more call.asks) call.side
 
   -- nothing happens
   stays : (m : Manager) → SweepSide start seat old m → AreOnce m.counter m.pending → Beside m m
@@ -199,8 +208,8 @@ module _ (start : Simulation) (seat : NodePort) (plan : PlanValue) (g : Ground s
   asks_own m side once waits out number other own =
       record {
         writing = refl;
-        steps_stay = λ q among is. in_left m.pending (waits ∷ []) q among;
-        steps_were = λ q among is. elim (in_either m.pending (waits ∷ []) q among) [
+        steps_stay = λ q among is. Contains-append_left m.pending (waits ∷ []) q among;
+        steps_were = λ q among is. elim (Contains-append_cases m.pending (waits ∷ []) q among) [
           | inl i ↦ i
           | inr k ↦ absurd (cc (sym other ∙ ap is_step (only q k) ∙ is))
         ];
@@ -297,17 +306,8 @@ module _ (start : Simulation) (seat : NodePort) (plan : PlanValue) (g : Ground s
   moves : (m : Manager) → SweepSide start seat old m → AreOnce m.counter m.pending → (standing : Standing) → Beside m (record m { standing = standing })
   unfolding Beside
   moves m side once standing =
-      record {
-        writing = refl;
-        steps_stay = λ q among is. among;
-        steps_were = λ q among is. among;
-        upto = omega arith;
-        once = once;
-        more = [];
-        outgoing = sym (append-nil m.outgoing);
-        own = λ c all. tt;
-        side = record { port = side.port; lmc = side.lmc; sweep = side.sweep; knows = side.knows };
-      }
+      none_ends old m (record m { standing = standing }) [] refl refl refl (sym (append-nil m.outgoing)) once (λ c all. tt)
+      (record { port = side.port; lmc = side.lmc; sweep = side.sweep; knows = side.knows })
 
   -- a trap is repressed by LIDs
   represses_it : (m : Manager) → SweepSide start seat old m → AreOnce m.counter m.pending → (bytes : List ℕ) (lid : Option ℕ) → length bytes ≡ 256
@@ -319,22 +319,12 @@ module _ (start : Simulation) (seat : NodePort) (plan : PlanValue) (g : Ground s
       let tid = number_in transaction_id bytes in
       let payload = bytes_in attribute_data bytes in
       let whole = length-data bytes count in
-      record {
-        writing = refl;
-        steps_stay = λ q among is. among;
-        steps_were = λ q among is. among;
-        upto = omega arith;
-        once = once;
-        more = repress_out bytes lid ∷ [];
-        outgoing = refl;
-        own = λ c all. (
-          lid_own start seat plan c all handed (repress_out bytes lid) (length-lid_routed trap_repress attribute modifier tid payload whole)
-              (not_directed trap_repress attribute modifier tid payload whole) (sets_not trap_repress attribute modifier tid payload whole (omega arith)
-              (λ same. omega (arith, same))),
-          tt,
-        );
-        side = record { port = side.port; lmc = side.lmc; sweep = side.sweep; knows = side.knows };
-      }
+      none_ends old m (repressing m bytes lid) (repress_out bytes lid ∷ []) refl refl refl refl once (λ c all. (
+        lid_own start seat plan c all handed (repress_out bytes lid) (length-lid_routed trap_repress attribute modifier tid payload whole)
+            (not_directed trap_repress attribute modifier tid payload whole) (sets_not trap_repress attribute modifier tid payload whole (omega arith)
+            (λ same. omega (arith, same))),
+        tt,
+      )) (record { port = side.port; lmc = side.lmc; sweep = side.sweep; knows = side.knows })
 
   -- requests of other managers -----------------------------------------------------------------------------
 
@@ -348,9 +338,6 @@ module _ (start : Simulation) (seat : NodePort) (plan : PlanValue) (g : Ground s
 
     -- an answer goes out
     module _ (m : Manager) (side : SweepSide start seat old m) (once : AreOnce m.counter m.pending) (lid : Option ℕ) (given : ℕ) (small : given < 2 ^ 15) where
-      payload : List ℕ
-      payload = answer_data m.standing h.packet.bytes given
-
       whole : length (answer_data m.standing h.packet.bytes given) ≡ 64
       whole = cond_both (given == done) _ _ (λ (d : List ℕ). length d ≡ 64) (λ _. length-sm_info (info_of m.standing))
           (λ _. length-data h.packet.bytes is.whole.count)
@@ -378,17 +365,8 @@ module _ (start : Simulation) (seat : NodePort) (plan : PlanValue) (g : Ground s
       answers_it : Beside m (answering m h.packet.bytes lid given)
       unfolding Beside
       answers_it =
-          record {
-            writing = refl;
-            steps_stay = λ q among is. among;
-            steps_were = λ q among is. among;
-            upto = omega arith;
-            once = once;
-            more = answer_out m.standing h.packet.bytes lid given ∷ [];
-            outgoing = refl;
-            own = λ c all. (own_answer c all, tt);
-            side = record { port = side.port; lmc = side.lmc; sweep = side.sweep; knows = side.knows };
-          }
+          none_ends old m (answering m h.packet.bytes lid given) (answer_out m.standing h.packet.bytes lid given ∷ []) refl refl refl refl once
+          (λ c all. (own_answer c all, tt)) (record { port = side.port; lmc = side.lmc; sweep = side.sweep; knows = side.knows })
 
     module _ (m : Manager) (side : SweepSide start seat old m) (once : AreOnce m.counter m.pending) (lid : Option ℕ) where
       moves_on : (move : Transition) → Beside m (moved_on m h.packet.bytes lid move)

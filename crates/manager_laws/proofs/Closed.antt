@@ -1,8 +1,9 @@
 -- A sweep that is done, with every answer, has crossed each cable of each vertex that it reached.
 use Rattle.std.proofs.Common.{◌≡◌, inl, inr, ℕ, ◌≤◌, Bool, true, false, cond, not, ◌&&◌, ◌||◌, List, [], ◌∷◌, ◌++◌, refl, sym, ap, ◌∙◌, subst, arith}
+use Rattle.std.proofs.Math.Bool.{or-true}
 use Rattle.std.proofs.lemmas.Bool.{and_parts, eqb-true, eq-eqb}
 use Rattle.std.proofs.lemmas.Option.{same_Some}
-use Rattle.std.specs.Prelude.{Option, Some, None, MatchBool, IsSome, ◌==◌}
+use Rattle.std.specs.Prelude.{Option, Some, MatchBool, IsSome, ◌==◌}
 use Rattle.std.specs.List.{AllByRecursion}
 use Rattle.fabric_model.specs.declared.cable.NodePort.{NodePort}
 use Rattle.smp_bytes.specs.declared.node_type.NodeType.{NodeType}
@@ -12,7 +13,7 @@ use Rattle.fabric_model.specs.Fabric.{Fabric, IsFabric, IsNodeAt}
 use Rattle.fabric_model.specs.FabricWalks.{vertex_of}
 use Rattle.fabric_model.proofs.FabricWalks.{port_at, vertex_node}
 use Rattle.reply_facts.specs.declared.value.Value.{Value}
-use Rattle.reply_facts.specs.declared.value.Value.TheVariants.{Kind, Guid, Peer, Up, Lid, Count}
+use Rattle.reply_facts.specs.declared.value.Value.TheVariants.{Kind, Guid, Peer}
 use Rattle.reply_facts.specs.Known.{kind_in, guid_in, peer_in}
 use Rattle.reply_facts.specs.Report.{Sightings, guid_port}
 use Rattle.sweep.specs.declared.request.Question.TheVariants as ask
@@ -44,30 +45,15 @@ pub kind_known : (o : Option Value) (kind : NodeType) (ports : ℕ) → kind_in 
 kind_known (Some (Kind k n)) kind ports e =
     let same : ◌≡◌ {A = NodeType × ℕ} (k, n) (kind, ports) = same_Some (k, n) (kind, ports) e in
     ap (λ (x : NodeType × ℕ). Some (Kind x.0 x.1)) same
-kind_known None kind ports e = cc
-kind_known (Some (Guid x)) kind ports e = cc
-kind_known (Some (Peer x y)) kind ports e = cc
-kind_known (Some (Up x)) kind ports e = cc
-kind_known (Some (Lid x)) kind ports e = cc
-kind_known (Some (Count x)) kind ports e = cc
+kind_known other kind ports e = cc
 
 pub guid_known : (o : Option Value) → IsSome (guid_in o) → (guid : ℕ) × (o ≡ Some (Guid guid))
 guid_known (Some (Guid x)) e = (x, refl)
-guid_known None e = cc
-guid_known (Some (Kind x y)) e = cc
-guid_known (Some (Peer x y)) e = cc
-guid_known (Some (Up x)) e = cc
-guid_known (Some (Lid x)) e = cc
-guid_known (Some (Count x)) e = cc
+guid_known other e = cc
 
 pub peer_known : (o : Option Value) (h q : ℕ) → peer_in o ≡ Some (h, q) → o ≡ Some (Peer h q)
 peer_known (Some (Peer x y)) h q e = let same : ◌≡◌ {A = ℕ × ℕ} (x, y) (h, q) = same_Some (x, y) (h, q) e in ap (λ (z : ℕ × ℕ). Some (Peer z.0 z.1)) same
-peer_known None h q e = cc
-peer_known (Some (Kind x y)) h q e = cc
-peer_known (Some (Guid x)) h q e = cc
-peer_known (Some (Up x)) h q e = cc
-peer_known (Some (Lid x)) h q e = cc
-peer_known (Some (Count x)) h q e = cc
+peer_known other h q e = cc
 
 module _ {f : Fabric} {seat : NodePort} (can : CanBeSwept f seat) (is_fabric : IsFabric f) (at_seat : fabric.Node) (seat_there : IsNodeAt f seat.node at_seat)
     (s : Sweep) (told : Sightings) (c : Covered f seat s told) (none : (a : Asking) → IsPending (s.outstanding ++ s.queued) a → ⊥)
@@ -161,15 +147,11 @@ module _ {f : Fabric} {seat : NodePort} (can : CanBeSwept f seat) (is_fabric : I
             let first : (from.port == 0) ≡ false = not_zero (from.port == 0) refl in
             ap (λ b. (is_start r.v.path && from.port == seat.port) || (b && (not (from.port == 0) && not (from.port == r.v.arrival)))) switch
             ∙ (λ j. (is_start r.v.path && from.port == seat.port) || (true && (not (first j) && not (e j))))
-            ∙ or_true (is_start r.v.path && from.port == seat.port)
+            ∙ or-true (is_start r.v.path && from.port == seat.port)
           where
             not_zero : (b : Bool) → (from.port == 0) ≡ b → b ≡ false
             not_zero true h = let same : from.port ≡ 0 = eqb-true from.port 0 h in absurd (omega (arith, low, same))
             not_zero false h = refl
-
-            or_true : (b : Bool) → (b || true) ≡ true
-            or_true true = refl
-            or_true false = refl
 
         by_port : (b : Bool) → (from.port == r.v.arrival) ≡ b → Crossed f seat has_all from to
         by_port true e = elim r.covers.came [

@@ -1,8 +1,8 @@
 -- What is found by computing a run: tests that are right, and what a manager writes by what it knows.
 use Rattle.std.proofs.Common.{◌≡◌, inl, ℕ, ◌+◌, ◌||◌, ◌&&◌, Bool, true, false, List, [], ◌∷◌, ◌++◌}
-use Rattle.std.proofs.Common.{refl, sym, ap, ◌∙◌, subst}
+use Rattle.std.proofs.Common.{refl, sym, ap, ◌∙◌}
 use Rattle.std.proofs.lemmas.Bool.{and_parts, eqb-true}
-use Rattle.std.specs.Prelude.{Option, Some, None, Contains, Result, Ok, Err, is_none, is_some, if◌then◌else◌, ◌==◌, not}
+use Rattle.std.specs.Prelude.{Option, Some, None, Contains, Result, Ok, is_some, ◌==◌, not}
 use Rattle.std.specs.List.{AllByRecursion, list_all}
 use Rattle.fabric_model.specs.declared.cable.NodePort.{NodePort}
 use Rattle.smp_bytes.specs.declared.node_type.NodeType.TheVariants.{ChannelAdapter, Switch}
@@ -30,33 +30,31 @@ use Rattle.plan_steps.specs.declared.step.Step.{Step}
 use Rattle.plan_steps.specs.Bound.{most_steps}
 use Rattle.plan_steps.specs.Phases.{Phase, phases_of}
 use Rattle.fabric_sim.specs.declared.delivered.Delivered.{Delivered}
-use Rattle.fabric_sim.specs.declared.delivered.Delivered.TheVariants.{Moved, Answered, ToManager, Discarded}
+use Rattle.fabric_sim.specs.declared.delivered.Delivered.TheVariants.{Answered}
 use Rattle.fabric_sim.specs.declared.fault.FabricFault.{FabricFault}
 use Rattle.fabric_sim.specs.declared.flight.Flight.{Flight}
-use Rattle.fabric_sim.specs.Simulation.{Simulation, fabric_of, flight_with, port_of}
+use Rattle.fabric_sim.specs.Simulation.{Simulation, flight_with, port_of}
 use Rattle.fabric_sim.specs.Delivery.{after_deliver}
 use Rattle.sweep.specs.Sweep.{Sweep, started}
 use Rattle.sm_manager.specs.Manager.{Manager}
 use Rattle.lft_blocks.specs.Planning.{Planning}
 use Rattle.sm_manager.specs.declared.fault.ManagerFault.{ManagerFault}
-use Rattle.sm_manager.specs.Plans.{number_fault, or_else, plan_fault, writing_fault}
-use Rattle.sm_manager.specs.Writing.{begun_with, phases_by, write_fault_with, after_write_steps}
-use Rattle.manager_laws.specs.Scene.{Deliver, Lose, Repeat, Send as SendFrom}
-use Rattle.manager_laws.specs.Managing.{Managing, ManagerEvent, Around, Begin, Write, Take, Send, Hear, TimeOut, Raise, Merge, Poll, HandOver}
+use Rattle.sm_manager.specs.Plans.{number_fault, or_else, plan_fault}
+use Rattle.sm_manager.specs.Writing.{phases_by, write_fault_with}
+use Rattle.manager_laws.specs.Scene.{Deliver, Lose, Repeat}
+use Rattle.manager_laws.specs.Managing.{Managing, ManagerEvent, Around, Begin, Write, Take, Send, Hear, TimeOut, Raise, Merge}
 use Rattle.manager_laws.specs.Managing.{CanBe, after_manager_event}
 use Rattle.manager_laws.specs.Sets.{IsOwnSet, KeepsPlan}
 use Rattle.manager_laws.specs.WritingPings.{AreNoSweeps, BeginsNoSweep}
-use Rattle.manager_laws.specs.Written.{AllKeep, Keeps, own_sets, plan_at}
+use Rattle.manager_laws.specs.Written.{AllKeep, Keeps}
+use Rattle.manager_laws.proofs.Lists.{all_tested}
 
 -- each Set that an agent takes is one of its own: by a test -------------------------------------------------------------
 
 -- what a delivery brings to an agent is answered
 abbrev pub is_answered : Result Delivered FabricFault → Bool
 is_answered (Ok (Answered serial)) = true
-is_answered (Ok (Moved serial)) = false
-is_answered (Ok (ToManager at packet)) = false
-is_answered (Ok (Discarded reason)) = false
-is_answered (Err why) = false
+is_answered result = false
 
 abbrev is_same : List ℕ → List ℕ → Bool
 is_same [] [] = true
@@ -174,19 +172,8 @@ module _ (plan : PlanValue) (f : Fabric) (seat : NodePort) (phases : List Phase)
 
   event_keeps : (w : Managing) (event : ManagerEvent) → event_kept w event ≡ true → Keeps plan (IsOwnSet f seat phases) w event
   event_keeps w (Around (Deliver serial)) e = delivery_keeps w.scene.fabric serial e
-  event_keeps w (Around (Lose serial)) e = tt
-  event_keeps w (Around (Repeat serial)) e = tt
-  event_keeps w (Around (SendFrom from sending)) e = tt
-  event_keeps w Begin e = tt
   event_keeps w Write e = absurd (cc)
-  event_keeps w Take e = tt
-  event_keeps w (Send which) e = tt
-  event_keeps w (Hear which) e = tt
-  event_keeps w (TimeOut transaction) e = tt
-  event_keeps w (Raise floor) e = tt
-  event_keeps w (Merge floor sightings) e = tt
-  event_keeps w (Poll lid) e = tt
-  event_keeps w HandOver e = tt
+  event_keeps w event e = tt
 
   pub all_keep : (events : List ManagerEvent) (w : Managing) → are_kept events w ≡ true → AllKeep plan (IsOwnSet f seat phases) events w
   all_keep [] w e = tt
@@ -211,22 +198,14 @@ plain_can_be : (seat : NodePort) (event : ManagerEvent) → is_plain event ≡ t
 plain_can_be seat (Around (Deliver serial)) e = (tt, tt)
 plain_can_be seat (Around (Lose serial)) e = (tt, tt)
 plain_can_be seat (Around (Repeat serial)) e = (tt, tt)
-plain_can_be seat (Around (SendFrom from sending)) e = absurd (cc)
-plain_can_be seat Begin e = absurd (cc)
-plain_can_be seat Write e = absurd (cc)
 plain_can_be seat Take e = tt
 plain_can_be seat (Send which) e = tt
 plain_can_be seat (Hear which) e = tt
 plain_can_be seat (TimeOut transaction) e = tt
-plain_can_be seat (Raise floor) e = absurd (cc)
-plain_can_be seat (Merge floor sightings) e = absurd (cc)
-plain_can_be seat (Poll lid) e = absurd (cc)
-plain_can_be seat HandOver e = absurd (cc)
+plain_can_be seat event e = absurd (cc)
 
 pub all_can_be : (seat : NodePort) (events : List ManagerEvent) → list_all is_plain events ≡ true → AllByRecursion (CanBe seat) events
-all_can_be seat [] e = tt
-all_can_be seat (event ∷ events) e =
-    let parts = and_parts (is_plain event) (list_all is_plain events) e in (plain_can_be seat event parts.0, all_can_be seat events parts.1)
+all_can_be seat = all_tested (CanBe seat) is_plain (plain_can_be seat)
 
 -- no sweep begins, no floor is raised, and no facts are merged
 abbrev pub begins_none : ManagerEvent → Bool
@@ -236,17 +215,10 @@ begins_none (Merge floor sightings) = false
 begins_none event = true
 
 no_sweep : (w : Managing) (event : ManagerEvent) → begins_none event ≡ true → BeginsNoSweep w event
-no_sweep w (Around event) e = tt
 no_sweep w Begin e = absurd (cc)
-no_sweep w Write e = tt
-no_sweep w Take e = tt
-no_sweep w (Send which) e = tt
-no_sweep w (Hear which) e = tt
-no_sweep w (TimeOut transaction) e = tt
 no_sweep w (Raise floor) e = absurd (cc)
 no_sweep w (Merge floor sightings) e = absurd (cc)
-no_sweep w (Poll lid) e = tt
-no_sweep w HandOver e = tt
+no_sweep w event e = tt
 
 pub no_sweeps : (events : List ManagerEvent) (w : Managing) → list_all begins_none events ≡ true → AreNoSweeps events w
 no_sweeps [] w e = tt
@@ -295,61 +267,24 @@ pub same_phases : (m : Manager) (o : Option Sweep) → phases_by m o ≡ phases_
 same_phases m None = refl
 same_phases m (Some s) = refl
 
-pub phases_are : (m : Manager) (planning : Planning) (o : Option Sweep) (c : Cells) → m.planning ≡ planning → m.sweep ≡ o → cells_of m.store ≡ c
-    → phases_by m m.sweep ≡ phases_with planning m o c
-phases_are m planning o c by_planning by_sweep by_cells =
-    same_phases m m.sweep ∙ ap (λ x. phases_with x m m.sweep (cells_of m.store)) by_planning ∙ ap (λ x. phases_with planning m x (cells_of m.store)) by_sweep
-    ∙ ap (phases_with planning m o) by_cells
-
-pub fault_is : (m : Manager) (planning : Planning) (o : Option Sweep) (c : Cells) → m.planning ≡ planning → m.sweep ≡ o → cells_of m.store ≡ c
-    → writing_fault m ≡ fault_with planning m o c
-fault_is m planning o c by_planning by_sweep by_cells =
-    ap (λ x. fault_with x m m.sweep (cells_of m.store)) by_planning ∙ ap (λ x. fault_with planning m x (cells_of m.store)) by_sweep
-    ∙ ap (fault_with planning m o) by_cells
-
-pub keeps_by : (start w : Managing) (planning : Planning) (o : Option Sweep) (c : Cells) (events : List ManagerEvent)
-    → w.manager.planning ≡ planning → w.manager.sweep ≡ o → cells_of w.manager.store ≡ c → writing_fault w.manager ≡ None
-    → AllKeep (plan_of planning.rule planning.lmc c) (IsOwnSet (fabric_of start.scene.fabric) start.seat (phases_with planning w.manager o c)) events
-    (record w { manager = begun_with w.manager (phases_with planning w.manager o c) })
-    → AllKeep (plan_at w) (own_sets start w) events (after_manager_event w Write)
-keeps_by start w planning o c events by_planning by_sweep by_cells no_fault keep =
-    let m = w.manager in
-    subst (λ fault. AllKeep (plan_at w) (own_sets start w) events (record w { manager = if is_none fault then after_write_steps m else m })) (sym no_fault)
-    (subst (λ (ps : List Phase). AllKeep (plan_at w) (IsOwnSet (fabric_of start.scene.fabric) start.seat ps) events (record w { manager = begun_with m ps }))
-    (sym (same_phases m m.sweep))
-    (subst (λ (x : Planning). AllKeep (plan_of x.rule x.lmc (cells_of m.store))
-    (IsOwnSet (fabric_of start.scene.fabric) start.seat (phases_with x m m.sweep (cells_of m.store))) events
-    (record w { manager = begun_with m (phases_with x m m.sweep (cells_of m.store)) })) (sym by_planning)
-    (subst (λ x. AllKeep (plan_of planning.rule planning.lmc (cells_of m.store))
-    (IsOwnSet (fabric_of start.scene.fabric) start.seat (phases_with planning m x (cells_of m.store))) events
-    (record w { manager = begun_with m (phases_with planning m x (cells_of m.store)) })) (sym by_sweep)
-    (subst (λ x. AllKeep (plan_of planning.rule planning.lmc x) (IsOwnSet (fabric_of start.scene.fabric) start.seat (phases_with planning m o x)) events
-    (record w { manager = begun_with m (phases_with planning m o x) })) (sym by_cells) keep))))
-
--- a writing begins by these phases
-pub writes_by : (w : Managing) (planning : Planning) (o : Option Sweep) (c : Cells) → w.manager.planning ≡ planning → w.manager.sweep ≡ o
-    → cells_of w.manager.store ≡ c → writing_fault w.manager ≡ None
-    → after_manager_event w Write ≡ record w { manager = begun_with w.manager (phases_with planning w.manager o c) }
-writes_by w planning o c by_planning by_sweep by_cells no_fault =
-    let m = w.manager in
-    ap (λ fault. record w { manager = if is_none fault then after_write_steps m else m }) no_fault
-    ∙ ap (λ (ps : List Phase). record w { manager = begun_with m ps }) (phases_are m planning o c by_planning by_sweep by_cells)
-
 -- on the fabric of the examples -----------------------------------------------------------------------------------------
 
 -- LIDs in pairs, up and down
 abbrev pub in_pairs : Planning
 in_pairs = record { lmc = 1; rule = up_and_down }
 
--- what its agents tell, in the order of the requests
-abbrev pub told_by_agents : List Sightings
-told_by_agents =
+-- what its agents tell, in the order of the requests, where they hold these LIDs
+abbrev pub told_with : ℕ → ℕ → ℕ → List Sightings
+told_with first switch last =
     (one (NodeKey 16) (Kind ChannelAdapter 1) ∷ one (PortGuid 16 1) (Guid 17) ∷ [])
-    ∷ (one (PortKey 16 1) (Up true) ∷ one (Claim 16 1) (Lid 0) ∷ [])
+    ∷ (one (PortKey 16 1) (Up true) ∷ one (Claim 16 1) (Lid first) ∷ [])
     ∷ (one (NodeKey 32) (Kind Switch 2) ∷ one (PortGuid 32 0) (Guid 32) ∷ one (Link 32 1) (Peer 16 1) ∷ one (Link 16 1) (Peer 32 1) ∷ [])
     ∷ (one (Cap 32) (Count 64) ∷ [])
-    ∷ (one (PortKey 32 0) (Up true) ∷ one (Claim 32 0) (Lid 0) ∷ [])
+    ∷ (one (PortKey 32 0) (Up true) ∷ one (Claim 32 0) (Lid switch) ∷ [])
     ∷ (one (PortKey 32 1) (Up true) ∷ one (Claim 32 1) (Lid 0) ∷ [])
     ∷ (one (PortKey 32 2) (Up true) ∷ one (Claim 32 2) (Lid 0) ∷ [])
     ∷ (one (NodeKey 48) (Kind ChannelAdapter 1) ∷ one (PortGuid 48 1) (Guid 49) ∷ one (Link 48 1) (Peer 32 2) ∷ one (Link 32 2) (Peer 48 1) ∷ [])
-    ∷ (one (PortKey 48 1) (Up true) ∷ one (Claim 48 1) (Lid 0) ∷ []) ∷ []
+    ∷ (one (PortKey 48 1) (Up true) ∷ one (Claim 48 1) (Lid last) ∷ []) ∷ []
+
+abbrev pub told_by_agents : List Sightings
+told_by_agents = told_with 0 0 0

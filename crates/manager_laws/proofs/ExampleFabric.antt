@@ -1,5 +1,5 @@
 -- A fabric: an adapter, at a switch to which another adapter is wired; a manager may sit at each adapter.
-use Rattle.std.proofs.Common.{◌≡◌, ℕ, zero, suc, List, [], ◌∷◌, refl, sym, ap, ◌∙◌, arith}
+use Rattle.std.proofs.Common.{◌≡◌, ◌≤◌, ℕ, zero, suc, List, [], ◌∷◌, refl, sym, ap, ◌∙◌, arith}
 use Rattle.std.proofs.lemmas.Option.{slice_get-map}
 use Rattle.std.proofs.lemmas.List.Elements.{All-from_recursion}
 use Rattle.std.specs.Prelude.{Some, All, map, option_map, slice_get}
@@ -21,11 +21,15 @@ use Rattle.manager_laws.specs.Truth.{AreGuidsDistinct}
 abbrev pub port : ℕ → ℕ → NodePort
 port node p = record { node = node; port = p }
 
-abbrev pub nodes : List Node
-nodes =
+-- with so many ports
+abbrev pub nodes_with : ℕ → ℕ → List Node
+nodes_with switch last =
     record { name = 65 ∷ []; guid = 16; kind = ChannelAdapter; ports = 1; cap = 0 }
-    ∷ record { name = 66 ∷ []; guid = 32; kind = Switch; ports = 2; cap = 64 }
-    ∷ record { name = 67 ∷ []; guid = 48; kind = ChannelAdapter; ports = 1; cap = 0 } ∷ []
+    ∷ record { name = 66 ∷ []; guid = 32; kind = Switch; ports = switch; cap = 64 }
+    ∷ record { name = 67 ∷ []; guid = 48; kind = ChannelAdapter; ports = last; cap = 0 } ∷ []
+
+abbrev pub nodes : List Node
+nodes = nodes_with 2 1
 
 abbrev pub linked : Simulation
 linked = cabled_at (cabled_at (uncabled nodes 0) (port 0 1) (port 1 1)) (port 1 2) (port 2 1)
@@ -36,9 +40,9 @@ with_own_seat = changed_at linked (port 0 1) after_set_seat
 abbrev pub bare : Simulation
 bare = changed_at with_own_seat (port 2 1) after_set_seat
 
-are_nodes : All IsNode nodes
-are_nodes =
-    All-from_recursion IsNode nodes (
+pub are_nodes : (switch last : ℕ) → 1 ≤ switch → switch ≤ 254 → 1 ≤ last → last ≤ 254 → All IsNode (nodes_with switch last)
+are_nodes switch last some few some_too few_too =
+    All-from_recursion IsNode (nodes_with switch last) (
       record { named = refl; some_ports = omega arith; port_range = omega arith; guid_range = omega arith; of_kind = (refl, omega arith) },
       (
         record { named = refl; some_ports = omega arith; port_range = omega arith; guid_range = omega arith; of_kind = (omega arith, omega arith) },
@@ -52,7 +56,7 @@ are_nodes =
 pub is_alone : IsSimulation with_own_seat
 unfolding cabled_at fresh_agent
 is_alone =
-    let none = uncabled_is nodes 0 (omega arith) are_nodes (omega arith) in
+    let none = uncabled_is nodes 0 (omega arith) (are_nodes 2 1 (omega arith) (omega arith) (omega arith) (omega arith)) (omega arith) in
     let one = joined_is (uncabled nodes 0) (port 0 1) (port 1 1) none refl refl refl refl in
     let two = joined_is (cabled_at (uncabled nodes 0) (port 0 1) (port 1 1)) (port 1 2) (port 2 1) one refl refl refl refl in
     seated_is linked (port 0 1) two refl refl

@@ -15,7 +15,7 @@ use Rattle.sm_manager.specs.Manager.{with_all_sent}
 use Rattle.manager_laws.specs.Scene.{Handed, Scene, Event, Send as SendFrom, CanHappen, after_event, sent, sent_from}
 use Rattle.manager_laws.specs.Sweeping as sweeping
 use Rattle.manager_laws.specs.Sweeping.{AlwaysSo, Sweeping, SweepEvent, asking_more, after_sweep_event, after_sweep_events}
-use Rattle.manager_laws.specs.Managing.{Managing, ManagerEvent, Around, Begin, Write, Take, Send, Hear, TimeOut, Raise, Merge, Poll, HandOver}
+use Rattle.manager_laws.specs.Managing.{Managing, ManagerEvent, Around, Send, Hear}
 use Rattle.manager_laws.specs.Managing.{CanBe, hearing, packet_of, sending, after_manager_event}
 use Rattle.manager_laws.proofs.Fair.{IsFair, IsOwnPacket, own_there}
 use Rattle.manager_laws.proofs.Steps.{StepSent}
@@ -68,9 +68,6 @@ module _ (is_so : Scene → Type 0) (start : Simulation) (seat : NodePort) (plan
   pub event_seen : (old : Type 0) (c : ℕ) (all : List StepSent) (w : Managing) (event : ManagerEvent) → IsFair start seat plan old c all w → CanBe seat event
       → is_so (after_manager_event w event).scene → SeenBySweeps is_so w.scene (after_manager_event w event).scene
   event_seen old c all w (Around event) fair can_be stays = one_seen is_so w.scene event can_be.0 stays
-  event_seen old c all w Begin fair can_be stays = nothing_seen is_so w.scene
-  event_seen old c all w Write fair can_be stays = nothing_seen is_so w.scene
-  event_seen old c all w Take fair can_be stays = nothing_seen is_so w.scene
   event_seen old c all w (Send which) fair can_be stays = by_packet (slice_get w.out which) refl stays
     where
       by_packet : (o : Option Outgoing) → slice_get w.out which ≡ o → is_so (sending w o).scene → SeenBySweeps is_so w.scene (sending w o).scene
@@ -82,11 +79,7 @@ module _ (is_so : Scene → Type 0) (start : Simulation) (seat : NodePort) (plan
       by_handed None = nothing_seen is_so w.scene
       by_handed (Some h) =
           cond_both (is_same_port h.at w.seat) _ _ (λ (x : Managing). SeenBySweeps is_so w.scene x.scene) (λ _. nothing_seen is_so w.scene) (λ _. nothing_seen is_so w.scene)
-  event_seen old c all w (TimeOut transaction) fair can_be stays = nothing_seen is_so w.scene
-  event_seen old c all w (Raise floor) fair can_be stays = nothing_seen is_so w.scene
-  event_seen old c all w (Merge floor sightings) fair can_be stays = nothing_seen is_so w.scene
-  event_seen old c all w (Poll lid) fair can_be stays = nothing_seen is_so w.scene
-  event_seen old c all w HandOver fair can_be stays = nothing_seen is_so w.scene
+  event_seen old c all w event fair can_be stays = nothing_seen is_so w.scene
 
 -- all that is queued goes out ---------------------------------------------------------------------------------
 

@@ -160,10 +160,8 @@ answer_of P s bytes answer is taken =
     subst (λ x. AreOf P (sightings_by x)) (sym a.answer_is) (by_question a.request a.request.question)
   where
     by_question : (r : Request) (q : Question) → AreOf P (sightings_by (answer_by q (report_for s r bytes)))
-    by_question r ask.Node = report_of P s.generation is r.context bytes
-    by_question r ask.Switch = report_of P s.generation is r.context bytes
-    by_question r (ask.Port port) = report_of P s.generation is r.context bytes
     by_question r (ask.Manager guid port) = tt
+    by_question r question = report_of P s.generation is r.context bytes
 
 -- none is below a floor: each sighting is kept
 all_above : (floor : ℕ) (told : Sightings) → AreOf (λ g. floor ≤ g) told → kept floor told ≡ told

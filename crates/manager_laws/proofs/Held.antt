@@ -99,15 +99,6 @@ module _ (start s : Simulation) (seat : NodePort) (plan : PlanValue) (distinct :
 -- the law -------------------------------------------------------------------------------------------------
 
 module _ (w : Managing) (before between after : List ManagerEvent) (run : IsWritingRun w before between after) where
-  start : Simulation
-  start = w.scene.fabric
-
-  writing_at : Managing
-  writing_at = at_writing w before between
-
-  plan : PlanValue
-  plan = plan_at (at_writing w before between)
-
   pub along0 : IsAlong w.scene.fabric w.scene.fabric
   along0 = along_itself w.scene.fabric run.starts.quiet.fabric
 
@@ -145,9 +136,6 @@ module _ (w : Managing) (before between after : List ManagerEvent) (run : IsWrit
       (after_manager_event (after_manager_events before w) Begin) swept_first run.between_can
 
   module _ (sweep : Sweep) (sweep_is : (at_writing w before between).manager.sweep ≡ Some sweep) where
-    m : Manager
-    m = (at_writing w before between).manager
-
     pub may : MayWrite (at_writing w before between).manager
     may = may_write (at_writing w before between).manager run.writing_begins
 
@@ -213,9 +201,6 @@ module _ (w : Managing) (before between after : List ManagerEvent) (run : IsWrit
     at_end_is = ends.fair.scene.fabric.is
 
     module _ (written : is_written (at_end w before between after).manager ≡ true) where
-      f_end : Simulation
-      f_end = (at_end w before between after).scene.fabric
-
       few : (guid vertex : ℕ) (path : List ℕ) → path_to sweep guid vertex ≡ Some path → vertex ≤ 254
       few guid vertex path e =
           let x = path_led (fabric_of w.scene.fabric) w.seat sweep guid vertex path swept.led e in

@@ -7,6 +7,7 @@ pub mod Answers
 pub mod Arrive
 pub mod Asked
 pub mod Before
+pub mod BringUpEvents
 pub mod Calls
 pub mod Closed
 pub mod Computed
@@ -24,14 +25,18 @@ pub mod Held
 pub mod Known
 pub mod Led
 pub mod Lists
+pub mod NewManagers
 pub mod NodeReplies
 pub mod Numbered
+pub mod OneSweep
 pub mod Planned
 pub mod PlannedPings
 pub mod PortReplies
 pub mod Replied
 pub mod Replies
 pub mod Rests
+pub mod Returned
+pub mod RunParts
 pub mod Scenes
 pub mod Sound
 pub mod Steps

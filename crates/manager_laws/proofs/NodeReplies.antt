@@ -1,6 +1,6 @@
 -- What a sweep has covered stays so when it takes a reply of NodeInfo.
 use Rattle.std.proofs.Common.{◌≡◌, ◌⊎◌, inl, inr, ℕ, Bool, true, false, cond, ◌||◌, List, [], ◌++◌, refl, sym, ap, ◌∙◌, subst}
-use Rattle.std.proofs.lemmas.Bool.{cond_both}
+use Rattle.std.proofs.lemmas.Bool.{cond_both, or_parts}
 use Rattle.std.proofs.lemmas.Option.{same_Some}
 use Rattle.std.specs.Prelude.{Option, Some, None, find, is_some}
 use Rattle.std.specs.List.{AllByRecursion}
@@ -40,9 +40,6 @@ use Rattle.manager_laws.proofs.PortReplies.{same_question, same_context}
 use Rattle.manager_laws.proofs.Taken.{switch_asked, ports_asked, vertex_all, guid_is, vertex_is, seat_adapter, seat_vertex, next_joined, is_rooted, some_left}
 use Rattle.manager_laws.proofs.Taken.{first_covers, pending_after, new_pending, ended, having_after, covered_after, all_stay, start_stays}
 use Rattle.manager_laws.proofs.Vertices.{IsNew, placed_all, placed_keeps, placed_there, first_none, first_stays, first_new, at_has, at_none, first_has}
-
-same_via : (g h p q : ℕ) → Via g p ≡ Via h q → (g ≡ h) × (p ≡ q)
-same_via g h p q e = (cc, cc)
 
 module _ {f : Fabric} {seat : NodePort} (can : CanBeSwept f seat) (s : Sweep) (told : Sightings) (c : Covered f seat s told) (sound : IsSoundSweep f seat s)
     (r : Request) (t : Request → Bool) (found : find t s.outstanding ≡ Some r) (generation : ℕ) (cabled : IsCabled f) (end : NodePort) (node : fabric.Node)
@@ -342,14 +339,9 @@ module _ {f : Fabric} {seat : NodePort} (can : CanBeSwept f seat) (s : Sweep) (t
       (λ o. Covered f seat (with_finding (ended can s told c sound r t found) r.path o) (told ++ node_told))
       (λ is. known_before
       (end_before_reached first e (is_switch first.kind) refl (vertex_at s.reached info.node_guid info.local_port_num) refl is) _ _)
-      (λ no. let parts = neither (is_switch first.kind) (is_some (vertex_at s.reached info.node_guid info.local_port_num)) no in
+      (λ no. let parts = or_parts (is_switch first.kind) (is_some (vertex_at s.reached info.node_guid info.local_port_num)) no in
       new_port first e parts.0 (not_some (vertex_at s.reached info.node_guid info.local_port_num) parts.1) _ _)
     where
-      neither : (a b : Bool) → (a || b) ≡ false → (a ≡ false) × (b ≡ false)
-      neither false false h = (refl, refl)
-      neither false true h = cc
-      neither true b h = cc
-
       not_some : (o : Option Vertex) → is_some o ≡ false → o ≡ None
       not_some None h = refl
       not_some (Some u) h = cc

@@ -1,7 +1,8 @@
 -- The steps of a writing with their numbers: of the phase that goes out, and of those that waited before.
 use Rattle.std.proofs.Common.{◌≡◌, ◌≢◌, ◌⊎◌, inl, inr, ℕ, suc, ◌+◌, ◌<◌, ◌≤◌, Bool, true, false, List, [], ◌∷◌, ◌++◌, length, refl, sym, ap, ◌∙◌, subst, arith}
-use Rattle.std.proofs.lemmas.Bool.{cond_both, eqb-true, ne_eqb}
-use Rattle.std.specs.Prelude.{None, Contains, drop, map, not, ◌==◌, ◌||◌}
+use Rattle.std.proofs.lemmas.List.Elements.{Contains-append_cases}
+use Rattle.std.proofs.lemmas.Bool.{cond_both, eqb-true, ne_eqb, or_parts}
+use Rattle.std.specs.Prelude.{None, Contains, drop, map, not, ◌==◌}
 use Rattle.std.specs.List.{filter, list_any}
 use Rattle.subnet_view.proofs.Apart.{contains_map, contains-from_map}
 use Rattle.subnet_view.proofs.Members.{contains_here, contains_later, contains_cases, contains_none, contains_first, contains_filter, contains-from_filter}
@@ -12,7 +13,6 @@ use Rattle.sm_manager.specs.declared.outgoing.Outgoing.{Outgoing}
 use Rattle.sm_manager.specs.declared.pending.Pending.{Pending}
 use Rattle.sm_manager.specs.ManagerRequests.{counts as counts_of, how_many, is_step, none_counts, no_step_waits, without_number}
 use Rattle.sm_manager.specs.Writing.{numbered, next_phase, without_empty_phases, pending_step, steps_out}
-use Rattle.manager_laws.proofs.WritingLists.{in_either}
 use Rattle.manager_laws.proofs.Steps.{IsOf, StepSent}
 
 -- a step as the request that waits, and as the packet that goes out
@@ -186,14 +186,10 @@ from_passed (p ∷ phases) counts s is =
 pub none_left_counts : (later : List Phase) (s : Step) → list_any (λ p. p.counts) later ≡ false → IsOf later true s → ⊥
 none_left_counts later s none is = absurd (cc (sym (not_any later is.phase none is.there) ∙ is.counts_is))
   where
-    either_false : (a b : Bool) → (a || b) ≡ false → (a ≡ false) × (b ≡ false)
-    either_false false b e = (refl, e)
-    either_false true b e = absurd (cc)
-
     not_any : (ps : List Phase) (p : Phase) → list_any (λ q. q.counts) ps ≡ false → Contains ps p → p.counts ≡ false
     not_any [] p e h = absurd (contains_none p h)
     not_any (q ∷ ps) p e h =
-        let parts = either_false q.counts (list_any (λ r. r.counts) ps) e in
+        let parts = or_parts q.counts (list_any (λ r. r.counts) ps) e in
         elim (contains_cases q p ps h) [ inl i ↦ ap (λ (r : Phase). r.counts) (sym i) ∙ parts.0 | inr k ↦ not_any ps p parts.1 k ]
 
 -- requests that wait ---------------------------------------------------------------------------------
@@ -245,16 +241,16 @@ pub once_more : (counter next : ℕ) (ps more : List Pending) → AreOnce counte
     → ((p : Pending) → Contains more p → counter ≤ p.number) → AreOnce next (ps ++ more)
 once_more counter next ps more are also upto from =
     record {
-      below = λ p there. elim (in_either ps more p there) [
+      below = λ p there. elim (Contains-append_cases ps more p there) [
         | inl i ↦ let low = are.below p i in omega (arith, low, upto)
         | inr k ↦ also.below p k
       ];
-      once = λ p q there too same. elim (in_either ps more p there) [
-        | inl i ↦ elim (in_either ps more q too) [
+      once = λ p q there too same. elim (Contains-append_cases ps more p there) [
+        | inl i ↦ elim (Contains-append_cases ps more q too) [
           | inl j ↦ are.once p q i j same
           | inr j ↦ let low = are.below p i in let high = from q j in absurd (omega (arith, low, high, same))
         ]
-        | inr k ↦ elim (in_either ps more q too) [
+        | inr k ↦ elim (Contains-append_cases ps more q too) [
           | inl j ↦ let low = are.below q j in let high = from p k in absurd (omega (arith, low, high, same))
           | inr j ↦ also.once p q k j same
         ]

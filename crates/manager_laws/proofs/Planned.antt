@@ -14,7 +14,7 @@ use Rattle.fabric_model.specs.Fabric.{Node, Fabric}
 use Rattle.fact_store.specs.View.{Facts, cells_of}
 use Rattle.subnet_view.specs.declared.end_port.EndPort.{EndPort}
 use Rattle.reply_facts.specs.Known as values
-use Rattle.subnet_view.specs.Reading.{switches}
+use Rattle.subnet_view.specs.Reading.{Cells, switches}
 use Rattle.subnet_view.specs.EndPorts.{IsEndPort}
 use Rattle.subnet_view.specs.Agreement.{Part, AgreesOn, IsEndPortIn, TellsEndPort}
 use Rattle.subnet_view.proofs.Apart.{found_there, contains_map, contains-from_map}
@@ -35,6 +35,16 @@ pub switch_is : (kind : NodeType) → is_switch kind ≡ true → kind ≡ Switc
 switch_is ChannelAdapter e = absurd (cc)
 switch_is Switch e = refl
 switch_is Router e = absurd (cc)
+
+-- an end port is one by its number, and is known as one by what is told of it
+module _ (part : Part) (f : Fabric) (port : NodePort) (node : Node) (end : IsEndPortIn part f port node) where
+  pub end_number : fabrics.IsEndPortNumber node port.port
+  end_number =
+      let (other, there, its_number) = end.end_port in
+      subst (λ (n : Node). fabrics.IsEndPortNumber n port.port) (same_Some _ _ (sym there ∙ end.node_there)) its_number
+
+  pub known_end : (cells : Cells) → TellsEndPort cells node port.port → IsEndPort cells node.guid port.port
+  known_end cells tells = (node.kind, node.ports, tells.kind, end_number, ap is_some tells.port_guid)
 
 module _ (rule : RuleValue) (lmc : ℕ) (facts : Facts) where
   table_of : ℕ → SwitchTable
@@ -72,13 +82,8 @@ module _ (rule : RuleValue) (lmc : ℕ) (facts : Facts) (has_room : ¬ (IsNoRoom
     tells : TellsEndPort (cells_of facts) node port.port
     tells = agrees.tells_end_ports port node end
 
-    number : fabrics.IsEndPortNumber node port.port
-    number =
-        let (other, there, its_number) = end.end_port in
-        subst (λ (n : Node). fabrics.IsEndPortNumber n port.port) (same_Some _ _ (sym there ∙ end.node_there)) its_number
-
     is_end : IsEndPort (cells_of facts) node.guid port.port
-    is_end = (node.kind, node.ports, tells.kind, number, ap is_some tells.port_guid)
+    is_end = known_end part f port node end (cells_of facts) tells
 
     reached : IsReached sweep node.guid port.port
     reached = known node.guid port.port is_end
@@ -112,7 +117,7 @@ module _ (rule : RuleValue) (lmc : ℕ) (facts : Facts) (has_room : ¬ (IsNoRoom
     -- a switch
     module _ (switch : is_switch node.kind ≡ true) where
       at_zero : port.port ≡ 0
-      at_zero = by_kind (is_switch node.kind) switch number
+      at_zero = by_kind (is_switch node.kind) switch (end_number part f port node end)
         where
           by_kind : (b : Bool) → b ≡ true → MatchBool b (port.port ≡ 0) ((1 ≤ port.port) × (port.port ≤ node.ports)) → port.port ≡ 0
           by_kind true e z = z

@@ -1,6 +1,6 @@
 -- Where a plan is in force, pings reach the owners of LIDs.
 use Rattle.std.proofs.Common.{◌≡◌, ◌≤◌, ℕ, refl, ap, ◌∙◌, arith, Bool, true, false, cond, ◌||◌, map}
-use Rattle.std.proofs.lemmas.Bool.{and_from, le-leb}
+use Rattle.std.proofs.lemmas.Bool.{and_from, le-leb, or_left, or_right}
 use Rattle.std.specs.Prelude.{None, Some, MatchBool, nat_le, slice_get}
 use Rattle.std.specs.Option.{option_map_or}
 use Rattle.fact_store.specs.View.{cells_of}
@@ -39,13 +39,6 @@ end_is_port s p (node, at, number) =
           (le-leb p.port (port_count s p.node) (omega (arith, l.1, count)))
           (or_left (nat_le 1 p.port) (is_switch_at (fabric_of s) p.node) (le-leb 1 p.port l.0))
     ] refl number
-  where
-    or_right : (a b : Bool) → b ≡ true → (a || b) ≡ true
-    or_right true b e = refl
-    or_right false b e = e
-
-    or_left : (a b : Bool) → a ≡ true → (a || b) ≡ true
-    or_left a b e = ap (λ (t : Bool). t || b) e
 
 pub pings_arrive : PingsArrive
 pings_arrive rule lmc facts s origin has_room is is_origin agrees holds source is_end joined lid owner owned =

@@ -1,6 +1,6 @@
 -- What a sweep has covered stays so when it takes a reply of SMInfo, SwitchInfo or PortInfo.
-use Rattle.std.proofs.Common.{◌≡◌, ◌⊎◌, inl, inr, ℕ, ◌+◌, Bool, true, false, not, List, [], ◌∷◌, ◌++◌, length, refl, sym, ap, ◌∙◌, subst, arith}
-use Rattle.std.proofs.lemmas.Bool.{cond_both, and_parts, and_from}
+use Rattle.std.proofs.Common.{◌≡◌, ◌⊎◌, inl, inr, ℕ, ◌+◌, Bool, true, not, List, [], ◌∷◌, ◌++◌, length, refl, sym, ap, ◌∙◌, subst, arith}
+use Rattle.std.proofs.lemmas.Bool.{cond_both, and_parts, and_from, not-false}
 use Rattle.std.specs.Prelude.{Some, find, nat_lt}
 use Rattle.std.specs.List.{AllByRecursion}
 use Rattle.fabric_model.specs.declared.cable.NodePort.{NodePort}
@@ -40,10 +40,6 @@ same_question e = ap (λ (a : Asking). a.question) e
 
 pub same_context : {a b : Asking} → a ≡ b → a.context ≡ b.context
 same_context e = ap (λ (a : Asking). a.context) e
-
-from_not : (b : Bool) → not b ≡ false → b ≡ true
-from_not true h = refl
-from_not false h = cc
 
 module _ {f : Fabric} {seat : NodePort} (can : CanBeSwept f seat) (s : Sweep) (told : Sightings) (c : Covered f seat s told) (sound : IsSoundSweep f seat s)
     (r : Request) (t : Request → Bool) (found : find t s.outstanding ≡ Some r) (generation : ℕ) where
@@ -172,7 +168,7 @@ module _ {f : Fabric} {seat : NodePort} (can : CanBeSwept f seat) (s : Sweep) (t
         (λ o. AllByRecursion (λ (x : Asking). IsRooted f seat s.reached x.context) (onward_questions r.path guid p o))
         (λ _. (
           leaves_by can s told c sound r t found guid p context to
-              (and_parts (is_up_state (bits_in port_state info)) (goes_by s r.path guid p) (from_not (leads_on s r.path guid p info) both)).1,
+              (and_parts (is_up_state (bits_in port_state info)) (goes_by s r.path guid p) (not-false (leads_on s r.path guid p info) both)).1,
           tt,
         ))
         (λ _. tt))

@@ -17,7 +17,7 @@ use Rattle.fact_join.specs.declared.cell.Cell.TheVariants.{Known}
 use Rattle.reply_facts.specs.declared.key.Key.TheVariants.{Port, Claim}
 use Rattle.reply_facts.specs.declared.value.Value.TheVariants.{Up, Lid}
 use Rattle.reply_facts.specs.declared.report.Context.{Context}
-use Rattle.reply_facts.specs.declared.report.Context.TheVariants.{Start, Via, About}
+use Rattle.reply_facts.specs.declared.report.Context.TheVariants.{About}
 use Rattle.reply_facts.specs.Report.{Sightings, is_up_state, node_info_of, payload_of, sightings_by_node_info, sightings_by_port_info}
 use Rattle.reply_facts.specs.Report.{sightings_by_switch_info, sightings_by_packet, sightings_of_kind}
 use Rattle.fabric_sim.specs.ToldOfEnd.{SaysOf, SaysPort, port_asked}
@@ -86,10 +86,6 @@ module _ {f : Fabric} {seat : NodePort} (can : CanBeSwept f seat) (s : Sweep) (t
       (finding_of s (record r { context = About guid }) packet ask.Switch)) (told ++ more))
       (sym (told_is (About guid) switch_info attribute))
       (switch_covered can s told c sound r t found s.generation guid e is (number_in linear_fdb_cap (payload_of packet)) _ _)
-  by_question ask.Switch e Start is asks near = absurd asks.asks
-  by_question ask.Switch e (Via guid port) is asks near = absurd asks.asks
-  by_question (ask.Port port) e Start is asks near = absurd asks.asks
-  by_question (ask.Port port) e (Via guid via) is asks near = absurd asks.asks
   by_question (ask.Port port) e (About guid) is asks near =
       let attribute : number_in attribute_id packet ≡ port_info = for.attribute ∙ ap attribute_asked e in
       let modifier : number_in attribute_modifier packet ≡ port = for.modifier ∙ ap modifier_asked e in
@@ -101,3 +97,4 @@ module _ {f : Fabric} {seat : NodePort} (can : CanBeSwept f seat) (s : Sweep) (t
       (port_covers can s told c sound r t found s.generation guid port e is asks.asks.to (bits_in port_state (payload_of packet))
       (number_in base_lid (payload_of packet)) (port_up guid port e asks.asks.to asks.asks.means) (payload_of packet) refl near)
   by_question (ask.Manager guid port) e context is asks near = manager_covered can s told c sound r t found s.generation guid port e _ _
+  by_question question e context is asks near = absurd asks.asks

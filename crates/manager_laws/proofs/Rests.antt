@@ -18,7 +18,7 @@ use Rattle.fact_store.specs.View.{cells_of}
 use Rattle.sm_manager.specs.ManagerRequests.{with_number}
 use Rattle.sm_manager.specs.Writing.{write_fault_with}
 use Rattle.manager_laws.specs.Scene.{Handed}
-use Rattle.manager_laws.specs.Managing.{Managing, ManagerEvent, Around, Begin, Write, Take, Send, Hear, TimeOut, Raise, Merge, Poll, HandOver}
+use Rattle.manager_laws.specs.Managing.{Managing, ManagerEvent, Begin, Write, Take, Send, Hear, TimeOut, Poll, HandOver}
 use Rattle.manager_laws.specs.Managing.{NewManagersRest, hearing, sending, after_manager_event}
 use Rattle.manager_laws.specs.Written.{BeginsNoWriting, BeginsSweep, NewManagersSweepFirst, SweepsFirst}
 use Rattle.manager_laws.proofs.Before.{takes_first}
@@ -67,7 +67,6 @@ timed m transaction never =
 
 -- goes on so until it begins one
 goes_on : (w : Managing) (event : ManagerEvent) → NeverSwept w → BeginsSweep w event ⊎ NeverSwept (after_manager_event w event)
-goes_on w (Around event) never = inr never
 goes_on w Begin never = by_fault (begin_fault w.manager) refl
   where
     by_fault : (why : Option ManagerFault) → begin_fault w.manager ≡ why → BeginsSweep w Begin ⊎ NeverSwept (after_manager_event w Begin)
@@ -88,12 +87,11 @@ goes_on w (Hear which) never = inr (by_handed (slice_get w.scene.handed which))
     by_handed (Some h) =
         cond_both (is_same_port h.at w.seat) _ _ (λ (x : Managing). NeverSwept x) (λ _. heard w.manager h.packet.bytes (Some h.packet.slid) never) (λ _. never)
 goes_on w (TimeOut transaction) never = inr (timed w.manager transaction never)
-goes_on w (Raise floor) never = inr never
-goes_on w (Merge floor sightings) never = inr never
 goes_on w (Poll lid) never = inr (cond_both (is_none (poll_fault w.manager lid)) _ _ (λ (x : Manager). x.sweep ≡ None) (λ _. never) (λ _. never))
 goes_on w HandOver never =
     inr (cond_both (is_none (handover_fault w.manager)) _ _ (λ (x : Manager). x.sweep ≡ None)
     (λ _. still w.manager _ never (handed_keeps w.manager (successor_lid w.manager))) (λ _. never))
+goes_on w event never = inr never
 
 -- and writes nothing
 writes_nothing : (w : Managing) (event : ManagerEvent) → NeverSwept w → BeginsNoWriting w event
@@ -102,16 +100,7 @@ writes_nothing w Write never =
     λ none. cc (sym (ap
     (λ o. or_else (write_fault_with m o) (or_else (plan_fault m.planning.lmc (cells_of m.store)) (number_fault (m.counter
     + most_steps (cells_of m.store))))) never) ∙ none)
-writes_nothing w (Around event) never = tt
-writes_nothing w Begin never = tt
-writes_nothing w Take never = tt
-writes_nothing w (Send which) never = tt
-writes_nothing w (Hear which) never = tt
-writes_nothing w (TimeOut transaction) never = tt
-writes_nothing w (Raise floor) never = tt
-writes_nothing w (Merge floor sightings) never = tt
-writes_nothing w (Poll lid) never = tt
-writes_nothing w HandOver never = tt
+writes_nothing w event never = tt
 
 sweeps_first : (events : List ManagerEvent) (w : Managing) → NeverSwept w → SweepsFirst events w
 sweeps_first [] w never = tt

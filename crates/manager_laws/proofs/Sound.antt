@@ -1,6 +1,6 @@
 -- What a sweep asks and has found is sound: each request leads where its context says, and each vertex is as its node is.
 use Rattle.std.proofs.Common.{◌≡◌, inl, inr, ℕ, zero, suc, ◌+◌, ◌<◌, ◌≤◌, ◌^◌, Bool, true, false, cond, List, [], ◌∷◌, ◌++◌, length, refl, sym, ap, ◌∙◌, subst, arith, length-append}
-use Rattle.std.proofs.lemmas.Bool.{cond_both, or_cases, and_parts, eqb-true, ltb-true}
+use Rattle.std.proofs.lemmas.Bool.{cond_both, or_cases, and_parts, eqb-true, ltb-true, not-false}
 use Rattle.std.proofs.lemmas.Option.{same_Some}
 use Rattle.std.specs.Prelude.{Option, Some, None, is_some, nat_lt, not, ◌==◌, ◌&&◌, ◌||◌}
 use Rattle.std.specs.Option.{option_map_or}
@@ -56,14 +56,10 @@ module _ (f : Fabric) (seat : NodePort) where
   abbrev pub Asks : List ℕ → Question → Context → Type 0
   Asks path ask.Node Start = path ≡ []
   Asks path ask.Node (Via guid port) = GoesBy path guid port
-  Asks path ask.Node (About guid) = ⊥
-  Asks path ask.Switch Start = ⊥
-  Asks path ask.Switch (Via guid port) = ⊥
   Asks path ask.Switch (About guid) = LeadsTo path guid
-  Asks path (ask.Port port) Start = ⊥
-  Asks path (ask.Port port) (Via guid via) = ⊥
   Asks path (ask.Port port) (About guid) = AsksPort path guid port
   Asks path (ask.Manager guid port) context = Unit {0}
+  Asks path question context = ⊥
 
   pub record IsSound (question : Question) (path : List ℕ) (context : Context) : Type 0 where
     pub own : BeginsWith seat.port path
@@ -219,17 +215,13 @@ module _ (f : Fabric) (seat : NodePort) where
         (λ o. AreSoundQuestions (onward_questions path guid port o))
         (λ less. let room : length path < 63 = ltb-true _ _ less in (
           record {
-            own = longer_own s guid port is to (and_parts (is_up_state (bits_in port_state info)) (goes_by s path guid port) (from_not _ goes)).1;
+            own = longer_own s guid port is to (and_parts (is_up_state (bits_in port_state info)) (goes_by s path guid port) (not-false _ goes)).1;
             short = omega (arith, room, length-append path (port ∷ []));
             asks = record { front = path; is = refl; to = to };
           },
           tt,
         ))
         (λ _. tt))
-      where
-        from_not : (b : Bool) → not b ≡ false → b ≡ true
-        from_not true e = refl
-        from_not false e = cc
 
     both_sound : (first later : List Asking) → AreSoundQuestions first → AreSoundQuestions later → AreSoundQuestions (first ++ later)
     both_sound [] later all also = also

@@ -10,18 +10,17 @@ use Rattle.smp_bytes.specs.Header.{port_info, switch_info, linear_forwarding_tab
 use Rattle.smp_bytes.specs.Field.{number_in}
 use Rattle.smp_bytes.proofs.FieldLaws.{length-with_number}
 use Rattle.smp_bytes.proofs.LidRanges.{has_its_lid}
-use Rattle.attr_codec.specs.PortInfo as ids
 use Rattle.attr_codec.specs.PortInfo.{range_in}
 use Rattle.attr_codec.specs.SwitchInfo.{linear_fdb_top}
 use Rattle.attr_codec.specs.declared.port_state.PortState.{PortState}
 use Rattle.attr_codec.specs.declared.port_state.PortState.TheVariants.{NoChange, Armed, Active}
 use Rattle.fact_store.specs.View.{Facts, cells_of}
 use Rattle.subnet_view.specs.declared.end_port.EndPort.{EndPort}
-use Rattle.subnet_view.specs.Reading.{Cells, is_usable, switches}
+use Rattle.subnet_view.specs.Reading.{is_usable, switches}
 use Rattle.subnet_view.proofs.Apart.{found_there, contains_map, contains-from_map}
 use Rattle.subnet_view.proofs.Members.{contains_none}
 use Rattle.subnet_view.proofs.Taken.{taken_from, is_taken}
-use Rattle.lid_assign.specs.Lids.{Given, lids, lid_of, lmc_of, range_of, owner_of, top_of, rising_lids, IsNoRoom}
+use Rattle.lid_assign.specs.Lids.{lids, lid_of, lmc_of, range_of, owner_of, top_of, rising_lids, IsNoRoom}
 use Rattle.lid_assign.proofs.FreeLids.{room_at_most}
 use Rattle.lid_assign.proofs.LidLaws.{lids_law, ports_apart}
 use Rattle.lid_assign.proofs.Owners.{given-from_lid, lid-from_given, owners_are_inverse}
@@ -140,15 +139,6 @@ top-top_data read top small = (says_top read top small).top_is
 module _ (rule : RuleValue) (lmc : ℕ) (few_lmc : lmc < 8) (facts : Facts) (has_room : ¬ (IsNoRoom lmc (cells_of facts))) (sweep : Sweep) (master : ℕ)
     (few : (guid vertex : ℕ) (path : List ℕ) → path_to sweep guid vertex ≡ Some path → vertex ≤ 254)
     (seen_few : (guid port : ℕ) (state : PortState) → seen_state sweep guid port ≡ Some state → port ≤ 254) where
-  cells : Cells
-  cells = cells_of facts
-
-  given : Given
-  given = lids lmc (cells_of facts)
-
-  plan : PlanValue
-  plan = plan_of rule lmc (cells_of facts)
-
   -- what the sweep read of a port, and of the port across
   abbrev pub read_of : ℕ → ℕ → Option PortRead
   read_of guid port = port_read (cells_of facts) sweep guid port
@@ -563,9 +553,6 @@ module _ (rule : RuleValue) (lmc : ℕ) (few_lmc : lmc < 8) (facts : Facts) (has
   )
 
   -- a step of a phase that counts
-  abbrev all_phases : List Phase
-  all_phases = phases_by (plan_of rule lmc (cells_of facts)) (cells_of facts) sweep master
-
   pub range_is_set : (e : EndPort) (range : ℕ × ℕ) (path : List ℕ) → range_of (lids lmc (cells_of facts)) e ≡ Some range → path_to sweep e.node e.port
       ≡ Some path
       → IsOf (phases_by (plan_of rule lmc (cells_of facts)) (cells_of facts) sweep master) true

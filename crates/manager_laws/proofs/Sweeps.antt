@@ -1,5 +1,5 @@
 -- Whatever happens, a sweep goes on to cover what it comes to.
-use Rattle.std.proofs.Common.{◌≡◌, ◌⊎◌, ℕ, ◌+◌, ◌≤◌, Bool, true, List, [], ◌∷◌, ◌++◌, append_assoc, append-nil, refl, sym, ap, ◌∙◌, subst, arith}
+use Rattle.std.proofs.Common.{◌≡◌, ◌⊎◌, ℕ, ◌+◌, ◌≤◌, Bool, List, [], ◌∷◌, ◌++◌, append_assoc, append-nil, refl, sym, ap, ◌∙◌, subst, arith}
 use Rattle.std.proofs.lemmas.Bool.{cond_both}
 use Rattle.std.proofs.lemmas.List.Concat.{flat_map-append}
 use Rattle.std.proofs.lemmas.List.Elements.{All-head, All-tail}
@@ -7,7 +7,6 @@ use Rattle.std.specs.Prelude.{Option, Some, None, Result, Ok, Err, All, find, sl
 use Rattle.std.specs.List.{AllByRecursion}
 use Rattle.fabric_model.specs.declared.cable.NodePort.{NodePort}
 use Rattle.fabric_model.specs.Cables.{is_same_port}
-use Rattle.fabric_model.proofs.Cabled.{same_port-is}
 use Rattle.reply_facts.specs.declared.report.Report.{Report}
 use Rattle.reply_facts.specs.Report.{Sightings, sightings_of}
 use Rattle.fabric_sim.specs.Simulation.{Simulation, AreCables, fabric_of, port_count}
@@ -28,7 +27,7 @@ use Rattle.manager_laws.specs.Sweeping.{with_answer, hearing, after_sweep_event,
 use Rattle.manager_laws.proofs.Answers.{was_there}
 use Rattle.manager_laws.proofs.Sound.{CanBeSwept, IsSoundSweep}
 use Rattle.manager_laws.proofs.Swept as swept
-use Rattle.manager_laws.proofs.Swept.{Goes, goes_on}
+use Rattle.manager_laws.proofs.Swept.{Goes, at_seat, goes_on}
 use Rattle.manager_laws.proofs.TrueFacts.{IsCabled}
 use Rattle.manager_laws.proofs.Asked.{IsPending}
 use Rattle.manager_laws.proofs.Covered.{Covered, Covers, IsJoinedSighting, IsOrigin, IsRooted, covered_with_images}
@@ -115,15 +114,13 @@ module _ {start : Simulation} {seat : NodePort} (cables : AreCables start) (coun
     where
       by_question : (r : Request) → request_with s.generation transaction s.outstanding ≡ Some r → (q : Question) → r.question ≡ q
           → CoversSoFar (given_up s r (managers_asked q)) told
-      by_question r found ask.Node e = let few = h.0 in (omega (arith, few), λ answered near. absurd (omega (arith, few, answered)))
-      by_question r found ask.Switch e = let few = h.0 in (omega (arith, few), λ answered near. absurd (omega (arith, few, answered)))
-      by_question r found (ask.Port port) e = let few = h.0 in (omega (arith, few), λ answered near. absurd (omega (arith, few, answered)))
       by_question r found (ask.Manager guid port) e =
           let few = h.0 in (
             omega (arith, few),
             λ answered near. silent_covers s told (h.1 (omega (arith, answered)) near) sound r
                 (λ (x : Request). transaction_of s.generation x.number == transaction) found guid port e,
           )
+      by_question r found question e = let few = h.0 in (omega (arith, few), λ answered near. absurd (omega (arith, few, answered)))
 
       by_request : (m : Option Request) → request_with s.generation transaction s.outstanding ≡ m → CoversSoFar (after_timeout_of s m) told
       by_request None e = h
@@ -163,12 +160,9 @@ module _ {start : Simulation} {seat : NodePort} (cables : AreCables start) (coun
       → ((h : Handed) → m ≡ Some h → IsForManager start h.at h.packet.bytes) → GoesWell w → GoesWell (hearing w m)
   hearing_covers w None g were c = c
   hearing_covers w (Some h) g were c =
-      cond_both (is_same_port h.at w.seat) _ _ GoesWell (λ same. judged_covers (at_seat same) (judged w.sweep h.packet.bytes) refl) (λ _. c)
+      cond_both (is_same_port h.at w.seat) _ _ GoesWell
+      (λ same. judged_covers (at_seat cables counts can cabled w h g same (were h refl)) (judged w.sweep h.packet.bytes) refl) (λ _. c)
     where
-      at_seat : is_same_port h.at w.seat ≡ true → IsForManager start seat h.packet.bytes
-      at_seat same =
-          subst (λ p. IsForManager start p h.packet.bytes) (same_port-is h.at w.seat same ∙ g.seat_is) (were h refl)
-
       judged_covers : IsForManager start seat h.packet.bytes → (r : Result Answer SweepFault) → judged w.sweep h.packet.bytes ≡ r
           → GoesWell (with_answer w h.packet.bytes r)
       judged_covers is (Ok answer) e =

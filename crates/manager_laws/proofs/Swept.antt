@@ -144,12 +144,10 @@ module _ {start : Simulation} {seat : NodePort} (cables : AreCables start) (coun
   modifier_small r sound = by_question r.question r.context sound.sound
     where
       by_question : (q : Question) (context : _) → IsSound (fabric_of start) seat q r.path context → modifier_asked q < 2 ^ 32
-      by_question ask.Node context is = omega arith
-      by_question ask.Switch context is = omega arith
       by_question (ask.Port port) Start is = absurd is.asks
       by_question (ask.Port port) (Via guid via) is = absurd is.asks
-      by_question (ask.Manager guid port) context is = omega arith
       by_question (ask.Port port) (About guid) is = let small = is.asks.small in omega (arith, small)
+      by_question question context is = omega arith
 
   pub fits : (generation : ℕ) (r : Request) → generation < 2 ^ 32 → IsSoundRequest (fabric_of start) seat r
       → FitsRequest get (attribute_asked r.question) (modifier_asked r.question) (transaction_of generation r.number) (replicate 64 0)
@@ -280,15 +278,16 @@ module _ {start : Simulation} {seat : NodePort} (cables : AreCables start) (coun
         reports = reports_more w.reports answer g.reports (reply_true w.sweep g.sound bytes is answer taken);
       }
 
+  -- what is handed up at its seat is for it
+  pub at_seat : (w : Sweeping) (h : Handed) → Goes w → is_same_port h.at w.seat ≡ true → IsForManager start h.at h.packet.bytes
+      → IsForManager start seat h.packet.bytes
+  at_seat w h g same was = subst (λ p. IsForManager start p h.packet.bytes) (same_port-is h.at w.seat same ∙ g.seat_is) was
+
   hearing_goes : (w : Sweeping) (m : Option Handed) → Goes w → ((h : Handed) → m ≡ Some h → IsForManager start h.at h.packet.bytes) → Goes (hearing w m)
   hearing_goes w None g were = g
   hearing_goes w (Some h) g were =
-      cond_both (is_same_port h.at w.seat) _ _ Goes (λ same. judged_goes (at_seat same) (judged w.sweep h.packet.bytes) refl) (λ _. g)
+      cond_both (is_same_port h.at w.seat) _ _ Goes (λ same. judged_goes (at_seat w h g same (were h refl)) (judged w.sweep h.packet.bytes) refl) (λ _. g)
     where
-      at_seat : is_same_port h.at w.seat ≡ true → IsForManager start seat h.packet.bytes
-      at_seat same =
-          subst (λ p. IsForManager start p h.packet.bytes) (same_port-is h.at w.seat same ∙ g.seat_is) (were h refl)
-
       judged_goes : IsForManager start seat h.packet.bytes → (r : Result Answer SweepFault) → judged w.sweep h.packet.bytes ≡ r
           → Goes (with_answer w h.packet.bytes r)
       judged_goes is (Ok answer) e = reply_goes w g h.packet.bytes is answer e

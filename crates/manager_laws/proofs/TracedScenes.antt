@@ -2,7 +2,7 @@
 use Rattle.std.proofs.Common.{◌≡◌, inl, inr, ℕ, zero, suc, ◌/◌, ◌%◌, ◌^◌, ◌<◌, ◌≤◌, Bool, true, false, List, [], ◌∷◌, ◌++◌, length}
 use Rattle.std.proofs.Common.{refl, sym, ap, ◌∙◌, subst, arith}
 use Rattle.std.proofs.lemmas.Bool.{and_parts, eqb-true}
-use Rattle.std.specs.Prelude.{Some, Result, Ok, Err, slice_get, not, ◌==◌, ◌&&◌}
+use Rattle.std.specs.Prelude.{Some, Result, Ok, slice_get, not, ◌==◌, ◌&&◌}
 use Rattle.fabric_model.specs.declared.cable.NodePort.{NodePort}
 use Rattle.fabric_model.specs.Cables.{is_same_port}
 use Rattle.smp_bytes.specs.Header.{sm_info}
@@ -15,7 +15,7 @@ use Rattle.fabric_model.proofs.Cabled.{same_port-is}
 use Rattle.smp_bytes.proofs.Made.{directed_reads_back}
 use Rattle.fabric_sim.specs.declared.packet.Packet.{Packet}
 use Rattle.fabric_sim.specs.declared.delivered.Delivered.{Delivered}
-use Rattle.fabric_sim.specs.declared.delivered.Delivered.TheVariants.{Moved, Answered, ToManager, Discarded}
+use Rattle.fabric_sim.specs.declared.delivered.Delivered.TheVariants.{ToManager}
 use Rattle.fabric_sim.specs.declared.fault.FabricFault.{FabricFault}
 use Rattle.fabric_sim.specs.Simulation.{Simulation, AreCables, port_count}
 use Rattle.fabric_sim.specs.ThereAndBack.{BeginsWith}
@@ -47,10 +47,7 @@ module _ (Sends : NodePort → List ℕ → Type 0) (Tells : NodePort → NodePo
       → ((at : NodePort) (packet : Packet) → result ≡ Ok (ToManager at packet) → IsForManager Sends Tells start at packet.bytes)
       → WereTraced (handed_by result)
   traced_by (Ok (ToManager at packet)) up = (up at packet refl, tt)
-  traced_by (Ok (Moved serial)) up = tt
-  traced_by (Ok (Answered serial)) up = tt
-  traced_by (Ok (Discarded reason)) up = tt
-  traced_by (Err fault) up = tt
+  traced_by result up = tt
 
   -- what is sent --------------------------------------------------------------------------------------
 

@@ -13,7 +13,6 @@ use Rattle.smp_bytes.specs.NodeType.{is_switch}
 use Rattle.fabric_model.specs.Fabric as fabric
 use Rattle.fabric_model.specs.Fabric.{Fabric, IsEndPortNumber, IsNodeAt}
 use Rattle.fabric_model.specs.DirectedWalk.{directed_end}
-use Rattle.attr_codec.specs.declared.node_info.NodeInfo.{NodeInfo}
 use Rattle.attr_codec.specs.NodeTypeNumber.{type_of_number}
 use Rattle.attr_codec.specs.PortInfo.{port_state}
 use Rattle.reply_facts.specs.declared.report.Context.{Context}
@@ -56,9 +55,6 @@ module _ (f : Fabric) (seat : NodePort) (cabled : IsCabled f) (generation : ℕ)
 
   module _ (context : Context) (node : SaysNode says.node end.port (node_info_of packet)) (kind : NodeType) (kind_is : kind ≡ says.node.kind)
       (ranges : are_ports_in_range context kind (node_info_of packet) ≡ true) where
-    info : NodeInfo
-    info = node_info_of packet
-
     has : HasNode f (node_info_of packet).node_guid end.node says.node
     has = record { there = says.there; named = sym node.guid }
 
@@ -183,10 +179,6 @@ module _ (f : Fabric) (seat : NodePort) (cabled : IsCabled f) (generation : ℕ)
         subst (AreTrue f) (sym (ap (λ n. cond (n == node_info) (sightings_by_node_info generation (About guid) packet)
         (cond (n == port_info) (sightings_by_port_info generation (About guid) packet) (sightings_by_switch_info generation (About guid) packet))) attribute))
         ((end.node, says.node, has, said.kind, sym said.cap), tt)
-    by_question ask.Switch e Start c asks = absurd asks
-    by_question ask.Switch e (Via guid port) c asks = absurd asks
-    by_question (ask.Port port) e Start c asks = absurd asks
-    by_question (ask.Port port) e (Via guid via) c asks = absurd asks
     by_question (ask.Port port) e (About guid) c asks =
         let attribute : number_in attribute_id packet ≡ port_info = for.attribute ∙ ap attribute_asked e in
         let modifier : number_in attribute_modifier packet ≡ port = for.modifier ∙ ap modifier_asked e in
@@ -203,3 +195,4 @@ module _ (f : Fabric) (seat : NodePort) (cabled : IsCabled f) (generation : ℕ)
         (cond (n == port_info) (sightings_by_port_info generation (About guid) packet) (sightings_by_switch_info generation (About guid) packet))) attribute))
         ((end.node, says.node, has, about.within, (λ e. about.up.0 (test.0 e), λ up. test.1 (about.up.1 up))), (tt, tt))
     by_question (ask.Manager guid port) e context c asks = tt
+    by_question question e context c asks = absurd asks

@@ -1,7 +1,8 @@
 -- What the agents hold of the steps that are answered, as a fabric goes on.
-use Rattle.std.proofs.Common.{◌≡◌, ◌≢◌, ◌⊎◌, inl, inr, ℕ, zero, suc, ◌+◌, ◌<◌, ◌≤◌, ◌^◌, Bool, true, false, cond, List, [], ◌∷◌, length}
+use Rattle.std.proofs.Common.{◌≡◌, ◌⊎◌, inl, inr, ℕ, zero, suc, ◌+◌, ◌<◌, ◌≤◌, ◌^◌, Bool, true, false, cond, List, [], ◌∷◌, length}
 use Rattle.std.proofs.Common.{map, refl, sym, ap, ◌∙◌, subst, arith}
-use Rattle.std.proofs.lemmas.Bool.{and_parts, le-leb, leb-true, eq-eqb, eqb-true, eqb-false}
+use Rattle.fabric_sim.proofs.AgentLists.{others_stay}
+use Rattle.std.proofs.lemmas.Bool.{and_parts, le-leb, leb-true, eq-eqb, eqb-true, eqb-false, or_right}
 use Rattle.std.proofs.lemmas.List.{ext_get_or}
 use Rattle.std.proofs.lemmas.Option.{same_Some, slice_get-map}
 use Rattle.std.specs.Prelude.{Option, Some, None, not, option_map, slice_get, slice_set, nat_le, ◌==◌, ◌||◌}
@@ -137,10 +138,6 @@ meant_of : (b inside : Bool) (m local : ℕ) → m ≡ cond b 0 local → (b ≡
 meant_of true inside m local e h = ap (λ c. cond c (Some m) None) (h refl)
 meant_of false inside m local e h =
     ap (λ c. cond c (Some local) None) (or_right (m == 0) (m == local) (eq-eqb m local e)) ∙ ap (λ n. Some n) (sym e)
-  where
-    or_right : (b c : Bool) → c ≡ true → (b || c) ≡ true
-    or_right true c h = refl
-    or_right false c h = h
 
 -- a vertex's own port has a LID, and is meant by its number
 module _ (node : Node) (a : Agent) (same : node ≡ node_of a) (m local : ℕ) (e : m ≡ guid_port node.kind local) where
@@ -156,20 +153,6 @@ module _ (node : Node) (a : Agent) (same : node ≡ node_of a) (m local : ℕ) (
       (λ switch. let zero_is : m ≡ 0 = own_port ∙ ap (λ b. cond b 0 local) switch in le-leb m a.node.ports (omega (arith, zero_is)))
 
 -- lists of agents ---------------------------------------------------------------------------------------
-
-set_other : (agents : List Agent) (id k : ℕ) (to : Agent) → id ≢ k → slice_get (slice_set agents id to) k ≡ slice_get agents k
-set_other [] id k to other = refl
-set_other (x ∷ agents) zero zero to other = absurd (other refl)
-set_other (x ∷ agents) zero (suc k) to other = refl
-set_other (x ∷ agents) (suc id) zero to other = refl
-set_other (x ∷ agents) (suc id) (suc k) to other = set_other agents id k to (λ e. other (ap suc e))
-
-pub changed_other : (agents : List Agent) (id k : ℕ) (change : Agent → Agent) → id ≢ k → slice_get (with_changed agents id change) k ≡ slice_get agents k
-changed_other agents id k change other = by_agent (slice_get agents id)
-  where
-    by_agent : (m : Option Agent) → slice_get (option_map_or (λ a. slice_set agents id (change a)) m agents) k ≡ slice_get agents k
-    by_agent None = refl
-    by_agent (Some a) = set_other agents id k (change a) other
 
 -- the agent at the id of a change was another one before
 record WasAt (agents : List Agent) (id : ℕ) (change : Agent → Agent) (after : Agent) : Type 0 where
@@ -286,7 +269,7 @@ module _ (start s : Simulation) (seat : NodePort) (plan : PlanValue) (along : Is
               → agent_at (after_deliver s n).fabric end.node ≡ Some a → (b : Bool) → ((port_of flight.whereabouts).node == end.node) ≡ b → Holds a p.step
           by_id counts end a end_is there false other =
               held.holds counts end a end_is
-              (sym (changed_other s.agents (port_of flight.whereabouts).node end.node change (eqb-false _ _ other))
+              (sym (others_stay s.agents (port_of flight.whereabouts).node end.node change (eqb-false _ _ other))
               ∙ ap (λ xs. slice_get xs end.node) (sym asked.agents) ∙ there)
           by_id counts end a end_is there true same_is =
               let same : (port_of flight.whereabouts).node ≡ end.node = eqb-true _ _ same_is in

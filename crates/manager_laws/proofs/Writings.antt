@@ -1,6 +1,6 @@
 -- A writing that begins: where none of what forbids it holds, its steps go where the sweep came to, and set what the plan has there.
 use Rattle.std.proofs.Common.{◌≡◌, ◌<◌, inl, inr, ℕ, ◌≤◌, ◌^◌, Bool, true, false, cond, List, [], ◌∷◌, length, refl, sym, ap, ◌∙◌, subst, arith}
-use Rattle.std.proofs.lemmas.Bool.{eqb-true}
+use Rattle.std.proofs.lemmas.Bool.{eqb-true, not-false}
 use Rattle.std.proofs.lemmas.Option.{same_Some}
 use Rattle.std.specs.Prelude.{Contains, Option, Some, None, nat_le, not, ◌==◌, ◌||◌}
 use Rattle.fabric_model.specs.declared.cable.NodePort.{NodePort}
@@ -77,16 +77,12 @@ may_write m e =
     second false true u v rest h = absurd (cc)
     second false false u v rest h = refl
 
-    from_not : (b : Bool) → not b ≡ false → b ≡ true
-    from_not true h = refl
-    from_not false h = absurd (cc)
-
     sweep_ended : (s : Sweep) → write_fault_with m (Some s) ≡ None → is_done s ≡ true
-    sweep_ended s h = from_not (is_done s) (second (not (is_in Master m.standing)) (not (is_done s)) _ _ _ h)
+    sweep_ended s h = not-false (is_done s) (second (not (is_in Master m.standing)) (not (is_done s)) _ _ _ h)
 
     nothing_waits : (s : Option Sweep) → write_fault_with m s ≡ None → no_step_waits m.pending ≡ true
     nothing_waits None h = absurd (cc)
-    nothing_waits (Some s) h = from_not (no_step_waits m.pending)
+    nothing_waits (Some s) h = not-false (no_step_waits m.pending)
         (third (not (is_in Master m.standing)) (not (is_done s)) (not (no_step_waits m.pending)) _ _ _ h)
 
 -- its steps ----------------------------------------------------------------------------------------

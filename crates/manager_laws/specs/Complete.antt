@@ -25,15 +25,15 @@ pub record IsWhole (s : Sweep) : Type 0 where
   pub answered : s.unanswered ≡ s.silent_managers
   pub near : s.too_far ≡ 0
 
--- the facts of all reports together
+-- the facts of `reports`, taken together
 abbrev pub facts_of : List Report → Facts
 facts_of reports = view (flat_map sightings_of reports)
 
--- the facts of the reports describe exactly the part of a simulated fabric that is joined to an end port
+-- the facts of `reports` describe exactly the part of a simulated fabric that is joined to the end port `seat`
 abbrev pub AgreeWith : List Report → Simulation → NodePort → Type 0
 AgreeWith reports s seat = AgreesOn (IsJoinedTo (fabric_of s) seat) (cells_of (facts_of reports)) (fabric_of s)
 
--- the path that the sweep has for an end port leads to it from the seat: to the port of an adapter, or to a switch
+-- the sweep has a path for the end port, and it leads to it from the seat: to the port of an adapter, or to a switch
 pub record HasWay (f : Fabric) (seat : NodePort) (s : Sweep) (guid port : ℕ) : Type 0 where
   pub path : List ℕ
   pub told : path_to s guid port ≡ Some path
@@ -44,21 +44,23 @@ pub record HasWay (f : Fabric) (seat : NodePort) (s : Sweep) (guid port : ℕ) :
   pub named : node.guid ≡ guid
   pub vertex : vertex_of f end ≡ record { node = end.node; port = port }
 
--- the reports describe the seat's part of the fabric exactly, as it was when the sweep began and as it is when it has
--- ended, and the sweep has a path to each end port there
+-- the reports describe exactly the part that is joined to the seat, as it was when the sweep began and as it is when it
+-- has ended, and the sweep has a path to each end port there
 pub record HasFoundAll (begun ended : Sweeping) : Type 0 where
   pub at_first : AgreeWith ended.reports begun.scene.fabric begun.seat
   pub at_last : AgreeWith ended.reports ended.scene.fabric begun.seat
   pub ways : (guid port : ℕ) → IsEndPort (cells_of (facts_of ended.reports)) guid port
       → HasWay (fabric_of begun.scene.fabric) begun.seat ended.sweep guid port
 
--- whatever else happens, a sweep that has every answer has found exactly what is joined to its seat
+-- if a sweep begins on a quiet scene whose nodes have different GUIDs, and has every answer after some events, it has
+-- found exactly what is joined to its seat, whatever else happened
 abbrev pub DoneSweepsAreComplete : Type 0
 DoneSweepsAreComplete =
     (w : Sweeping) (generation first : ℕ) (events : List SweepEvent) → Begins w generation first → All CanBe events
     → IsWhole (after_sweep_events events w).sweep → HasFoundAll w (after_sweep_events events w)
 
--- once the part that is joined to the seat holds the plan of what the sweep has found, each ping there arrives
+-- if a sweep has every answer, and the part that is joined to its seat holds the plan, with room, of what it has found,
+-- each ping there arrives
 abbrev pub SweptPingsArrive : Type 0
 SweptPingsArrive =
     (rule : RuleValue) (lmc : ℕ) (w : Sweeping) (generation first : ℕ) (events : List SweepEvent)
@@ -70,7 +72,7 @@ SweptPingsArrive =
     ¬ (IsNoRoom lmc cells) → HoldsPlan (IsJoinedTo f w.seat) (plan_of rule lmc cells) f
     → EachPingArrives rule cells (plan_of rule lmc cells) ended.scene.fabric w.seat
 
--- a fabric, and events after which a sweep on it has every answer
+-- an example: a fabric, and events after which a sweep on it has every answer
 pub record SomeSweepIsWhole : Type 0 where
   pub sweeping : Sweeping
   pub generation : ℕ
@@ -80,7 +82,7 @@ pub record SomeSweepIsWhole : Type 0 where
   pub can_be : All CanBe events
   pub whole : IsWhole (after_sweep_events events sweeping).sweep
 
--- a sweep that has every answer although a manager is silent
+-- an example: a sweep that has every answer although a manager is silent
 pub record SomeManagerIsSilent : Type 0 where
   pub some : SomeSweepIsWhole
   pub silent : (after_sweep_events some.events some.sweeping).sweep.silent_managers ≡ 1

@@ -46,12 +46,12 @@ pub data ManagerEvent : Type 0 where
 
 -- which events there are --------------------------------------------------------------------------
 
--- the event is not a packet that another manager sends from this seat
+-- the event is not a packet that another manager sends from the port `seat`
 abbrev pub IsElsewhere : NodePort → Event → Type 0
 IsElsewhere seat (around.Send other sending) = other ≢ seat
 IsElsewhere seat event = Unit {0}
 
--- the event can be: one on the fabric can happen and is not a packet that another manager sends from this seat; a floor
+-- the event can be: one on the fabric can happen and is not a packet that another manager sends from `seat`; a floor
 -- and merged facts are in range
 abbrev pub CanBe : NodePort → ManagerEvent → Type 0
 CanBe seat (Around event) = CanHappen event × IsElsewhere seat event
@@ -61,35 +61,36 @@ CanBe seat event = Unit {0}
 
 -- what events do ---------------------------------------------------------------------------------
 
--- the manager is called; a call that it refuses leaves it unchanged
+-- the managing once its manager was called; a call that the manager refuses leaves it unchanged
 abbrev pub calling : Managing → Call → Managing
 calling w call = record w { manager = after_call w.manager call }
 
--- the packets with one more, if there is one
+-- `out` with one more packet, if there is one
 abbrev pub one_more : List Outgoing → Option Outgoing → List Outgoing
 one_more out None = out
 one_more out (Some packet) = out ++ packet ∷ []
 
--- the manager has given out its first packet, if it had one
+-- the managing once its manager has given out its first packet, if it had one
 abbrev pub taking : Managing → Taken → Managing
 taking w t = record w { manager = t.manager; out = one_more w.out t.packet }
 
--- the packet as it is sent: along the path that it carries, or to a LID
+-- the packet that a manager gives out, as it is sent: along the path that it carries, or to a LID
 abbrev pub packet_of : Outgoing → Packet
 packet_of o = record { bytes = o.packet; slid = permissive_lid; dlid = unwrap_or o.to permissive_lid }
 
--- the packet, if there is one, is sent from the manager's seat
+-- the managing once the packet, if there is one, was sent from the manager's seat
 abbrev pub sending : Managing → Option Outgoing → Managing
 sending w None = w
 sending w (Some o) = record w { scene = sent_from w.scene w.seat (packet_of o) }
 
--- the manager is given a packet that was handed up at its seat, with the LID that it came from
+-- the managing once its manager was given the packet, with the LID that it came from, if it was handed up at its seat;
+-- otherwise unchanged
 abbrev pub hearing : Managing → Option Handed → Managing
 hearing w None = w
 hearing w (Some h) =
     if is_same_port h.at w.seat then calling w (calls.Packet h.packet.bytes (Some h.packet.slid)) else w
 
--- the managing after an event
+-- the managing after an event; a call that its manager refuses leaves that one unchanged
 abbrev pub after_manager_event : Managing → ManagerEvent → Managing
 after_manager_event w (Around event) = record w { scene = after_event w.scene event }
 after_manager_event w Begin = calling w calls.BeginSweep
@@ -103,14 +104,14 @@ after_manager_event w (Merge floor sightings) = calling w (calls.Merge floor sig
 after_manager_event w (Poll lid) = calling w (calls.Poll lid)
 after_manager_event w HandOver = calling w calls.Handover
 
--- the managing after these events, in turn
+-- the managing after `events`, in turn
 abbrev pub after_manager_events : List ManagerEvent → Managing → Managing
 after_manager_events [] w = w
 after_manager_events (event ∷ events) w = after_manager_events events (after_manager_event w event)
 
 -- where runs begin -------------------------------------------------------------------------------
 
--- a manager that has nothing to send and waits for nothing: a new one, or one between its tasks
+-- the manager has nothing to send and waits for nothing: it is new, or between its tasks
 pub record IsAtRest (m : Manager) : Type 0 where
   -- no sweep is running
   pub sweep : is_running m.sweep ≡ false
@@ -122,7 +123,7 @@ pub record IsAtRest (m : Manager) : Type 0 where
   pub facts : AreInRange m.store
   pub floor : IsTrue (is_generation m.store.floor)
 
--- the state in which a run starts
+-- a run may start: nothing is on its way, GUIDs differ, and the manager sits at its seat, at rest
 pub record Starts (w : Managing) : Type 0 where
   -- no packet is on its way or was handed up; the agents may be in any state
   pub quiet : IsQuiet w.scene

@@ -16,21 +16,23 @@ use Rattle.fabric_sim.specs.declared.ping.Ping.TheVariants.{Reached}
 use Rattle.fabric_sim.specs.Simulation.{Simulation, IsSimulation, fabric_of}
 use Rattle.fabric_sim.specs.Ping.{ping, ping_fault}
 
--- the ping is not refused, and reaches the end port that owns the LID, over the way of a packet that arrives there
+-- the ping from `source` for `lid` is not refused, and reaches the end port `owner` over the way of a packet that
+-- arrives there
 pub record PingArrives (rule : RuleValue) (part : Part) (cells : Cells) (s : Simulation) (lid : ℕ) (source : NodePort)
     (owner : EndPort) : Type 0 where
   pub accepted : ping_fault s source ≡ None
   pub arrives : Arrives rule part cells (fabric_of s) lid source owner
   pub reached : ping (fabric_of s) lid source ≡ Reached arrives.target (length arrives.hops)
 
--- each ping from an end port that `origin` is joined to, for each LID of the plan, arrives
+-- each ping from an end port that `origin` is joined to, for each LID of the plan, arrives at the LID's owner
 abbrev pub EachPingArrives : RuleValue → Cells → PlanValue → Simulation → NodePort → Type 0
 EachPingArrives rule cells plan s origin =
     (source : NodePort) → IsEndPort (fabric_of s) source → IsJoinedTo (fabric_of s) origin source
     → (lid : ℕ) (owner : EndPort) → owner_of plan.given lid ≡ Some owner
     → PingArrives rule (IsJoinedTo (fabric_of s) origin) cells s lid source owner
 
--- if facts describe the part that an end port is joined to exactly, and it holds their plan, pings arrive there
+-- if facts with room describe exactly the part of a simulated fabric that an end port is joined to, and it holds their
+-- plan, each ping there arrives at its LID's owner
 abbrev pub PingsArrive : Type 0
 PingsArrive = (rule : RuleValue) (lmc : ℕ) (facts : Facts) (s : Simulation) (origin : NodePort)
     → ¬ (IsNoRoom lmc (cells_of facts)) → IsSimulation s → IsEndPort (fabric_of s) origin

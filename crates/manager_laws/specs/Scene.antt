@@ -43,7 +43,8 @@ pub data Event : Type 0 where
 
 -- which events there are --------------------------------------------------------------------------
 
--- a directed path leaves by the port of its sender's seat
+-- a manager may send this from `seat`: a packet of 256 bytes that is forwarded by LIDs; a request whose path has at
+-- most `max_hops` ports and leaves by the seat's port; or an answer whose status and attribute fit
 abbrev pub CanSend : NodePort → Sending → Type 0
 CanSend seat (ByLid packet) = (length packet.bytes ≡ 256) × (is_directed packet.bytes ≡ false)
 CanSend seat (ByPath method attribute modifier tid path payload) =
@@ -51,7 +52,7 @@ CanSend seat (ByPath method attribute modifier tid path payload) =
     × BeginsWith seat.port path
 CanSend seat (Answer which status payload) = (status < 2 ^ 15) × (length payload ≡ 64)
 
--- the event can happen: a manager sends only what it may
+-- the event can happen: if a manager sends in it, then only what it may
 abbrev pub CanHappen : Event → Type 0
 CanHappen (Send seat sending) = CanSend seat sending
 CanHappen (Deliver serial) = Unit {0}
@@ -60,6 +61,7 @@ CanHappen (Repeat serial) = Unit {0}
 
 -- what events do ---------------------------------------------------------------------------------
 
+-- the scene with `fabric` in place of its fabric
 abbrev pub with_fabric : Scene → Simulation → Scene
 with_fabric s fabric = record s { fabric = fabric }
 
@@ -71,37 +73,37 @@ handed_by (Ok (Answered serial)) = []
 handed_by (Ok (Discarded reason)) = []
 handed_by (Err fault) = []
 
--- the packet is sent from the seat, if there is a seat and a serial number is left
+-- the scene once the packet was sent from the port `seat`; unchanged if it is no seat, or no serial number is left
 abbrev pub sent_from : Scene → NodePort → Packet → Scene
 sent_from s seat packet = with_fabric s (after_inject s.fabric seat packet).fabric
 
--- whether a packet that was handed up at the seat is a request for SMInfo
+-- the packet was handed up at the port `seat`, and is a request for SMInfo
 abbrev pub asks_manager : NodePort → Handed → Bool
 asks_manager seat h =
     is_same_port h.at seat && not (is_response h.packet.bytes) && number_in attribute_id h.packet.bytes == sm_info
 
--- the answer to a directed request goes back along its path; any other answer goes to the LID that the request came
--- from
+-- the answer to a request: if it is directed, back along its path; otherwise to the LID that it came from
 abbrev pub answer_to : Packet → ℕ → List ℕ → Packet
 answer_to request status payload =
     let answer = answer_packet request.bytes status payload in
     if is_directed request.bytes then directed_packet answer
     else record { bytes = answer; slid = request.dlid; dlid = request.slid }
 
--- the answer to a request that was handed up is sent from the seat; nothing if there is no such request
+-- the scene once the answer to a request for SMInfo that was handed up at `seat` was sent from there; unchanged if
+-- there is no such request
 abbrev pub answered_from : Scene → NodePort → ℕ → List ℕ → Option Handed → Scene
 answered_from s seat status payload None = s
 answered_from s seat status payload (Some h) =
     if asks_manager seat h then sent_from s seat (answer_to h.packet status payload) else s
 
--- the scene once a manager has sent from its seat
+-- the scene once a manager has sent from its port `seat`
 abbrev pub sent : Scene → NodePort → Sending → Scene
 sent s seat (ByLid packet) = sent_from s seat packet
 sent s seat (ByPath method attribute modifier tid path payload) =
     sent_from s seat (directed_packet (directed method attribute modifier tid path payload))
 sent s seat (Answer which status payload) = answered_from s seat status payload (slice_get s.handed which)
 
--- the scene after an event
+-- the scene after an event; a refused call of the fabric leaves it unchanged
 abbrev pub after_event : Scene → Event → Scene
 after_event s (Deliver serial) =
     let done = after_deliver s.fabric serial in
@@ -110,12 +112,12 @@ after_event s (Lose serial) = with_fabric s (after_lose s.fabric serial).fabric
 after_event s (Repeat serial) = with_fabric s (after_repeat s.fabric serial).fabric
 after_event s (Send seat sending) = sent s seat sending
 
--- the scene after these events, in turn
+-- the scene after `events`, in turn
 abbrev pub after_events : List Event → Scene → Scene
 after_events [] s = s
 after_events (event ∷ events) s = after_events events (after_event s event)
 
--- a fabric with agents in any state, no packet on its way, and nothing handed up
+-- a scene is quiet: agents may be in any state, no packet is on its way, and none was handed up
 pub record IsQuiet (s : Scene) : Type 0 where
   pub fabric : IsSimulation s.fabric
   pub flights : s.fabric.flights ≡ []

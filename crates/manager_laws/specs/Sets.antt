@@ -22,7 +22,8 @@ use Rattle.fabric_sim.specs.Simulation.{Simulation, agent_at, port_of, flight_wi
 use Rattle.fabric_sim.specs.Delivery.{after_deliver}
 use Rattle.manager_laws.specs.Scene.{Event, Deliver}
 
--- the delivery of a packet makes an agent take a Set that reached one of its ports
+-- the delivery of the packet with the number `serial` makes the agent `a` take a Set, `packet`, that reached it at the
+-- port `at`
 pub record TakesSet (s : Simulation) (serial : ℕ) (at : NodePort) (a : Agent) (packet : List ℕ) : Type 0 where
   pub flight : Flight
   pub waits : flight_with s.flights serial ≡ Some flight
@@ -47,8 +48,7 @@ pub record Carries (plan : PlanValue) (a : Agent) (arrival : ℕ) (packet : List
       → (block : List ℕ) → block_at plan a.node.guid (number_in attribute_modifier packet) ≡ Some block
       → bytes_in attribute_data packet ≡ block
 
--- the packet at the port `at` asks for what a step of these phases sets, and the step's path leads from the seat to
--- `at`
+-- the packet asks for what a step of `phases` sets, and the step's path leads from `seat` to the port `at`, where it is
 pub record IsOwnSet (f : Fabric) (seat : NodePort) (phases : List Phase) (at : NodePort) (packet : List ℕ) : Type 0
   where
     pub phase : Phase
@@ -60,11 +60,12 @@ pub record IsOwnSet (f : Fabric) (seat : NodePort) (phases : List Phase) (at : N
     pub modifier : number_in attribute_modifier packet ≡ step.modifier
     pub payload : bytes_in attribute_data packet ≡ step.payload
 
--- for a port and a packet that reaches it, whether the packet is one of a writing's own Sets
+-- which packets, at the ports that they reach, are the Sets of one writing's own steps
 abbrev pub OwnSets : Type 1
 OwnSets = NodePort → List ℕ → Type 0
 
--- each Set that an agent takes is one of the writing's own, or carries the plan's values
+-- if the event is a delivery, each Set that an agent takes by it is one of the writing's own, or carries the plan's
+-- values
 abbrev pub KeepsPlan : PlanValue → OwnSets → Simulation → Event → Type 0
 KeepsPlan plan own s (Deliver serial) =
     (at : NodePort) (a : Agent) (packet : List ℕ) → TakesSet s serial at a packet → own at packet

@@ -32,7 +32,7 @@ pub data SweepEvent : Type 0 where
   Hear : (which : ℕ) → SweepEvent
   TimeOut : (transaction : ℕ) → SweepEvent
 
--- the event can be: one on the fabric must be able to happen
+-- the event can be: one on the fabric can happen
 abbrev pub CanBe : SweepEvent → Type 0
 CanBe (Around event) = CanHappen event
 CanBe Ask = Unit {0}
@@ -42,32 +42,32 @@ CanBe (TimeOut transaction) = Unit {0}
 
 -- what events do --------------------------------------------------------------------------------
 
--- the requests with one more, if there is one
+-- `asked` with one more request, if there is one
 abbrev pub one_more : List (List ℕ) → Option (List ℕ) → List (List ℕ)
 one_more asked None = asked
 one_more asked (Some packet) = asked ++ packet ∷ []
 
--- the sweep has given out its next request, if it had one
+-- the sweeping once the sweep has given out its next request, if it had one
 abbrev pub asking_more : Sweeping → Sent → Sweeping
 asking_more w s = record w { sweep = s.sweep; asked = one_more w.asked s.packet }
 
--- the request, if there is one, is sent from the sweep's seat
+-- the sweeping once the request, if there is one, was sent from the sweep's seat
 abbrev pub sending : Sweeping → Option (List ℕ) → Sweeping
 sending w None = w
 sending w (Some packet) = record w { scene = sent_from w.scene w.seat (directed_packet packet) }
 
--- the reports of an answer; what a manager reports about itself is not a report
+-- the report that an answer is; none if it is what a manager says of itself
 abbrev pub reports_of : Answer → List Report
 reports_of (Facts report) = report ∷ []
 reports_of (Seen guid port info) = []
 
--- the sweep has taken the reply, unless it refuses it
+-- the sweeping once the sweep has taken the reply `packet`, unless it refuses it
 abbrev pub with_answer : Sweeping → List ℕ → Result Answer SweepFault → Sweeping
 with_answer w packet (Ok answer) =
     record w { sweep = after_reply w.sweep packet; reports = w.reports ++ reports_of answer }
 with_answer w packet (Err fault) = w
 
--- the sweep is given a packet that was handed up at its seat, if there is one
+-- the sweeping once the sweep was given the packet, if it was handed up at its seat; otherwise unchanged
 abbrev pub hearing : Sweeping → Option Handed → Sweeping
 hearing w None = w
 hearing w (Some h) =
@@ -81,7 +81,7 @@ after_sweep_event w (Send which) = sending w (slice_get w.asked which)
 after_sweep_event w (Hear which) = hearing w (slice_get w.scene.handed which)
 after_sweep_event w (TimeOut transaction) = record w { sweep = after_timeout w.sweep transaction }
 
--- the sweeping after these events, in turn
+-- the sweeping after `events`, in turn
 abbrev pub after_sweep_events : List SweepEvent → Sweeping → Sweeping
 after_sweep_events [] w = w
 after_sweep_events (event ∷ events) w = after_sweep_events events (after_sweep_event w event)
@@ -92,8 +92,8 @@ AlwaysSo is_so [] w = Unit {0}
 AlwaysSo is_so (event ∷ events) w =
     is_so (after_sweep_event w event).scene × AlwaysSo is_so events (after_sweep_event w event)
 
--- a fabric where nothing is going on and whose nodes have different GUIDs, and a sweep that has just begun at a seat,
--- with the number of the seat's port; the sweep may keep images
+-- the scene is quiet, its nodes have different GUIDs, and a sweep of the generation `at` has just begun at a seat, with
+-- the number of the seat's port; the sweep may keep images
 pub record Begins (w : Sweeping) (at from : ℕ) : Type 0 where
   pub quiet : IsQuiet w.scene
   pub distinct : AreGuidsDistinct (fabric_of w.scene.fabric)
@@ -105,7 +105,8 @@ pub record Begins (w : Sweeping) (at from : ℕ) : Type 0 where
   pub asked : w.asked ≡ []
   pub reports : w.reports ≡ []
 
--- whatever happens, each fact of a report that the sweep accepts is true of the fabric
+-- whatever happens, each fact of a report that a sweep accepts is true of the fabric, except that a claimed LID may be
+-- any
 abbrev pub AcceptedFactsAreTrue : Type 0
 AcceptedFactsAreTrue =
     (w : Sweeping) (generation first : ℕ) (events : List SweepEvent) → Begins w generation first → All CanBe events

@@ -13,12 +13,12 @@ use Rattle.reply_facts.specs.declared.value.Value.{Value}
 use Rattle.reply_facts.specs.declared.value.Value.TheVariants.{Kind, Guid, Peer, Up, Lid, Count}
 use Rattle.fabric_sim.specs.ToldOfEnd.{IsUp}
 
--- the node has this GUID and this id
+-- `node` is that with the id `id`, and has the GUID `guid`
 pub record HasNode (f : Fabric) (guid id : ℕ) (node : fabric.Node) : Type 0 where
   pub there : IsNodeAt f id node
   pub named : node.guid ≡ guid
 
--- a cable leads from the port to the port `via` of the node with the GUID `peer`
+-- a cable leads from the port `port` of the node `id` to the port `via` of a node with the GUID `peer`
 pub record HasCable (f : Fabric) (id port peer via : ℕ) : Type 0 where
   pub far : NodePort
   pub other : fabric.Node
@@ -26,7 +26,7 @@ pub record HasCable (f : Fabric) (id port peer via : ℕ) : Type 0 where
   pub node : HasNode f peer far.node other
   pub port_is : far.port ≡ via
 
--- the fabric has this value for the key
+-- the fabric has the value for the key; any LID will do for a claim, and no value of another kind than the key's
 abbrev pub IsTrueOf : Fabric → Key → Value → Type 0
 IsTrueOf f (Node guid) (Kind kind ports) =
     (id : ℕ) × (node : fabric.Node) × HasNode f guid id node × (node.kind ≡ kind) × (node.ports ≡ ports)
@@ -41,12 +41,12 @@ IsTrueOf f (Cap guid) (Count cap) =
     (id : ℕ) × (node : fabric.Node) × HasNode f guid id node × (is_switch node.kind ≡ true) × (node.cap ≡ cap)
 IsTrueOf f key value = ⊥
 
--- the sighting's value is true of the fabric; a reply never reports that a fact is disputed
+-- the sighting's value is true of the fabric; a disputed sighting is not
 abbrev pub IsTrueSighting : Fabric → Key × Cell Value → Type 0
 IsTrueSighting f (key, Known generation value) = IsTrueOf f key value
 IsTrueSighting f (key, Disputed generation) = ⊥
 
--- no two nodes have one GUID
+-- no two nodes of the fabric have one GUID
 abbrev pub AreGuidsDistinct : Fabric → Type 0
 AreGuidsDistinct f = (here there : ℕ) (one other : fabric.Node) → IsNodeAt f here one → IsNodeAt f there other
     → one.guid ≡ other.guid → here ≡ there

@@ -11,19 +11,20 @@ use Rattle.manager_laws.specs.Complete.{IsWhole}
 use Rattle.manager_laws.specs.Managing.{Managing, ManagerEvent, Begin, Raise, Merge, after_manager_event, after_manager_events}
 use Rattle.manager_laws.specs.Written.{IsWritingRun, at_writing, at_end, plan_at}
 
--- no other sweep begins, no facts of others are merged, and no floor above that of the store is given
+-- the event begins no sweep, merges no facts of others, and gives no floor above that of the manager's store
 abbrev pub BeginsNoSweep : Managing → ManagerEvent → Type 0
 BeginsNoSweep w Begin = begin_fault w.manager ≢ None
 BeginsNoSweep w (Raise floor) = floor ≤ w.manager.store.floor
 BeginsNoSweep w (Merge floor sightings) = (sightings ≡ []) × (floor ≤ w.manager.store.floor)
 BeginsNoSweep w event = Unit {0}
 
--- none of these events begins another sweep or brings in other facts
+-- none of the events begins a sweep, merges facts of others, or gives a floor above that of the manager's store
 abbrev pub AreNoSweeps : List ManagerEvent → Managing → Type 0
 AreNoSweeps [] w = Unit {0}
 AreNoSweeps (event ∷ events) w = BeginsNoSweep w event × AreNoSweeps events (after_manager_event w event)
 
--- A manager without facts sweeps, and writes the plan of what it learned.
+-- A manager without facts sweeps, and writes the plan of what it learned from this sweep alone, which has every answer;
+-- in the end the plan counts as written.
 pub record BringsUp (w : Managing) (before between after : List ManagerEvent) : Type 0 where
   pub run : IsWritingRun w before between after
   -- the manager holds no facts when the sweep begins; its floor may have been raised
@@ -46,7 +47,7 @@ PingsArriveOnceWritten =
     (cells_of (at_writing w before between).manager.store) (plan_at (at_writing w before between))
     (at_end w before between after).scene.fabric w.seat
 
--- a new manager that brings a subnet up, with the fabric and what happens there
+-- an example: a new manager that brings a subnet up, with the fabric and what happens there
 pub record SomeManagerBringsUp : Type 0 where
   pub managing : Managing
   pub port_guid : ℕ

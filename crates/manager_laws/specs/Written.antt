@@ -23,11 +23,11 @@ use Rattle.manager_laws.specs.Sets.{IsOwnSet, OwnSets, KeepsPlan}
 
 -- a plan where a sweep reached ----------------------------------------------------------------------
 
--- the sweep reached this port: a switch at port 0, or an adapter's port
+-- the sweep has a path to this end port: to a switch at port 0, or to an adapter's port
 abbrev pub IsReached : Sweep → ℕ → ℕ → Type 0
 IsReached s guid port = IsSome (path_to s guid port)
 
--- each end port and each switch of the plan that the sweep reached holds what the plan has for it
+-- in the fabric, each end port and each switch of the plan that the sweep reached holds what the plan has for it
 pub record IsHeldWhere (plan : PlanValue) (s : Sweep) (f : Fabric) : Type 0 where
   pub lids : (e : EndPort) (range : ℕ × ℕ) (port : NodePort) → range_of plan.given e ≡ Some range
       → IsReached s e.node e.port
@@ -41,61 +41,65 @@ pub record IsHeldWhere (plan : PlanValue) (s : Sweep) (f : Fabric) : Type 0 wher
 
 -- runs -------------------------------------------------------------------------------------------
 
--- the event begins a sweep
+-- the event begins a sweep, which is not refused
 abbrev pub BeginsSweep : Managing → ManagerEvent → Type 0
 BeginsSweep w Begin = begin_fault w.manager ≡ None
 BeginsSweep w event = ⊥
 
--- the event begins no writing
+-- the event begins no writing: it asks for none, or the writing is refused
 abbrev pub BeginsNoWriting : Managing → ManagerEvent → Type 0
 BeginsNoWriting w Write = writing_fault w.manager ≢ None
 BeginsNoWriting w event = Unit {0}
 
--- no writing begins before a sweep begins
+-- in these events, no writing begins before a sweep begins
 abbrev pub SweepsFirst : List ManagerEvent → Managing → Type 0
 SweepsFirst [] w = Unit {0}
 SweepsFirst (event ∷ events) w =
     BeginsSweep w event ⊎ (BeginsNoWriting w event × SweepsFirst events (after_manager_event w event))
 
--- a new manager begins no writing before a sweep, whatever happens to it
+-- a new manager begins no writing before it begins a sweep, whatever happens to it
 abbrev pub NewManagersSweepFirst : Type 0
 NewManagersSweepFirst =
     (port_guid port priority : ℕ) (conduct : Conduct) (planning : Planning) (w : Managing) (events : List ManagerEvent) → w.manager
     ≡ new_manager port_guid port priority conduct planning
     → SweepsFirst events w
 
--- no writing begins, and each Set that an agent takes is one of the writing's own or carries the plan's values
+-- the event begins no writing, and each Set that an agent takes by it is one of the writing's own or carries the plan's
+-- values
 abbrev pub Keeps : PlanValue → OwnSets → Managing → ManagerEvent → Type 0
 Keeps plan own w (Around event) = KeepsPlan plan own w.scene.fabric event
 Keeps plan own w event = BeginsNoWriting w event
 
--- each of these events keeps the plan: none begins a writing, and each Set that an agent takes is one of the writing's
--- own or carries the plan's values
+-- none of the events begins a writing, and each Set that an agent takes by them is one of the writing's own or carries
+-- the plan's values
 abbrev pub AllKeep : PlanValue → OwnSets → List ManagerEvent → Managing → Type 0
 AllKeep plan own [] w = Unit {0}
 AllKeep plan own (event ∷ events) w = Keeps plan own w event × AllKeep plan own events (after_manager_event w event)
 
--- the managing when the writing begins: after the sweep began, and more events
+-- the managing when the writing begins: after the events `before`, the beginning of a sweep, and the events `between`
 abbrev pub at_writing : Managing → List ManagerEvent → List ManagerEvent → Managing
 at_writing w before between = after_manager_events between (after_manager_event (after_manager_events before w) Begin)
 
--- the plan that is written, by the manager's rule and LMC
+-- the plan of the manager's facts, by its rule and LMC
 abbrev pub plan_at : Managing → PlanValue
 plan_at w = plan_of w.manager.planning.rule w.manager.planning.lmc (cells_of w.manager.store)
 
--- the Sets of the writing's own steps
+-- the Sets of the steps that the manager of `w` writes, from the seat and in the fabric of `start`
 abbrev pub own_sets : Managing → Managing → OwnSets
 own_sets start w = IsOwnSet (fabric_of start.scene.fabric) start.seat (phases_by w.manager w.manager.sweep)
 
--- the managing when the writing's first steps are queued
+-- the managing once the writing has begun and its first steps are queued: after `before`, a sweep's beginning and
+-- `between`
 abbrev pub at_first_steps : Managing → List ManagerEvent → List ManagerEvent → Managing
 at_first_steps w before between = after_manager_event (at_writing w before between) Write
 
--- the managing at the end of the run
+-- the managing at the end of the run: after `before`, a sweep's beginning, `between`, a writing's beginning, and
+-- `after`
 abbrev pub at_end : Managing → List ManagerEvent → List ManagerEvent → List ManagerEvent → Managing
 at_end w before between after = after_manager_events after (at_first_steps w before between)
 
--- A sweep begins, and later a writing.
+-- A run that may start begins a sweep and, after the events `between`, a writing; no other writing begins after this or
+-- before a sweep, and what agents take meanwhile keeps the plan.
 pub record IsWritingRun (w : Managing) (before between after : List ManagerEvent) : Type 0 where
   pub starts : Starts w
   -- only events that can be happen before the sweep, between the sweep and the writing, and after the writing began
@@ -112,7 +116,8 @@ pub record IsWritingRun (w : Managing) (before between after : List ManagerEvent
   pub keep : AllKeep (plan_at (at_writing w before between)) (own_sets w (at_writing w before between)) after
       (at_first_steps w before between)
 
--- once the plan is written, each end port and switch that the last sweep before the writing reached holds it
+-- at the end of a writing run, if the plan counts as written, each end port and switch that the last sweep before the
+-- writing reached holds it
 abbrev pub WrittenPlansAreHeld : Type 0
 WrittenPlansAreHeld =
     (w : Managing) (before between after : List ManagerEvent) → IsWritingRun w before between after

@@ -85,9 +85,10 @@ pub fn written_plans_are_held()
     ensures { WrittenPlansAreHeld }
 {}
 
-/// If a manager that held no facts, at whatever floor, has swept with every answer, except those of other managers, and
-/// with nothing out of reach, and the plan of what it learned is written, each ping from an end port that its seat is
-/// joined to, for each LID of the plan, reaches the end port that owns the LID.
+/// If a manager that held no facts, at whatever floor, has swept with every answer and learned nothing else until its
+/// writing began, and in the end the plan of what it learned is written, each ping from an end port that its seat is
+/// joined to, for each LID of the plan, reaches the end port that owns the LID. Whatever else happens is as in
+/// `written_plans_are_held`.
 pub fn pings_arrive_once_written()
     ensures { PingsArriveOnceWritten }
 {}

@@ -1,6 +1,7 @@
 -- A manager whose writings write a plan: each packet that it gave out or is about to give out is its own, and each Set among them, like each step
 -- that is still to come, carries the plan's values.
 use Rattle.std.proofs.Common.{◌≡◌, ◌⊎◌, inl, inr, ℕ, ◌+◌, ◌≤◌, ◌^◌, Bool, true, false, cond, List, [], ◌∷◌, ◌++◌, length, refl, sym, ap, ◌∙◌, subst, arith}
+use Rattle.std.proofs.lemmas.List.Elements.{Contains-append_cases, Contains-append_left, Contains-append_right}
 use Rattle.std.proofs.lemmas.Bool.{cond_both, ltb-false}
 use Rattle.std.specs.Prelude.{Contains, Option, Some, None, drop, is_none, not, slice_get, ◌&&◌, ◌||◌}
 use Rattle.fabric_model.specs.declared.cable.NodePort.{NodePort}
@@ -32,7 +33,6 @@ use Rattle.manager_laws.proofs.Generations.{all_small, generation_small}
 use Rattle.manager_laws.proofs.Goes.{Goes, NoStepWaits, heard_at_seat}
 use Rattle.manager_laws.proofs.Numbered.{from_passed, length-sent_from, most_number, next_is_of, next_sent, numbered_from, out_of, rest_is_of, steps_out_are}
 use Rattle.manager_laws.proofs.Steps.{IsOf, StepSent}
-use Rattle.manager_laws.proofs.WritingLists.{in_either, in_left, in_right}
 use Rattle.manager_laws.proofs.WritingSweeps.{Ground, begun, facts_merged, rises}
 use Rattle.manager_laws.proofs.Writings.{may_write}
 
@@ -73,7 +73,7 @@ module _ (start : Simulation) (seat : NodePort) (plan : PlanValue) where
             (subst (AreOwnPackets start seat plan 0 (p.all ++ new) w.scene.handed) (sym (steps_out_are counted m.counter steps))
             (own_steps start seat plan 0 (p.all ++ new) w.scene.handed new new_own));
         out = still w.out p.out;
-        known = λ x there. elim (in_either p.all new x there) [
+        known = λ x there. elim (Contains-append_cases p.all new x there) [
           | inl i ↦ p.known x i
           | inr k ↦ carried x.counts x.step (next_is_of m.counter v.later x k)
         ];
@@ -84,7 +84,7 @@ module _ (start : Simulation) (seat : NodePort) (plan : PlanValue) where
           → AreOwnPackets start seat plan 0 (p.all ++ next_sent m.counter v.later) w.scene.handed out
       still out own =
           packets_of start seat plan 0 0 p.all (p.all ++ next_sent m.counter v.later) (omega arith)
-          (λ x there. in_left p.all (next_sent m.counter v.later) x there) w.scene.handed out own
+          (λ x there. Contains-append_left p.all (next_sent m.counter v.later) x there) w.scene.handed out own
 
       new_own : (x : StepSent) → Contains (next_sent m.counter v.later) x
           → IsOwnPacket start seat plan 0 (p.all ++ next_sent m.counter v.later) w.scene.handed (out_of x)
@@ -95,7 +95,7 @@ module _ (start : Simulation) (seat : NodePort) (plan : PlanValue) where
           let long = length-sent_from counted m.counter steps in
           step_is_own start seat plan 0 (p.all ++ next_sent m.counter v.later) w.scene.handed x
           (carried x.counts x.step (next_is_of m.counter v.later x there)).can (omega (arith, below, long, most))
-          (inr (in_right p.all (next_sent m.counter v.later) x there))
+          (inr (Contains-append_right p.all (next_sent m.counter v.later) x there))
 
   -- a step ends ------------------------------------------------------------------------------------------------
 

@@ -32,7 +32,7 @@ use Rattle.lft_blocks.specs.Plan.{PlanValue, block_at}
 use Rattle.manager_laws.specs.Sets.{Carries, TakesSet}
 use Rattle.manager_laws.proofs.Alike.{nodes_along}
 use Rattle.manager_laws.proofs.Sound.{CanBeSwept}
-use Rattle.manager_laws.proofs.WritingTaken.{changed_other}
+use Rattle.fabric_sim.proofs.AgentLists.{others_stay}
 use Rattle.takeover_laws.proofs.HeldOn.{HasLids, KeepsHeld, answered_keeps, itself}
 use Rattle.masters_laws.proofs.Harmless.{AreHarmless, Asked, asks_or_not}
 use Rattle.masters_laws.proofs.Joined.{end_joined}
@@ -182,7 +182,7 @@ module _ (start : Simulation) (plan : PlanValue) (IsSeat : NodePort → Type 0) 
         by_id x false other = (
           a,
           ap (λ (xs : List Agent). slice_get xs id) x.agents
-              ∙ changed_other s.agents x.at.node id (λ y. (after_answer y x.request x.at.port).agent) (eqb-false _ _ other)
+              ∙ others_stay s.agents x.at.node id (λ y. (after_answer y x.request x.at.port).agent) (eqb-false _ _ other)
               ∙ there,
           unchanged,
         )
@@ -208,7 +208,7 @@ module _ (start : Simulation) (plan : PlanValue) (IsSeat : NodePort → Type 0) 
             → agent_at (after_deliver s n).fabric id ≡ None
         by_id x false other =
             ap (λ (xs : List Agent). slice_get xs id) x.agents
-            ∙ changed_other s.agents x.at.node id (λ y. (after_answer y x.request x.at.port).agent) (eqb-false _ _ other) ∙ none
+            ∙ others_stay s.agents x.at.node id (λ y. (after_answer y x.request x.at.port).agent) (eqb-false _ _ other) ∙ none
         by_id x true same_is =
             let same : x.at.node ≡ id = eqb-true _ _ same_is in
             let here : agent_at s x.at.node ≡ None = ap (slice_get s.agents) same ∙ none in

@@ -1,9 +1,9 @@
 -- Two managers that sweep and write at once: each at an adapter, on a switch to which both are wired, and each silent to the other.
-use Rattle.std.proofs.Common.{◌≡◌, ◌≢◌, ℕ, zero, suc, ◌+◌, ◌*◌, ◌-◌, ◌^◌, Bool, true, false, List, [], ◌∷◌, ◌++◌, length, replicate, append_assoc}
+use Rattle.std.proofs.Common.{◌≡◌, ◌≢◌, ℕ, zero, suc, ◌+◌, ◌*◌, ◌^◌, Bool, true, false, List, [], ◌∷◌, ◌++◌, length, append_assoc}
 use Rattle.std.proofs.Common.{refl, sym, ap, ◌∙◌, subst, arith}
 use Rattle.std.proofs.lemmas.Bool.{and_parts}
 use Rattle.std.proofs.lemmas.Option.{same_Some}
-use Rattle.std.specs.Prelude.{if◌then◌else◌, Option, Some, None, is_none, is_some, max, slice_get, slice_index_or, slice_set, ◌==◌, ◌&&◌}
+use Rattle.std.specs.Prelude.{if◌then◌else◌, Option, Some, None, is_none, max, slice_get, slice_index_or, slice_set, ◌==◌, ◌&&◌}
 use Rattle.fabric_model.specs.declared.cable.NodePort.{NodePort}
 use Rattle.smp_bytes.specs.Field.{with_bytes}
 use Rattle.node_agents.specs.Agent.{fresh_agent}
@@ -14,7 +14,6 @@ use Rattle.reply_facts.specs.declared.key.Key.TheVariants.{Node as NodeKey, Port
 use Rattle.reply_facts.specs.declared.value.Value.TheVariants.{Kind, Guid, Peer, Up, Lid, Count}
 use Rattle.reply_facts.specs.Report.{Sightings}
 use Rattle.fact_store.specs.View.{cells_of, no_facts}
-use Rattle.fact_store.proofs.Entries.{cells_of_view, entries-view}
 use Rattle.subnet_view.specs.Agreement.{AgreesOn, Part}
 use Rattle.subnet_view.specs.Reading.{Cells}
 use Rattle.lft_blocks.specs.Arrival.{HoldsPlan}
@@ -22,29 +21,26 @@ use Rattle.plan_steps.specs.Phases.{Phase}
 use Rattle.sm_manager.specs.Writing.{begun_with, is_written}
 use Rattle.lft_blocks.specs.Plan.{plan_of}
 use Rattle.lft_blocks.specs.Rules.{up_and_down}
-use Rattle.fabric_model.specs.Fabric.{IsEndPortNumber, Node}
 use Rattle.fabric_model.specs.FabricWalks.{IsJoinedTo}
 use Rattle.fabric_sim.specs.Simulation.{fabric_of}
 use Rattle.fabric_sim.specs.Delivery.{outcome_of, after_deliver}
 use Rattle.fabric_sim.specs.Changes.{after_inject, after_lose, cabled_at}
-use Rattle.sweep.specs.Sweep.{started}
 use Rattle.sm_manager.specs.declared.fault.ManagerFault.{ManagerFault}
-use Rattle.sm_manager.specs.declared.fault.ManagerFault.TheVariants.{GenerationsSpent}
 use Rattle.sm_manager.specs.Plans.{writing_fault}
-use Rattle.sm_manager.specs.Manager.{Manager, begin_fault, new_manager, newest_held, with_sweep}
-use Rattle.sm_state.specs.Standing.{active_once_more}
-use Rattle.manager_laws.specs.Complete.{IsWhole}
-use Rattle.manager_laws.specs.Scene.{Deliver, Lose, Repeat, Send as SendFrom}
+use Rattle.sm_manager.specs.Manager.{Manager, begin_fault, newest_held}
+use Rattle.manager_laws.specs.Scene.{Deliver, Lose, Repeat}
 use Rattle.manager_laws.specs.Managing as one
 use Rattle.manager_laws.specs.Managing.{Managing, Starts, after_manager_event}
-use Rattle.manager_laws.proofs.Computed.{fault_is, fault_with, joined_told, merged_with, one as told, one_view, phases_with, sweep_in, sweep_there, writes_by}
+use Rattle.manager_laws.proofs.Computed.{one as told}
+use Rattle.manager_laws.proofs.NewManagers as managers
+use Rattle.manager_laws.proofs.BringUpEvents.{there_and_back}
+use Rattle.manager_laws.proofs.NewManagers.{HasSwept}
 use Rattle.manager_laws.proofs.ExampleFabric.{port}
 use Rattle.manager_laws.proofs.Generations.{nothing_found, nothing_newest}
 use Rattle.takeover_laws.proofs.Example as alone
 use Rattle.takeover_laws.proofs.Example.{its_planning}
 use Rattle.takeover_laws.specs.Takeover.{plan_by_it}
 use Rattle.takeover_laws.proofs.ExampleFabric.{distinct, is_network, network}
-use Rattle.manager_laws.proofs.Rests.{new_managers_rest}
 use Rattle.masters_laws.specs.Masters.{AllCanBe, Around, At, CanBe, IsAt, IsItsOwn, IsWholeSweep, Masters, MastersEvent, Seated, StartTogether}
 use Rattle.masters_laws.specs.Masters.{WritesWhole, acting, after_masters_event, after_masters_events, seated_after, seen_by}
 use Rattle.masters_laws.specs.InForce.{AllHold, AllSweepWhole, HasWritten, ShareLids, SomeMastersWriteAtOnce, SweepsWhole, WriteNothing, WritesNothing}
@@ -58,28 +54,23 @@ abbrev pub seated : ℕ → Manager → Bool → Seated
 seated node m swept = record { seat = port node 1; manager = m; out = []; has_swept = swept; knows_one_sweep = swept }
 
 abbrev pub fresh : ℕ → Manager
-fresh guid = new_manager guid 1 0 Plain its_planning
+fresh guid = managers.fresh guid Plain its_planning
 
 abbrev pub beginning : Masters
 beginning = record { scene = record { fabric = network; handed = [] }; managers = seated 0 (fresh 17) false ∷ seated 2 (fresh 49) false ∷ [] }
 
 -- as it is when its first sweep has begun
 abbrev pub sweeper : ℕ → ℕ → Manager
-sweeper guid generation = with_sweep (record (fresh guid) { standing = active_once_more (fresh guid).standing; seen = [] }) (started 1 generation 1 false)
+sweeper guid generation = managers.sweeper guid Plain its_planning generation
 
 abbrev pub sweeping_both : Masters
 sweeping_both =
     record { scene = record { fabric = network; handed = [] }; managers = seated 0 (sweeper 17 1) true ∷ seated 2 (sweeper 49 1) true ∷ [] }
 
--- so many deliveries of a packet
-abbrev deliveries : ℕ → ℕ → List MastersEvent
-deliveries hops serial = replicate (hops + 1) (Around (Deliver serial))
-
--- a request of a manager goes out over as many cables as its path has ports, and its answer comes back over as many
+-- a request of a manager, and its answer
 abbrev trip : ℕ → ℕ → ℕ → ℕ → ℕ → List MastersEvent
 trip which number hops serial heard =
-    At which one.Take ∷ At which (one.Send number)
-    ∷ (deliveries hops serial ++ (deliveries hops (serial + 1) ++ At which (one.Hear heard) ∷ []))
+    At which one.Take ∷ At which (one.Send number) ∷ there_and_back Around hops serial (At which (one.Hear heard) ∷ [])
 
 -- first of the one and then of the other
 abbrev trips : ℕ → ℕ → List MastersEvent
@@ -103,7 +94,7 @@ seated_at which = slice_index_or swept.managers which (seated 0 (fresh 17) false
 -- how they begin -------------------------------------------------------------------------------------------------------
 
 may_begin : (guid : ℕ) → begin_fault (fresh guid) ≡ None
-may_begin guid = ap (λ n. if n == 2 ^ 32 - 1 then Some GenerationsSpent else None) nothing_newest
+may_begin guid = managers.may_begin guid Plain its_planning
 
 -- by what forbids their sweeps, and what is known at first
 abbrev begun_at : ℕ → Manager → Manager → Option ManagerFault → Cells → Seated
@@ -135,44 +126,18 @@ begun =
 
 -- what their sweeps end with ----------------------------------------------------------------------------------------------
 
-record HasAnswers (m : Seated) : Type 0 where
-  pub whole : IsWhole (sweep_in m.manager.sweep)
-  pub is_sweep : is_some m.manager.sweep ≡ true
-  pub planning : m.manager.planning ≡ its_planning
+record HasAnswers (replies : List Sightings) (m : Seated) : Type 0 where
+  pub swept : HasSwept its_planning replies m.manager
   pub knows : m.knows_one_sweep ≡ true
 
-first_answers : HasAnswers (seated_at 0)
-unfolding cabled_at fresh_agent after_inject after_deliver after_lose outcome_of after_answer get_of set_of changed_port with_bytes
-first_answers = record { whole = record { done = refl; answered = refl; near = refl }; is_sweep = refl; planning = refl; knows = refl }
-
-second_answers : HasAnswers (seated_at 1)
-unfolding cabled_at fresh_agent after_inject after_deliver after_lose outcome_of after_answer get_of set_of changed_port with_bytes
-second_answers = record { whole = record { done = refl; answered = refl; near = refl }; is_sweep = refl; planning = refl; knows = refl }
-
-first_at : IsAt swept 0 (seated_at 0)
-unfolding cabled_at fresh_agent after_inject after_deliver after_lose outcome_of after_answer get_of set_of changed_port with_bytes
-first_at = refl
-
-second_at : IsAt swept 1 (seated_at 1)
-unfolding cabled_at fresh_agent after_inject after_deliver after_lose outcome_of after_answer get_of set_of changed_port with_bytes
-second_at = refl
-
 -- the one was told what a manager on its own is told
-merged_first : (seated_at 0).manager.store ≡ merged_with no_facts alone.replies
+first_answers : HasAnswers alone.replies (seated_at 0)
 unfolding cabled_at fresh_agent after_inject after_deliver after_lose outcome_of after_answer get_of set_of changed_port with_bytes
-merged_first = refl
-
-known_first : cells_of (seated_at 0).manager.store ≡ alone.cells
-known_first = ap cells_of (merged_first ∙ one_view [] alone.replies) ∙ entries-view alone.all_told
-
-no_fault_first : fault_with its_planning (seated_at 0).manager (Some (sweep_in (seated_at 0).manager.sweep)) alone.cells ≡ None
-unfolding cabled_at fresh_agent after_inject after_deliver after_lose outcome_of after_answer get_of set_of changed_port with_bytes
-no_fault_first = refl
-
-first_writes : writing_fault (seated_at 0).manager ≡ None
-first_writes =
-    fault_is (seated_at 0).manager its_planning (Some (sweep_in (seated_at 0).manager.sweep)) alone.cells first_answers.planning
-    (sweep_there (seated_at 0).manager.sweep first_answers.is_sweep) known_first ∙ no_fault_first
+first_answers =
+    record {
+      swept = record { whole = record { done = refl; answered = refl; near = refl }; swept = refl; planning_is = refl; store_is = refl; no_fault = refl };
+      knows = refl;
+    }
 
 -- the other one from its side
 abbrev replies : List Sightings
@@ -187,24 +152,27 @@ replies =
     ∷ (told (NodeKey 16) (Kind ChannelAdapter 1) ∷ told (PortGuid 16 1) (Guid 17) ∷ told (Link 16 1) (Peer 32 1) ∷ told (Link 32 1) (Peer 16 1) ∷ [])
     ∷ (told (PortKey 16 1) (Up true) ∷ told (Claim 16 1) (Lid 2) ∷ []) ∷ []
 
-merged_second : (seated_at 1).manager.store ≡ merged_with no_facts replies
+second_answers : HasAnswers replies (seated_at 1)
 unfolding cabled_at fresh_agent after_inject after_deliver after_lose outcome_of after_answer get_of set_of changed_port with_bytes
-merged_second = refl
+second_answers =
+    record {
+      swept = record { whole = record { done = refl; answered = refl; near = refl }; swept = refl; planning_is = refl; store_is = refl; no_fault = refl };
+      knows = refl;
+    }
 
-abbrev cells : Cells
-cells = cells_of_view (joined_told [] replies)
-
-known_second : cells_of (seated_at 1).manager.store ≡ cells
-known_second = ap cells_of (merged_second ∙ one_view [] replies) ∙ entries-view (joined_told [] replies)
-
-no_fault_second : fault_with its_planning (seated_at 1).manager (Some (sweep_in (seated_at 1).manager.sweep)) cells ≡ None
+first_at : IsAt swept 0 (seated_at 0)
 unfolding cabled_at fresh_agent after_inject after_deliver after_lose outcome_of after_answer get_of set_of changed_port with_bytes
-no_fault_second = refl
+first_at = refl
+
+second_at : IsAt swept 1 (seated_at 1)
+unfolding cabled_at fresh_agent after_inject after_deliver after_lose outcome_of after_answer get_of set_of changed_port with_bytes
+second_at = refl
+
+first_writes : writing_fault (seated_at 0).manager ≡ None
+first_writes = managers.may_write its_planning alone.replies (seated_at 0).manager first_answers.swept
 
 second_writes : writing_fault (seated_at 1).manager ≡ None
-second_writes =
-    fault_is (seated_at 1).manager its_planning (Some (sweep_in (seated_at 1).manager.sweep)) cells second_answers.planning
-    (sweep_there (seated_at 1).manager.sweep second_answers.is_sweep) known_second ∙ no_fault_second
+second_writes = managers.may_write its_planning replies (seated_at 1).manager second_answers.swept
 
 -- what may happen -----------------------------------------------------------------------------------------------------------
 
@@ -213,18 +181,12 @@ abbrev is_plain : MastersEvent → Bool
 is_plain (Around (Deliver n)) = true
 is_plain (Around (Lose n)) = true
 is_plain (Around (Repeat n)) = true
-is_plain (Around (SendFrom seat sending)) = false
-is_plain (At which (one.Around event)) = false
 is_plain (At which one.Begin) = true
-is_plain (At which one.Write) = false
 is_plain (At which one.Take) = true
 is_plain (At which (one.Send number)) = true
 is_plain (At which (one.Hear number)) = true
 is_plain (At which (one.TimeOut transaction)) = true
-is_plain (At which (one.Raise floor)) = false
-is_plain (At which (one.Merge floor sightings)) = false
-is_plain (At which (one.Poll lid)) = false
-is_plain (At which one.HandOver) = false
+is_plain event = false
 
 abbrev are_plain : List MastersEvent → Bool
 are_plain [] = true
@@ -240,18 +202,12 @@ plain_may : (t : Masters) (event : MastersEvent) → is_plain event ≡ true →
 plain_may t (Around (Deliver n)) e = ((tt, λ which m there. tt), tt)
 plain_may t (Around (Lose n)) e = ((tt, λ which m there. tt), tt)
 plain_may t (Around (Repeat n)) e = ((tt, λ which m there. tt), tt)
-plain_may t (Around (SendFrom seat sending)) e = absurd (cc)
-plain_may t (At which (one.Around event)) e = absurd (cc)
 plain_may t (At which one.Begin) e = (λ m there. (tt, tt), λ m there. tt)
-plain_may t (At which one.Write) e = absurd (cc)
 plain_may t (At which one.Take) e = (λ m there. (tt, tt), λ m there. tt)
 plain_may t (At which (one.Send number)) e = (λ m there. (tt, tt), λ m there. tt)
 plain_may t (At which (one.Hear number)) e = (λ m there. (tt, tt), λ m there. tt)
 plain_may t (At which (one.TimeOut transaction)) e = (λ m there. (tt, tt), λ m there. tt)
-plain_may t (At which (one.Raise floor)) e = absurd (cc)
-plain_may t (At which (one.Merge floor sightings)) e = absurd (cc)
-plain_may t (At which (one.Poll lid)) e = absurd (cc)
-plain_may t (At which one.HandOver) e = absurd (cc)
+plain_may t event e = absurd (cc)
 
 all_plain_may : (events : List MastersEvent) (t : Masters) → are_plain events ≡ true → AllMay events t
 all_plain_may [] t e = (tt, tt)
@@ -270,17 +226,12 @@ plain_writes_nothing which (event ∷ events) t e =
   where
     by_event : (event : MastersEvent) → is_plain event ≡ true → WritesNothing which t event
     by_event (Around event) e = tt
-    by_event (At other (one.Around event)) e = absurd (cc)
     by_event (At other one.Begin) e = λ same m there. tt
-    by_event (At other one.Write) e = absurd (cc)
     by_event (At other one.Take) e = λ same m there. tt
     by_event (At other (one.Send number)) e = λ same m there. tt
     by_event (At other (one.Hear number)) e = λ same m there. tt
     by_event (At other (one.TimeOut transaction)) e = λ same m there. tt
-    by_event (At other (one.Raise floor)) e = absurd (cc)
-    by_event (At other (one.Merge floor sightings)) e = absurd (cc)
-    by_event (At other (one.Poll lid)) e = absurd (cc)
-    by_event (At other one.HandOver) e = absurd (cc)
+    by_event event e = absurd (cc)
 
 may_append : (es fs : List MastersEvent) (t : Masters) → AllMay es t → AllMay fs (after_masters_events es t) → AllMay (es ++ fs) t
 may_append [] fs t now later = later
@@ -289,12 +240,12 @@ may_append (e ∷ es) fs t now later =
     ((now.0.0, rest.0), (now.1.0, rest.1))
 
 -- a manager writes whose sweep has every answer
-answers_may : (t : Masters) (which : ℕ) (m : Seated) → IsAt t which m → HasAnswers m → May t (At which one.Write)
-answers_may t which m there has = (
+answers_may : (t : Masters) (which : ℕ) (m : Seated) (replies : List Sightings) → IsAt t which m → HasAnswers replies m → May t (At which one.Write)
+answers_may t which m replies there has = (
   λ n at. subst (λ (x : Seated). IsItsOwn one.Write × one.CanBe x.seat one.Write) (same_Some _ _ (sym there ∙ at))
       (tt, tt),
   λ n at. subst (λ (x : Seated). WritesWhole x one.Write) (same_Some _ _ (sym there ∙ at))
-      (λ none. (has.knows, subst IsWholeSweep (sym (sweep_there m.manager.sweep has.is_sweep)) has.whole)),
+      (λ none. (has.knows, subst IsWholeSweep (sym (managers.sweep_is its_planning replies m.manager has.swept)) has.swept.whole)),
 )
 
 abbrev pub sweeping : List MastersEvent
@@ -325,10 +276,10 @@ second_still = by_first (slice_get swept.managers 0)
 
 -- each by the phases of its plan
 abbrev first_phases : List Phase
-first_phases = phases_with its_planning (seated_at 0).manager (Some (sweep_in (seated_at 0).manager.sweep)) alone.cells
+first_phases = managers.phases_then its_planning alone.replies (seated_at 0).manager
 
 abbrev second_phases : List Phase
-second_phases = phases_with its_planning (seated_at 1).manager (Some (sweep_in (seated_at 1).manager.sweep)) cells
+second_phases = managers.phases_then its_planning replies (seated_at 1).manager
 
 -- a manager whose writing by these phases has begun
 abbrev writer : Seated → List Phase → Seated
@@ -350,12 +301,10 @@ both_write : after_masters_event (after_masters_event swept (At 0 one.Write)) (A
 both_write =
     ap (λ t. after_masters_event t (At 1 one.Write))
     (writes_at swept 0 (seated_at 0) first_phases first_at
-    (writes_by (seen_by swept.scene (seated_at 0)) its_planning (Some (sweep_in (seated_at 0).manager.sweep)) alone.cells first_answers.planning
-    (sweep_there (seated_at 0).manager.sweep first_answers.is_sweep) known_first first_writes))
+    (managers.writes its_planning alone.replies (seen_by swept.scene (seated_at 0)) first_answers.swept))
     ∙ writes_at (record { scene = swept.scene; managers = slice_set swept.managers 0 (writer (seated_at 0) first_phases) }) 1 (seated_at 1) second_phases
     (set_elsewhere swept.managers 0 1 (writer (seated_at 0) first_phases) (λ e. absurd (omega (arith, e))) ∙ second_at)
-    (writes_by (seen_by swept.scene (seated_at 1)) its_planning (Some (sweep_in (seated_at 1).manager.sweep)) cells second_answers.planning
-    (sweep_there (seated_at 1).manager.sweep second_answers.is_sweep) known_second second_writes)
+    (managers.writes its_planning replies (seen_by swept.scene (seated_at 1)) second_answers.swept)
 
 -- both are there
 two_there : (xs : List Seated) (a b c d : Seated) → slice_get xs 0 ≡ Some a → slice_get xs 1 ≡ Some b → length xs ≡ 2
@@ -401,8 +350,8 @@ all_may =
   where
     writes : AllMay (At 0 one.Write ∷ At 1 one.Write ∷ writing) swept
     writes =
-        let first = answers_may swept 0 (seated_at 0) first_at first_answers in
-        let second = answers_may first_writing 1 (seated_at 1) second_still second_answers in
+        let first = answers_may swept 0 (seated_at 0) alone.replies first_at first_answers in
+        let second = answers_may first_writing 1 (seated_at 1) replies second_still second_answers in
         let later = all_plain_may writing (after_masters_event first_writing (At 1 one.Write)) refl in
         ((first.0, (second.0, later.0)), (first.1, (second.1, later.1)))
 
@@ -432,23 +381,12 @@ agrees_second =
 -- each end port that there is holds it
 holds_by : (part : Part) → HoldsPlan part (plan_by_it its_planning alone.swept.manager.store) (fabric_of network)
 holds_by part =
-    subst (λ c. HoldsPlan part (plan_of up_and_down 0 c) (fabric_of network)) (sym alone.known)
-    (λ q node is. let (other, there, number) = is.end_port in
-    alone.holds_at q.node q.port node is.node_there
-    (subst (λ (n : Node). IsEndPortNumber n q.port) (same_Some _ _ (sym there ∙ is.node_there)) number))
+    subst (λ c. HoldsPlan part (plan_of up_and_down 0 c) (fabric_of network)) (sym alone.known_is)
+    (alone.holds_in part)
 
 starts_second : Starts (seen_by beginning.scene (seated 2 (fresh 49) false))
 unfolding cabled_at fresh_agent
-starts_second =
-    record {
-      quiet = record { fabric = is_network; flights = refl; handed = refl };
-      distinct = distinct;
-      seat = refl;
-      port = refl;
-      lmc = omega arith;
-      at_rest = new_managers_rest 49 1 0 Plain its_planning;
-      out = refl;
-    }
+starts_second = managers.new_starts 49 Plain its_planning network 2 is_network refl distinct refl (omega arith)
 
 -- of one of two
 by_two : (P : ℕ → Seated → Type 0) → P 0 (seated 0 (fresh 17) false) → P 1 (seated 2 (fresh 49) false) → (which : ℕ) (m : Seated)

@@ -145,9 +145,7 @@ asks_itself bytes = record { method_is = refl; attribute_is = refl; modifier_is 
 abbrev HarmlessOutcome : List ℕ → Outcome → Type 0
 HarmlessOutcome old (Moves whereabouts packet) = IsHarmless packet.bytes
 HarmlessOutcome old (Asks request slid dlid) = IsHarmless request × AskSame request old
-HarmlessOutcome old (HandsUp packet) = Unit {0}
-HarmlessOutcome old (Represses number) = Unit {0}
-HarmlessOutcome old (Drops reason) = Unit {0}
+HarmlessOutcome old outcome = Unit {0}
 
 module _ (s : Simulation) (p : NodePort) (old : List ℕ) where
   abbrev Fine : Outcome → Type 0
@@ -250,10 +248,6 @@ module _ (Sends : NodePort → List ℕ → Type 0) (Tells : NodePort → NodePo
           let clash : get_resp ≡ set = sym answers ∙ sets in absurd (omega (arith, clash))
 
   module _ (n : ℕ) where
-    -- what is so of a delivery's outcome
-    Done : Called Delivered → Type 0
-    Done c = AreHarmless c.fabric.flights
-
     by_outcome : (flight : Flight) (o : Outcome) → Fares Sends Tells start (port_of flight.whereabouts) o → HarmlessOutcome flight.packet.bytes o
         → AreHarmless (after_outcome s flight o).fabric.flights
     unfolding Fares
@@ -262,9 +256,7 @@ module _ (Sends : NodePort → List ℕ → Type 0) (Tells : NodePort → NodePo
         cond_both (s.next == 2 ^ 64) _ _ (λ (c : Called Delivered). AreHarmless c.fabric.flights) (λ _. harmless)
         (λ _. harmless_more (without_flight s.flights flight.serial) _ (harmless_without s.flights flight.serial harmless)
         (answer_harmless (port_of flight.whereabouts) request well its.0))
-    by_outcome flight (HandsUp packet) well its = harmless_without s.flights flight.serial harmless
-    by_outcome flight (Represses number) well its = harmless_without s.flights flight.serial harmless
-    by_outcome flight (Drops reason) well its = harmless_without s.flights flight.serial harmless
+    by_outcome flight outcome well its = harmless_without s.flights flight.serial harmless
 
     pub delivered_harmless : AreHarmless (after_deliver s n).fabric.flights
     unfolding after_deliver

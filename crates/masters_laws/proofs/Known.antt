@@ -1,6 +1,6 @@
 -- A manager knows one sweep exactly where it began one as it knew nothing, and learnt of nothing else since.
 use Rattle.std.proofs.Common.{◌≡◌, ◌≢◌, ◌⊎◌, inl, inr, ℕ, Bool, true, false, cond, List, [], ◌∷◌, ◌++◌, length, refl, sym, ap, ◌∙◌, subst}
-use Rattle.std.proofs.lemmas.Bool.{and_from, and_parts, eq-eqb, eqb-true, eqb-false, le-leb, leb-true}
+use Rattle.std.proofs.lemmas.Bool.{and_from, eq-eqb, eqb-true, eqb-false, le-leb}
 use Rattle.std.proofs.lemmas.Option.{same_Some}
 use Rattle.std.specs.Prelude.{Option, Some, None, is_none, nat_le, slice_get, ◌==◌, ◌&&◌}
 use Rattle.fact_store.specs.View.{cells_of}
@@ -12,7 +12,7 @@ use Rattle.manager_laws.proofs.Before.{is_none-none, none-is_none, some-is_none}
 use Rattle.masters_laws.specs.Masters.{Around, At, IsAt, Masters, MastersEvent, Seated, acting, after_masters_event, after_masters_events, has_swept_after}
 use Rattle.masters_laws.specs.Masters.{knows_one_after, seated_after, seen_by}
 use Rattle.masters_laws.specs.Known.{BeganSweep, HasSweptMeans, KnowsOneSweepMeans, LearnNothingElse, LearnsNothingElse, LearntFromOne}
-use Rattle.masters_laws.proofs.Side.{none_of}
+use Rattle.masters_laws.proofs.Side.{knows_by, swept_still}
 use Rattle.masters_laws.proofs.Together.{set_elsewhere, set_there}
 
 pub after_both : (es fs : List MastersEvent) (t : Masters) → after_masters_events (es ++ fs) t ≡ after_masters_events fs (after_masters_events es t)
@@ -67,77 +67,17 @@ swept_by m one.Begin e = by_fault (is_none (begin_fault m.manager)) refl e
         → (m.has_swept ≡ true) ⊎ ((one.Begin ≡ one.Begin) × (begin_fault m.manager ≡ None))
     by_fault true none h = inr (refl, is_none-none _ none)
     by_fault false some h = inl h
-swept_by m (one.Around event) e = inl e
-swept_by m one.Write e = inl e
-swept_by m one.Take e = inl e
-swept_by m (one.Send which) e = inl e
-swept_by m (one.Hear which) e = inl e
-swept_by m (one.TimeOut transaction) e = inl e
-swept_by m (one.Raise floor) e = inl e
-swept_by m (one.Merge floor sightings) e = inl e
-swept_by m (one.Poll lid) e = inl e
-swept_by m one.HandOver e = inl e
-
--- and goes on having swept
-swept_still : (m : Seated) (own : ManagerEvent) → m.has_swept ≡ true → has_swept_after m own ≡ true
-swept_still m one.Begin e = by_fault (is_none (begin_fault m.manager))
-  where
-    by_fault : (b : Bool) → cond b true m.has_swept ≡ true
-    by_fault true = refl
-    by_fault false = e
-swept_still m (one.Around event) e = e
-swept_still m one.Write e = e
-swept_still m one.Take e = e
-swept_still m (one.Send which) e = e
-swept_still m (one.Hear which) e = e
-swept_still m (one.TimeOut transaction) e = e
-swept_still m (one.Raise floor) e = e
-swept_still m (one.Merge floor sightings) e = e
-swept_still m (one.Poll lid) e = e
-swept_still m one.HandOver e = e
-
--- it knows one sweep by an event of its own where it had before and learns of nothing else, or a sweep begins as it knows nothing
-knows_by : (t : Masters) (m : Seated) (own : ManagerEvent) → knows_one_after m own ≡ true
-    → ((m.knows_one_sweep ≡ true) × BeginsNoSweep (seen_by t.scene m) own)
-    ⊎ ((own ≡ one.Begin) × (begin_fault m.manager ≡ None) × (cells_of m.manager.store ≡ []))
-knows_by t m one.Begin e = by_fault (is_none (begin_fault m.manager)) refl e
-  where
-    by_fault : (b : Bool) → is_none (begin_fault m.manager) ≡ b → cond b (length (cells_of m.manager.store) == 0) m.knows_one_sweep ≡ true
-        → ((m.knows_one_sweep ≡ true) × (begin_fault m.manager ≢ None))
-        ⊎ ((one.Begin ≡ one.Begin) × (begin_fault m.manager ≡ None) × (cells_of m.manager.store ≡ []))
-    by_fault true none h = inr (refl, is_none-none _ none, none_of (cells_of m.manager.store) h)
-    by_fault false some h = inl (h, λ none. cc (sym some ∙ none-is_none _ none))
-knows_by t m (one.Around event) e = inl (e, tt)
-knows_by t m one.Write e = inl (e, tt)
-knows_by t m one.Take e = inl (e, tt)
-knows_by t m (one.Send which) e = inl (e, tt)
-knows_by t m (one.Hear which) e = inl (e, tt)
-knows_by t m (one.TimeOut transaction) e = inl (e, tt)
-knows_by t m (one.Raise floor) e =
-    let parts = and_parts m.knows_one_sweep (nat_le floor m.manager.store.floor) e in inl (parts.0, leb-true _ _ parts.1)
-knows_by t m (one.Merge floor sightings) e =
-    let parts = and_parts m.knows_one_sweep (length sightings == 0 && nat_le floor m.manager.store.floor) e in
-    let both = and_parts (length sightings == 0) (nat_le floor m.manager.store.floor) parts.1 in
-    inl (parts.0, (none_of sightings both.0, leb-true _ _ both.1))
-knows_by t m (one.Poll lid) e = inl (e, tt)
-knows_by t m one.HandOver e = inl (e, tt)
+swept_by m event e = inl e
 
 -- and goes on knowing it
 knows_still : (t : Masters) (m : Seated) (own : ManagerEvent) → m.knows_one_sweep ≡ true → BeginsNoSweep (seen_by t.scene m) own
     → knows_one_after m own ≡ true
 knows_still t m one.Begin e refused = ap (λ b. cond b (length (cells_of m.manager.store) == 0) m.knows_one_sweep) (some-is_none _ refused) ∙ e
-knows_still t m (one.Around event) e quiet = e
-knows_still t m one.Write e quiet = e
-knows_still t m one.Take e quiet = e
-knows_still t m (one.Send which) e quiet = e
-knows_still t m (one.Hear which) e quiet = e
-knows_still t m (one.TimeOut transaction) e quiet = e
 knows_still t m (one.Raise floor) e low = and_from m.knows_one_sweep (nat_le floor m.manager.store.floor) e (le-leb _ _ low)
 knows_still t m (one.Merge floor sightings) e (none, low) =
     and_from m.knows_one_sweep (length sightings == 0 && nat_le floor m.manager.store.floor) e
     (and_from (length sightings == 0) (nat_le floor m.manager.store.floor) (eq-eqb (length sightings) 0 (ap length none)) (le-leb _ _ low))
-knows_still t m (one.Poll lid) e quiet = e
-knows_still t m one.HandOver e quiet = e
+knows_still t m event e quiet = e
 
 -- runs ----------------------------------------------------------------------------------------------------------------
 
@@ -258,7 +198,7 @@ knows_split (event ∷ events) t which m later there at knows =
           ap (λ (x : Seated). x.knows_one_sweep) (sym same.0) ∙ now.0,
           (learns_by t event which m there (λ own e. absurd (same.1 own e)), now.1),
         )
-        | inr (own, is, sweeps, told) ↦ elim (knows_by t m own (sym told ∙ now.0)) [
+        | inr (own, is, sweeps, told) ↦ elim (knows_by t.scene m own (sym told ∙ now.0)) [
           | inl old ↦ inl (
             old.0,
             (

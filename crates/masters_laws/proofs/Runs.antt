@@ -2,13 +2,14 @@
 use Rattle.std.proofs.Common.{◌≡◌, ◌≢◌, inl, inr, ℕ, Bool, true, false, cond, List, [], ◌∷◌, ◌++◌, refl, sym, ap, ◌∙◌, subst, append_assoc}
 use Rattle.std.proofs.lemmas.Bool.{eqb-true, eqb-false}
 use Rattle.std.proofs.lemmas.Option.{same_Some}
-use Rattle.std.proofs.lemmas.List.Elements.{All-nil, All-cons, All-head, All-tail}
-use Rattle.std.specs.Prelude.{Option, Some, None, All, is_none, slice_get, ◌==◌}
+use Rattle.std.proofs.lemmas.List.Elements.{All-nil, All-push}
+use Rattle.std.specs.Prelude.{Option, Some, None, is_none, slice_get, ◌==◌}
 use Rattle.lft_blocks.specs.Plan.{PlanValue}
 use Rattle.sm_manager.specs.Manager.{begin_fault}
 use Rattle.manager_laws.specs.Scene.{Scene, Event, CanSend, Send as SendFrom, after_event, sent, sent_from}
 use Rattle.manager_laws.specs.Managing as one
 use Rattle.manager_laws.specs.Managing.{Managing, ManagerEvent, after_manager_event, after_manager_events, packet_of}
+use Rattle.manager_laws.proofs.RunParts.{events_behind}
 use Rattle.manager_laws.specs.Written.{BeginsNoWriting, BeginsSweep, SweepsFirst, plan_at}
 use Rattle.manager_laws.proofs.Before.{before_goes, event_goes, is_none-none}
 use Rattle.manager_laws.proofs.Fair.{own_there}
@@ -36,15 +37,6 @@ what_is_given_out_can_be_sent w events starts first all which o there =
     }
 
 -- runs one after the other -----------------------------------------------------------------------------------------
-
-pub all_more : {X : Type 0} (P : X → Type 0) (xs : List X) (x : X) → All P xs → P x → All P (xs ++ x ∷ [])
-all_more P [] x all is = All-cons P x [] is (All-nil P)
-all_more P (y ∷ xs) x all is = All-cons P y (xs ++ x ∷ []) (All-head P y xs all) (all_more P xs x (All-tail P y xs all) is)
-
-events_more : (events : List ManagerEvent) (event : ManagerEvent) (w : Managing)
-    → after_manager_events (events ++ event ∷ []) w ≡ after_manager_event (after_manager_events events w) event
-events_more [] event w = refl
-events_more (e ∷ events) event w = events_more events event (after_manager_event w e)
 
 -- a sweep has begun, so whatever follows, no writing begins before one
 abbrev Swept : List ManagerEvent → Managing → Type 0
@@ -77,15 +69,7 @@ newly scene m one.Begin its e knows = by_fault (is_none (begin_fault m.manager))
         → begin_fault m.manager ≡ None
     by_fault true none k = is_none-none _ none
     by_fault false some k = absurd (cc (sym e ∙ k))
-newly scene m one.Write its e knows = absurd (cc (sym e ∙ knows))
-newly scene m one.Take its e knows = absurd (cc (sym e ∙ knows))
-newly scene m (one.Send which) its e knows = absurd (cc (sym e ∙ knows))
-newly scene m (one.Hear which) its e knows = absurd (cc (sym e ∙ knows))
-newly scene m (one.TimeOut transaction) its e knows = absurd (cc (sym e ∙ knows))
-newly scene m (one.Raise floor) its e knows = absurd (cc (sym e ∙ knows))
-newly scene m (one.Merge floor sightings) its e knows = absurd (cc (sym e ∙ knows))
-newly scene m (one.Poll lid) its e knows = absurd (cc (sym e ∙ knows))
-newly scene m one.HandOver its e knows = absurd (cc (sym e ∙ knows))
+newly scene m event its e knows = absurd (cc (sym e ∙ knows))
 
 module _ (t0 : Masters) (starts : StartTogether t0) (plan : PlanValue) where
   pub record Runs (t : Masters) (which : ℕ) (m0 : Seated) : Type 0 where
@@ -106,11 +90,11 @@ module _ (t0 : Masters) (starts : StartTogether t0) (plan : PlanValue) where
       record {
         run = record {
           events = r.run.events ++ one.Around event ∷ [];
-          can_be = all_more (one.CanBe m0.seat) r.run.events (one.Around event) r.run.can_be (subst (λ p. one.CanBe p (one.Around event)) r.seat can_be);
+          can_be = All-push (one.CanBe m0.seat) r.run.events (one.Around event) r.run.can_be (subst (λ p. one.CanBe p (one.Around event)) r.seat can_be);
           sweeps_first = first_more r.run.events (one.Around event) (seen_by t0.scene m0) r.run.sweeps_first tt;
           later = r.run.later;
           there = there;
-          is = events_more r.run.events (one.Around event) (seen_by t0.scene m0) ∙ ap (λ w. after_manager_event w (one.Around event)) r.run.is
+          is = events_behind r.run.events (one.Around event ∷ []) (seen_by t0.scene m0) ∙ ap (λ w. after_manager_event w (one.Around event)) r.run.is
               ∙ ap (λ s. seen_by s r.run.later) (sym scene);
         };
         seat = r.seat;
@@ -146,11 +130,12 @@ module _ (t0 : Masters) (starts : StartTogether t0) (plan : PlanValue) where
       record {
         run = record {
           events = r.run.events ++ event ∷ [];
-          can_be = all_more (one.CanBe m0.seat) r.run.events event r.run.can_be (subst (λ p. one.CanBe p event) r.seat can_be);
+          can_be = All-push (one.CanBe m0.seat) r.run.events event r.run.can_be (subst (λ p. one.CanBe p event) r.seat can_be);
           sweeps_first = by_knowledge r.run.later.has_swept refl;
           later = seated_after m event w;
           there = set_there t.managers which (seated_after m event w) m r.run.there;
-          is = events_more r.run.events event (seen_by t0.scene m0) ∙ ap (λ x. after_manager_event x event) r.run.is ∙ sym (view_after t.scene m event);
+          is = events_behind r.run.events (event ∷ []) (seen_by t0.scene m0) ∙ ap (λ x. after_manager_event x event) r.run.is
+              ∙ sym (view_after t.scene m event);
         };
         seat = r.seat;
         swept = λ knows. by_before r.run.later.has_swept refl knows;

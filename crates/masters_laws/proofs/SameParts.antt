@@ -56,6 +56,18 @@ module _ (f : Fabric) (a b switch : NodePort) (one : IsAtSwitch f a switch) (oth
       joined_over f b switch p (suc zero, (switch, to_switch, inl refl, refl)) one.is_switch
       (n, subst (λ (x : NodePort). Walk f x p n) (first_wire c next) w)
 
+-- a wire of a part is one of any part that has its ports
+wire_in : (f : Fabric) (part same : Part) → ((p : NodePort) → part p → same p) → (g p h q : ℕ) → HasWire part f g p h q → HasWire same f g p h q
+wire_in f part same to g p h q has =
+    record {
+      from = has.from;
+      to = has.to;
+      from_named = has.from_named;
+      to_named = has.to_named;
+      wire = has.wire;
+      in_part = to (vertex_of f has.from) has.in_part;
+    }
+
 -- of two parts with the same ports
 module _ (f : Fabric) (part same : Part) (to : (p : NodePort) → part p → same p) (from : (p : NodePort) → same p → part p) (cells : Cells) where
   end_from : (port : NodePort) (node : fabrics.Node) → IsEndPortIn same f port node → IsEndPortIn part f port node
@@ -64,28 +76,6 @@ module _ (f : Fabric) (part same : Part) (to : (p : NodePort) → part p → sam
   end_to : (g p : ℕ) → HasEndPort part f g p → HasEndPort same f g p
   end_to g p has = record { port = has.port; named = has.named; end_port = has.end_port; in_part = to has.port has.in_part }
 
-  wire_to : (g p h q : ℕ) → HasWire part f g p h q → HasWire same f g p h q
-  wire_to g p h q has =
-      record {
-        from = has.from;
-        to = has.to;
-        from_named = has.from_named;
-        to_named = has.to_named;
-        wire = has.wire;
-        in_part = to (vertex_of f has.from) has.in_part;
-      }
-
-  wire_from : (g p h q : ℕ) → HasWire same f g p h q → HasWire part f g p h q
-  wire_from g p h q has =
-      record {
-        from = has.from;
-        to = has.to;
-        from_named = has.from_named;
-        to_named = has.to_named;
-        wire = has.wire;
-        in_part = from (vertex_of f has.from) has.in_part;
-      }
-
   pub agrees_too : AgreesOn part cells f → AgreesOn same cells f
   agrees_too agrees =
       record {
@@ -93,5 +83,8 @@ module _ (f : Fabric) (part same : Part) (to : (p : NodePort) → part p → sam
         tells_end_ports = λ port node is. agrees.tells_end_ports port node (end_from port node is);
         end_ports_exist = λ g p is. end_to g p (agrees.end_ports_exist g p is);
         switches_exist = λ g is. end_to g 0 (agrees.switches_exist g is);
-        wires = λ g p h q. (λ is. wire_to g p h q ((agrees.wires g p h q).0 is), λ has. (agrees.wires g p h q).1 (wire_from g p h q has));
+        wires = λ g p h q. (
+          λ is. wire_in f part same to g p h q ((agrees.wires g p h q).0 is),
+          λ has. (agrees.wires g p h q).1 (wire_in f same part from g p h q has),
+        );
       }

@@ -41,9 +41,7 @@ module _ (from : Scene) (plan : PlanValue) (IsSeat : NodePort → Type 0) where
 
   abbrev pub SentSo : Event → Type 0
   SentSo (Send seat sending) = SendsSo seat sending
-  SentSo (Deliver serial) = Unit {0}
-  SentSo (Lose serial) = Unit {0}
-  SentSo (Repeat serial) = Unit {0}
+  SentSo event = Unit {0}
 
   -- what is so at each moment: what is joined to each seat holds the plan's LIDs, and each port has its own
   pub record Stands (w : Scene) : Type 0 where

@@ -62,9 +62,6 @@ pub record Segment (Ok : Managing → ManagerEvent → Type 0) (t after : Master
   pub along : Along Ok events (seen_by t.scene m)
 
 module _ (facts : Facts) (planning : Planning) (t0 : Masters) (h : ShareLids facts planning t0) where
-  abbrev Stand : Masters → Type 0
-  Stand t = AllStand facts planning t0 h t
-
   pub one_step : (t : Masters) (event : MastersEvent) → AllStand facts planning t0 h t → CanBe t event → (which : ℕ) (m : Seated) → IsAt t which m
       → OneStep t event which m
   one_step t (Around event) all can_be which m there =

@@ -9,9 +9,8 @@ use Rattle.fact_store.specs.View.{Facts}
 use Rattle.fabric_sim.specs.Simulation.{AreCables, fabric_of, port_count}
 use Rattle.fabric_sim.proofs.TripEnds.{along_itself, few_ports}
 use Rattle.fabric_sim.proofs.TracedCalls.{AreTraced}
-use Rattle.lft_blocks.specs.Plan.{PlanValue}
 use Rattle.lft_blocks.specs.Planning.{Planning}
-use Rattle.manager_laws.specs.Scene.{Scene, ByLid, ByPath, Answer, Event, Deliver, Lose, Repeat, Send as SendFrom, CanHappen, after_event}
+use Rattle.manager_laws.specs.Scene.{Scene, ByLid, ByPath, Event, Send as SendFrom, CanHappen, after_event}
 use Rattle.manager_laws.specs.Managing as one
 use Rattle.manager_laws.specs.Managing.{Managing, ManagerEvent, Starts, after_manager_event}
 use Rattle.manager_laws.specs.Written.{plan_at}
@@ -20,6 +19,7 @@ use Rattle.manager_laws.proofs.Done.{seat_end}
 use Rattle.manager_laws.proofs.Fair.{AreOwnPackets}
 use Rattle.manager_laws.proofs.Goes.{Goes}
 use Rattle.manager_laws.proofs.Held as held_laws
+use Rattle.manager_laws.proofs.OneSweep.{first_begins, first_of}
 use Rattle.manager_laws.proofs.Sound.{CanBeSwept}
 use Rattle.manager_laws.proofs.Swept as swept_laws
 use Rattle.manager_laws.proofs.TracedScenes.{WereTraced}
@@ -38,7 +38,7 @@ use Rattle.masters_laws.specs.InForce.{SweepsWhole}
 use Rattle.masters_laws.proofs.Deliveries.{Sends, Tells}
 use Rattle.masters_laws.proofs.Harmless.{AreHarmless}
 use Rattle.masters_laws.proofs.Scenes.{SendsSo, SentSo, Stands, held_on, stands_on}
-use Rattle.masters_laws.proofs.Side.{Known, Old, SendsOne, Side, around_side, first_of, own_scene, own_side, same_plan, sending_so}
+use Rattle.masters_laws.proofs.Side.{Known, Old, SendsOne, Side, around_side, own_scene, own_side, same_plan, sending_so}
 
 -- lists -----------------------------------------------------------------------------------------------------------
 
@@ -101,12 +101,6 @@ still_apart t0 t starts stay which other m n there also same =
     starts.apart which other one.0 two.0 one.1 two.1 (one.2 ∙ same ∙ sym two.2)
 
 module _ (held : Facts) (planning : Planning) (t0 : Masters) (h : ShareLids held planning t0) where
-  abbrev from : Scene
-  from = t0.scene
-
-  abbrev plan : PlanValue
-  plan = plan_by_it planning held
-
   abbrev pub IsSeat : NodePort → Type 0
   IsSeat seat = (which : ℕ) × (m : Seated) × IsAt t0 which m × (m.seat ≡ seat)
 
@@ -118,17 +112,7 @@ module _ (held : Facts) (planning : Planning) (t0 : Masters) (h : ShareLids held
         has_room = h.has_room;
         agrees = h.agrees which m there;
         lids = h.lids which m there;
-        begins = λ at few keeps. record {
-          quiet = starts.quiet;
-          distinct = starts.distinct;
-          seat = starts.seat;
-          generation = few;
-          first = omega arith;
-          keeps = keeps;
-          sweep = refl;
-          asked = refl;
-          reports = refl;
-        };
+        begins = first_begins (seen_by t0.scene m) starts;
         ground = ground_of (seen_by t0.scene m) starts;
       }
 
@@ -176,14 +160,11 @@ module _ (held : Facts) (planning : Planning) (t0 : Masters) (h : ShareLids held
 
   -- others set nothing
   others_so : (event : Event) → CanHappen event → SetsInfoOnly event → SentSo t0.scene (plan_by_it planning held) IsSeat event
-  others_so (Deliver serial) can_happen nothing = tt
-  others_so (Lose serial) can_happen nothing = tt
-  others_so (Repeat serial) can_happen nothing = tt
   others_so (SendFrom seat (ByLid packet)) can_happen nothing = nothing
   others_so (SendFrom seat (ByPath method attribute modifier tid path payload)) (fits, low, short, begins) nothing = λ sets.
       let holds = (directed_reads_back method attribute modifier tid path payload fits short).0 in
       inl (holds.attribute_id ∙ nothing (sym holds.method ∙ sets))
-  others_so (SendFrom seat (Answer which given payload)) can_happen nothing = tt
+  others_so event can_happen nothing = tt
 
   -- something happens on the fabric
   around : (t : Masters) (event : Event) → AllStand t → CanBe t (Around event) → SetsInfoOnly event → AllStand (after_masters_event t (Around event))
@@ -199,9 +180,6 @@ module _ (held : Facts) (planning : Planning) (t0 : Masters) (h : ShareLids held
   -- a manager does something
   module _ (t : Masters) (all : AllStand t) (which : ℕ) (m : Seated) (there : IsAt t which m) (event : ManagerEvent) (its : IsItsOwn event)
       (can_be : one.CanBe m.seat event) (whole : WritesWhole m event) where
-    abbrev after : Managing
-    after = after_manager_event (seen_by t.scene m) event
-
     side : Side t0.scene held planning t.scene m
     side = all.sides which m there
 

@@ -31,11 +31,12 @@ use Rattle.manager_laws.proofs.Arrive.{holds_it}
 use Rattle.manager_laws.proofs.WritingTaken.{nodes_stay}
 use Rattle.takeover_laws.specs.Takeover.{no_sets, plan_by_it}
 use Rattle.takeover_laws.proofs.Seeing.{is_end}
-use Rattle.masters_laws.specs.Masters.{AllCanBe, Around, At, CanBe, IsAt, IsWholeSweep, Masters, MastersEvent, Seated, WritesWhole, after_masters_event}
+use Rattle.masters_laws.specs.Masters.{AllCanBe, Around, At, CanBe, IsAt, IsWholeSweep, Masters, MastersEvent, Seated, after_masters_event}
 use Rattle.masters_laws.specs.Masters.{after_masters_events, seen_by}
 use Rattle.masters_laws.specs.InForce.{AllHold, AllSweepWhole, HasWritten, ShareLids, SweepsWhole, WriteNothing, WrittenByOneIsHeld, WritesNothing}
 use Rattle.masters_laws.specs.Known.{LearnNothingElse, LearnsNothingElse, LearntFromOne}
-use Rattle.masters_laws.specs.Runs.{AllSweepBefore, OwnRun, SweepsBefore, WritesSwept}
+use Rattle.masters_laws.specs.Runs.{AllSweepBefore, OwnRun, SweepsBefore}
+use Rattle.masters_laws.proofs.Side.{swept_if}
 use Rattle.masters_laws.proofs.Deliveries.{taken_carries}
 use Rattle.masters_laws.proofs.Known.{after_both, knows_one_sweep_means}
 use Rattle.masters_laws.proofs.Runs.{all_run, first_run}
@@ -77,16 +78,7 @@ keeps_any plan own w (one.Around (Deliver n)) keeps = λ at a packet takes. elim
 keeps_any plan own w (one.Around (Lose n)) keeps = tt
 keeps_any plan own w (one.Around (Repeat n)) keeps = tt
 keeps_any plan own w (one.Around (SendFrom seat sending)) keeps = tt
-keeps_any plan own w one.Begin keeps = keeps
-keeps_any plan own w one.Write keeps = keeps
-keeps_any plan own w one.Take keeps = keeps
-keeps_any plan own w (one.Send which) keeps = keeps
-keeps_any plan own w (one.Hear which) keeps = keeps
-keeps_any plan own w (one.TimeOut transaction) keeps = keeps
-keeps_any plan own w (one.Raise floor) keeps = keeps
-keeps_any plan own w (one.Merge floor sightings) keeps = keeps
-keeps_any plan own w (one.Poll lid) keeps = keeps
-keeps_any plan own w one.HandOver keeps = keeps
+keeps_any plan own w event keeps = keeps
 
 all_keep_along : (plan : PlanValue) (own : OwnSets) (events : List ManagerEvent) (w : Managing) → Along (Keeps plan no_sets) events w
     → AllKeep plan own events w
@@ -98,16 +90,7 @@ all_keep_along plan own (e ∷ events) w along =
 keeps_own : (plan : PlanValue) (w : Managing) (e : ManagerEvent) → BeginsNoWriting w e
     → ((event : Event) → e ≡ one.Around event → KeepsPlan plan no_sets w.scene.fabric event) → Keeps plan no_sets w e
 keeps_own plan w (one.Around event) quiet around = around event refl
-keeps_own plan w one.Begin quiet around = quiet
-keeps_own plan w one.Write quiet around = quiet
-keeps_own plan w one.Take quiet around = quiet
-keeps_own plan w (one.Send which) quiet around = quiet
-keeps_own plan w (one.Hear which) quiet around = quiet
-keeps_own plan w (one.TimeOut transaction) quiet around = quiet
-keeps_own plan w (one.Raise floor) quiet around = quiet
-keeps_own plan w (one.Merge floor sightings) quiet around = quiet
-keeps_own plan w (one.Poll lid) quiet around = quiet
-keeps_own plan w one.HandOver quiet around = quiet
+keeps_own plan w event quiet around = quiet
 
 -- events of several managers, one after the other ------------------------------------------------------------------------
 
@@ -121,19 +104,6 @@ whole_parts (e ∷ es) fs t all = let rest = whole_parts es fs (after_masters_ev
 
 module _ (facts : Facts) (planning : Planning) (t0 : Masters) (h : ShareLids facts planning t0) where
   -- no writing begins before a sweep
-  swept_if : (m : Seated) (e : ManagerEvent) → (m.knows_one_sweep ≡ true → m.has_swept ≡ true) → WritesWhole m e → WritesSwept m e
-  swept_if m one.Write swept whole = λ none. swept (whole none).0
-  swept_if m (one.Around event) swept whole = tt
-  swept_if m one.Begin swept whole = tt
-  swept_if m one.Take swept whole = tt
-  swept_if m (one.Send which) swept whole = tt
-  swept_if m (one.Hear which) swept whole = tt
-  swept_if m (one.TimeOut transaction) swept whole = tt
-  swept_if m (one.Raise floor) swept whole = tt
-  swept_if m (one.Merge floor sightings) swept whole = tt
-  swept_if m (one.Poll lid) swept whole = tt
-  swept_if m one.HandOver swept whole = tt
-
   sweeps_before : (t : Masters) (event : MastersEvent) → AllStand facts planning t0 h t → SweepsWhole t event → SweepsBefore t event
   sweeps_before t (Around event) all whole = tt
   sweeps_before t (At which e) all whole = λ m there. swept_if m e (all.sides which m there).swept (whole m there)
@@ -151,9 +121,7 @@ module _ (facts : Facts) (planning : Planning) (t0 : Masters) (h : ShareLids fac
   around_keeps t all (Deliver n) = λ at a packet takes. inr (taken_carries t0.scene.fabric (plan_by_it planning facts) (IsSeat facts planning t0 h)
       (cables facts planning t0 h) (counts facts planning t0 h) (can facts planning t0 h) all.stands.continues.fabric.along all.stands.continues.fabric.is
       all.stands.flights all.stands.harmless all.stands.has_lids n at a packet takes)
-  around_keeps t all (Lose n) = tt
-  around_keeps t all (Repeat n) = tt
-  around_keeps t all (SendFrom seat sending) = tt
+  around_keeps t all event = tt
 
   module _ (which : ℕ) where
     -- until the writing it learns of nothing else

@@ -26,13 +26,13 @@ use Rattle.sm_state.specs.declared.conduct.Conduct.TheVariants.{Plain}
 
 -- on a subnet that holds LIDs ----------------------------------------------------------------------
 
--- the end ports of a part have the LIDs and the LMC of a plan
+-- each end port of `part` has the LID and the LMC that the plan gives it
 abbrev pub HoldsLids : Part → PlanValue → Fabric → Type 0
 HoldsLids part plan f = (port : NodePort) (node : fabric.Node) → IsEndPortIn part f port node
     → range_of plan.given (record { node = node.guid; port = port.port }) ≡ Some (range_at f port)
 
--- Facts describe exactly the part that is joined to each seat, and its end ports have the LIDs of their plan, by the
--- rule and the LMC of every manager.
+-- Managers start together, and plan by `planning`. Facts with room describe exactly the part that is joined to each
+-- seat, and its end ports have the LIDs and the LMC of their plan.
 pub record ShareLids (facts : Facts) (planning : Planning) (t : Masters) : Type 0 where
   pub starts : StartTogether t
   pub has_room : ¬ (IsNoRoom planning.lmc (cells_of facts))
@@ -42,8 +42,9 @@ pub record ShareLids (facts : Facts) (planning : Planning) (t : Masters) : Type 
   pub lids : (which : ℕ) (m : Seated) → IsAt t which m
       → HoldsLids (IsJoinedTo (fabric_of t.scene.fabric) m.seat) (plan_by_it planning facts) (fabric_of t.scene.fabric)
 
--- After a cut: earlier facts contain each end port that is joined to a seat, and it has the LID and the LMC of their
--- plan; they may contain others, which are gone. The facts describe what is left, and claim the LIDs that it has.
+-- After a cut, managers start together, and plan by `planning`: earlier facts with room contain each end port that is
+-- joined to a seat, and it has the LID and the LMC of their plan; they may contain others, which are gone. The facts
+-- describe exactly what is left, with room, and claim the LIDs that it has.
 pub record ShareRest (earlier facts : Facts) (planning : Planning) (t : Masters) : Type 0 where
   pub starts : StartTogether t
   pub had_room : ¬ (IsNoRoom planning.lmc (cells_of earlier))
@@ -59,31 +60,34 @@ pub record ShareRest (earlier facts : Facts) (planning : Planning) (t : Masters)
   pub lids : (which : ℕ) (m : Seated) → IsAt t which m
       → HoldsLids (IsJoinedTo (fabric_of t.scene.fabric) m.seat) (plan_by_it planning earlier) (fabric_of t.scene.fabric)
 
--- after a cut, the end ports have the LIDs of the plan of what is left
+-- after a cut, managers that share the rest share the LIDs of the plan of what is left
 abbrev pub RestSharesLids : Type 0
 RestSharesLids =
     (earlier facts : Facts) (planning : Planning) (t : Masters) → ShareRest earlier facts planning t
     → ShareLids facts planning t
 
--- other senders set only SMInfo, and a manager begins a writing only if all that it knows is from one sweep with every
--- answer
+-- if the event is around the managers, it sets only SMInfo; if it is at one, this begins a writing only if all that it
+-- knows is from one sweep with every answer
 abbrev pub SweepsWhole : Masters → MastersEvent → Type 0
 SweepsWhole t (Around event) = SetsInfoOnly event
 SweepsWhole t (At which event) = (m : Seated) → IsAt t which m → WritesWhole m event
 
--- each of these events satisfies `SweepsWhole` when it happens
+-- in these events, other senders set only SMInfo, and each manager begins a writing only if all that it knows is from
+-- one sweep with every answer
 abbrev pub AllSweepWhole : List MastersEvent → Masters → Type 0
 AllSweepWhole [] t = Unit {0}
 AllSweepWhole (event ∷ events) t = SweepsWhole t event × AllSweepWhole events (after_masters_event t event)
 
--- no port gets another LID, however many masters sweep and write
+-- if managers share LIDs, other senders set only SMInfo, and each writes only what one sweep with every answer told it,
+-- no port gets another LID
 abbrev pub MastersKeepLids : Type 0
 MastersKeepLids =
     (facts : Facts) (planning : Planning) (t : Masters) (events : List MastersEvent) → ShareLids facts planning t
     → AllCanBe events t → AllSweepWhole events t
     → HasLidsOf (fabric_of t.scene.fabric) (after_masters_events events t).scene
 
--- a manager that knows one sweep with every answer writes the plan of these facts
+-- if managers share the LIDs of the plan of some facts, other senders set only SMInfo, and each writes only what one
+-- sweep with every answer told it, then one that knows one sweep with every answer plans just that plan
 abbrev pub MastersWriteTheSame : Type 0
 MastersWriteTheSame =
     (facts : Facts) (planning : Planning) (t : Masters) (events : List MastersEvent) → ShareLids facts planning t
@@ -94,36 +98,37 @@ MastersWriteTheSame =
 
 -- on a subnet that holds a plan -------------------------------------------------------------------
 
--- the part that is joined to each seat holds the plan
+-- the part that is joined to each seat holds the plan of `facts` by `planning`
 abbrev pub AllHold : Facts → Planning → Masters → Type 0
 AllHold facts planning t = (which : ℕ) (m : Seated) → IsAt t which m
     → HoldsPlan (IsJoinedTo (fabric_of t.scene.fabric) m.seat) (plan_by_it planning facts) (fabric_of t.scene.fabric)
 
--- the part that is joined to each seat holds the plan, and each ping there arrives
+-- the part that is joined to each seat holds the plan of `facts` by `planning`, and each ping there arrives
 abbrev pub AllInUse : Facts → Planning → Masters → Type 0
 AllInUse facts planning t =
     (which : ℕ) (m : Seated) → IsAt t which m
     → IsInUse planning.rule facts (plan_by_it planning facts) t.scene.fabric m.seat
 
--- the plan is in use at each moment of these events
+-- the plan of `facts` is in use at each seat, before and after each of the events
 abbrev pub InUseAlong : Facts → Planning → List MastersEvent → Masters → Type 0
 InUseAlong facts planning [] t = AllInUse facts planning t
 InUseAlong facts planning (event ∷ events) t =
     AllInUse facts planning t × InUseAlong facts planning events (after_masters_event t event)
 
--- the manager at index `which` begins no writing
+-- the event begins no writing of the manager at index `which`
 abbrev pub WritesNothing : ℕ → Masters → MastersEvent → Type 0
 WritesNothing which t (Around event) = Unit {0}
 WritesNothing which t (At other event) =
     which ≡ other → (m : Seated) → IsAt t which m → BeginsNoWriting (seen_by t.scene m) event
 
--- in none of these events the manager at index `which` begins a writing
+-- none of the events begins a writing of the manager at index `which`
 abbrev pub WriteNothing : ℕ → List MastersEvent → Masters → Type 0
 WriteNothing which [] t = Unit {0}
 WriteNothing which (event ∷ events) t =
     WritesNothing which t event × WriteNothing which events (after_masters_event t event)
 
--- a manager begins a writing and no other one later, and in the end its plan counts as written
+-- the manager at index `which` begins a writing after the events `before`, and no other one in the events `after`, and
+-- in the end its plan counts as written
 pub record HasWritten (t : Masters) (before after : List MastersEvent) (which : ℕ) : Type 0 where
   pub writer : Seated
   pub there : IsAt (after_masters_events before t) which writer
@@ -133,8 +138,8 @@ pub record HasWritten (t : Masters) (before after : List MastersEvent) (which : 
   pub there_later : IsAt (after_masters_events (before ++ At which one.Write ∷ after) t) which later
   pub written : is_written later.manager ≡ true
 
--- once a manager has written its plan, the part that is joined to each seat holds it, whatever the other managers do
--- meanwhile
+-- if managers share LIDs, other senders set only SMInfo, and each writes only what one sweep with every answer told it,
+-- then once one has written its plan, the part that is joined to each seat holds it, whatever the others do meanwhile
 abbrev pub WrittenByOneIsHeld : Type 0
 WrittenByOneIsHeld =
     (facts : Facts) (planning : Planning) (t : Masters) (before after : List MastersEvent) (which : ℕ)
@@ -143,7 +148,8 @@ WrittenByOneIsHeld =
     → HasWritten t before after which
     → AllHold facts planning (after_masters_events (before ++ At which one.Write ∷ after) t)
 
--- once the plan is held, it stays in force, however many masters sweep and write at once
+-- if managers share LIDs, other senders set only SMInfo, and each writes only what one sweep with every answer told it,
+-- then once the plan is held at each seat, it stays in use there
 abbrev pub MastersChangeNothing : Type 0
 MastersChangeNothing =
     (facts : Facts) (planning : Planning) (t : Masters) (before after : List MastersEvent) → ShareLids facts planning t
@@ -153,7 +159,7 @@ MastersChangeNothing =
 
 -- two new managers that write one subnet at once ---------------------------------------------------
 
--- a new manager at its seat, where it has done nothing
+-- a new manager of the lowest priority and the plain conduct at its seat, where it has done nothing
 abbrev pub new_at : NodePort → ℕ → Planning → Seated
 new_at seat port_guid planning =
     record {
@@ -164,7 +170,7 @@ new_at seat port_guid planning =
       knows_one_sweep = false;
     }
 
--- two new managers that write one subnet at once, and what happens to them
+-- an example: two new managers that write one subnet at once, and what happens to them
 pub record SomeMastersWriteAtOnce : Type 0 where
   pub masters : Masters
   pub held : Facts

@@ -6,7 +6,7 @@ use Rattle.manager_laws.specs.Managing as one
 use Rattle.manager_laws.specs.WritingPings.{BeginsNoSweep}
 use Rattle.masters_laws.specs.Masters.{Seated, Masters, MastersEvent, Around, At, IsAt, seen_by, after_masters_event, after_masters_events}
 
--- the manager begins a sweep at some moment of the run
+-- the manager at index `which` begins a sweep at some moment of the run
 pub record BeganSweep (t : Masters) (events : List MastersEvent) (which : ℕ) : Type 0 where
   pub before : List MastersEvent
   pub between : List MastersEvent
@@ -15,32 +15,36 @@ pub record BeganSweep (t : Masters) (events : List MastersEvent) (which : ℕ) :
   pub there : IsAt (after_masters_events before t) which then
   pub begins : begin_fault then.manager ≡ None
 
--- the manager at index `which` begins no sweep, merges no facts of others, and is given no floor above its own
+-- by the event, the manager at index `which` begins no sweep, merges no facts of others, and is given no floor above
+-- its own
 abbrev pub LearnsNothingElse : ℕ → Masters → MastersEvent → Type 0
 LearnsNothingElse which t (Around event) = Unit {0}
 LearnsNothingElse which t (At other event) =
     which ≡ other → (m : Seated) → IsAt t which m → BeginsNoSweep (seen_by t.scene m) event
 
--- in these events the manager at index `which` learns nothing else
+-- in these events, the manager at index `which` begins no sweep, merges no facts of others, and is given no floor above
+-- its own
 abbrev pub LearnNothingElse : ℕ → List MastersEvent → Masters → Type 0
 LearnNothingElse which [] t = Unit {0}
 LearnNothingElse which (event ∷ events) t =
     LearnsNothingElse which t event × LearnNothingElse which events (after_masters_event t event)
 
--- the manager held no facts when it began a sweep, and has learned nothing else since
+-- the manager at index `which` held no facts when it began a sweep of the run, and since then began no other, merged no
+-- facts of others, and was given no floor above its own
 pub record LearntFromOne (t : Masters) (events : List MastersEvent) (which : ℕ) : Type 0 where
   pub swept : BeganSweep t events which
   pub knew_nothing : cells_of swept.then.manager.store ≡ []
   pub alone : LearnNothingElse which swept.between (after_masters_events (swept.before ++ At which one.Begin ∷ []) t)
 
--- a manager that knew no sweep at first knows one exactly if it learned only from one
+-- a manager that knew no sweep at first knows one in the end of a run exactly if it learned only from one of the run's
+-- sweeps
 abbrev pub KnowsOneSweepMeans : Type 0
 KnowsOneSweepMeans =
     (t : Masters) (events : List MastersEvent) (which : ℕ) (m later : Seated) → IsAt t which m
     → m.knows_one_sweep ≡ false → IsAt (after_masters_events events t) which later
     → (later.knows_one_sweep ≡ true) ↔ LearntFromOne t events which
 
--- a manager that had not swept at first has swept exactly if it began a sweep
+-- a manager that had not swept at first has swept in the end of a run exactly if it began a sweep in it
 abbrev pub HasSweptMeans : Type 0
 HasSweptMeans =
     (t : Masters) (events : List MastersEvent) (which : ℕ) (m later : Seated) → IsAt t which m

@@ -1,4 +1,4 @@
--- Managers at seats of one fabric, which act in any order.
+-- Several managers at seats of one fabric, which act in any order.
 use Rattle.std.specs.Prelude.{◌≡◌, ℕ, Bool, true, false, ◌&&◌, List, [], ◌∷◌, length, slice_get, slice_set, ◌==◌, nat_le, is_none, if◌then◌else◌, Option, Some, None}
 use Rattle.fabric_model.specs.declared.cable.NodePort.{NodePort}
 use Rattle.smp_bytes.specs.Header.{set, sm_info}
@@ -29,28 +29,28 @@ pub record Masters : Type 0 where
   pub scene : Scene
   pub managers : List Seated
 
--- something happens on the fabric, or to the manager at index `which`
+-- an event of several managers: something happens on the fabric, or to the manager at index `which`
 pub data MastersEvent : Type 0 where
   Around : (event : Event) → MastersEvent
   At : (which : ℕ) → (event : ManagerEvent) → MastersEvent
 
--- m is the manager at index `which`
+-- `m` is the manager at index `which`
 abbrev pub IsAt : Masters → ℕ → Seated → Type 0
 IsAt t which m = slice_get t.managers which ≡ Some m
 
--- one of the managers on its own, for which the others are what happens around it
+-- the manager `m` on its own, for which the others are what happens around it
 abbrev pub seen_by : Scene → Seated → Managing
 seen_by scene m = record { scene = scene; seat = m.seat; manager = m.manager; out = m.out }
 
 -- what events do --------------------------------------------------------------------------
 
--- whether the manager has begun a sweep, after the event
+-- the manager has begun a sweep of the run, after the event
 abbrev pub has_swept_after : Seated → ManagerEvent → Bool
 has_swept_after m one.Begin = if is_none (begin_fault m.manager) then true else m.has_swept
 has_swept_after m event = m.has_swept
 
--- whether all that the manager knows after the event is from one sweep; this holds from the moment at which a sweep
--- begins while it holds no facts, until facts of others are merged or its floor is raised
+-- all that the manager knows after the event is from one sweep; this holds from the moment at which a sweep begins
+-- while it holds no facts, until facts of others are merged or its floor is raised
 abbrev pub knows_one_after : Seated → ManagerEvent → Bool
 knows_one_after m one.Begin =
     if is_none (begin_fault m.manager) then length (cells_of m.manager.store) == 0 else m.knows_one_sweep
@@ -70,7 +70,7 @@ seated_after m event w =
       knows_one_sweep = knows_one_after m event;
     }
 
--- the event happens to the manager at index `which`, if there is one
+-- the managers and the scene once the event has happened to the manager at index `which`; unchanged if there is none
 abbrev pub acting : Masters → ℕ → ManagerEvent → Option Seated → Masters
 acting t which event None = t
 acting t which event (Some m) =
@@ -82,14 +82,14 @@ abbrev pub after_masters_event : Masters → MastersEvent → Masters
 after_masters_event t (Around event) = record t { scene = after_event t.scene event }
 after_masters_event t (At which event) = acting t which event (slice_get t.managers which)
 
--- the managers and the scene after these events, in turn
+-- the managers and the scene after `events`, in turn
 abbrev pub after_masters_events : List MastersEvent → Masters → Masters
 after_masters_events [] t = t
 after_masters_events (event ∷ events) t = after_masters_events events (after_masters_event t event)
 
 -- which events there may be ----------------------------------------------------------------
 
--- other senders set only SMInfo
+-- if the event is that another sender sends a Set, by LIDs or along a path, it is for SMInfo
 abbrev pub SetsInfoOnly : Event → Type 0
 SetsInfoOnly (around.Send seat (ByLid packet)) =
     number_in method packet.bytes ≡ set → number_in attribute_id packet.bytes ≡ sm_info
@@ -97,7 +97,7 @@ SetsInfoOnly (around.Send seat (ByPath method_number attribute modifier tid path
     method_number ≡ set → attribute ≡ sm_info
 SetsInfoOnly event = Unit {0}
 
--- the event happens to a manager itself
+-- the event happens to a manager itself, and not around it
 abbrev pub IsItsOwn : ManagerEvent → Type 0
 IsItsOwn (one.Around event) = ⊥
 IsItsOwn event = Unit {0}
@@ -107,27 +107,29 @@ abbrev pub IsWholeSweep : Option Sweep → Type 0
 IsWholeSweep None = ⊥
 IsWholeSweep (Some s) = IsWhole s
 
--- the manager begins a writing only if all that it knows is from one sweep that has every answer
+-- the event begins a writing of the manager `m` only if all that this knows is from one sweep that has every answer
 abbrev pub WritesWhole : Seated → ManagerEvent → Type 0
 WritesWhole m one.Write =
     writing_fault m.manager ≡ None → (m.knows_one_sweep ≡ true) × IsWholeSweep m.manager.sweep
 WritesWhole m event = Unit {0}
 
--- the event can be, for all managers at their seats
+-- the event can be, for all managers at their seats: one around them comes from no seat of theirs, and one at a manager
+-- happens to this one itself
 abbrev pub CanBe : Masters → MastersEvent → Type 0
 CanBe t (Around event) =
     CanHappen event × ((which : ℕ) (m : Seated) → IsAt t which m → IsElsewhere m.seat event)
 CanBe t (At which event) =
     (m : Seated) → IsAt t which m → IsItsOwn event × one.CanBe m.seat event
 
--- each of these events can be when it happens
+-- each of `events` can be when it happens
 abbrev pub AllCanBe : List MastersEvent → Masters → Type 0
 AllCanBe [] t = Unit {0}
 AllCanBe (event ∷ events) t = CanBe t event × AllCanBe events (after_masters_event t event)
 
 -- where runs begin -------------------------------------------------------------------------
 
--- no packet is on its way, and each manager is at rest at a seat of its own
+-- managers start together: no packet is on its way, and each has a seat of its own, is at rest, and has swept nothing
+-- yet
 pub record StartTogether (t : Masters) : Type 0 where
   pub quiet : IsQuiet t.scene
   pub each : (which : ℕ) (m : Seated) → IsAt t which m → Starts (seen_by t.scene m)

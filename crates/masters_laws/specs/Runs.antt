@@ -9,35 +9,37 @@ use Rattle.manager_laws.specs.Written.{SweepsFirst}
 use Rattle.masters_laws.specs.Masters.{Seated, Masters, MastersEvent, Around, At, IsAt, seen_by, after_masters_event, after_masters_events}
 use Rattle.masters_laws.specs.Masters.{AllCanBe, StartTogether}
 
--- a packet that a manager gave out can be sent from its seat, as one of the packets that other managers may send
+-- the packet `o`, which the manager gave out, can be sent from its seat as one of the packets that other managers may
+-- send
 pub record IsSendable (w : Managing) (o : Outgoing) : Type 0 where
   pub sending : Sending
   pub can_send : CanSend w.seat sending
   pub is : sent w.scene w.seat sending ≡ sent_from w.scene w.seat (packet_of o)
 
--- if a manager begins no writing before a sweep, each packet that it gives out can be sent
+-- if a manager may start a run (`Starts`) and begins no writing before a sweep, each packet that it gives out can be
+-- sent as one of other managers (`IsSendable`)
 abbrev pub WhatIsGivenOutCanBeSent : Type 0
 WhatIsGivenOutCanBeSent =
     (w : Managing) (events : List ManagerEvent) → Starts w → SweepsFirst events w → All (one.CanBe w.seat) events
     → (which : ℕ) (o : Outgoing) → slice_get (after_manager_events events w).out which ≡ Some o
     → IsSendable (after_manager_events events w) o
 
--- a manager begins no writing before a sweep
+-- the event begins a writing of the manager `m` only if this has swept
 abbrev pub WritesSwept : Seated → ManagerEvent → Type 0
 WritesSwept m one.Write = writing_fault m.manager ≡ None → m.has_swept ≡ true
 WritesSwept m event = Unit {0}
 
--- the event begins no writing of a manager that has not swept
+-- the event begins no writing of any of the managers that has not swept
 abbrev pub SweepsBefore : Masters → MastersEvent → Type 0
 SweepsBefore t (Around event) = Unit {0}
 SweepsBefore t (At which event) = (m : Seated) → IsAt t which m → WritesSwept m event
 
--- no manager begins a writing before a sweep
+-- in these events, no manager begins a writing before a sweep
 abbrev pub AllSweepBefore : List MastersEvent → Masters → Type 0
 AllSweepBefore [] t = Unit {0}
 AllSweepBefore (event ∷ events) t = SweepsBefore t event × AllSweepBefore events (after_masters_event t event)
 
--- the run of one of several managers, for which the others are what happens around it
+-- the manager `m`, at index `which`, has a run of its own, for which the other managers are what happens around it
 pub record OwnRun (t : Masters) (m : Seated) (after : Masters) (which : ℕ) : Type 0 where
   pub events : List ManagerEvent
   pub can_be : All (one.CanBe m.seat) events
@@ -46,8 +48,8 @@ pub record OwnRun (t : Masters) (m : Seated) (after : Masters) (which : ℕ) : T
   pub there : IsAt after which later
   pub is : after_manager_events events (seen_by t.scene m) ≡ seen_by after.scene later
 
--- whatever several managers do, each has a run of its own; thus what holds for a manager among others holds for each of
--- them
+-- if managers start together, and none begins a writing before a sweep, then whatever they do, each has a run of its
+-- own; thus what holds for a manager among others holds for each of them
 abbrev pub EachRunsOnItsOwn : Type 0
 EachRunsOnItsOwn =
     (t : Masters) (events : List MastersEvent) → StartTogether t → AllCanBe events t → AllSweepBefore events t

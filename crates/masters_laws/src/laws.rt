@@ -11,13 +11,13 @@ pub fn what_is_given_out_can_be_sent()
     ensures { WhatIsGivenOutCanBeSent }
 {}
 
-/// One of several managers has swept exactly if it began a sweep that was not refused.
+/// One of several managers that had not swept at first has swept exactly if it began a sweep that was not refused.
 pub fn has_swept_means()
     ensures { HasSweptMeans }
 {}
 
-/// One of several managers knows one sweep exactly if it began that sweep while it held no facts, and since then began
-/// no other, merged no facts of others and did not raise its floor.
+/// One of several managers that knew no sweep at first knows one sweep exactly if it began that sweep while it held no
+/// facts, and since then began no other, merged no facts of others and did not raise its floor.
 pub fn knows_one_sweep_means()
     ensures { KnowsOneSweepMeans }
 {}
@@ -37,27 +37,28 @@ pub fn rest_shares_lids()
 
 /// No port of a subnet whose end ports have the LIDs of a plan gets another LID, however many masters sweep and write
 /// it, if each master plans by the rule, the roots or order and the LMC of that plan, and writes only what it knows
-/// from one sweep that has every answer.
+/// from one sweep that has every answer. Other senders set only SMInfo.
 pub fn masters_keep_lids()
     ensures { MastersKeepLids }
 {}
 
-/// A master that knows one sweep with every answer would write the plan whose LIDs the end ports have, whatever the
-/// switches hold, and whatever other masters sweep and write meanwhile.
+/// Under the premises of `masters_keep_lids`, a master that knows one sweep with every answer would write the plan
+/// whose LIDs the end ports have, whatever the switches hold, and whatever other masters sweep and write meanwhile.
 pub fn masters_write_the_same()
     ensures { MastersWriteTheSame }
 {}
 
-/// Once one of several masters has written its plan, the part that is joined to each seat holds it, whatever the others
-/// sweep and write meanwhile. A master has written its plan if a writing of it began, no other one since, and the plan
-/// counts as written.
+/// Under the premises of `masters_keep_lids`, once one of several masters has written its plan, the part that is joined
+/// to each seat holds it, whatever the others sweep and write meanwhile. A master has written its plan if a writing of
+/// it began, no other one since, and the plan counts as written.
 pub fn written_by_one_is_held()
     ensures { WrittenByOneIsHeld }
 {}
 
-/// If the part that is joined to each seat of several masters holds a plan, the plan stays in force, however many sweep
-/// and write, in any order: at each moment each end port has its LID, each switch its blocks and no lower top, and
-/// every ping from an end port there, for each LID of the plan, reaches the owner of the LID.
+/// Under the premises of `masters_keep_lids`, if the part that is joined to each seat of several masters holds the
+/// plan, the plan stays in force, however many sweep and write, in any order: at each moment each end port has its LID,
+/// each switch its blocks and no lower top, and every ping from an end port there, for each LID of the plan, reaches
+/// the owner of the LID.
 pub fn masters_change_nothing()
     ensures { MastersChangeNothing }
 {}

@@ -1,9 +1,9 @@
 -- A run with one manager that brings a subnet up: on an adapter at a switch, to which another adapter is wired. LIDs
 -- come in pairs, and a request is copied and lost.
-use Rattle.std.proofs.Common.{◌≡◌, ℕ, zero, suc, ◌+◌, ◌-◌, ◌^◌, ◌&&◌, Bool, true, false, List, [], ◌∷◌, refl, sym, ap, ◌∙◌, subst, arith}
+use Rattle.std.proofs.Common.{◌≡◌, ℕ, zero, suc, ◌+◌, ◌&&◌, Bool, true, List, [], ◌∷◌, refl, sym, ap, ◌∙◌, subst, arith}
 use Rattle.std.proofs.lemmas.Bool.{and_parts}
 use Rattle.std.proofs.lemmas.Option.{same_Some}
-use Rattle.std.specs.Prelude.{Option, Some, None, is_some, map, max, slice_get, if◌then◌else◌, ◌==◌}
+use Rattle.std.specs.Prelude.{Option, Some, None, map, max, slice_get}
 use Rattle.fabric_model.specs.declared.cable.NodePort.{NodePort}
 use Rattle.smp_bytes.specs.Field.{with_bytes}
 use Rattle.node_agents.specs.Agent.{fresh_agent}
@@ -14,9 +14,7 @@ use Rattle.schedule_file.specs.declared.command.Ask.TheVariants as ask
 use Rattle.schedule_file.specs.declared.command.Command.TheVariants as command
 use Rattle.schedule_file.specs.declared.command.Fate.TheVariants as fate
 use Rattle.schedule_file.specs.declared.command.Which.TheVariants.{Last, Serial}
-use Rattle.reply_facts.specs.Report.{Sightings}
-use Rattle.fact_store.specs.View.{cells_of, no_facts}
-use Rattle.fact_store.proofs.Entries.{cells_of_view, entries-view}
+use Rattle.fact_store.specs.View.{cells_of}
 use Rattle.subnet_view.specs.Reading.{Cells}
 use Rattle.lft_blocks.specs.Rules.{up_and_down}
 use Rattle.lft_blocks.specs.Plan.{PlanValue, plan_of}
@@ -24,18 +22,14 @@ use Rattle.plan_steps.specs.Phases.{Phase}
 use Rattle.fabric_sim.specs.Simulation.{Simulation, fabric_of}
 use Rattle.fabric_sim.specs.Changes.{after_inject, cabled_at, after_lose, after_repeat}
 use Rattle.fabric_sim.specs.Delivery.{outcome_of, after_deliver}
-use Rattle.sweep.specs.Sweep.{Sweep, started}
-use Rattle.manager_laws.specs.Complete.{IsWhole}
-use Rattle.sm_manager.specs.Manager.{Manager, begin_fault, new_manager, after_begin_sweep, with_sweep}
-use Rattle.lft_blocks.specs.Planning.{Planning}
+use Rattle.sm_manager.specs.Manager.{Manager, new_manager, after_begin_sweep}
 use Rattle.sm_manager.specs.declared.fault.ManagerFault.{ManagerFault}
-use Rattle.sm_manager.specs.declared.fault.ManagerFault.TheVariants.{GenerationsSpent}
 use Rattle.sm_manager.specs.Plans.{writing_fault}
-use Rattle.sm_state.specs.Standing.{active_once_more}
 use Rattle.sm_manager.specs.Writing.{begun_with, is_written, phases_by, after_write_steps}
 use Rattle.manager_laws.specs.Sets.{IsOwnSet, OwnSets}
-use Rattle.manager_laws.proofs.Computed.{delivery_keeps, fault_is, fault_with, in_pairs, is_kept, joined_told, merged_with, one_view, phases_are}
-use Rattle.manager_laws.proofs.Computed.{phases_with, sweep_in, sweep_there, told_by_agents}
+use Rattle.manager_laws.proofs.Computed.{delivery_keeps, in_pairs, is_kept}
+use Rattle.manager_laws.proofs.Computed.{sweep_in, told_by_agents}
+use Rattle.manager_laws.proofs.NewManagers.{HasSwept, by_known, cells_by, may_begin, may_write, phases_so, phases_then, sweep_is, sweeper}
 use Rattle.manager_laws.proofs.ExampleFabric.{distinct_by, is_alone, nodes, port, with_own_seat}
 use Rattle.manager_laws.proofs.Generations.{nothing_newest}
 use Rattle.schedule_world.specs.Commands.{after_ask_line, after_commands, after_hand_up, after_packet_line, after_step, after_take_and_send}
@@ -83,10 +77,7 @@ between = command.Packet Last fate.Repeat ∷ command.Packet (Serial 0) fate.Los
 
 -- the manager as it is when a sweep of a generation has begun
 abbrev sweeping : ℕ → Manager
-sweeping generation = with_sweep (record new { standing = active_once_more new.standing; seen = [] }) (started 1 generation 1 false)
-
-may_begin : begin_fault new ≡ None
-may_begin = ap (λ n. if n == 2 ^ 32 - 1 then Some GenerationsSpent else None) nothing_newest
+sweeping generation = sweeper 17 Plain in_pairs generation
 
 abbrev begun : WorldValue
 begun = (after_send (world_with with_own_seat (sweeping 1)) 0).now
@@ -94,7 +85,8 @@ begun = (after_send (world_with with_own_seat (sweeping 1)) 0).now
 begins : (after_ask_line world 0 ask.Sweep).now ≡ begun
 unfolding after_ask_line
 begins =
-    ap (λ (o : Option ManagerFault). (after_manager_call (λ now. after_send now 0) world 0 (seated_with new) o (after_begin_sweep new)).now) may_begin
+    ap (λ (o : Option ManagerFault). (after_manager_call (λ now. after_send now 0) world 0 (seated_with new) o (after_begin_sweep new)).now)
+    (may_begin 17 Plain in_pairs)
     ∙ ap (λ n. (after_send (world_with with_own_seat (sweeping (max (n + 1) 1))) 0).now) nothing_newest
 
 abbrev swept_world : WorldValue
@@ -111,55 +103,25 @@ unfolding after_send after_packet_line after_take_and_send after_hand_up after_s
     cabled_at fresh_agent after_inject after_lose after_repeat after_deliver outcome_of after_answer get_of set_of changed_port with_bytes
 alone_then = alone swept_world.managers refl
 
-whole : IsWhole (sweep_in swept.sweep)
+-- it was told this by the agents
+has_swept : HasSwept in_pairs told_by_agents swept
 unfolding after_send after_packet_line after_take_and_send after_hand_up after_step manager_in
     cabled_at fresh_agent after_inject after_lose after_repeat after_deliver outcome_of after_answer get_of set_of changed_port with_bytes
-whole = record { done = refl; answered = refl; near = refl }
-
--- what it was told ----------------------------------------------------------------------------------------------
-
-merged_all : swept.store ≡ merged_with no_facts told_by_agents
-unfolding after_send after_packet_line after_take_and_send after_hand_up after_step manager_in
-    cabled_at fresh_agent after_inject after_lose after_repeat after_deliver outcome_of after_answer get_of set_of changed_port with_bytes
-merged_all = refl
-
-abbrev all_told : Sightings
-all_told = joined_told [] told_by_agents
+has_swept = record { whole = record { done = refl; answered = refl; near = refl }; swept = refl; planning_is = refl; store_is = refl; no_fault = refl }
 
 abbrev cells : Cells
-cells = cells_of_view all_told
-
-known : cells_of swept.store ≡ cells
-known = ap cells_of (merged_all ∙ one_view [] told_by_agents) ∙ entries-view all_told
+cells = cells_by told_by_agents
 
 -- its writing ---------------------------------------------------------------------------------------------------
 
 abbrev after : List SeatCommand
 after = command.Drain 80 ∷ []
 
-abbrev the_sweep : Sweep
-the_sweep = sweep_in swept.sweep
-
-has_swept : is_some swept.sweep ≡ true
-unfolding after_send after_packet_line after_take_and_send after_hand_up after_step manager_in
-    cabled_at fresh_agent after_inject after_lose after_repeat after_deliver outcome_of after_answer get_of set_of changed_port with_bytes
-has_swept = refl
-
-planning_is : swept.planning ≡ in_pairs
-unfolding after_send after_packet_line after_take_and_send after_hand_up after_step manager_in
-    cabled_at fresh_agent after_inject after_lose after_repeat after_deliver outcome_of after_answer get_of set_of changed_port with_bytes
-planning_is = refl
-
 abbrev phases : List Phase
-phases = phases_with in_pairs swept (Some the_sweep) cells
+phases = phases_then in_pairs told_by_agents swept
 
-no_fault : fault_with in_pairs swept (Some the_sweep) cells ≡ None
-unfolding after_send after_packet_line after_take_and_send after_hand_up after_step manager_in
-    cabled_at fresh_agent after_inject after_lose after_repeat after_deliver outcome_of after_answer get_of set_of changed_port with_bytes
-no_fault = refl
-
-may_write : writing_fault swept ≡ None
-may_write = fault_is swept in_pairs (Some the_sweep) cells planning_is (sweep_there swept.sweep has_swept) known ∙ no_fault
+may_write_then : writing_fault swept ≡ None
+may_write_then = may_write in_pairs told_by_agents swept has_swept
 
 -- the line `write` of a world with one manager, which is not refused
 write_line : (fabric : Simulation) (m : Manager) (ps : List Phase) → writing_fault m ≡ None → phases_by m m.sweep ≡ ps
@@ -177,12 +139,12 @@ abbrev writing : WorldValue
 writing = (after_send (world_with swept_world.fabric (begun_with swept phases)) 0).now
 
 its_phases : phases_by swept swept.sweep ≡ phases
-its_phases = phases_are swept in_pairs (Some the_sweep) cells planning_is (sweep_there swept.sweep has_swept) known
+its_phases = phases_so in_pairs told_by_agents swept has_swept
 
 writes : (after_ask_line swept_world 0 ask.Write).now ≡ writing
 writes =
     ap (λ (w : WorldValue). (after_ask_line w 0 ask.Write).now) (as_world swept_world swept alone_then)
-    ∙ write_line swept_world.fabric swept phases may_write its_phases
+    ∙ write_line swept_world.fabric swept phases may_write_then its_phases
 
 abbrev written_world : WorldValue
 written_world = (after_commands nodes writing after).now
@@ -232,22 +194,6 @@ kept = refl
 
 -- the run ---------------------------------------------------------------------------------------------------------
 
--- by what a manager knows, for what it writes
-keep_by : (w began : WorldValue) (m : Manager) (planning : Planning) (o : Option Sweep) (c : Cells) → m.planning ≡ planning → cells_of m.store ≡ c
-    → phases_by m m.sweep ≡ phases_with planning m o c → w ≡ began
-    → KeepsLines (plan_of planning.rule planning.lmc c) (IsOwnSet (fabric_of with_own_seat) (port 0 1) (phases_with planning m o c)) nodes began after
-    → KeepsLines (plan_of m.planning.rule m.planning.lmc (cells_of m.store)) (IsOwnSet (fabric_of with_own_seat) (port 0 1) (phases_by m m.sweep)) nodes w after
-keep_by w began m planning o c by_planning by_cells are same keep =
-    subst (λ (x : WorldValue). KeepsLines (plan_of m.planning.rule m.planning.lmc (cells_of m.store))
-    (IsOwnSet (fabric_of with_own_seat) (port 0 1) (phases_by m m.sweep)) nodes x after) (sym same)
-    (subst (λ (ps : List Phase). KeepsLines (plan_of m.planning.rule m.planning.lmc (cells_of m.store)) (IsOwnSet (fabric_of with_own_seat) (port 0 1) ps) nodes
-    began after)
-    (sym are)
-    (subst (λ (x : Planning). KeepsLines (plan_of x.rule x.lmc (cells_of m.store))
-    (IsOwnSet (fabric_of with_own_seat) (port 0 1) (phases_with planning m o c)) nodes began after) (sym by_planning)
-    (subst (λ (x : Cells). KeepsLines (plan_of planning.rule planning.lmc x)
-    (IsOwnSet (fabric_of with_own_seat) (port 0 1) (phases_with planning m o c)) nodes began after) (sym by_cells) keep)))
-
 first_steps : at_first_steps nodes world between ≡ writing
 first_steps = ap (λ (w : WorldValue). (after_ask_line w 0 ask.Write).now) at_is ∙ writes
 
@@ -255,8 +201,11 @@ keeps : KeepsLines (plan_of swept.planning.rule swept.planning.lmc (cells_of swe
     (IsOwnSet (fabric_of with_own_seat) (port 0 1) (phases_by swept swept.sweep))
     nodes (at_first_steps nodes world between) after
 keeps =
-    keep_by (at_first_steps nodes world between) writing swept in_pairs (Some the_sweep) cells planning_is known its_phases first_steps
-    (steps_keep (plan_of up_and_down 1 cells) phases writing 80 kept, tt)
+    subst (λ (x : WorldValue). KeepsLines (plan_of swept.planning.rule swept.planning.lmc (cells_of swept.store))
+    (IsOwnSet (fabric_of with_own_seat) (port 0 1) (phases_by swept swept.sweep)) nodes x after) (sym first_steps)
+    (by_known in_pairs told_by_agents swept has_swept
+    (λ plan ps. KeepsLines plan (IsOwnSet (fabric_of with_own_seat) (port 0 1) ps) nodes writing after)
+    (steps_keep (plan_of up_and_down 1 cells) phases writing 80 kept, tt))
 
 at_end_alone : (at_end nodes world between after).managers ≡ seated_with writer ∷ []
 at_end_alone = ap (λ (w : WorldValue). (after_commands nodes w after).now.managers) first_steps ∙ alone_at_end
@@ -279,10 +228,10 @@ brings_up =
       after_lines = (tt, tt);
       swept = swept;
       only_then = ap (λ (w : WorldValue). w.managers) at_is ∙ alone_then;
-      sweep = the_sweep;
-      is_last = sweep_there swept.sweep has_swept;
-      whole = whole;
-      begins = may_write;
+      sweep = sweep_in swept.sweep;
+      is_last = sweep_is in_pairs told_by_agents swept has_swept;
+      whole = has_swept.whole;
+      begins = may_write_then;
       keeps = keeps;
       writer = writer;
       only_at_end = at_end_alone;

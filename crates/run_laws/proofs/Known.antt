@@ -25,10 +25,8 @@ use Rattle.fabric_sim.specs.declared.packet.Packet.{Packet}
 use Rattle.fact_store.specs.Merge.{merge}
 use Rattle.fact_store.specs.View.{view_at}
 use Rattle.fact_store.proofs.Views.{raised_is_merge}
-use Rattle.sweep.specs.Sweep.{Sweep}
 use Rattle.lft_blocks.specs.Planning.{Planning}
 use Rattle.sm_manager.specs.declared.fault.ManagerFault.{ManagerFault}
-use Rattle.sm_manager.specs.declared.pending.Purpose.TheVariants as purpose
 use Rattle.sm_manager.specs.Calls as calls
 use Rattle.sm_manager.specs.Calls.{sightings_of_call}
 use Rattle.sm_manager.specs.Election.{after_handover, handover_fault, successor_lid, poll_fault, after_poll}
@@ -177,10 +175,7 @@ module _ (count : ℕ) (planning : Planning) where
   came_known : (w : WorldValue) (accounts : Accounts) (result : Result Delivered FabricFault) → AreKnown count planning w.managers accounts
       → AreKnown count planning (after_arrival w result).now.managers (told_by_delivery w accounts result)
   came_known w accounts (Ok (delivered_is.ToManager p packet)) known = handed_known w accounts p packet known
-  came_known w accounts (Ok (delivered_is.Moved serial)) known = known
-  came_known w accounts (Ok (delivered_is.Answered serial)) known = known
-  came_known w accounts (Ok (delivered_is.Discarded reason)) known = known
-  came_known w accounts (Err fault) known = known
+  came_known w accounts result known = known
 
   step_known : (w : WorldValue) (accounts : Accounts) (serial : ℕ) → AreKnown count planning w.managers accounts
       → AreKnown count planning (after_step w serial).now.managers (told_by_step w accounts serial)
@@ -272,7 +267,6 @@ module _ (count : ℕ) (planning : Planning) where
   command_known nodes w accounts (command.Timeout seat) known = timeout_known w accounts seat known
   command_known nodes w accounts (command.Floor seat floor) known = floor_known w accounts seat floor known
   command_known nodes w accounts (command.Merge seat other) known = merge_known w accounts seat other known
-  command_known nodes w accounts (command.Show seat what) known = known
   command_known nodes w accounts (command.Packet which fate.Deliver) known = deliver_known w accounts which known
   command_known nodes w accounts (command.Packet which fate.Lose) known = which_known w accounts which (after_fate w fate.Lose) known (λ serial. refl)
   command_known nodes w accounts (command.Packet which fate.Repeat) known = which_known w accounts which (after_fate w fate.Repeat) known (λ serial. refl)
@@ -283,11 +277,8 @@ module _ (count : ℕ) (planning : Planning) where
   command_known nodes w accounts (command.Plug p q) known =
       let called = after_plug w.fabric p q in
       same_known _ w accounts (change_same (after_fabric_call w called).now p q called.result) known
-  command_known nodes w accounts command.Traps known = known
   command_known nodes w accounts command.Resend known = same_known _ w accounts (resends_same (length w.fabric.agents) w 0) known
-  command_known nodes w accounts (command.Ping p lid) known = known
-  command_known nodes w accounts command.Tables known = known
-  command_known nodes w accounts command.Flight known = known
+  command_known nodes w accounts other known = known
 
   commands_known : (nodes : List Node) (w : WorldValue) (accounts : Accounts) (commands : List SeatCommand) → AreKnown count planning w.managers accounts
       → AreKnown count planning (after_commands nodes w commands).now.managers (told_by_commands nodes w accounts commands)

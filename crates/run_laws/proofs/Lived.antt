@@ -2,7 +2,7 @@
 use Rattle.std.proofs.Common.{◌≡◌, ℕ, zero, suc, Bool, true, false, cond, List, [], ◌∷◌, ◌++◌, length, refl, sym, ap, ◌∙◌, subst}
 use Rattle.std.proofs.lemmas.List.{append_assoc, append-nil}
 use Rattle.std.proofs.lemmas.List.Elements.{All-append, All-cons, All-nil}
-use Rattle.std.specs.Prelude.{All, Option, Some, None, Result, Ok, Err, is_none, not, nat_lt, position, slice_get}
+use Rattle.std.specs.Prelude.{All, Option, Some, None, Result, Ok, is_none, not, nat_lt, position, slice_get}
 use Rattle.std.specs.Option.{option_map_or}
 use Rattle.fabric_model.specs.Cables.{is_same_port}
 use Rattle.fabric_model.specs.declared.cable.NodePort.{NodePort}
@@ -35,6 +35,7 @@ use Rattle.manager_laws.specs.Managing.{after_manager_event, after_manager_event
 use Rattle.manager_laws.specs.WritingPings.{AreNoSweeps, BeginsNoSweep}
 use Rattle.manager_laws.specs.Sets.{OwnSets}
 use Rattle.manager_laws.specs.Written.{AllKeep, Keeps}
+use Rattle.manager_laws.proofs.RunParts.{alone_behind, events_behind, keep_behind}
 use Rattle.schedule_world.specs.Commands.{after_arrival, after_ask_line, after_command, after_commands, after_drain_line, after_fate, after_give_up}
 use Rattle.schedule_world.specs.Commands.{after_giving_up, after_hand_up, after_packet_line, after_step, after_take_and_send, after_timeout_line, heard_text}
 use Rattle.schedule_world.specs.Commands.{seat_at}
@@ -71,24 +72,11 @@ seated_as name m = record { name = name; at = m.seat; manager = m.manager }
 abbrev pub as_world : List ℕ → Managing → WorldValue
 as_world name m = record { fabric = m.scene.fabric; managers = seated_as name m ∷ [] }
 
-events_append : (xs ys : List ManagerEvent) (m : Managing) → after_manager_events (xs ++ ys) m ≡ after_manager_events ys (after_manager_events xs m)
-events_append [] ys m = refl
-events_append (x ∷ xs) ys m = events_append xs ys (after_manager_event m x)
-
-no_sweeps_append : (xs ys : List ManagerEvent) (m : Managing) → AreNoSweeps xs m → AreNoSweeps ys (after_manager_events xs m) → AreNoSweeps (xs ++ ys) m
-no_sweeps_append [] ys m a b = b
-no_sweeps_append (x ∷ xs) ys m a b = (a.0, no_sweeps_append xs ys (after_manager_event m x) a.1 b)
-
 packets_alike : (o : Outgoing) (to : Option ℕ) → o.to ≡ to → packet_of o ≡ packet_out o
 packets_alike o None e = ap (λ (to : Option ℕ). packet_of (record o { to = to })) e ∙ ap (λ (to : Option ℕ). packet_out (record o { to = to })) (sym e)
 packets_alike o (Some lid) e = ap (λ (to : Option ℕ). packet_of (record o { to = to })) e ∙ ap (λ (to : Option ℕ). packet_out (record o { to = to })) (sym e)
 
 module _ (plan : PlanValue) (own : OwnSets) (name : List ℕ) where
-  keep_append : (xs ys : List ManagerEvent) (m : Managing) → AllKeep plan own xs m → AllKeep plan own ys (after_manager_events xs m)
-      → AllKeep plan own (xs ++ ys) m
-  keep_append [] ys m a b = b
-  keep_append (x ∷ xs) ys m a b = (a.0, keep_append xs ys (after_manager_event m x) a.1 b)
-
   -- events that lead from one world to another, keep the plan's values under a premise, and begin no sweep
   pub record Lives (m : Managing) (premise : Type 0) (w : WorldValue) : Type 0 where
     pub events : List ManagerEvent
@@ -120,11 +108,11 @@ module _ (plan : PlanValue) (own : OwnSets) (name : List ℕ) where
       let then = after_manager_events l.events m in
       record {
         events = l.events ++ l'.events;
-        ends = ap (as_world name) (events_append l.events l'.events m) ∙ l'.ends;
-        seat = ap (λ (x : Managing). x.seat) (events_append l.events l'.events m) ∙ l'.seat ∙ l.seat;
+        ends = ap (as_world name) (events_behind l.events l'.events m) ∙ l'.ends;
+        seat = ap (λ (x : Managing). x.seat) (events_behind l.events l'.events m) ∙ l'.seat ∙ l.seat;
         can = All-append (CanBe m.seat) l.events l'.events l.can (subst (λ seat. All (CanBe seat) l'.events) l.seat l'.can);
-        no_sweeps = no_sweeps_append l.events l'.events m l.no_sweeps l'.no_sweeps;
-        keep = λ h. keep_append l.events l'.events m (l.keep (of_first h)) (l'.keep (of_second h));
+        no_sweeps = alone_behind l.events l'.events m l.no_sweeps l'.no_sweeps;
+        keep = λ h. keep_behind plan own l.events l'.events m (l.keep (of_first h)) (l'.keep (of_second h));
       }
 
   -- what is queued goes out ------------------------------------------------------------------------------------
@@ -298,10 +286,7 @@ module _ (plan : PlanValue) (own : OwnSets) (name : List ℕ) where
           handed_lives
           (record m { scene = record { fabric = fabric; handed = m.scene.handed ++ record { at = p; packet = packet } ∷ [] } }) premise m.scene.handed
           (record { at = p; packet = packet }) refl
-      came (Ok (delivered_is.Moved s)) fabric = rests _ premise
-      came (Ok (delivered_is.Answered s)) fabric = rests _ premise
-      came (Ok (delivered_is.Discarded reason)) fabric = rests _ premise
-      came (Err fault) fabric = rests _ premise
+      came result fabric = rests _ premise
 
   deliver_lives : (m : Managing) (which : Which)
       → Lives m (KeepsStep plan own m.scene.fabric (serial_of m.scene.fabric.flights which)) (after_packet_line (as_world name m) which fate.Deliver).now
@@ -336,16 +321,11 @@ module _ (plan : PlanValue) (own : OwnSets) (name : List ℕ) where
   pub command_lives : (nodes : List Node) (m : Managing) (command : SeatCommand) → IsLine command
       → Lives m (KeepsLine plan own (as_world name m) command) (after_command nodes (as_world name m) command).now
   unfolding after_ask_line after_packet_line
-  command_lives nodes m (command.Manager seat) is = absurd is
-  command_lives nodes m (command.Ask seat ask.Sweep) is = absurd is
-  command_lives nodes m (command.Ask seat ask.Write) is = absurd is
   command_lives nodes m (command.Ask zero ask.Handover) is = asked_lives m _ HandOver handover_fault after_handover refl tt tt tt
   command_lives nodes m (command.Ask (suc seat) ask.Handover) is = rests m _
   command_lives nodes m (command.Ask zero (ask.Poll lid)) is = asked_lives m _ (Poll lid) (λ x. poll_fault x lid) (λ x. after_poll x lid) refl tt tt tt
   command_lives nodes m (command.Ask (suc seat) (ask.Poll lid)) is = rests m _
   command_lives nodes m (command.Timeout seat) is = timeout_lives m _ seat
-  command_lives nodes m (command.Floor seat floor) is = absurd is
-  command_lives nodes m (command.Merge seat other) is = absurd is
   command_lives nodes m (command.Show seat what) is = rests m _
   command_lives nodes m (command.Packet which fate.Deliver) is = deliver_lives m which
   command_lives nodes m (command.Packet which fate.Lose) is = by_serial (serial_of m.scene.fabric.flights which)
@@ -361,13 +341,10 @@ module _ (plan : PlanValue) (own : OwnSets) (name : List ℕ) where
       by_serial None = rests m _
       by_serial (Some serial) = happens m _ (Around (around.Repeat serial)) _ refl refl (tt, tt) tt (λ _. tt)
   command_lives nodes m (command.Drain most) is = drain_lives most m
-  command_lives nodes m (command.Cut p) is = absurd is
-  command_lives nodes m (command.Plug p q) is = absurd is
-  command_lives nodes m command.Traps is = absurd is
-  command_lives nodes m command.Resend is = absurd is
   command_lives nodes m (command.Ping p lid) is = rests m _
   command_lives nodes m command.Tables is = rests m _
   command_lives nodes m command.Flight is = rests m _
+  command_lives nodes m other is = absurd is
 
   pub commands_live : (nodes : List Node) (m : Managing) (commands : List SeatCommand) → AreLines commands
       → Lives m (KeepsLines plan own nodes (as_world name m) commands) (after_commands nodes (as_world name m) commands).now

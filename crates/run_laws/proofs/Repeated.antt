@@ -18,7 +18,7 @@ all_taken (Some xs) (Some ys) taken held consumed end e =
 pub texts_decide_output : {S W : Type 0} (state : S → SourceState) (written : W → Option (List ℕ))
     → TextsDecideOutput state written
 texts_decide_output state written lmc asked olds news sink sink' topology schedule run held held' =
-    let told = run.inputs.read.others_read in
+    let told = run.inputs.read.others_are in
     let one = all_taken (state told.were.topology).left (state told.are.topology).left told.topology topology told.read.topology_read.consumed
     told.read.topology_read.at_end held in
     let other = all_taken (state told.were.schedule).left (state told.are.schedule).left told.schedule schedule told.read.schedule_read.consumed

@@ -32,7 +32,7 @@ pub record Account : Type 0 where
 abbrev pub Accounts : Type 0
 Accounts = ℕ → Account
 
--- the accounts when a run begins
+-- the accounts when a run begins: no sightings, and the floor 1
 abbrev pub opened : Accounts
 opened seat = record { told = []; floor = 1 }
 
@@ -47,7 +47,7 @@ with_more accounts seat more other = if other == seat then joined (accounts othe
 -- packets ----------------------------------------------------------------------------------------
 
 -- the accounts once the manager in `seat` has taken in a packet: the sightings of a report that it accepts, and nothing
--- else
+-- else; unchanged if there is no such manager
 abbrev pub told_by_packet : WorldValue → Accounts → Packet → ℕ → Accounts
 told_by_packet w accounts packet seat =
     option_map_or (λ s. with_more accounts seat (record {
@@ -57,7 +57,7 @@ told_by_packet w accounts packet seat =
     }))
     (slice_get w.managers seat) accounts
 
--- the accounts once a packet has reached a port, where the manager takes it in; unchanged if none sits there
+-- the accounts once a packet has reached the port `p`, where the manager takes it in; unchanged if none sits there
 abbrev pub told_at : WorldValue → Accounts → NodePort → Packet → Accounts
 told_at w accounts p packet = option_map_or (told_by_packet w accounts packet) (seat_at w p) accounts
 
@@ -69,12 +69,12 @@ told_by_delivery w accounts (Ok (delivered_is.Answered serial)) = accounts
 told_by_delivery w accounts (Ok (delivered_is.Discarded reason)) = accounts
 told_by_delivery w accounts (Err fault) = accounts
 
--- the accounts once the packet with this serial number has taken one step
+-- the accounts once the packet with the number `serial` has taken one step
 abbrev pub told_by_step : WorldValue → Accounts → ℕ → Accounts
 told_by_step w accounts serial = let called =
     after_deliver w.fabric serial in told_by_delivery (after_fabric_call w called).now accounts called.result
 
--- the accounts once the packet that `which` names has taken one step
+-- the accounts once the packet that `which` names has taken one step; unchanged if it names none
 abbrev pub told_by_deliver : WorldValue → Accounts → Which → Accounts
 told_by_deliver w accounts which = option_map_or (told_by_step w accounts) (serial_of w.fabric.flights which) accounts
 
@@ -87,14 +87,15 @@ told_by_drain w accounts (suc most) =
 
 -- managers ---------------------------------------------------------------------------------------
 
--- the accounts once the manager in `seat` has taken in all that the manager in `other` took in
+-- the accounts once the manager in `seat` has taken in all that the manager in `other` took in; unchanged if there is
+-- no manager in `other`
 abbrev pub told_by_merge : WorldValue → Accounts → ℕ → ℕ → Accounts
 told_by_merge w accounts seat other =
     option_map_or (λ o. with_more accounts seat (accounts other)) (slice_get w.managers other) accounts
 
 -- lines -------------------------------------------------------------------------------------------
 
--- the accounts after a line
+-- the accounts after a line of a schedule that runs in the world `w`
 abbrev pub told_by_command : WorldValue → Accounts → SeatCommand → Accounts
 told_by_command w accounts (command.Merge seat other) = told_by_merge w accounts seat other
 told_by_command w accounts (command.Floor seat floor) = with_more accounts seat (record { told = []; floor = floor })
@@ -102,7 +103,7 @@ told_by_command w accounts (command.Packet which fate.Deliver) = told_by_deliver
 told_by_command w accounts (command.Drain most) = told_by_drain w accounts most
 told_by_command w accounts command = accounts
 
--- the accounts after these lines, in turn
+-- the accounts after lines of a schedule that run in turn, from the world `w` on
 abbrev pub told_by_commands : List Node → WorldValue → Accounts → List SeatCommand → Accounts
 told_by_commands nodes w accounts [] = accounts
 told_by_commands nodes w accounts (command ∷ later) =
@@ -115,18 +116,18 @@ abbrev pub world_after : Planning → Layout → Script → WorldValue
 world_after planning topology script =
     (after_commands topology.nodes (world_of planning topology script.seats) script.commands).now
 
--- what the manager in each seat has taken in after a schedule has run
+-- what the manager in a seat has taken in after a schedule has run
 abbrev pub account_after : Planning → Layout → Script → ℕ → Account
 account_after planning topology script =
     told_by_commands topology.nodes (world_of planning topology script.seats) opened script.commands
 
--- each manager knows the view of what it took in, at its greatest floor
+-- the store of each manager is the view of what it took in by its account, at its greatest floor
 abbrev pub KnowWhatTheyTookIn : WorldValue → Accounts → Type 0
 KnowWhatTheyTookIn w accounts =
     (seat : ℕ) (s : SeatedValue) → slice_get w.managers seat ≡ Some s → s.manager.store
     ≡ view_at (accounts seat).floor (accounts seat).told
 
--- after every run, the managers know what they took in
+-- after every run, the store of each manager is the view of what it took in, at its greatest floor
 abbrev pub RunsAreAccountedFor : Type 0
 RunsAreAccountedFor = (planning : Planning) (topology : Layout) (script : Script)
     → KnowWhatTheyTookIn (world_after planning topology script) (account_after planning topology script)

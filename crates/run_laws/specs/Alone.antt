@@ -26,8 +26,8 @@ use Rattle.schedule_world.specs.Flights.{serial_of}
 use Rattle.schedule_world.specs.World.{SeatedValue, WorldValue}
 use Rattle.run_laws.specs.Reached.{EachPingSaysReached}
 
--- lines that begin no sweep and no writing, move no cable, send no trap, seat no manager, and give none facts or a
--- floor
+-- the line begins no sweep and no writing, moves no cable, sends no trap, seats no manager, and gives no manager facts
+-- or a floor
 abbrev pub IsLine : SeatCommand → Type 0
 IsLine (command.Manager seat) = ⊥
 IsLine (command.Ask seat ask.Sweep) = ⊥
@@ -40,7 +40,8 @@ IsLine command.Traps = ⊥
 IsLine command.Resend = ⊥
 IsLine command = Unit {0}
 
--- each line satisfies `IsLine`
+-- none of the lines begins a sweep or a writing, moves a cable, sends a trap, seats a manager, or gives a manager facts
+-- or a floor
 abbrev pub AreLines : List SeatCommand → Type 0
 AreLines [] = Unit {0}
 AreLines (command ∷ later) = IsLine command × AreLines later
@@ -56,7 +57,8 @@ abbrev pub after_first : WorldValue → WorldValue
 after_first w = option_map_or (λ flight. (after_step w flight.serial).now) (slice_get w.fabric.flights 0) w
 
 module _ (plan : PlanValue) (own : OwnSets) where
-  -- a Set that an agent takes by this delivery is one of the writing's own or carries the plan's values
+  -- a Set that an agent takes by the delivery of a packet, if one is named (not None), is one of the writing's own or
+  -- carries the plan's values
   abbrev pub KeepsStep : Simulation → Option ℕ → Type 0
   KeepsStep fabric None = Unit {0}
   KeepsStep fabric (Some serial) = KeepsPlan plan own fabric (around.Deliver serial)
@@ -67,13 +69,15 @@ module _ (plan : PlanValue) (own : OwnSets) where
   KeepsSteps w zero = Unit {0}
   KeepsSteps w (suc most) = KeepsStep w.fabric (first_serial w) × KeepsSteps (after_first w) most
 
-  -- each Set that an agent takes by the line is one of the writing's own or carries the plan's values
+  -- each Set that an agent takes by the line, in the world `w`, is one of the writing's own or carries the plan's
+  -- values
   abbrev pub KeepsLine : WorldValue → SeatCommand → Type 0
   KeepsLine w (command.Packet which fate.Deliver) = KeepsStep w.fabric (serial_of w.fabric.flights which)
   KeepsLine w (command.Drain most) = KeepsSteps w most
   KeepsLine w command = Unit {0}
 
-  -- each Set that an agent takes by these lines is one of the writing's own or carries the plan's values
+  -- each Set that an agent takes by the lines, from the world `w` on, is one of the writing's own or carries the plan's
+  -- values
   abbrev pub KeepsLines : List Node → WorldValue → List SeatCommand → Type 0
   KeepsLines nodes w [] = Unit {0}
   KeepsLines nodes w (command ∷ later) =
@@ -81,23 +85,24 @@ module _ (plan : PlanValue) (own : OwnSets) where
 
 -- runs -------------------------------------------------------------------------------------------------
 
--- the world after a sweep began and these lines
+-- the world before a writing: after a sweep began, and then the lines `between`
 abbrev pub at_writing : List Node → WorldValue → List SeatCommand → WorldValue
 at_writing nodes w between = (after_commands nodes (after_command nodes w (command.Ask 0 ask.Sweep)).now between).now
 
--- the world once a writing has begun
+-- the world once a writing has begun, after a sweep began and then the lines `between`
 abbrev pub at_first_steps : List Node → WorldValue → List SeatCommand → WorldValue
 at_first_steps nodes w between = (after_command nodes (at_writing nodes w between) (command.Ask 0 ask.Write)).now
 
--- the world after more lines
+-- the world after a sweep began, the lines `between`, a writing began, and the lines `after`
 abbrev pub at_end : List Node → WorldValue → List SeatCommand → List SeatCommand → WorldValue
 at_end nodes w between after = (after_commands nodes (at_first_steps nodes w between) after).now
 
--- the only manager of the world is this one, in its seat
+-- the only manager of the world is `manager`, in the seat of `s`
 abbrev pub IsOnly : WorldValue → SeatedValue → Manager → Type 0
 IsOnly w s manager = w.managers ≡ record s { manager = manager } ∷ []
 
--- One new manager sits on a fabric where no packet is on its way. It is told to sweep, and later to write.
+-- One new manager sits on a fabric of distinct GUIDs where no packet is on its way. It is told to sweep and later, when
+-- the sweep has every answer, to write; in the end its plan is written.
 pub record BringsUpAlone (nodes : List Node) (w : WorldValue) (s : SeatedValue) (between after : List SeatCommand) :
     Type 0 where
   pub port_guid : ℕ
@@ -129,15 +134,15 @@ pub record BringsUpAlone (nodes : List Node) (w : WorldValue) (s : SeatedValue) 
   pub only_at_end : IsOnly (at_end nodes w between after) s writer
   pub written : shown_of (at_end nodes w between after) 0 Written ≡ written_line (Some s.name) true
 
--- each `ping` from an end port that the manager's port is joined to, for each LID of the plan, then prints that it
--- reached the owner
+-- after a run in which one manager brings its subnet up, each `ping` from an end port that is joined to its port, for
+-- each LID of the plan, prints that it reached the LID's owner
 abbrev pub RunsOfOneAreReached : Type 0
 RunsOfOneAreReached = (nodes : List Node) (w : WorldValue) (s : SeatedValue) (between after : List SeatCommand)
     → (b : BringsUpAlone nodes w s between after)
     → EachPingSaysReached (plan_of b.swept.planning.rule b.swept.planning.lmc (cells_of b.swept.store))
     (at_end nodes w between after) s.at
 
--- a run that brings a subnet up, with its fabric, its manager and its lines
+-- an example: a run of one manager that brings its subnet up, with its fabric, its manager and its lines
 pub record SomeRunOfOne : Type 0 where
   pub nodes : List Node
   pub world : WorldValue

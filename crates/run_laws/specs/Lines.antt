@@ -1,4 +1,4 @@
--- What managers print that took in the same sightings.
+-- What managers print alike that took in the same sightings, and what `written` and `progress` say.
 use Rattle.lft_blocks.specs.Planning.{Planning}
 use Rattle.std.specs.Prelude.{◌≡◌, ◌↔◌, ◌<◌, ◌^◌, ℕ, true, List, [], ◌∷◌, ◌++◌, length, slice_get, Some}
 use Rattle.topo_file.specs.Topology.{Layout}
@@ -15,7 +15,7 @@ use Rattle.schedule_world.specs.Commands.{after_commands, script_text, shown_of}
 use Rattle.schedule_world.specs.World.{SeatedValue, WorldValue}
 use Rattle.run_laws.specs.Accounts.{account_after, world_after}
 
--- the schedule with these lines after it
+-- the schedule `script` with `lines` after it
 abbrev pub and_lines : Script → List SeatCommand → Script
 and_lines script lines = record script { commands = script.commands ++ lines }
 
@@ -32,8 +32,8 @@ pub record TellTheSame (one other : WorldValue) (seat seat' : ℕ) : Type 0 wher
   pub facts : shown_of one seat Facts ≡ shown_of other seat' Facts
   pub plan : shown_of one seat Plan ≡ shown_of other seat' Plan
 
--- two managers, of one run or of two under the same LMC, print the same if they took in the same, in whatever order and
--- however often, and have the same greatest floor
+-- two managers of one run, or of two with the same rule of routing and LMC, print the same facts and plan if they took
+-- in the same, in whatever order and however often, and have the same greatest floor
 abbrev pub SameTakenInSameLines : Type 0
 SameTakenInSameLines =
     (planning : Planning) (topology topology' : Layout) (script script' : Script) (seat seat' : ℕ) → seat
@@ -43,14 +43,14 @@ SameTakenInSameLines =
     → (account_after planning topology script seat).floor ≡ (account_after planning topology' script' seat').floor
     → TellTheSame (world_after planning topology script) (world_after planning topology' script') seat seat'
 
--- the plans of two managers are printed alike after a schedule
+-- if after a schedule the lines `plan` of two managers follow, they print one text twice
 pub record PrintsPlansAlike (planning : Planning) (topology : Layout) (script : Script) (seat other : ℕ) : Type 0 where
   pub plan : List ℕ
   pub twice :
       script_text planning topology (and_lines script (Show seat Plan ∷ Show other Plan ∷ []))
       ≡ script_text planning topology script ++ (plan ++ plan)
 
--- plans are printed alike if both managers took in the same and have the same greatest floor
+-- the plans of two managers of a run are printed alike if both took in the same and have the same greatest floor
 abbrev pub SameTakenInPlansAlike : Type 0
 SameTakenInPlansAlike =
     (planning : Planning) (topology : Layout) (script : Script) (seat other : ℕ) → seat < length script.seats → other
@@ -60,7 +60,7 @@ SameTakenInPlansAlike =
     → (account_after planning topology script seat).floor ≡ (account_after planning topology script other).floor
     → PrintsPlansAlike planning topology script seat other
 
--- plans are printed alike once each manager has merged what the other knows
+-- the plans of two managers of a run are printed alike once each has merged what the other knows
 abbrev pub MergedManagersPlanAlike : Type 0
 MergedManagersPlanAlike =
     (planning : Planning) (topology : Layout) (script : Script) (seat other : ℕ) → seat < length script.seats → other
@@ -73,14 +73,15 @@ WrittenLinesTell =
     (w : WorldValue) (seat : ℕ) (s : SeatedValue) → slice_get w.managers seat ≡ Some s
     → (shown_of w seat Written ≡ written_line (Some s.name) true) ↔ (is_written s.manager ≡ true)
 
--- `progress` and `silent` print a sweep that is done, with this number of requests without an answer, all of them to
--- managers, and no port that leads too far
+-- `progress` and `silent` print that the manager's sweep is done, with `unanswered` requests without an answer, all of
+-- them to managers, and no port that leads too far
 pub record SayAllAnswered (w : WorldValue) (seat : ℕ) (name : List ℕ) (unanswered : ℕ) : Type 0 where
   pub few : unanswered < 2 ^ 64
   pub progress : shown_of w seat Progress ≡ progress_line (Some name) (Done unanswered 0)
   pub silent : shown_of w seat Silent ≡ silent_line (Some name) (Some unanswered)
 
--- the lines print this exactly if the manager's last sweep has every answer at that moment
+-- `progress` and `silent` print that all but managers answered exactly if the manager's last sweep has every answer at
+-- that moment
 abbrev pub SweepLinesTell : Type 0
 SweepLinesTell =
     (w : WorldValue) (seat : ℕ) (s : SeatedValue) (sweep : Sweep) → slice_get w.managers seat ≡ Some s

@@ -20,7 +20,7 @@ use Rattle.schedule_world.specs.Commands.{ping_shown}
 use Rattle.schedule_lines.specs.Lines.{ping_line}
 use Rattle.schedule_world.specs.World.{WorldValue}
 
--- the line prints that the packet reaches the port of the owner, over some number of wires
+-- the line `ping` from `source` for `lid` prints that the packet reaches the port `owner`, over some number of wires
 pub record SaysReached (nodes : List Node) (w : WorldValue) (source : NodePort) (lid : ℕ) (owner : EndPort) : Type 0
   where
     pub target : NodePort
@@ -35,8 +35,8 @@ EachPingSaysReached plan w origin = (nodes : List Node) (source : NodePort) → 
     → IsJoinedTo (fabric_of w.fabric) origin source
     → (lid : ℕ) (owner : EndPort) → owner_of plan.given lid ≡ Some owner → SaysReached nodes w source lid owner
 
--- if facts describe exactly the part that an end port of a world's fabric is joined to, and it holds their plan, pings
--- print that they reach their owners
+-- if facts with room describe exactly the part of a world's fabric that an end port is joined to, and it holds their
+-- plan, each ping there prints that it reaches its LID's owner
 abbrev pub HeldPlansAreReached : Type 0
 HeldPlansAreReached = (rule : RuleValue) (lmc : ℕ) (facts : Facts) (w : WorldValue) (origin : NodePort)
     → ¬ (IsNoRoom lmc (cells_of facts)) → IsSimulation w.fabric
@@ -45,8 +45,8 @@ HeldPlansAreReached = (rule : RuleValue) (lmc : ℕ) (facts : Facts) (w : WorldV
     → HoldsPlan (IsJoinedTo (fabric_of w.fabric) origin) (plan_of rule lmc (cells_of facts)) (fabric_of w.fabric)
     → EachPingSaysReached (plan_of rule lmc (cells_of facts)) w origin
 
--- if a manager has brought its subnet up, with a sweep that has every answer, a finished writing, and no other Sets
--- with other values, pings in a world with that fabric print that they reach their owners
+-- if a manager has brought its subnet up (`BringsUp`), each ping from its part, in a world with the fabric in the end,
+-- prints that it reaches its LID's owner
 abbrev pub WrittenPlansAreReached : Type 0
 WrittenPlansAreReached = (m : Managing) (before between after : List ManagerEvent) → BringsUp m before between after
     → (w : WorldValue) → w.fabric ≡ (at_end m before between after).scene.fabric

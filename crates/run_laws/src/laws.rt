@@ -8,15 +8,16 @@ ghost use Rattle.run_laws.specs.Repeats.{TextsDecideOutput};
 
 use byte_io::{Sink, Source};
 
-/// If a run ends well, and its sources held these bytes when it began, exactly `run_text` of the two texts was written,
-/// with managers that plan under the LMC by the rule. Equal texts therefore give equal bytes, whatever they are read
-/// from and written to.
+/// If a run ends well, and its sources of the topology and the schedule held two texts when it began, exactly
+/// `run_text` of these texts was written, with managers that plan under the LMC by the rule. Equal texts, LMCs and
+/// rules therefore give equal bytes, whatever they are read from and written to.
 #[tactic(auto, using(crate::proofs::Repeated::texts_decide_output))]
 pub fn texts_decide_output<S: Source, W: Sink>()
     ensures { TextsDecideOutput S.state W.written }
 {}
 
-/// Lines after a schedule do not change what it prints.
+/// Lines after a schedule do not change what it prints. After it they print what they print in the world that it
+/// leaves.
 #[tactic(auto, using(crate::proofs::Alike::later_lines_come_behind))]
 pub fn later_lines_come_behind()
     ensures { LaterLinesComeBehind }
@@ -30,8 +31,8 @@ pub fn runs_are_accounted_for()
     ensures { RunsAreAccountedFor }
 {}
 
-/// If two managers, of one run or of two, took in the same sightings and have the same greatest floor, they print the
-/// same facts and the same plan, whatever else they did or were asked.
+/// If two managers, of one run or of two, plan under one LMC and by one rule, took in the same sightings and have the
+/// same greatest floor, they print the same facts and the same plan, whatever else they did or were asked.
 pub fn same_taken_in_same_lines()
     ensures { SameTakenInSameLines }
 {}
@@ -50,8 +51,9 @@ pub fn merged_managers_plan_alike()
     ensures { MergedManagersPlanAlike }
 {}
 
-/// The line `progress` prints a sweep that is done and no port that is too far, and as many requests without an answer
-/// as the line `silent` prints managers, exactly if the manager's last sweep has every answer at that moment.
+/// If a manager has begun a sweep, its last sweep has every answer at a moment exactly if two lines say so then:
+/// `progress` prints that the sweep is done, that no port is too far, and how many requests have no answer, and
+/// `silent` prints this number of managers.
 pub fn sweep_lines_tell()
     ensures { SweepLinesTell }
 {}
@@ -63,15 +65,16 @@ pub fn written_lines_tell()
     ensures { WrittenLinesTell }
 {}
 
-/// If a part of a world's fabric is what an end port is joined to, facts describe it exactly, and it holds their plan,
-/// each `ping` from an end port of the part, for a LID of the plan, prints that it reached the port of the LID's owner.
+/// If a part of a world's fabric is what an end port is joined to, facts with room describe it exactly, and it holds
+/// their plan, each `ping` from an end port of the part, for a LID of the plan, prints that it reached the port of the
+/// LID's owner.
 pub fn held_plans_are_reached()
     ensures { HeldPlansAreReached }
 {}
 
-/// If a manager that held no facts, at whatever floor, has swept with every answer and written the plan of what it
-/// learned, and the fabric is as the manager left it, each `ping` from an end port that is joined to its seat, for a
-/// LID of its plan, prints that it reached the port of the LID's owner.
+/// If a manager that held no facts, at whatever floor, has swept with every answer, learned nothing else until its
+/// writing began, and written the plan of what it learned, and the fabric is as the manager left it, each `ping` from
+/// an end port that is joined to its seat, for a LID of its plan, prints that it reached the port of the LID's owner.
 pub fn written_plans_are_reached()
     ensures { WrittenPlansAreReached }
 {}

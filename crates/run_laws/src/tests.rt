@@ -24,7 +24,7 @@ fn manager(alloc: Global) -> Manager {
     manager_by(alloc, Conduct::Plain)
 }
 
-/// Returns a manager of priority 3 at port 1 of an adapter, with the port GUID 0x101 and any conduct.
+/// Returns a manager of priority 3 at port 1 of an adapter, with the port GUID 0x101, by `conduct`.
 fn manager_by(alloc: Global, conduct: Conduct) -> Manager {
     let planning = Planning::new(Lmc::ZERO, Rule::UpDown);
     let info = info_in(SmState::Discovering);
@@ -32,7 +32,7 @@ fn manager_by(alloc: Global, conduct: Conduct) -> Manager {
     Manager::new(alloc, info.guid, port, info.priority, conduct, planning)
 }
 
-/// Returns the SMInfo of the manager in `state`, once it has begun a sweep.
+/// Returns the SMInfo of the manager in `state`, once it has begun one sweep.
 fn info_in(state: SmState) -> SmInfo {
     SmInfo {
         guid: Guid::new(0x101),
@@ -48,7 +48,7 @@ fn sender() -> Lid {
     Lid::new(9)
 }
 
-/// Returns whether the manager accepts a packet from the other manager.
+/// Returns whether `manager` accepts `packet` from the other manager.
 fn takes(manager: &mut Manager, packet: &Smp) -> bool {
     manager.on_packet(packet.bytes(), Some(sender())).is_ok()
 }

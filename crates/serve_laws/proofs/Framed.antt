@@ -188,36 +188,16 @@ smp_name smp.HopPointer = told _ refl refl
 smp_name smp.DrLid = told _ refl refl
 
 report_name : (fault : ReportFault) → Passes false (report_fault_name fault) false
-report_name report.Generation = told _ refl refl
 report_name (report.Smp fault) = smp_name fault
-report_name report.Class = told _ refl refl
-report_name report.Method = told _ refl refl
-report_name report.Direction = told _ refl refl
-report_name report.Status = told _ refl refl
-report_name report.Attribute = told _ refl refl
-report_name report.Context = told _ refl refl
-report_name report.Modifier = told _ refl refl
-report_name report.NodeType = told _ refl refl
-report_name report.Port = told _ refl refl
+report_name fault = told _ refl refl
 
 sweep_name : (fault : SweepFault) → Passes false (sweep_fault_name fault) false
-sweep_name sweep.NotOutstanding = told _ refl refl
 sweep_name (sweep.Bad fault) = report_name fault
-sweep_name sweep.SequenceSpent = told _ refl refl
-sweep_name sweep.Memory = told _ refl refl
+sweep_name fault = told _ refl refl
 
 fault_name : (fault : ManagerFault) → Passes false (manager_fault_name fault) false
-fault_name manager.GenerationsSpent = told _ refl refl
-fault_name manager.SweepRunning = told _ refl refl
-fault_name manager.NotMaster = told _ refl refl
-fault_name manager.WritingRunning = told _ refl refl
-fault_name manager.NotStandby = told _ refl refl
-fault_name manager.Nobody = told _ refl refl
-fault_name manager.SequenceSpent = told _ refl refl
-fault_name (manager.NoRoom why) = told _ refl refl
 fault_name (manager.Sweep fault) = sweep_name fault
-fault_name manager.Unasked = told _ refl refl
-fault_name manager.Memory = told _ refl refl
+fault_name fault = told _ refl refl
 
 -- a word, something, and the end of the line
 newline : Passes false (codes "\n") true

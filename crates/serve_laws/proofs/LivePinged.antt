@@ -21,18 +21,14 @@ use Rattle.serve_laws.specs.Told.{Who}
 use Rattle.serve_laws.specs.Told.{given_by}
 use Rattle.serve_laws.specs.Live.{LiveEvent, Around, Tell, Hear, Send, after_live, events_by, events_of, events_told, given_heard, takes_of}
 use Rattle.serve_laws.specs.LivePings.{AllKeepLive, BringsUpLive, IsNoSweepLine, IsNoWriteLine, KeepsLive, LivePingsArrive, TellsNoSweep, all_live, live_after_write, live_at_end, live_at_writing, sweep_line}
-use Rattle.serve_laws.proofs.Managed.{all_can, events_behind, takes_can}
+use Rattle.serve_laws.proofs.Managed.{all_can, takes_can}
 use Rattle.manager_laws.proofs.Arrive.{pings_arrive_once_written}
 use Rattle.manager_laws.proofs.Rests.{new_managers_sweep_first}
+use Rattle.manager_laws.proofs.RunParts.{alone_behind, events_behind, keep_behind}
 
 -- no writing of one's own ---------------------------------------------------------------------------------
 
 module _ (plan : PlanValue) (own : OwnSets) where
-  keep_behind : (one other : List ManagerEvent) (w : Managing) → AllKeep plan own one w
-      → AllKeep plan own other (after_manager_events one w) → AllKeep plan own (one ++ other) w
-  keep_behind [] other w here there = there
-  keep_behind (event ∷ one) other w here there = (here.0, keep_behind one other (after_manager_event w event) here.1 there)
-
   takes_keep : (out : List Outgoing) (w : Managing) → AllKeep plan own (takes_of out) w
   takes_keep [] w = tt
   takes_keep (o ∷ later) w = (tt, takes_keep later (after_manager_event w managing.Take))
@@ -42,23 +38,19 @@ module _ (plan : PlanValue) (own : OwnSets) where
   timeouts_keep (transaction ∷ later) w = (tt, timeouts_keep later (after_manager_event w (managing.TimeOut transaction)))
 
   told_keep : (w : Managing) (line : ServeLine) → IsNoWriteLine line → AllKeep plan own (events_told w.manager line) w
-  told_keep w (Ask ask.Sweep) none = (tt, tt)
   told_keep w (Ask ask.Write) none = absurd none
-  told_keep w (Ask ask.Handover) none = (tt, tt)
-  told_keep w (Ask (ask.Poll lid)) none = (tt, tt)
-  told_keep w (Floor floor) none = (tt, tt)
   told_keep w (Packet bytes from) none = tt
-  told_keep w (Timeout transaction) none = (tt, tt)
   told_keep w GiveUp none = timeouts_keep (outstanding w.manager) w
   told_keep w (Show what) none = tt
   told_keep w Managers none = tt
   told_keep w Empty none = tt
   told_keep w Wrong none = tt
+  told_keep w line none = (tt, tt)
 
   event_keep : (w : Managing) (event : LiveEvent) → KeepsLive plan own w event → AllKeep plan own (events_by w event) w
   event_keep w (Around event) keep = (keep, tt)
   event_keep w (Tell line) keep =
-      keep_behind (events_told w.manager line) (takes_of (given_by w.manager line)) w (told_keep w line keep)
+      keep_behind plan own (events_told w.manager line) (takes_of (given_by w.manager line)) w (told_keep w line keep)
       (takes_keep (given_by w.manager line) (after_manager_events (events_told w.manager line) w))
   event_keep w (Hear which) keep =
       (tt, takes_keep (given_heard w (slice_get w.scene.handed which)) (after_manager_event w (managing.Hear which)))
@@ -67,15 +59,10 @@ module _ (plan : PlanValue) (own : OwnSets) where
   all_keep : (w : Managing) (events : List LiveEvent) → AllKeepLive plan own events w → AllKeep plan own (events_of events w) w
   all_keep w [] keep = tt
   all_keep w (event ∷ events) keep =
-      keep_behind (events_by w event) (events_of events (after_live w event)) w (event_keep w event keep.0)
+      keep_behind plan own (events_by w event) (events_of events (after_live w event)) w (event_keep w event keep.0)
       (all_keep (after_live w event) events keep.1)
 
 -- no sweep of one's own -----------------------------------------------------------------------------------
-
-alone_behind : (one other : List ManagerEvent) (w : Managing) → AreNoSweeps one w
-    → AreNoSweeps other (after_manager_events one w) → AreNoSweeps (one ++ other) w
-alone_behind [] other w here there = there
-alone_behind (event ∷ one) other w here there = (here.0, alone_behind one other (after_manager_event w event) here.1 there)
 
 takes_alone : (out : List Outgoing) (w : Managing) → AreNoSweeps (takes_of out) w
 takes_alone [] w = tt
@@ -91,13 +78,9 @@ told_alone w (Ask ask.Write) none = (tt, tt)
 told_alone w (Ask ask.Handover) none = (tt, tt)
 told_alone w (Ask (ask.Poll lid)) none = (tt, tt)
 told_alone w (Floor floor) none = absurd none
-told_alone w (Packet bytes from) none = tt
 told_alone w (Timeout transaction) none = (tt, tt)
 told_alone w GiveUp none = timeouts_alone (outstanding w.manager) w
-told_alone w (Show what) none = tt
-told_alone w Managers none = tt
-told_alone w Empty none = tt
-told_alone w Wrong none = tt
+told_alone w line none = tt
 
 event_alone : (w : Managing) (event : LiveEvent) → TellsNoSweep event → AreNoSweeps (events_by w event) w
 event_alone w (Around event) none = (tt, tt)

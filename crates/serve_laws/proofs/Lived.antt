@@ -14,7 +14,7 @@ use Rattle.sm_manager.specs.declared.fault.ManagerFault.{ManagerFault}
 use Rattle.sm_manager.specs.declared.outgoing.Outgoing.{Outgoing}
 use Rattle.schedule_lines.specs.Asked.{emptied}
 use Rattle.serve_lines.specs.declared.line.ServeLine.{ServeLine}
-use Rattle.serve_lines.specs.declared.line.ServeLine.TheVariants.{Ask, Floor, Packet, Timeout, GiveUp, Show, Managers, Empty, Wrong}
+use Rattle.serve_lines.specs.declared.line.ServeLine.TheVariants.{Ask, GiveUp}
 use Rattle.serve_run.specs.Served.{after_giving_up, after_line, asked, asked_with, served}
 use Rattle.serve_laws.specs.Told.{call_asked, calls_of, calls_of_line, calls_told, given_by, takes_for}
 use Rattle.serve_laws.specs.ServeLaws.{ServedLives}
@@ -46,14 +46,8 @@ gave_up_lives m (transaction ∷ later) = gave_up_lives (after_timeout m transac
 
 told_lives : (m : Manager) (line : ServeLine) → (after_line m line).now ≡ after_calls (calls_told m line) m
 told_lives m (Ask what) = asked_lives m what
-told_lives m (Floor floor) = refl
-told_lives m (Packet bytes from) = refl
-told_lives m (Timeout transaction) = refl
 told_lives m GiveUp = gave_up_lives m (outstanding m)
-told_lives m (Show what) = refl
-told_lives m Managers = refl
-told_lives m Empty = refl
-told_lives m Wrong = refl
+told_lives m line = refl
 
 pub line_lives : (m : Manager) (line : ServeLine) → (served m line).now ≡ after_calls (calls_of_line m line) m
 unfolding served

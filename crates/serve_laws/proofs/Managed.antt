@@ -14,19 +14,15 @@ use Rattle.sm_manager.specs.declared.outgoing.Outgoing.{Outgoing}
 use Rattle.manager_laws.specs.Scene.{Handed}
 use Rattle.manager_laws.specs.Managing as managing
 use Rattle.manager_laws.specs.Managing.{CanBe, Managing, ManagerEvent, after_manager_event, after_manager_events, calling, hearing, sending}
+use Rattle.manager_laws.proofs.RunParts.{events_behind}
 use Rattle.serve_lines.specs.declared.line.ServeLine.{ServeLine}
-use Rattle.serve_lines.specs.declared.line.ServeLine.TheVariants.{Ask, Floor, Packet, Timeout, GiveUp, Show, Managers, Empty, Wrong}
+use Rattle.serve_lines.specs.declared.line.ServeLine.TheVariants.{Ask, Floor, Packet, Timeout, GiveUp}
 use Rattle.serve_run.specs.Served.{after_giving_up, after_line, served, served_all}
 use Rattle.serve_laws.specs.Told.{call_asked, given_by}
 use Rattle.serve_laws.specs.Live.{CanLive, IsOrder, LiveEvent, Around, Tell, Hear, Send, ServedIsManaging, after_live}
 use Rattle.serve_laws.specs.Live.{event_asked, events_by, events_of, events_told, given_all, given_heard, lines_by, lines_heard, lines_of, takes_of}
 use Rattle.serve_laws.proofs.Behind.{now_behind}
 use Rattle.serve_laws.proofs.Lived.{asked_lives}
-
-pub events_behind : (one other : List ManagerEvent) (w : Managing)
-    → after_manager_events (one ++ other) w ≡ after_manager_events other (after_manager_events one w)
-events_behind [] other w = refl
-events_behind (event ∷ one) other w = events_behind one other (after_manager_event w event)
 
 -- a line --------------------------------------------------------------------------------------------------
 
@@ -38,9 +34,6 @@ taken_all w m before [] = ap (λ (out : List Outgoing). record w { manager = emp
 taken_all w m before (o ∷ later) =
     taken_all w m (before ++ o ∷ []) later
     ∙ ap (λ (out : List Outgoing). record w { manager = emptied m; out = out }) (append_assoc before (o ∷ []) later)
-
-called : Managing → Manager → Managing
-called w m = record w { manager = m }
 
 given_up : (w : Managing) (transactions : List ℕ)
     → after_manager_events (map managing.TimeOut transactions) w
@@ -58,14 +51,9 @@ told_so : (w : Managing) (line : ServeLine) → IsOrder line
     → after_manager_events (events_told w.manager line) w ≡ record w { manager = (after_line w.manager line).now }
 told_so w (Ask what) order =
     asked_so w what ∙ ap (λ (m : Manager). record w { manager = m }) (sym (asked_lives w.manager what))
-told_so w (Floor floor) order = refl
 told_so w (Packet bytes from) order = absurd order
-told_so w (Timeout transaction) order = refl
 told_so w GiveUp order = given_up w (outstanding w.manager)
-told_so w (Show what) order = refl
-told_so w Managers order = refl
-told_so w Empty order = refl
-told_so w Wrong order = refl
+told_so w line order = refl
 
 -- an event ------------------------------------------------------------------------------------------------
 
@@ -188,13 +176,9 @@ module _ (seat : NodePort) where
   told_can : (m : Manager) (line : ServeLine) → IsOrder line → All (CanBe seat) (events_told m line)
   told_can m (Ask what) order = one_can (event_asked what) (asked_can what)
   told_can m (Floor floor) order = one_can (managing.Raise floor) order
-  told_can m (Packet bytes from) order = All-nil (CanBe seat)
   told_can m (Timeout transaction) order = one_can (managing.TimeOut transaction) tt
   told_can m GiveUp order = timeouts_can (outstanding m)
-  told_can m (Show what) order = All-nil (CanBe seat)
-  told_can m Managers order = All-nil (CanBe seat)
-  told_can m Empty order = All-nil (CanBe seat)
-  told_can m Wrong order = All-nil (CanBe seat)
+  told_can m line order = All-nil (CanBe seat)
 
   event_can : (w : Managing) (event : LiveEvent) → CanLive seat event → All (CanBe seat) (events_by w event)
   event_can w (Around event) can = one_can (managing.Around event) can

@@ -1,20 +1,20 @@
--- An answer ends at the first of its lines that begins with a dot.
+-- That an answer ends at the first of its lines that begins with a dot.
 use Rattle.std.specs.Prelude.{◌≡◌, ℕ, Bool, true, false, ◌&&◌, ◌||◌, List, [], ◌∷◌, ◌++◌, ◌==◌}
 use Rattle.sm_manager.specs.Manager.{Manager}
 use Rattle.serve_lines.specs.declared.line.ServeLine.{ServeLine}
 use Rattle.serve_run.specs.Served.{end_line, served}
 
--- whether some line of the text begins with a dot; `start` says whether a line begins at the start of the text
+-- some line of the text begins with a dot; `start` says whether a line begins at the start of the text
 abbrev pub has_dot : Bool → List ℕ → Bool
 has_dot start [] = false
 has_dot start (b ∷ text) = (start && b == 46) || has_dot (b == 10) text
 
--- whether a line begins after the text; `start` says whether a line begins at its start
+-- a line begins after the text: it ends with a line feed, or is empty and `start` says that a line begins at its start
 abbrev pub is_line_end : Bool → List ℕ → Bool
 is_line_end start [] = start
 is_line_end start (b ∷ text) = is_line_end (b == 10) text
 
--- whole lines, none of which begins with a dot, and then the line of a dot
+-- `text` is whole lines, none of which begins with a dot, and then the line of a dot
 pub record EndsOnce (text : List ℕ) : Type 0 where
   pub said : List ℕ
   pub ends : text ≡ said ++ end_line

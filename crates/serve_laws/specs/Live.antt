@@ -25,13 +25,14 @@ pub data LiveEvent : Type 0 where
 
 -- which events there are -----------------------------------------------------------------------------
 
--- the line may be given: it is not a packet, since packets are heard, and a floor is a generation
+-- the line may be given as an order: it is not a packet, since packets are heard, and a floor is a generation
 abbrev pub IsOrder : ServeLine → Type 0
 IsOrder (Packet bytes from) = ⊥
 IsOrder (Floor floor) = IsTrue (is_generation floor)
 IsOrder line = Unit {0}
 
--- the event can be: what happens around must be able to happen, and a line that is given must be an order
+-- the event can be: one around the process can happen and comes from no other manager at `seat`, and a line that is
+-- given is an order
 abbrev pub CanLive : NodePort → LiveEvent → Type 0
 CanLive seat (Around event) = CanHappen event × IsElsewhere seat event
 CanLive seat (Tell line) = IsOrder line
@@ -39,8 +40,8 @@ CanLive seat event = Unit {0}
 
 -- the lines --------------------------------------------------------------------------------------
 
--- the line of a packet that was handed up at the seat, with the LID that it came from; none if it was handed up
--- elsewhere
+-- the line of the packet, with the LID that it came from, if it was handed up at the seat; none if it was handed up
+-- elsewhere, or there is none
 abbrev pub lines_heard : Managing → Option Handed → List ServeLine
 lines_heard w None = []
 lines_heard w (Some h) = if is_same_port h.at w.seat then Packet h.packet.bytes h.packet.slid ∷ [] else []
@@ -61,7 +62,7 @@ event_asked ask.Write = managing.Write
 event_asked ask.Handover = managing.HandOver
 event_asked (ask.Poll lid) = managing.Poll lid
 
--- the events of the manager for what a line asks
+-- the events of the manager `m` for what a line other than a packet asks; none for lines that only show something
 abbrev pub events_told : Manager → ServeLine → List ManagerEvent
 events_told m (Ask what) = event_asked what ∷ []
 events_told m (Floor floor) = managing.Raise floor ∷ []
@@ -69,12 +70,12 @@ events_told m (Timeout transaction) = managing.TimeOut transaction ∷ []
 events_told m GiveUp = map managing.TimeOut (outstanding m)
 events_told m line = []
 
--- the calls that take the printed packets, one for each
+-- the events that take printed packets, one for each
 abbrev pub takes_of : List Outgoing → List ManagerEvent
 takes_of [] = []
 takes_of (out ∷ later) = managing.Take ∷ takes_of later
 
--- the packets that are printed for a packet that was handed up
+-- the packets that are printed for the packet, if it was handed up at the seat; otherwise none
 abbrev pub given_heard : Managing → Option Handed → List Outgoing
 given_heard w None = []
 given_heard w (Some h) =
@@ -89,27 +90,27 @@ events_by w (Send which) = managing.Send which ∷ []
 
 -- all events -----------------------------------------------------------------------------------------
 
--- the managing after an event of the process
+-- the managing after an event of the process: after the events of its manager for it
 abbrev pub after_live : Managing → LiveEvent → Managing
 after_live w event = after_manager_events (events_by w event) w
 
--- the events of the manager for these events of the process, in turn
+-- the events of the manager for `events` of the process, in turn
 abbrev pub events_of : List LiveEvent → Managing → List ManagerEvent
 events_of [] w = []
 events_of (event ∷ events) w = events_by w event ++ events_of events (after_live w event)
 
--- the lines that these events give to the process, in turn
+-- the lines that `events` give to the process, in turn
 abbrev pub lines_of : List LiveEvent → Managing → List ServeLine
 lines_of [] w = []
 lines_of (event ∷ events) w = lines_by w event ++ lines_of events (after_live w event)
 
--- the packets that a process prints for these lines, in order
+-- the packets that a process prints for lines, in order
 abbrev pub given_all : List ServeLine → Manager → List Outgoing
 given_all [] m = []
 given_all (line ∷ later) m = given_by m line ++ given_all later (served m line).now
 
--- the manager of the process is the manager at the seat, and the packets that the process printed are those that the
--- manager gave out
+-- after `events`, the manager of the process is the manager at the seat, and the packets that the process printed are
+-- those that the manager gave out since
 pub record IsServed (w : Managing) (events : List LiveEvent) : Type 0 where
   pub manager :
       (after_manager_events (events_of events w) w).manager ≡ (served_all w.manager (lines_of events w)).now
@@ -117,6 +118,7 @@ pub record IsServed (w : Managing) (events : List LiveEvent) : Type 0 where
   -- the events are events that can be
   pub can_be : All (CanBe w.seat) (events_of events w)
 
--- whatever live events happen, the manager of the process is the manager at the seat
+-- whatever live events happen, the manager of the process is the manager at the seat, and what it printed is what that
+-- one gave out
 abbrev pub ServedIsManaging : Type 0
 ServedIsManaging = (w : Managing) (events : List LiveEvent) → All (CanLive w.seat) events → IsServed w events

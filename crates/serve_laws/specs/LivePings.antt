@@ -17,10 +17,11 @@ use Rattle.serve_lines.specs.declared.line.ServeLine.TheVariants.{Ask, Floor}
 use Rattle.serve_laws.specs.Told.{Who, new_by}
 use Rattle.serve_laws.specs.Live.{CanLive, LiveEvent, Around, Tell, after_live, events_of}
 
--- the events that give the lines `sweep` and `write`
+-- the event that gives the line `sweep`
 abbrev pub sweep_line : LiveEvent
 sweep_line = Tell (Ask ask.Sweep)
 
+-- the event that gives the line `write`
 abbrev pub write_line : LiveEvent
 write_line = Tell (Ask ask.Write)
 
@@ -35,7 +36,7 @@ abbrev pub TellsNoSweep : LiveEvent → Type 0
 TellsNoSweep (Tell line) = IsNoSweepLine line
 TellsNoSweep event = Unit {0}
 
--- `write` is not given, and each Set that an agent takes is one of the writing's own or carries the plan's values
+-- the line is not `write`
 abbrev pub IsNoWriteLine : ServeLine → Type 0
 IsNoWriteLine (Ask ask.Write) = ⊥
 IsNoWriteLine line = Unit {0}
@@ -47,30 +48,31 @@ KeepsLive plan own w (Around event) = KeepsPlan plan own w.scene.fabric event
 KeepsLive plan own w (Tell line) = IsNoWriteLine line
 KeepsLive plan own w event = Unit {0}
 
--- each of these events satisfies `KeepsLive` when it happens
+-- none of the events gives `write`, and each Set that an agent takes by them is one of the writing's own or carries the
+-- plan's values
 abbrev pub AllKeepLive : PlanValue → OwnSets → List LiveEvent → Managing → Type 0
 AllKeepLive plan own [] w = Unit {0}
 AllKeepLive plan own (event ∷ events) w =
     KeepsLive plan own w event × AllKeepLive plan own events (after_live w event)
 
--- the manager after live events
+-- the managing after live events
 abbrev pub all_live : List LiveEvent → Managing → Managing
 all_live events w = after_manager_events (events_of events w) w
 
--- the managing when `write` is given: after `sweep` was given, and more events
+-- the managing when `write` is given: after the events `before`, `sweep`, and the events `between`
 abbrev pub live_at_writing : Managing → List LiveEvent → List LiveEvent → Managing
 live_at_writing w before between = all_live between (after_live (all_live before w) sweep_line)
 
--- the managing after `write` was given
+-- the managing after `write` was given: after the events `before`, `sweep`, the events `between`, and `write`
 abbrev pub live_after_write : Managing → List LiveEvent → List LiveEvent → Managing
 live_after_write w before between = after_live (live_at_writing w before between) write_line
 
--- the managing at the end of the run
+-- the managing at the end of the run: after the events `before`, `sweep`, `between`, `write`, and `after`
 abbrev pub live_at_end : Managing → List LiveEvent → List LiveEvent → List LiveEvent → Managing
 live_at_end w before between after = all_live after (live_after_write w before between)
 
--- A new process that holds no facts is told to sweep, and later to write. (By `served_is_managing` the managers here
--- are those of the process.)
+-- A new process that holds no facts is told to sweep and later, when the sweep has every answer, to write; in the end
+-- its plan counts as written. (By `served_is_managing` the managers here are those of the process.)
 pub record BringsUpLive (who : Who) (w : Managing) (before between after : List LiveEvent) : Type 0 where
   pub new : w.manager ≡ new_by who
   pub starts : Starts w
@@ -96,7 +98,7 @@ pub record BringsUpLive (who : Who) (w : Managing) (before between after : List 
   pub written : is_written (live_at_end w before between after).manager ≡ true
 
 -- if a process brings the subnet up, each ping from an end port that the seat is joined to, for each LID of the plan,
--- reaches its owner
+-- reaches the LID's owner
 abbrev pub LivePingsArrive : Type 0
 LivePingsArrive =
     (who : Who) (w : Managing) (before between after : List LiveEvent) → BringsUpLive who w before between after
@@ -104,7 +106,7 @@ LivePingsArrive =
     (cells_of (live_at_writing w before between).manager.store) (plan_at (live_at_writing w before between))
     (live_at_end w before between after).scene.fabric w.seat
 
--- a process that brings a subnet up, with what happens at its seat
+-- an example: a process that brings a subnet up, with what happens at its seat
 pub record SomeProcessServes : Type 0 where
   pub who : Who
   pub managing : Managing

@@ -9,12 +9,13 @@ use Rattle.schedule_lines.specs.Asked.{text_of}
 use Rattle.serve_run.specs.Served.{after_line, end_line, send_line, served}
 use Rattle.serve_laws.specs.Told.{given_by}
 
--- an answer has the text of what the line does, then each packet that the line sends, in order, and then the end
+-- an answer has the text of what the line does, then each packet that the line sends, in order, and then the line of a
+-- dot
 abbrev pub PacketsArePrinted : Type 0
 PacketsArePrinted =
     (m : Manager) (line : ServeLine) → (served m line).text
     ≡ (after_line m line).text ++ flat_map send_line (given_by m line) ++ end_line
 
--- `written` prints yes exactly if the plan is written
+-- `written` prints `yes` exactly if the manager's plan is written
 abbrev pub WrittenSaysYes : Type 0
 WrittenSaysYes = (m : Manager) → (text_of Written None m ≡ codes "written yes\n") ↔ (is_written m ≡ true)

@@ -12,7 +12,7 @@ use Rattle.serve_run.specs.Served.{served, served_all, served_by}
 use Rattle.serve_laws.specs.Told.{Who, new_by}
 use Rattle.serve_laws.specs.Told.{calls_of, floor_by, told_by}
 
--- the manager after it was given these bytes
+-- the manager after it was given the whole lines of `bytes`
 abbrev pub manager_after : Manager → List ℕ → Manager
 manager_after m bytes = (served_all m (lines_told [] bytes)).now
 
@@ -23,11 +23,12 @@ EarlierAnswersStay =
     (m : Manager) (before later : List ℕ) → served_by m (before ++ later)
     ≡ served_by m before ++ (served_all (manager_after m before) (lines_told (begun_by [] before) later)).text
 
--- the manager of a process is the one that the calls of its lines leave
+-- the manager that serving lines leaves is the one that the calls of these lines leave
 abbrev pub ServedLives : Type 0
 ServedLives = (m : Manager) (lines : List ServeLine) → (served_all m lines).now ≡ after_calls (calls_of lines m) m
 
--- a process knows the view of the sightings that it took in, at the greatest floor that it was given
+-- after lines, a new process has the view of the sightings that it took in, at the greatest floor that it was given, or
+-- 1
 abbrev pub KnowsWhatItWasTold : Type 0
 KnowsWhatItWasTold =
     (who : Who) (lines : List ServeLine) → (served_all (new_by who) lines).now.store
@@ -39,8 +40,8 @@ pub record TellTheSame (one other : Manager) : Type 0 where
   pub plan : (served one (Show Plan)).text ≡ (served other (Show Plan)).text
   pub know : KnowTheSame one other
 
--- two processes answer the same if they plan alike, took in the same, in whatever order and however often, and have the
--- same greatest floor
+-- two new processes answer `facts` and `plan` with the same text, and know the same, if they plan by the same rule and
+-- LMC, took in the same, in whatever order and however often, and have the same greatest floor
 abbrev pub SameToldSameTexts : Type 0
 SameToldSameTexts =
     (who who' : Who) (lines lines' : List ServeLine) → who.planning ≡ who'.planning

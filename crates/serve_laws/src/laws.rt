@@ -7,7 +7,7 @@ ghost use Rattle.serve_laws.specs.Live.{ServedIsManaging};
 ghost use Rattle.serve_laws.specs.LivePings.{LivePingsArrive, SomeProcessServes};
 
 /// What is printed for bytes is what is printed for any beginning of them, followed by what the manager at that moment
-/// prints for the rest, preceded by the line that has begun.
+/// prints for the rest, with the line that has begun in front of it.
 #[tactic(auto, using(crate::proofs::Behind::earlier_answers_stay))]
 pub fn earlier_answers_stay()
     ensures { EarlierAnswersStay }
@@ -64,7 +64,7 @@ pub fn packets_are_printed()
     ensures { PacketsArePrinted }
 {}
 
-/// The line `written` prints yes exactly if the plan is written.
+/// The line `written` prints `written yes` exactly if the plan is written.
 #[tactic(auto, using(crate::proofs::Said::written_says_yes))]
 pub fn written_says_yes()
     ensures { WrittenSaysYes }

@@ -1,27 +1,21 @@
 -- Views that tell one subnet have the same end ports, switches and wires in every reading that a plan takes of them.
-use Rattle.std.proofs.Common.{◌≡◌, ◌<◌, ◌⊎◌, inl, inr, ℕ, suc, List, [], ◌∷◌, refl, sym, ap, ◌∙◌, subst, arith, Bool, true, false, cond, map}
-use Rattle.std.specs.Prelude.{Option, None, Some, Contains, AllPairs, filter, is_some}
+use Rattle.std.proofs.Common.{◌≡◌, ◌<◌, ◌⊎◌, inl, inr, ℕ, suc, List, [], ◌∷◌, refl, sym, ap, ◌∙◌, subst, arith, true}
+use Rattle.std.specs.Prelude.{Option, None, Some, Contains, AllPairs, is_some}
 use Rattle.std.specs.List.{filter_map, cons_option}
 use Rattle.fact_store.specs.View.{Facts, cells_of}
 use Rattle.subnet_view.specs.declared.end_port.EndPort.{EndPort}
 use Rattle.reply_facts.specs.Known.{port_guid_of, cap_of}
-use Rattle.subnet_view.specs.Reading.{Cells, is_usable, switches, IsUsable}
+use Rattle.subnet_view.specs.Reading.{is_usable, switches, IsUsable}
 use Rattle.subnet_view.specs.EndPorts.{end_ports, ComesBefore}
 use Rattle.subnet_view.specs.Wires.{across}
 use Rattle.subnet_view.proofs.EndPortList.{end_ports_law}
 use Rattle.subnet_view.proofs.EndPortOrder.{one_way, less_from_test}
 use Rattle.subnet_view.proofs.Members.{contains_here, contains_later, contains_cases, contains_none}
+use Rattle.subnet_view.proofs.Components.{same_tests}
 use Rattle.subnet_view.proofs.UsableSwitches.{switches_law, usable_law}
 use Rattle.subnet_view.proofs.WireLaws.{wire_law}
 use Rattle.lid_assign.specs.Lids.{room, least_room}
 use Rattle.takeover_laws.specs.Alike.{IsAlike}
-
--- two tests that are true alike are the same
-same_test : (a b : Bool) → (a ≡ true → b ≡ true) → (b ≡ true → a ≡ true) → a ≡ b
-same_test true true h k = refl
-same_test false false h k = refl
-same_test true false h k = sym (h refl)
-same_test false true h k = k refl
 
 -- two options that hold the same values are the same
 same_option : {X : Type 0} (a b : Option X) → ((x : X) → a ≡ Some x → b ≡ Some x) → ((x : X) → b ≡ Some x → a ≡ Some x) → a ≡ b
@@ -67,19 +61,12 @@ module _ {X : Type 0} (R S : X → X → Type 0) where
       from_xs z (inr m) n = m
 
 -- readings of the elements of a list that are the same
-pub map_same : {X Y : Type 0} (f g : X → Y) (xs : List X) → ((x : X) → Contains xs x → f x ≡ g x) → map f xs ≡ map g xs
-map_same f g [] h = refl
-map_same f g (x ∷ xs) h = let one = h x (contains_here x xs) in let rest = map_same f g xs (λ y m. h y (contains_later x y xs m)) in λ i. one i ∷ rest i
-
 pub filter_map_same : {X Y : Type 0} (f g : X → Option Y) (xs : List X) → ((x : X) → Contains xs x → f x ≡ g x) → filter_map f xs ≡ filter_map g xs
 filter_map_same f g [] h = refl
 filter_map_same f g (x ∷ xs) h =
     let one = h x (contains_here x xs) in let rest = filter_map_same f g xs (λ y m. h y (contains_later x y xs m)) in λ i. cons_option (one i) (rest i)
 
 module _ (x y : Facts) (alike : IsAlike (cells_of x) (cells_of y)) where
-  X : Cells
-  X = cells_of x
-
   guid_in_x : (z : Facts) (e : EndPort) → Contains (end_ports (cells_of z)) e → (n : ℕ) × (port_guid_of (cells_of z) e.node e.port ≡ Some n)
   guid_in_x z e h =
       let (kind, ports, is, number, known) = ((end_ports_law z).0 e).0 h in
@@ -123,7 +110,7 @@ module _ (x y : Facts) (alike : IsAlike (cells_of x) (cells_of y)) where
 
   pub usable_same : (g : ℕ) → is_usable (cells_of x) g ≡ is_usable (cells_of y) g
   usable_same g =
-      same_test (is_usable (cells_of x) g) (is_usable (cells_of y) g)
+      same_tests (is_usable (cells_of x) g) (is_usable (cells_of y) g)
       (λ e. (usable_law (cells_of y) g).1 ((alike.switches g).0 ((usable_law (cells_of x) g).0 e)))
       (λ e. (usable_law (cells_of x) g).1 ((alike.switches g).1 ((usable_law (cells_of y) g).0 e)))
 

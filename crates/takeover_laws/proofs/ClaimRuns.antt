@@ -47,7 +47,7 @@ use Rattle.manager_laws.proofs.Lists.{all_append}
 use Rattle.manager_laws.proofs.Sweeps.{told_in, told_more}
 use Rattle.takeover_laws.specs.Claims.{LidsStay, IsTrueClaim}
 use Rattle.takeover_laws.proofs.LidScenes.{LidSo, SameLids, LidsKnown, sends_known, event_known}
-use Rattle.takeover_laws.proofs.Returned.{same_attribute, same_modifier, same_data, same_status, comes_from, is_answer}
+use Rattle.manager_laws.proofs.Returned.{same_attribute, same_modifier, same_data, same_status, comes_from, is_answer}
 
 -- other facts say nothing of LIDs ------------------------------------------------------------------
 
@@ -68,16 +68,10 @@ module _ (f : Fabric) (generation : ℕ) where
 
 module _ {start : Simulation} {seat : NodePort} (cables : AreCables start) (counts : (id : ℕ) → port_count start id ≤ 254)
     (can : CanBeSwept (fabric_of start) seat) (cabled : IsCabled (fabric_of start)) (within : IsPortOf start seat) where
-  F : Fabric
-  F = fabric_of start
-
   -- a reply ---------------------------------------------------------------------------------------
 
   module _ (s : Sweep) (sound : IsSoundSweep (fabric_of start) seat s) (bytes : List ℕ) (is : courses.IsForManager start seat bytes)
       (lids : IsForManager AnySends (LidSo start) start seat bytes) (answer : Answer) (taken : judged s bytes ≡ Ok answer) where
-    r : Request
-    r = (swept.accepted_as cables counts can cabled s sound bytes is answer taken).request
-
     by_question : (request : Request) → IsFor bytes request → directed_end (fabric_of start) seat request.path
         ≡ Some (is_answer AnySends (LidSo start) start seat bytes lids
         (swept.accepted_as cables counts can cabled s sound bytes is answer taken).good.directed

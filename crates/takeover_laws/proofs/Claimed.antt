@@ -1,7 +1,6 @@
 -- While no LID changes, a sweep that has every answer knows the LID of each end port that is joined to its seat.
-use Rattle.std.proofs.Common.{◌≡◌, inl, inr, ℕ, zero, suc, ◌≤◌, Bool, true, false, List, [], ◌∷◌, ◌++◌, refl, sym, ap, ◌∙◌, subst, arith}
+use Rattle.std.proofs.Common.{◌≡◌, inl, inr, ℕ, ◌≤◌, Bool, true, false, List, [], ◌∷◌, ◌++◌, refl, sym, ap, ◌∙◌, subst, arith}
 use Rattle.std.proofs.lemmas.Bool.{cond_both}
-use Rattle.std.proofs.lemmas.Option.{same_Some}
 use Rattle.std.proofs.lemmas.List.Elements.{All-nil, All-cons, All-head, All-tail, recursion_from_All}
 use Rattle.std.specs.Prelude.{Option, Some, None, All, Contains, MatchBool, MatchOption, ◌==◌}
 use Rattle.std.specs.List.{AllByRecursion}
@@ -9,8 +8,8 @@ use Rattle.fabric_model.specs.declared.cable.NodePort.{NodePort}
 use Rattle.smp_bytes.specs.declared.node_type.NodeType.{NodeType}
 use Rattle.smp_bytes.specs.NodeType.{is_switch}
 use Rattle.fabric_model.specs.Fabric as fabric
-use Rattle.fabric_model.specs.Fabric.{Fabric, IsFabric, IsNodeAt, IsEndPortNumber}
-use Rattle.fabric_model.specs.FabricWalks.{vertex_of, IsJoinedTo, Walk}
+use Rattle.fabric_model.specs.Fabric.{Fabric, IsFabric, IsNodeAt}
+use Rattle.fabric_model.specs.FabricWalks.{IsJoinedTo}
 use Rattle.smp_bytes.specs.Field.{number_in}
 use Rattle.smp_bytes.specs.Header.{node_info, port_info}
 use Rattle.smp_bytes.specs.Packet.{attribute_id}
@@ -22,7 +21,7 @@ use Rattle.fact_join.specs.Cell.{generation_of}
 use Rattle.reply_facts.specs.declared.key.Key.{Key}
 use Rattle.reply_facts.specs.declared.key.Key.TheVariants.{Node, PortGuid, Link, Port, Claim, Cap}
 use Rattle.reply_facts.specs.declared.value.Value.{Value}
-use Rattle.reply_facts.specs.declared.value.Value.TheVariants.{Kind, Guid, Peer, Up, Lid, Count}
+use Rattle.reply_facts.specs.declared.value.Value.TheVariants.{Lid}
 use Rattle.reply_facts.specs.declared.report.Context.{Context}
 use Rattle.reply_facts.specs.declared.report.Context.TheVariants.{Start, Via, About}
 use Rattle.reply_facts.specs.declared.report.Report.{Report}
@@ -43,13 +42,15 @@ use Rattle.manager_laws.proofs.Sound.{CanBeSwept}
 use Rattle.manager_laws.proofs.Swept.{accepted_facts_are_true, few_ports_there, can_sweep, cabled_there, goes_first}
 use Rattle.manager_laws.specs.Complete.{IsWhole, facts_of}
 use Rattle.manager_laws.proofs.Asked.{IsPending}
-use Rattle.manager_laws.proofs.Closed.{was_reached, answered_port, crossed, none_pending}
-use Rattle.manager_laws.proofs.Covered.{having, guid_at, IsReached, IsOrigin, Crossed, Covered}
+use Rattle.manager_laws.proofs.Closed.{was_reached, answered_port, none_pending}
+use Rattle.manager_laws.proofs.Covered.{IsOrigin, Covered}
 use Rattle.manager_laws.proofs.Done.{done_sweeps_are_complete, seat_end}
 use Rattle.manager_laws.proofs.Known.{HasKey, same_node}
-use Rattle.manager_laws.proofs.Lists.{Has, has_as, has_left, has_right, has_either, contained_has, all_contained, all_append, all_first, all_last}
+use Rattle.manager_laws.proofs.Lists.{Has, has_left, has_right, has_either, contained_has, all_contained, all_append, all_first, all_last}
 use Rattle.manager_laws.proofs.Sweeps.{told_in, all_covered}
 use Rattle.takeover_laws.specs.Alike.{ClaimsAreTrue}
+use Rattle.manager_laws.proofs.Planned.{end_number}
+use Rattle.manager_laws.proofs.Agreeing.{joined_reached}
 use Rattle.takeover_laws.specs.Claims.{LidsStay, IsTrueClaim, IsTrueClaimOf, AcceptedClaimsAreTrue, SweptClaimsAreTrue, TakeoversChangeNothing}
 use Rattle.fabric_sim.proofs.Courses.{AnySends}
 use Rattle.fabric_sim.proofs.Traced.{IsOnCourse}
@@ -121,17 +122,10 @@ module _ (g p : ℕ) where
 module _ (f : Fabric) (distinct : AreGuidsDistinct f) (told : Sightings) (all : AllByRecursion (IsTrueSighting f) told)
     (claims : AllByRecursion (IsTrueClaim f) told)
     (g p id : ℕ) (node : fabric.Node) (has : HasNode f g id node) where
-  abbrev lid : ℕ
-  lid = f.base_lid (record { node = id; port = p })
-
   only : (v : Value) → IsTrueOf f (Claim g p) v → IsTrueClaimOf f (Claim g p) v → v ≡ Lid (f.base_lid (record { node = id; port = p }))
   only (Lid n) t (at, other, is, same) = let there =
       same_node f distinct is has in ap Lid (sym same ∙ ap (λ k. f.base_lid (record { node = k; port = p })) there.0)
-  only (Kind kind ports) t c = absurd t
-  only (Guid guid) t c = absurd t
-  only (Peer peer port) t c = absurd t
-  only (Up up) t c = absurd t
-  only (Count n) t c = absurd t
+  only v t c = absurd t
 
   says : (n : ℕ) (c : Cell Value) → IsTrueSighting f (Claim g p, c) → IsTrueClaim f (Claim g p, c) → generation_of c ≡ n
       → c ≡ Known n (Lid (f.base_lid (record { node = id; port = p })))
@@ -167,36 +161,16 @@ module _ (f : Fabric) (distinct : AreGuidsDistinct f) (told : Sightings) (all : 
 module _ {f : Fabric} {seat : NodePort} (can : CanBeSwept f seat) (is_fabric : IsFabric f) (at_seat : fabric.Node) (seat_there : IsNodeAt f seat.node at_seat)
     (s : Sweep) (told : Sightings) (c : Covered f seat s told) (none : (a : Asking) → IsPending (s.outstanding ++ s.queued) a → ⊥)
     (start : Has (IsOrigin f seat) s.reached) (all : AllByRecursion (IsTrueSighting f) told) where
-  abbrev Reaches : NodePort → Type 0
-  Reaches p = IsReached f seat s.reached p
-
-  over : (from to : NodePort) → f.across from ≡ Some to → Reaches (vertex_of f from) → Crossed f seat (having s told) from to
-  over from to cable reached =
-      let (node, there, low, high) = is_fabric.cabled from to cable in
-      crossed can is_fabric at_seat seat_there s told c none all from to node there low high cable reached
-
-  all_reached : (n : ℕ) (a b : NodePort) → Reaches a → Walk f a b n → Reaches b
-  all_reached zero a b h e = subst Reaches e h
-  all_reached (suc n) a b h (d, next, between, w) =
-      let cross = over next.out next.into next.wire.cable (subst Reaches (sym next.of_one) h) in
-      all_reached n d b (subst Reaches next.of_other cross.end) w
-
-  seat_reached : Reaches seat
-  seat_reached = has_as (IsOrigin f seat) (λ v. (v.guid ≡ guid_at f seat seat.node) × (v.port ≡ seat.port)) (λ v is. (is.0, is.1)) s.reached start
-
   -- of each end port that is joined it was told whether it is up
   pub port_told : (port : NodePort) (node : fabric.Node) → IsEndPortIn (IsJoinedTo f seat) f port node → HasKey told (Port node.guid port.port)
   port_told port node is =
-      let (n, walk) = is.in_part in
-      let r = was_reached can is_fabric at_seat seat_there s told c none all port node is.node_there (all_reached n seat port seat_reached walk) in
-      let (other, there, its_number) = is.end_port in
-      let number : IsEndPortNumber node port.port =
-      subst (λ (x : fabric.Node). IsEndPortNumber x port.port) (same_Some _ _ (sym there ∙ is.node_there)) its_number in
+      let r = was_reached can is_fabric at_seat seat_there s told c none all port node is.node_there
+      (joined_reached can is_fabric at_seat seat_there s told c none start all port is.in_part) in
       let kind : r.v.kind ≡ node.kind = r.covers.kind ∙ ap (λ (x : fabric.Node). x.kind) r.same in
       subst (λ x. HasKey told (Port x port.port)) r.guid
       (answered_port can is_fabric at_seat seat_there s told c none all r.v r.covers port.port
       (subst (λ k. MatchBool (is_switch k) (port.port ≤ r.v.ports) (port.port ≡ r.v.port)) (sym kind)
-      (by_kind (is_switch node.kind) number r.v.ports r.v.port r.port))).0
+      (by_kind (is_switch node.kind) (end_number (IsJoinedTo f seat) f port node is) r.v.ports r.v.port r.port))).0
     where
       by_kind : (b : Bool) → MatchBool b (port.port ≡ 0) ((1 ≤ port.port) × (port.port ≤ node.ports)) → (ports at : ℕ) → at ≡ port.port
           → MatchBool b (port.port ≤ ports) (port.port ≡ at)

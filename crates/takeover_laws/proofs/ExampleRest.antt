@@ -1,11 +1,10 @@
 -- The same run after a cut: earlier facts tell of a third adapter, which is gone.
-use Rattle.std.proofs.Common.{◌≡◌, ℕ, zero, suc, true, [], ◌∷◌, ◌++◌, refl, sym, ◌∙◌, subst, arith}
-use Rattle.std.proofs.lemmas.Option.{same_Some}
+use Rattle.std.proofs.Common.{◌≡◌, ℕ, true, [], ◌∷◌, ◌++◌, refl, sym, subst}
 use Rattle.std.specs.Prelude.{Some}
 use Rattle.fabric_model.specs.declared.cable.NodePort.{NodePort}
 use Rattle.smp_bytes.specs.declared.node_type.NodeType.TheVariants.{ChannelAdapter}
 use Rattle.fabric_model.specs.Fabric as fabric
-use Rattle.fabric_model.specs.Fabric.{IsNodeAt, IsEndPortNumber, range_at}
+use Rattle.fabric_model.specs.Fabric.{range_at}
 use Rattle.fabric_model.specs.FabricWalks.{IsJoinedTo}
 use Rattle.node_agents.specs.Agent.{fresh_agent, node_of}
 use Rattle.reply_facts.specs.declared.key.Key.TheVariants.{Node as NodeKey, PortGuid, Port as PortKey, Claim}
@@ -25,9 +24,9 @@ use Rattle.manager_laws.specs.Managing.{Managing}
 use Rattle.takeover_laws.specs.Rest.{SomeManagerServesTheRest, TakesRest}
 use Rattle.takeover_laws.specs.Takeover.{plan_by_it}
 use Rattle.manager_laws.proofs.Computed.{one}
-use Rattle.takeover_laws.proofs.Example.{after, all_told, at_is, beginning, between, its_planning, planning_is, sweeps}
+use Rattle.takeover_laws.proofs.Example.{after, all_told, at_is, beginning, between, has_swept, its_planning, sweeps}
 use Rattle.manager_laws.proofs.ExampleFabric.{port}
-use Rattle.takeover_laws.proofs.ExampleFabric.{bare_agent, network, table, with_lid}
+use Rattle.takeover_laws.proofs.ExampleFabric.{at_end_ports, first_agent, last_agent, network, switch_agent}
 use Rattle.sm_state.specs.declared.conduct.Conduct.TheVariants.{Plain}
 
 -- of before the cut: an adapter that has LID 9
@@ -50,51 +49,34 @@ record IsTold (id p : ℕ) (node : fabric.Node) : Type 0 where
   pub holds : range_of (plan_of up_and_down 0 (cells_of_view before_cut)).given (record { node = node.guid; port = p })
       ≡ Some (range_at (fabric_of network) (port id p))
 
-told_at : (id p : ℕ) (node : fabric.Node) → IsNodeAt (fabric_of network) id node → IsEndPortNumber node p → IsTold id p node
+told_first : IsTold 0 1 (node_of first_agent)
 unfolding cabled_at fresh_agent
-told_at zero p node there number =
-    subst (λ (n : fabric.Node). IsTold 0 p n) (same_Some _ _ there)
-    (by_port p (subst (λ (n : fabric.Node). IsEndPortNumber n p) (sym (same_Some _ _ there)) number))
-  where
-    by_port : (p : ℕ) → IsEndPortNumber (node_of (with_lid (bare_agent 0) 1 2)) p → IsTold 0 p (node_of (with_lid (bare_agent 0) 1 2))
-    by_port zero within = absurd (omega (arith, within.0))
-    by_port (suc zero) within = record { tells = record { kind = refl; port_guid = refl; cap = λ switch. absurd (cc) }; holds = refl }
-    by_port (suc (suc p)) within = absurd (omega (arith, within.1))
-told_at (suc zero) p node there number =
-    subst (λ (n : fabric.Node). IsTold 1 p n) (same_Some _ _ there)
-    (by_port p (subst (λ (n : fabric.Node). IsEndPortNumber n p) (sym (same_Some _ _ there)) number))
-  where
-    by_port : (p : ℕ) → IsEndPortNumber (node_of (record (with_lid (bare_agent 1) 0 5) { table = table; top = 7 })) p
-        → IsTold 1 p (node_of (record (with_lid (bare_agent 1) 0 5) { table = table; top = 7 }))
-    by_port zero is = record { tells = record { kind = refl; port_guid = refl; cap = λ switch. refl }; holds = refl }
-    by_port (suc p) is = absurd (omega (arith, is))
-told_at (suc (suc zero)) p node there number =
-    subst (λ (n : fabric.Node). IsTold 2 p n) (same_Some _ _ there)
-    (by_port p (subst (λ (n : fabric.Node). IsEndPortNumber n p) (sym (same_Some _ _ there)) number))
-  where
-    by_port : (p : ℕ) → IsEndPortNumber (node_of (with_lid (bare_agent 2) 1 7)) p → IsTold 2 p (node_of (with_lid (bare_agent 2) 1 7))
-    by_port zero within = absurd (omega (arith, within.0))
-    by_port (suc zero) within = record { tells = record { kind = refl; port_guid = refl; cap = λ switch. absurd (cc) }; holds = refl }
-    by_port (suc (suc p)) within = absurd (omega (arith, within.1))
-told_at (suc (suc (suc n))) p node there number = absurd (cc)
+told_first = record { tells = record { kind = refl; port_guid = refl; cap = λ switch. absurd (cc) }; holds = refl }
+
+told_switch : IsTold 1 0 (node_of switch_agent)
+unfolding cabled_at fresh_agent
+told_switch = record { tells = record { kind = refl; port_guid = refl; cap = λ switch. refl }; holds = refl }
+
+told_last : IsTold 2 1 (node_of last_agent)
+unfolding cabled_at fresh_agent
+told_last = record { tells = record { kind = refl; port_guid = refl; cap = λ switch. absurd (cc) }; holds = refl }
 
 told : (q : NodePort) (node : fabric.Node) → IsEndPortIn (IsJoinedTo (fabric_of network) (port 0 1)) (fabric_of network) q node → IsTold q.node q.port node
-told q node is =
-    let (other, there, number) = is.end_port in
-    told_at q.node q.port node is.node_there (subst (λ (n : fabric.Node). IsEndPortNumber n q.port) (same_Some _ _ (sym there ∙ is.node_there)) number)
+told = at_end_ports IsTold told_first told_switch told_last (IsJoinedTo (fabric_of network) (port 0 1))
 
 takes_rest : TakesRest (view before_cut) beginning [] between after
 takes_rest =
     record {
       sweeps = sweeps;
       has_room = subst (λ (x : Managing). ¬ (IsNoRoom x.manager.planning.lmc (cells_of (view before_cut)))) (sym at_is)
-          (subst (λ (p : Planning). ¬ (IsNoRoom p.lmc (cells_of (view before_cut)))) (sym planning_is) (subst (λ c. ¬ (IsNoRoom 0 c)) (sym known) has_room));
+          (subst (λ (p : Planning). ¬ (IsNoRoom p.lmc (cells_of (view before_cut)))) (sym has_swept.planning_is)
+          (subst (λ c. ¬ (IsNoRoom 0 c)) (sym known) has_room));
       tells = λ q node is. subst (λ c. TellsEndPort c node q.port) (sym known) (told q node is).tells;
       holds = λ q node is.
           subst (λ (x : Managing). range_of (plan_by_it x.manager.planning (view before_cut)).given (record { node = node.guid; port = q.port })
           ≡ Some (range_at (fabric_of network) q)) (sym at_is)
           (subst (λ (p : Planning). range_of (plan_by_it p (view before_cut)).given (record { node = node.guid; port = q.port })
-          ≡ Some (range_at (fabric_of network) q)) (sym planning_is)
+          ≡ Some (range_at (fabric_of network) q)) (sym has_swept.planning_is)
           (subst (λ c. range_of (plan_of up_and_down 0 c).given (record { node = node.guid; port = q.port })
           ≡ Some (range_at (fabric_of network) q)) (sym known)
           (told q node is).holds));

@@ -19,7 +19,7 @@ use Rattle.node_agents.specs.AnswerLaws.{IsPacket}
 use Rattle.node_agents.proofs.Told.{refusals_change_nothing}
 use Rattle.fabric_sim.specs.Simulation.{Simulation, agent_at, fabric_of, port_of}
 use Rattle.fabric_sim.specs.Delivery.{after_deliver}
-use Rattle.fabric_sim.proofs.AgentLists.{changed_at_id}
+use Rattle.fabric_sim.proofs.AgentLists.{changed_at_id, others_stay}
 use Rattle.fabric_sim.proofs.SeenFabrics.{agent_seen}
 use Rattle.fabric_sim.proofs.TracedCalls.{AsksAnAgent}
 use Rattle.fabric_sim.proofs.TripShapes.{IsAlong, agent_there}
@@ -30,7 +30,7 @@ use Rattle.subnet_view.specs.Agreement.{Part, IsEndPortIn}
 use Rattle.manager_laws.proofs.Alike.{holding, joined_there, nodes_along}
 use Rattle.manager_laws.specs.Sets.{Carries, TakesSet}
 use Rattle.manager_laws.proofs.AgentSets.{Effect, effect, unset}
-use Rattle.manager_laws.proofs.WritingTaken.{carries, changed_other, node_of_agent, nodes_stay, upto}
+use Rattle.manager_laws.proofs.WritingTaken.{carries, node_of_agent, nodes_stay, upto}
 
 -- an agent ---------------------------------------------------------------------------------------------
 
@@ -206,15 +206,12 @@ module _ (start : Simulation) (plan : PlanValue) (part : Part) where
   delivery_keeps s seat along n all (inl same) id a there = same_keep s (after_deliver s n).fabric same id a there
   delivery_keeps s seat along n all (inr asks) id a there = by_id ((port_of asks.flight.whereabouts).node == id) refl
     where
-      change : Agent → Agent
-      change x = (after_answer x asks.request (port_of asks.flight.whereabouts).port).agent
-
       by_id : (b : Bool) → ((port_of asks.flight.whereabouts).node == id) ≡ b
           → (b : Agent) × (agent_at (after_deliver s n).fabric id ≡ Some b) × KeepsHeld plan a b
       by_id false other = (
         a,
         ap (λ (xs : List Agent). slice_get xs id) asks.asked.agents
-            ∙ changed_other s.agents (port_of asks.flight.whereabouts).node id (λ x. (after_answer x asks.request (port_of asks.flight.whereabouts).port).agent)
+            ∙ others_stay s.agents (port_of asks.flight.whereabouts).node id (λ x. (after_answer x asks.request (port_of asks.flight.whereabouts).port).agent)
             (eqb-false _ _ other)
             ∙ there,
         itself plan a,

@@ -2,7 +2,6 @@ pub mod Alike
 pub mod Planning
 pub mod Seeing
 pub mod LidsTold
-pub mod Returned
 pub mod LidScenes
 pub mod ClaimRuns
 pub mod Claimed

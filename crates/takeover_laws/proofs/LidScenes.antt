@@ -51,9 +51,6 @@ pub record LidsKnown (start : Simulation) (w : Scene) : Type 0 where
 module _ {start : Simulation} (cables : AreCables start) (counts : (id : ℕ) → port_count start id ≤ 254) where
   module _ (s : Simulation) (along : IsAlong start s) (n : ℕ) (lids : SameLids start (after_deliver s n).fabric) (flight : Flight) (request : List ℕ)
       (asked : IsAskedBy s n flight request) where
-    p : NodePort
-    p = port_of flight.whereabouts
-
     agent : (x : Agent) × (agent_at s (port_of flight.whereabouts).node ≡ Some x)
     agent =
         let parts = and_parts (nat_le 1 (port_of flight.whereabouts).port)

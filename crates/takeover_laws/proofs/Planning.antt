@@ -14,6 +14,7 @@ use Rattle.subnet_view.specs.Wires.{across, attached, CanHaveWire, IsWire}
 use Rattle.subnet_view.proofs.EndPortList.{end_ports_law}
 use Rattle.subnet_view.proofs.Members.{contains_here, contains_later, contains_cases, contains_none}
 use Rattle.subnet_view.proofs.UsableSwitches.{switches_law}
+use Rattle.subnet_view.proofs.Walked.{map_same}
 use Rattle.subnet_view.proofs.WireLaws.{wire_law}
 use Rattle.subnet_view.specs.SwitchEdges.{SwitchEdges}
 use Rattle.subnet_view.specs.Graph.{edge_at, edges_of, graph_of, guids_of}
@@ -26,7 +27,7 @@ use Rattle.lid_assign.proofs.Staying.{still_room, lids_same}
 use Rattle.lft_blocks.specs.Entries.{attachment_of, block_count}
 use Rattle.lft_blocks.specs.Plan.{tables_of, plan_of}
 use Rattle.takeover_laws.specs.Alike.{IsAlike, ClaimAlike, AlikeViewsPlanAlike, ClaimedPlansStay}
-use Rattle.takeover_laws.proofs.Alike.{map_same, end_ports_same, switches_same, usable_same, across_same, room_same}
+use Rattle.takeover_laws.proofs.Alike.{end_ports_same, switches_same, usable_same, across_same, room_same}
 use Rattle.lft_blocks.specs.LidNumbers.{lid_numbers, number_of, numbered, numbering_by}
 
 -- readings by which switches are usable, and by wires ----------------------------------------------

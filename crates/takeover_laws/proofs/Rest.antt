@@ -22,7 +22,7 @@ use Rattle.reply_facts.specs.Known as values
 use Rattle.reply_facts.specs.Known.{cap_of, claim_of}
 use Rattle.subnet_view.specs.Reading.{Cells, switches}
 use Rattle.subnet_view.specs.EndPorts.{IsEndPort, end_ports}
-use Rattle.subnet_view.specs.Agreement.{AgreesOn, HasEndPort, IsEndPortIn, Part, TellsEndPort}
+use Rattle.subnet_view.specs.Agreement.{AgreesOn, IsEndPortIn, Part, TellsEndPort}
 use Rattle.subnet_view.proofs.Apart.{Apart, before_apart, contains-from_map}
 use Rattle.subnet_view.proofs.EndPortList.{end_ports_law}
 use Rattle.subnet_view.proofs.EndPorts.{end_ports_apart}
@@ -32,17 +32,19 @@ use Rattle.subnet_view.proofs.UsableSwitches.{switches_law}
 use Rattle.lid_assign.specs.Ranges.{range_at, Fits}
 use Rattle.lid_assign.specs.Lids.{ClaimsFitting, Given, IsNoRoom, Keeps, least_room, lids, lid_of, lmc_of, range_of, room, top_of}
 use Rattle.lid_assign.proofs.LidLaws.{lids_law, ports-lids, ports_apart}
+use Rattle.lid_assign.proofs.FreeLids.{at_most}
 use Rattle.lid_assign.proofs.Owners.{lid-from_given}
 use Rattle.lid_assign.proofs.Ranges.{some_width}
 use Rattle.lid_assign.proofs.Tops.{last_at_most, top_below}
 use Rattle.sm_manager.specs.Manager.{newest_held}
 use Rattle.manager_laws.specs.Written.{at_writing}
-use Rattle.manager_laws.proofs.Arrive.{pings_arrive_once_written}
 use Rattle.manager_laws.proofs.Held as held
+use Rattle.manager_laws.proofs.Planned.{known_end}
 use Rattle.takeover_laws.specs.Alike.{ClaimsAreTrue}
 use Rattle.takeover_laws.specs.Rest.{FloorsForget, IsRestOf, LidsOutlast, RaisedManagersKnowNothing, RestIsServed}
 use Rattle.takeover_laws.specs.Takeover.{planning_at}
-use Rattle.takeover_laws.proofs.Takeover.{found_agrees, found_claims}
+use Rattle.takeover_laws.proofs.Takeover.{arrives_once_written, found_agrees, found_claims}
+use Rattle.takeover_laws.proofs.Seeing.{inside, named_so}
 
 -- floors -----------------------------------------------------------------------------------------------------
 
@@ -130,37 +132,23 @@ room_above (c ∷ caps) top low each =
     let rest = room_above caps top low (λ cap there. each cap (contains_later c cap caps there)) in
     omega (arith, here, rest)
 
-room_most : (caps : List ℕ) → least_room caps ≤ 0xC000
-room_most [] = omega arith
-room_most (c ∷ caps) = let rest = room_most caps in omega (arith, rest)
-
 -- what is there of what was told -----------------------------------------------------------------------------------
 
 module _ (lmc : ℕ) (x y : Facts) (f : Fabric) (part : Part) (room_for_x : ¬ (IsNoRoom lmc (cells_of x))) (agrees : AgreesOn part (cells_of y) f)
     (tells : (port : NodePort) (node : Node) → IsEndPortIn part f port node → TellsEndPort (cells_of x) node port.port) where
-  end_in : (g p : ℕ) (has : HasEndPort part f g p) → IsEndPortIn part f has.port has.named.node
-  end_in g p has = record { node_there = has.named.node_there; end_port = has.end_port; in_part = has.in_part }
-
-  number : (port : NodePort) (node : Node) → IsEndPortIn part f port node → fabrics.IsEndPortNumber node port.port
-  number port node is =
-      let (other, there, its_number) = is.end_port in
-      subst (λ (n : Node). fabrics.IsEndPortNumber n port.port) (same_Some _ _ (sym there ∙ is.node_there)) its_number
-
   had : (e : EndPort) → Contains (end_ports (cells_of y)) e → Contains (end_ports (cells_of x)) e
   had e there =
       let has = agrees.end_ports_exist e.node e.port (((end_ports_law y).0 e).0 there) in
-      let is = end_in e.node e.port has in
-      let told = tells has.port has.named.node is in
-      let end : IsEndPort (cells_of x) has.named.node.guid has.port.port =
-      (has.named.node.kind, has.named.node.ports, told.kind, number has.port has.named.node is, ap is_some told.port_guid) in
+      let is = inside part f e.node e.port has in
       ((end_ports_law x).0 e).1
-      (subst (λ p. IsEndPort (cells_of x) e.node p) has.named.port_is (subst (λ g. IsEndPort (cells_of x) g has.port.port) has.named.guid_is end))
+      (named_so part f e.node e.port has (IsEndPort (cells_of x))
+      (known_end part f has.port has.named.node is (cells_of x) (tells has.port has.named.node is)))
 
   -- each switch that is there had the room that it has
   room_stays : (top : ℕ) → top_of (lids lmc (cells_of x)) ≡ Some top → top < room (cells_of y)
   room_stays top is_top =
       let below = top_below lmc (lids lmc (cells_of x)).ports (room (cells_of x)) top (λ e n h. ((lids_law lmc x room_for_x).each_fits e n h).in_room) is_top in
-      let most = room_most (filter_map (cap_of (cells_of x)) (switches (cells_of x))) in
+      let most = at_most (filter_map (cap_of (cells_of x)) (switches (cells_of x))) in
       room_above (filter_map (cap_of (cells_of y)) (switches (cells_of y))) top (omega (arith, below, most))
       (λ cap there. let low = room_of_each (filter_map (cap_of (cells_of x)) (switches (cells_of x))) cap (cap_there cap there) in omega (arith, below, low))
     where
@@ -170,7 +158,7 @@ module _ (lmc : ℕ) (x y : Facts) (f : Fabric) (part : Part) (room_for_x : ¬ (
           let (g, among, cap_is) = taken_from (cap_of (cells_of y)) (switches (cells_of y)) cap there in
           let usable = ((switches_law y).0 g).0 among in
           let has = agrees.switches_exist g usable in
-          let is = end_in g 0 has in
+          let is = inside part f g 0 has in
           let node = has.named.node in
           let told = tells has.port node is in
           let tells_now = agrees.tells_end_ports has.port node is in
@@ -202,7 +190,7 @@ module _ (lmc : ℕ) (x y : Facts) (f : Fabric) (part : Part) (room_for_x : ¬ (
         had = had lmc x y f part room_for_x agrees tells;
         claimed = λ e lid there lid_is.
             let has = agrees.end_ports_exist e.node e.port (((end_ports_law y).0 e).0 there) in
-            let is = end_in lmc x y f part room_for_x agrees tells e.node e.port has in
+            let is = inside part f e.node e.port has in
             let held_there = holds has.port has.named.node is in
             let claim = claims has.port has.named.node is in
             let named : ◌≡◌ {A = EndPort} (record { node = has.named.node.guid; port = has.port.port }) e =
@@ -220,8 +208,7 @@ module _ (lmc : ℕ) (x y : Facts) (f : Fabric) (part : Part) (room_for_x : ¬ (
   rest_lids room_for_y port node is =
       let told = agrees.tells_end_ports port node is in
       let e : EndPort = record { node = node.guid; port = port.port } in
-      let end : IsEndPort (cells_of y) node.guid port.port =
-      (node.kind, node.ports, told.kind, number lmc x y f part room_for_x agrees tells port node is, ap is_some told.port_guid) in
+      let end = known_end part f port node is (cells_of y) told in
       ap (λ o. option_map (λ l. (l, lmc_of (lids lmc (cells_of y)) e)) o)
       (lid_outlasts lmc x y room_for_x room_for_y is_rest e (((end_ports_law y).0 e).1 end))
       ∙ holds port node is
@@ -233,20 +220,11 @@ rest_is_served given w before between after t =
     let f = fabric_of w.scene.fabric in
     let found = (at_writing w before between).manager.store in
     let part : Part = IsJoinedTo f w.seat in
-    let agrees = found_agrees w before between after s.run s.knew_nothing s.alone s.sweep s.is_last s.lids_before s.lids_between s.whole in
-    let claims = found_claims w before between after s.run s.knew_nothing s.alone s.sweep s.is_last s.lids_before s.lids_between s.whole in
+    let agrees = found_agrees w before between after s in
+    let claims = found_claims w before between after s in
     let has_room = (held.may w before between after s.run s.sweep s.is_last).has_room in
     record {
       lids_stay = λ e there. lid_outlasts lmc given found t.has_room has_room
           (is_rest lmc given found f part t.has_room agrees t.tells t.holds claims) e there;
-      arrives = λ written. pings_arrive_once_written w before between after
-          (record {
-            run = s.run;
-            knew_nothing = s.knew_nothing;
-            alone = s.alone;
-            sweep = s.sweep;
-            is_last = s.is_last;
-            whole = s.whole;
-            written = written;
-          });
+      arrives = arrives_once_written w before between after s;
     }

@@ -7,7 +7,7 @@ use Rattle.smp_bytes.specs.declared.node_type.NodeType.{NodeType}
 use Rattle.smp_bytes.specs.declared.node_type.NodeType.TheVariants.{Switch}
 use Rattle.smp_bytes.specs.NodeType.{is_switch}
 use Rattle.fabric_model.specs.Fabric as fabric
-use Rattle.fabric_model.specs.Fabric.{Fabric, IsEndPortNumber, range_at}
+use Rattle.fabric_model.specs.Fabric.{Fabric, range_at}
 use Rattle.fabric_model.specs.declared.cable.NodePort.{NodePort}
 use Rattle.fabric_model.specs.FabricWalks.{IsJoinedTo}
 use Rattle.reply_facts.specs.declared.key.Key.{Key}
@@ -30,6 +30,7 @@ use Rattle.lid_assign.specs.Stability.{ClaimLids}
 use Rattle.lid_assign.proofs.LidLaws.{ports-lids}
 use Rattle.lid_assign.proofs.Owners.{given-from_lid}
 use Rattle.takeover_laws.specs.Alike.{IsAlike, ClaimAlike, KnowAlikeButClaims, PlansReadKnownValues, KnownPlansStay, ClaimsAreTrue, SameClaimsGiveOnePlan, WhoSeesTheSamePlansTheSame, TrueClaimsGiveOnePlan, WhoSeesTheTruthPlansTheSame, HeldPlanIsPlanned, HeldPlansArePlanned}
+use Rattle.manager_laws.proofs.Planned.{known_end}
 use Rattle.takeover_laws.proofs.Planning.{alike_views_plan_alike, claimed_plans_stay}
 
 -- by what is known -------------------------------------------------------------------------------
@@ -112,11 +113,6 @@ module _ (part : Part) (f : Fabric) (g p : ℕ) (has : HasEndPort part f g p) wh
   abbrev pub inside : IsEndPortIn part f has.port has.named.node
   inside = record { node_there = has.named.node_there; end_port = has.end_port; in_part = has.in_part }
 
-  number : IsEndPortNumber has.named.node has.port.port
-  number =
-      let (other, there, its_number) = has.end_port in
-      subst (λ (n : fabric.Node). IsEndPortNumber n has.port.port) (same_Some _ _ (sym there ∙ has.named.node_there)) its_number
-
   -- what is so of the node and its port is so of these numbers
   pub named_so : (P : ℕ → ℕ → Type 0) → P has.named.node.guid has.port.port → P g p
   named_so P is = subst (λ n. P n p) has.named.guid_is (subst (P has.named.node.guid) has.named.port_is is)
@@ -126,7 +122,7 @@ module _ (part : Part) (f : Fabric) (g p : ℕ) (has : HasEndPort part f g p) wh
     tells = a.tells_end_ports has.port has.named.node inside
 
     pub is_end : IsEndPort z g p
-    is_end = named_so (IsEndPort z) (has.named.node.kind, has.named.node.ports, tells.kind, number, ap is_some tells.port_guid)
+    is_end = named_so (IsEndPort z) (known_end part f has.port has.named.node inside z tells)
 
     pub kind_told : node_of z g ≡ Some (has.named.node.kind, has.named.node.ports)
     kind_told = named_so (λ n q. node_of z n ≡ Some (has.named.node.kind, has.named.node.ports)) tells.kind

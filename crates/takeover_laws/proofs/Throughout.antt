@@ -28,16 +28,16 @@ use Rattle.manager_laws.proofs.Alike.{agrees_along, end_port_along}
 use Rattle.manager_laws.specs.Managing.{Managing, ManagerEvent, Around, Begin, Write, Take, Send, Hear, TimeOut, Raise, Merge, Poll, HandOver}
 use Rattle.manager_laws.specs.Managing.{CanBe, hearing, packet_of, sending, after_manager_event, after_manager_events}
 use Rattle.manager_laws.specs.Sets.{Carries, KeepsPlan, TakesSet}
-use Rattle.manager_laws.specs.Written.{AllKeep, Keeps, IsWritingRun, SweepsFirst, at_first_steps, at_writing, own_sets, plan_at}
+use Rattle.manager_laws.specs.Written.{AllKeep, Keeps, at_first_steps, at_writing, own_sets, plan_at}
 use Rattle.manager_laws.proofs.After.{Writes, event_writes}
-use Rattle.manager_laws.proofs.Before.{begins_first, event_goes}
+use Rattle.manager_laws.proofs.Before.{by_before, by_swept}
 use Rattle.manager_laws.proofs.Goes.{Goes}
 use Rattle.manager_laws.proofs.Held as held
 use Rattle.manager_laws.proofs.WritingSweeps.{Ground}
 use Rattle.takeover_laws.specs.Takeover.{AllCarry, Carrying, IsInUse, InUseAlong, IsInUseThroughout, PingsArriveThroughout, TakesOverQuietly, planning_at, plan_by_it}
 use Rattle.takeover_laws.proofs.HeldOn.{AreListed, HeldOn, delivery_keeps, held_later, holds_now, same_keep}
 use Rattle.takeover_laws.proofs.Listed.{are_listed}
-use Rattle.takeover_laws.proofs.Takeover.{seat_ends, takeover_changes_nothing}
+use Rattle.takeover_laws.proofs.Takeover.{seat_is_end, takeover_changes_nothing}
 
 module _ (start : Simulation) (seat : NodePort) (plan : PlanValue) (listed : AreListed start plan (IsJoinedTo (fabric_of start) seat))
     (ground : Ground start seat) where
@@ -94,9 +94,6 @@ module _ (start : Simulation) (seat : NodePort) (plan : PlanValue) (listed : Are
   pub event_held : (w : Managing) (event : ManagerEvent) → Continues start w.scene → CarryAt w event → HeldIn w.scene.fabric
       → HeldIn (after_manager_event w event).scene.fabric
   event_held w (Around event) c carry h = around_held w.scene c event (λ serial e. carry serial (ap (λ x. Around x) e)) h
-  event_held w Begin c carry h = h
-  event_held w Write c carry h = h
-  event_held w Take c carry h = h
   event_held w (Send which) c carry h = by_packet (slice_get w.out which)
     where
       by_packet : (o : Option Outgoing) → HeldIn (sending w o).scene.fabric
@@ -108,11 +105,7 @@ module _ (start : Simulation) (seat : NodePort) (plan : PlanValue) (listed : Are
       by_handed None = h
       by_handed (Some x) =
           cond_both (is_same_port x.at w.seat) _ _ (λ (y : Managing). HeldIn y.scene.fabric) (λ _. h) (λ _. h)
-  event_held w (TimeOut transaction) c carry h = h
-  event_held w (Raise floor) c carry h = h
-  event_held w (Merge floor sightings) c carry h = h
-  event_held w (Poll lid) c carry h = h
-  event_held w HandOver c carry h = h
+  event_held w event c carry h = h
 
   -- by what is asked of what happens
   quiet_carry : (w : Managing) (event : ManagerEvent) → Carrying plan w event → CarryAt w event
@@ -133,21 +126,6 @@ module _ (start : Simulation) (seat : NodePort) (plan : PlanValue) (listed : Are
         }
 
 module _ (given : Facts) (w : Managing) (before between after : List ManagerEvent) (t : TakesOverQuietly given w before between after) where
-  run : IsWritingRun w before between after
-  run = t.takes.sweeps.run
-
-  start : Simulation
-  start = w.scene.fabric
-
-  abbrev rule : RuleValue
-  rule = (planning_at w before between).rule
-
-  abbrev lmc : ℕ
-  lmc = (planning_at w before between).lmc
-
-  abbrev its_plan : PlanValue
-  its_plan = plan_by_it (planning_at w before between) given
-
   plan_is : plan_at (at_writing w before between) ≡ plan_by_it (planning_at w before between) given
   plan_is = (takeover_changes_nothing given w before between after t.takes).same_plan
 
@@ -168,7 +146,7 @@ module _ (given : Facts) (w : Managing) (before between after : List ManagerEven
   now x c h =
       in_use w.scene.fabric w.seat (plan_by_it (planning_at w before between) given) listed ground
       (planning_at w before between).rule (planning_at w before between).lmc given t.takes.has_room refl t.takes.agrees
-      (seat_ends given w before between after t.takes) x c h
+      (seat_is_end w before between after t.takes.sweeps) x c h
 
   next : (x : Managing) (event : ManagerEvent) → Continues w.scene.fabric x.scene
       → Carrying (plan_by_it (planning_at w before between) given) x event → Held x.scene.fabric → Held (after_manager_event x event).scene.fabric
@@ -176,39 +154,21 @@ module _ (given : Facts) (w : Managing) (before between after : List ManagerEven
       event_held w.scene.fabric w.seat (plan_by_it (planning_at w before between) given) listed ground x event c
       (quiet_carry w.scene.fabric w.seat (plan_by_it (planning_at w before between) given) listed ground x event carry) h
 
-  -- once a sweep began
-  swept_along : (events : List ManagerEvent) (x : Managing) → Goes w.scene.fabric w.seat (plan_at (at_writing w before between)) ⊥ x
-      → All (CanBe w.seat) events → AllCarry (plan_by_it (planning_at w before between) given) events x → Held x.scene.fabric
+  -- until the writing
+  abbrev Along : List ManagerEvent → Managing → Type 0
+  Along events x =
+      AllCarry (plan_by_it (planning_at w before between) given) events x → Held x.scene.fabric
       → InUseAlong (planning_at w before between).rule given (plan_by_it (planning_at w before between) given) w.seat events x
       × Held (after_manager_events events x).scene.fabric
-  swept_along [] x g all carry h = (now x.scene g.fair.scene h, h)
-  swept_along (event ∷ events) x g all carry h =
-      let rest = swept_along events (after_manager_event x event)
-      (event_goes w.scene.fabric w.seat (plan_at (at_writing w before between)) (held.ground w before between after t.takes.sweeps.run) ⊥ x event
-      (inr (λ none. none)) g
-      (All-head (CanBe w.seat) event events all)) (All-tail (CanBe w.seat) event events all) carry.1
-      (next x event g.fair.scene carry.0 h) in
-      ((now x.scene g.fair.scene h, rest.0), rest.1)
 
-  -- before one does
-  before_along : (events : List ManagerEvent) (x : Managing) → SweepsFirst events x
-      → Goes w.scene.fabric w.seat (plan_at (at_writing w before between)) (Unit {0}) x
-      → All (CanBe w.seat) events → AllCarry (plan_by_it (planning_at w before between) given) events x → Held x.scene.fabric
-      → InUseAlong (planning_at w before between).rule given (plan_by_it (planning_at w before between) given) w.seat events x
-      × Held (after_manager_events events x).scene.fabric
-  before_along [] x first g all carry h = (now x.scene g.fair.scene h, h)
-  before_along (event ∷ events) x (inl begins) g all carry h =
-      let rest = swept_along events (after_manager_event x event)
-      (begins_first w.scene.fabric w.seat (plan_at (at_writing w before between)) (held.ground w before between after t.takes.sweeps.run) x event begins g)
-      (All-tail (CanBe w.seat) event events all) carry.1 (next x event g.fair.scene carry.0 h) in
-      ((now x.scene g.fair.scene h, rest.0), rest.1)
-  before_along (event ∷ events) x (inr (quiet, first)) g all carry h =
-      let rest = before_along events (after_manager_event x event) first
-      (event_goes w.scene.fabric w.seat (plan_at (at_writing w before between)) (held.ground w before between after t.takes.sweeps.run) (Unit {0}) x event
-      (inl quiet) g
-      (All-head (CanBe w.seat) event events all)) (All-tail (CanBe w.seat) event events all) carry.1
-      (next x event g.fair.scene carry.0 h) in
-      ((now x.scene g.fair.scene h, rest.0), rest.1)
+  none_along : (x : Managing) (old : Type 0) → Goes w.scene.fabric w.seat (plan_at (at_writing w before between)) old x → Along [] x
+  none_along x old g carry h = (now x.scene g.fair.scene h, h)
+
+  one_along : (event : ManagerEvent) (events : List ManagerEvent) (x : Managing) (old : Type 0)
+      → Goes w.scene.fabric w.seat (plan_at (at_writing w before between)) old x → CanBe w.seat event → Along events (after_manager_event x event)
+      → Along (event ∷ events) x
+  one_along event events x old g can later carry h =
+      let rest = later carry.1 (next x event g.fair.scene carry.0 h) in ((now x.scene g.fair.scene h, rest.0), rest.1)
 
   -- from the writing on its own Sets carry them too
   abbrev Runs : Managing → Type 0
@@ -266,10 +226,12 @@ module _ (given : Facts) (w : Managing) (before between after : List ManagerEven
 
   throughout : IsInUseThroughout given w before between after
   throughout =
-      let one = before_along before w t.takes.sweeps.run.sweeps_first (held.starting w t.takes.sweeps.run.starts (plan_at (at_writing w before between)))
-      t.takes.sweeps.run.before_can t.carry_before at_first in
-      let two = swept_along between (after_manager_event (after_manager_events before w) Begin) (held.swept_first w before between after t.takes.sweeps.run)
-      t.takes.sweeps.run.between_can t.carry_between one.1 in
+      let s = t.takes.sweeps in
+      let plan = plan_at (at_writing w before between) in
+      let one = by_before w.scene.fabric w.seat plan ground Along none_along one_along before w s.run.sweeps_first
+      (held.starting w s.run.starts plan) s.run.before_can t.carry_before at_first in
+      let two = by_swept w.scene.fabric w.seat plan ground Along none_along one_along between (after_manager_event (after_manager_events before w) Begin)
+      (held.swept_first w before between after s.run) s.run.between_can t.carry_between one.1 in
       record {
         until_sweep = one.0;
         until_writing = two.0;

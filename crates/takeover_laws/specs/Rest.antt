@@ -27,8 +27,8 @@ use Rattle.takeover_laws.specs.Takeover.{SweepsAlone, planning_at, plan_by_it}
 abbrev pub FloorsForget : Type 0
 FloorsForget = (facts : Facts) (floor : ℕ) → 1 < floor → newest_held facts < floor → cells_of (raised facts floor) ≡ []
 
--- once a manager is given a floor above 1 and above each generation that it holds, it has no facts, and the generation
--- of its next sweep is the greater of its old floor and the given one
+-- once a manager is told to raise its floor to one above 1 and above each generation that it holds, it has no facts,
+-- and the generation of its next sweep is the greater of its old floor and this one
 abbrev pub RaisedManagersKnowNothing : Type 0
 RaisedManagersKnowNothing = (w : Managing) (floor : ℕ) → 1 < floor → newest_held w.manager.store < floor
     → (cells_of (after_manager_event w (Raise floor)).manager.store ≡ [])
@@ -36,15 +36,16 @@ RaisedManagersKnowNothing = (w : Managing) (floor : ℕ) → 1 < floor → newes
 
 -- LIDs ---------------------------------------------------------------------------------------------------
 
--- the end ports of the second view are end ports of the first one and claim the LIDs that they have there, and the
--- second view has room for all LIDs of the first
+-- `y` is what is left of `x`: its end ports are end ports of `x` and claim the LIDs that they have in the plan of `x`,
+-- and it has room for all LIDs of that plan
 pub record IsRestOf (lmc : ℕ) (x y : Cells) : Type 0 where
   pub had : (e : EndPort) → Contains (end_ports y) e → Contains (end_ports x) e
   pub claimed : (e : EndPort) (lid : ℕ) → Contains (end_ports y) e → lid_of (lids lmc x) e ≡ Some lid
       → claim_of y e.node e.port ≡ Some lid
   pub in_room : (top : ℕ) → top_of (lids lmc x) ≡ Some top → top < room y
 
--- end ports that are left keep their LIDs, whichever others are gone
+-- end ports of what is left (`IsRestOf`) keep the LIDs of the earlier plan, whichever others are gone, if both views
+-- have room
 abbrev pub LidsOutlast : Type 0
 LidsOutlast = (lmc : ℕ) (x y : Facts) → ¬ (IsNoRoom lmc (cells_of x)) → ¬ (IsNoRoom lmc (cells_of y))
     → IsRestOf lmc (cells_of x) (cells_of y)
@@ -53,8 +54,8 @@ LidsOutlast = (lmc : ℕ) (x y : Facts) → ¬ (IsNoRoom lmc (cells_of x)) → �
 
 -- a takeover of the rest ---------------------------------------------------------------------------------
 
--- earlier facts contain each end port that is joined to the seat, and it holds the LID of their plan; they may contain
--- others, which are gone
+-- the manager sweeps alone; earlier facts with room contain each end port that is joined to its seat, and this has the
+-- LID and the LMC of their plan; they may contain others, which are gone
 pub record TakesRest (held : Facts) (w : Managing) (before between after : List ManagerEvent) : Type 0 where
   pub sweeps : SweepsAlone w before between after
   pub has_room : ¬ (IsNoRoom (planning_at w before between).lmc (cells_of held))
@@ -66,8 +67,8 @@ pub record TakesRest (held : Facts) (w : Managing) (before between after : List 
       → range_of (plan_by_it (planning_at w before between) held).given (record { node = node.guid; port = port.port })
       ≡ Some (range_at (fabric_of w.scene.fabric) port)
 
--- the written plan gives each end port that is left the LID that it had; once the plan is written, pings among these
--- end ports arrive
+-- the plan that is written gives each end port that is left the LID of the earlier plan; once it is written, pings
+-- among these end ports arrive
 pub record IsServed (held : Facts) (w : Managing) (before between after : List ManagerEvent) : Type 0 where
   pub lids_stay : (e : EndPort) → Contains (end_ports (cells_of (at_writing w before between).manager.store)) e
       → lid_of (plan_at (at_writing w before between)).given e
@@ -77,13 +78,13 @@ pub record IsServed (held : Facts) (w : Managing) (before between after : List M
       (plan_at (at_writing w before between))
       (at_end w before between after).scene.fabric w.seat
 
--- the rest of a subnet is served, whatever is gone
+-- if a manager takes the rest of a subnet over, whatever is gone, the rest is served (`IsServed`)
 abbrev pub RestIsServed : Type 0
 RestIsServed =
     (held : Facts) (w : Managing) (before between after : List ManagerEvent) → TakesRest held w before between after
     → IsServed held w before between after
 
--- a new manager that takes over the rest
+-- an example: a new manager that takes over the rest of a subnet
 pub record SomeManagerServesTheRest : Type 0 where
   pub managing : Managing
   pub port_guid : ℕ

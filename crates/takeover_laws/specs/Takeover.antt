@@ -24,13 +24,13 @@ use Rattle.manager_laws.specs.WritingPings.{AreNoSweeps}
 use Rattle.manager_laws.specs.Written.{IsWritingRun, at_writing, at_first_steps, at_end, plan_at}
 use Rattle.takeover_laws.specs.Claims.{HasLidsOf}
 
--- after each of these events, each port has the LID that it has in the fabric f
+-- after each of `events`, each port has the LID that it has in the fabric `f`
 abbrev pub LidsStayAround : Fabric → List ManagerEvent → Managing → Type 0
 LidsStayAround f [] w = Unit {0}
 LidsStayAround f (event ∷ events) w =
     HasLidsOf f (after_manager_event w event).scene × LidsStayAround f events (after_manager_event w event)
 
--- how the manager plans when its writing begins
+-- the rule and the LMC by which the manager plans when its writing begins
 abbrev pub planning_at : Managing → List ManagerEvent → List ManagerEvent → Planning
 planning_at w before between = (at_writing w before between).manager.planning
 
@@ -38,7 +38,8 @@ planning_at w before between = (at_writing w before between).manager.planning
 abbrev pub plan_by_it : Planning → Facts → PlanValue
 plan_by_it planning facts = plan_of planning.rule planning.lmc (cells_of facts)
 
--- A manager without facts sweeps, and is about to write the plan of what it learned.
+-- A manager without facts sweeps, and is about to write the plan of what it learned from this sweep alone, which has
+-- every answer; until then no port gets another LID.
 pub record SweepsAlone (w : Managing) (before between after : List ManagerEvent) : Type 0 where
   -- no packet is on its way at the start; a sweep begins, and later a writing
   pub run : IsWritingRun w before between after
@@ -54,7 +55,8 @@ pub record SweepsAlone (w : Managing) (before between after : List ManagerEvent)
   pub lids_between : LidsStayAround (fabric_of w.scene.fabric) between
       (after_manager_event (after_manager_events before w) Begin)
 
--- A manager without facts sweeps a subnet that holds a plan.
+-- the manager sweeps alone; the facts `held` have room, and describe exactly the part that is joined to its seat; and
+-- that part holds their plan, by the manager's rule and LMC
 pub record TakesOver (held : Facts) (w : Managing) (before between after : List ManagerEvent) : Type 0 where
   pub sweeps : SweepsAlone w before between after
   -- the facts `held` describe exactly the part that is joined to the seat, and the part holds their plan by the
@@ -64,8 +66,8 @@ pub record TakesOver (held : Facts) (w : Managing) (before between after : List 
   pub holds : HoldsPlan (IsJoinedTo (fabric_of w.scene.fabric) w.seat) (plan_by_it (planning_at w before between) held)
       (fabric_of w.scene.fabric)
 
--- The manager is about to write what is there: the same LIDs, and each block as it is. Pings arrived before, and arrive
--- once it has written.
+-- the plan that the manager is about to write is that of the facts `held`, with these LIDs and blocks; pings arrived at
+-- first, and arrive once it has written
 pub record ChangesNothing (held : Facts) (w : Managing) (before between after : List ManagerEvent) : Type 0 where
   pub same_plan : plan_at (at_writing w before between) ≡ plan_by_it (planning_at w before between) held
   pub arrived : EachPingArrives (planning_at w before between).rule (cells_of held)
@@ -75,7 +77,7 @@ pub record ChangesNothing (held : Facts) (w : Managing) (before between after : 
       (plan_by_it (planning_at w before between) held)
       (at_end w before between after).scene.fabric w.seat
 
--- a takeover changes nothing
+-- if a manager takes over a subnet that holds a plan, it changes nothing (`ChangesNothing`)
 abbrev pub TakeoverChangesNothing : Type 0
 TakeoverChangesNothing =
     (held : Facts) (w : Managing) (before between after : List ManagerEvent) → TakesOver held w before between after
@@ -83,41 +85,41 @@ TakeoverChangesNothing =
 
 -- during the writing, too --------------------------------------------------------------------------------
 
--- no Set is one of the manager's own
+-- the Sets of a writing that has none
 abbrev pub no_sets : OwnSets
 no_sets at packet = ⊥
 
--- each Set that an agent takes carries the plan's values
+-- if the event is on the fabric, each Set that an agent takes by it carries the plan's values
 abbrev pub Carrying : PlanValue → Managing → ManagerEvent → Type 0
 Carrying plan w (Around event) = KeepsPlan plan no_sets w.scene.fabric event
 Carrying plan w event = Unit {0}
 
--- in each of these events, each Set that an agent takes carries the plan's values
+-- each Set that an agent takes by `events` carries the plan's values
 abbrev pub AllCarry : PlanValue → List ManagerEvent → Managing → Type 0
 AllCarry plan [] w = Unit {0}
 AllCarry plan (event ∷ events) w = Carrying plan w event × AllCarry plan events (after_manager_event w event)
 
--- the part that is joined to a seat holds the plan of facts, and each ping there, for each LID of the plan, arrives
+-- the part that is joined to `seat` holds the plan of `facts`, and each ping there, for each LID of the plan, arrives
 pub record IsInUse (rule : RuleValue) (facts : Facts) (plan : PlanValue) (s : Simulation) (seat : NodePort) : Type 0
   where
     pub holds : HoldsPlan (IsJoinedTo (fabric_of s) seat) plan (fabric_of s)
     pub arrive : EachPingArrives rule (cells_of facts) plan s seat
 
--- the plan is in use at each moment of these events
+-- the plan is in use before and after each of `events`
 abbrev pub InUseAlong : RuleValue → Facts → PlanValue → NodePort → List ManagerEvent → Managing → Type 0
 InUseAlong rule facts plan seat [] w = IsInUse rule facts plan w.scene.fabric seat
 InUseAlong rule facts plan seat (event ∷ events) w =
     IsInUse rule facts plan w.scene.fabric seat × InUseAlong rule facts plan seat events (after_manager_event w event)
 
 -- a takeover in which each Set that an agent takes until the writing begins carries the values of the held plan; from
--- then on the run itself (`IsWritingRun`) requires this
+-- then on the run itself (`IsWritingRun`) requires that of Sets other than the writing's own
 pub record TakesOverQuietly (held : Facts) (w : Managing) (before between after : List ManagerEvent) : Type 0 where
   pub takes : TakesOver held w before between after
   pub carry_before : AllCarry (plan_by_it (planning_at w before between) held) before w
   pub carry_between : AllCarry (plan_by_it (planning_at w before between) held) between
       (after_manager_event (after_manager_events before w) Begin)
 
--- the held plan is in use at each moment: before the sweep, until the writing, and between its Sets
+-- the held plan is in use at each moment: before the sweep, until the writing, and between the writing's Sets
 pub record IsInUseThroughout (held : Facts) (w : Managing) (before between after : List ManagerEvent) : Type 0 where
   pub until_sweep : InUseAlong (planning_at w before between).rule held (plan_by_it (planning_at w before between) held)
       w.seat before w
@@ -127,14 +129,16 @@ pub record IsInUseThroughout (held : Facts) (w : Managing) (before between after
   pub while_writing : InUseAlong (planning_at w before between).rule held
       (plan_by_it (planning_at w before between) held) w.seat after (at_first_steps w before between)
 
--- during a quiet takeover, the held plan stays in use at each moment
+-- if each Set until the writing carries the held plan (`TakesOverQuietly`), it stays in use at each moment of the
+-- takeover
 abbrev pub PingsArriveThroughout : Type 0
 PingsArriveThroughout =
     (held : Facts) (w : Managing) (before between after : List ManagerEvent)
     → TakesOverQuietly held w before between after
     → IsInUseThroughout held w before between after
 
--- a new manager that takes over quietly, while another manager is there and does not answer
+-- an example: a new manager that takes over a subnet, where each Set until its writing carries the held plan, while
+-- another manager is there and does not answer
 pub record SomeManagerTakesOver : Type 0 where
   pub managing : Managing
   pub port_guid : ℕ

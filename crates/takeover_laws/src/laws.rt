@@ -14,19 +14,20 @@ pub fn alike_views_plan_alike()
     ensures { AlikeViewsPlanAlike }
 {}
 
-/// If two views describe one subnet and each end port claims in the second the LID that the plan of the first gives it,
-/// the second has the plan of the first.
+/// If two views are alike, the first has room, and each end port claims in the second the LID that the plan of the
+/// first gives it, the second has room and the plan of the first, by each rule and under each LMC.
 pub fn claimed_plans_stay()
     ensures { ClaimedPlansStay }
 {}
 
-/// If two views know the same value of each key, they have one plan, whatever the generations and whatever is disputed.
+/// If two views know the same value of each key, they have one plan, or neither has room, whatever the generations and
+/// whatever is disputed.
 pub fn plans_read_known_values()
     ensures { PlansReadKnownValues }
 {}
 
-/// If a view knows the same values as another one, except for claims, and claims the LIDs of its plan, it has that
-/// plan, whatever the generations.
+/// If a view knows the same values as another one with room, except for claims, and claims the LIDs of its plan, it has
+/// room and that plan, whatever the generations.
 pub fn known_plans_stay()
     ensures { KnownPlansStay }
 {}
@@ -42,8 +43,9 @@ pub fn who_sees_the_truth_plans_the_same()
     ensures { WhoSeesTheTruthPlansTheSame }
 {}
 
-/// If a part of a fabric holds the plan of some facts that describe it exactly, all facts that describe it exactly and
-/// claim the LIDs that its ports have give that plan: the same LIDs, and each block as it is.
+/// If a part of a fabric holds the plan of some facts with room that describe it exactly, all facts that describe it
+/// exactly and claim the LIDs that its ports have give that plan, by the same rule and LMC: the same LIDs, and each
+/// block as it is.
 pub fn held_plans_are_planned()
     ensures { HeldPlansArePlanned }
 {}
@@ -56,21 +58,22 @@ pub fn accepted_claims_are_true()
 {}
 
 /// A sweep that has every answer while no port gets another LID knows the LID of each end port that is joined to its
-/// seat. All that it knows of these end ports is then true, including their claims.
+/// seat: the claims of these end ports are the LIDs that they have.
 pub fn swept_claims_are_true()
     ensures { SweptClaimsAreTrue }
 {}
 
-/// If the part that is joined to a sweep's seat holds the plan of facts that describe it exactly, and the sweep has
-/// every answer while no port gets another LID, the sweep gives that plan: the same LIDs, and each block as it is. It
-/// does not matter who planned it, in which generations, or from where.
+/// If the part that is joined to a sweep's seat holds the plan of facts with room that describe it exactly, and the
+/// sweep has every answer while no port gets another LID, the sweep gives that plan, by the same rule and LMC: the same
+/// LIDs, and each block as it is. It does not matter who planned it, in which generations, or from where.
 pub fn takeovers_change_nothing()
     ensures { TakeoversChangeNothing }
 {}
 
-/// If a subnet holds the plan of some facts that describe it exactly, and a manager that held no facts has swept it
-/// with every answer while no port got another LID, the manager is about to write that plan: the same LIDs, and each
-/// block as it is. Pings arrived before, and arrive once the manager has written.
+/// If a subnet holds the plan of some facts with room that describe it exactly, by a manager's rule and LMC, and the
+/// manager, which held no facts, has swept it with every answer while no port got another LID, and learned nothing
+/// else, the manager is about to write that plan: the same LIDs, and each block as it is. Pings arrived before, and
+/// arrive once the manager has written.
 pub fn takeover_changes_nothing()
     ensures { TakeoverChangesNothing }
 {}
@@ -101,14 +104,15 @@ pub fn raised_managers_know_nothing()
     ensures { RaisedManagersKnowNothing }
 {}
 
-/// End ports that claim the LIDs that they have in a plan get them again, whichever others are gone.
+/// End ports that claim the LIDs that they have in a plan get them again, whichever others are gone, if there is room
+/// for all LIDs of that plan.
 pub fn lids_outlast()
     ensures { LidsOutlast }
 {}
 
-/// If a manager that held no facts has swept what a cut has left, with every answer while no port got another LID, each
-/// end port that is left keeps the LID that it had, and once the plan is written pings arrive among these end ports.
-/// The earlier facts may contain other end ports, which are gone.
+/// If a manager that held no facts has swept what a cut has left, with every answer while no port got another LID, and
+/// each end port that is left had the LID and the LMC of the plan of earlier facts, each keeps its LID, and once the
+/// plan is written pings arrive among these end ports. The earlier facts may contain other end ports, which are gone.
 pub fn rest_is_served()
     ensures { RestIsServed }
 {}

@@ -46,7 +46,7 @@ const MOVES: [(SmState, [Option<SmState>; 7]); 4] = [
     ),
 ];
 
-/// Returns a control that is forwarded by LIDs.
+/// Returns the control `modifier`, forwarded by LIDs.
 fn control(modifier: u32) -> Smp {
     Smp::lid_routed(Method::SET, AttributeId::SM_INFO, modifier, 7, &[0xA5; 64])
 }
@@ -62,7 +62,7 @@ pub(super) fn becomes_master(manager: &mut Manager) -> bool {
     manager.on_timeout(request.packet.transaction_id()).is_ok()
 }
 
-/// Returns whether a master reaches `state` by controls and has nothing left to send.
+/// Returns whether `manager`, a master, reaches `state` by controls and has nothing else to send.
 pub(super) fn comes_to(manager: &mut Manager, state: SmState) -> bool {
     let controls = match state {
         SmState::Master => [].as_slice(),
@@ -97,7 +97,8 @@ fn answers(manager: &mut Manager, status: Status, to: Option<Lid>) -> bool {
         && is_told
 }
 
-/// Returns whether the acknowledgement of a handover comes next if `is_wanted`, and nothing after it.
+/// Returns whether the acknowledgement of a handover comes next, and nothing after it. If `is_wanted` is false, returns
+/// whether nothing comes next.
 fn acknowledges(manager: &mut Manager, is_wanted: bool) -> bool {
     if !is_wanted {
         return manager.take_outgoing().is_none();
@@ -112,8 +113,8 @@ fn acknowledges(manager: &mut Manager, is_wanted: bool) -> bool {
         && manager.take_outgoing().is_none()
 }
 
-/// Returns whether a manager obeys a control. It must move to the state `to` or, if that is `None`, refuse the control
-/// and stay.
+/// Returns whether `manager` obeys the control `modifier`. It must move to the state `to` or, if that is `None`, refuse
+/// the control and stay.
 fn obeys(manager: &mut Manager, modifier: u32, to: Option<SmState>) -> bool {
     let state = to.unwrap_or(manager.state());
     let status = if to.is_some() { DONE } else { INVALID_FIELD };
@@ -123,8 +124,8 @@ fn obeys(manager: &mut Manager, modifier: u32, to: Option<SmState>) -> bool {
         && acknowledges(manager, to.is_some() && modifier == HANDOVER)
 }
 
-/// Returns whether a manager in the state `from` moves to `to` by the control `modifier`. If `to` is `None`, the
-/// manager must refuse the control and stay.
+/// Returns whether a manager that was brought to the state `from` moves to `to` by the control `modifier`. If `to` is
+/// `None`, it must refuse the control and stay.
 fn obeys_in(alloc: Global, from: SmState, modifier: u32, to: Option<SmState>) -> bool {
     let mut manager = manager(alloc);
     becomes_master(&mut manager)
@@ -145,7 +146,7 @@ fn controls_move_by_the_table(rt: HostRuntime) {
     }
 }
 
-/// Returns a request for SMInfo over a path without hops, or by LIDs.
+/// Returns a request for SMInfo: over a path without hops if `is_directed` is true, otherwise by LIDs.
 fn request(method: Method, is_directed: bool) -> Smp {
     if is_directed {
         Smp::directed(

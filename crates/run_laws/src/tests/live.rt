@@ -27,7 +27,7 @@ fn told_next(manager: &mut Manager, to: Option<Lid>) -> Option<SmInfo> {
     Some(SmInfo::decode(&out.packet.attribute_data()))
 }
 
-/// Returns the answers to two requests for SMInfo by LIDs.
+/// Returns the SMInfo in the answers to two requests by LIDs, one after the other.
 fn told_twice(manager: &mut Manager) -> Option<(SmInfo, SmInfo)> {
     let get = Smp::lid_routed(Method::GET, AttributeId::SM_INFO, 0, 7, &[0; 64]);
     if !takes(manager, &get) {
@@ -50,7 +50,7 @@ fn the_key_is_told_and_each_answer_counts(rt: HostRuntime) {
     assert!(rt; first.act_count == 1 && second.act_count == 2);
 }
 
-/// Returns a control over a directed route without hops.
+/// Returns the control `modifier` over a directed route without hops.
 fn directed(modifier: u32) -> Smp {
     let data = info_in(SmState::Master).encode();
     Smp::directed(
@@ -123,7 +123,8 @@ fn late_acknowledgements_are_taken(rt: HostRuntime) {
     assert!(rt; takes_late_acknowledgement(&mut live(rt.alloc())));
 }
 
-/// Returns whether a manager is in `state` once its sweep has found a master of another SM_Key.
+/// Returns whether a manager whose SM_Key is `own` is in `state` once its sweep has found a master with the SM_Key
+/// `key`.
 fn is_beside(alloc: Global, key: u64, own: u64, state: SmState) -> bool {
     let mut manager = manager_by(alloc, Conduct::Live(own));
     let mut master = other(4, 0x1FF, SmState::Master);

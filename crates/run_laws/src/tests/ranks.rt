@@ -2,7 +2,8 @@
 //! port GUID 0x101.
 use super::*;
 
-/// The priority, port GUID and state of the other manager, and the state of the manager that swept after its sweep.
+/// For each case, the priority, port GUID and state of the other manager, and the state of the manager that swept after
+/// its sweep.
 const ROWS: [(u8, u64, SmState, SmState); 12] = [
     // A manager that wins is Standby or Discovering.
     (4, 0x1FF, SmState::Standby, SmState::Standby),
@@ -70,7 +71,7 @@ fn is_then(alloc: Global, other: &SmInfo, state: SmState) -> bool {
     sweeps(&mut manager, other) && manager.state() == state
 }
 
-/// Returns the SMInfo of the other manager.
+/// Returns the SMInfo of the other manager, with this priority, port GUID and state.
 pub(super) fn other(priority: u8, guid: u64, state: SmState) -> SmInfo {
     let mut info = info_in(state);
     info.guid = Guid::new(guid);
