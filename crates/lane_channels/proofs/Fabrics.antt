@@ -1,5 +1,6 @@
 -- In a fabric that facts describe and that holds tables and lanes, packets take channels by lane from stop to stop.
-use Rattle.std.proofs.Common.{◌≡◌, ◌≢◌, ℕ, zero, suc, ◌<◌, ◌≤◌, ◌+◌, ◌*◌, ◌/◌, ◌%◌, Bool, true, false, cond, ◌||◌, List, [], ◌∷◌, Option, None, Some, length, refl, sym, ap, ◌∙◌, subst, arith, inl, inr}
+use Rattle.std.proofs.Common.{◌≡◌, ◌≢◌, ℕ, zero, suc, ◌<◌, ◌≤◌, ◌+◌, ◌*◌, ◌/◌, ◌%◌, Bool, true, false, cond, ◌||◌, List, [], ◌∷◌, Option, None, Some, length}
+use Rattle.std.proofs.Common.{refl, sym, ap, ◌∙◌, subst, arith, inl, inr}
 use Rattle.std.specs.Prelude.{Contains, is_some, slice_get, slice_index_or, map, nat_lt, ◌==◌, ◌&&◌}
 use Rattle.std.specs.Option.{option_map_or}
 use Rattle.std.proofs.lemmas.Bool.{and_from, lt-ltb}
@@ -38,7 +39,8 @@ use Rattle.lanes_file.specs.Lanes.{lane_of}
 use Rattle.lane_channels.specs.LaneNetwork.{SeenByLane}
 use Rattle.lane_channels.specs.LaneTurns.{TakesByLane}
 use Rattle.lane_channels.specs.Levels.{HasLevel}
-use Rattle.lane_channels.specs.Stops.{Columns, ComesAfter, HasEdge, IsNextStop, far_port, first_stop, lane_between, lane_by, lane_number, port_across, port_in, stop_at, stop_by}
+use Rattle.lane_channels.specs.Stops.{Columns, ComesAfter, HasEdge, IsNextStop, far_port, first_stop, lane_between, lane_by, lane_number, port_across, port_in}
+use Rattle.lane_channels.specs.Stops.{stop_at, stop_by}
 use Rattle.lane_channels.specs.AnyTables.{WaitsByAny, columns_for}
 use Rattle.next_tables.specs.Mixtures.{IsMixed}
 use Rattle.smp_bytes.proofs.Members.{contains_here, contains_later}
@@ -175,7 +177,8 @@ own_vertex f v is =
 -- each edge by `mixed` is one by some table
 abbrev pub IsAmong : SeenByLane → List HeldPlan → HeldPlan → ℕ → Type 0
 IsAmong s others mixed lid =
-    (index : ℕ) (edge : Edge) → slice_index_or (edges_of (cells_of s.seen.facts) mixed lid) index None ≡ Some edge → HasEdge (columns_for s others lid) index edge
+    (index : ℕ) (edge : Edge) → slice_index_or (edges_of (cells_of s.seen.facts) mixed lid) index None ≡ Some edge
+    → HasEdge (columns_for s others lid) index edge
 
 -- `mixed` are the tables that the fabric holds
 module _ (s : SeenByLane) (others : List HeldPlan) (mixed : HeldPlan) (f : Fabric) (part : Part) (seen : IsSeenIn part (cells_of s.seen.facts) mixed f)
@@ -447,7 +450,15 @@ module _ (s : SeenByLane) (others : List HeldPlan) (mixed : HeldPlan) (f : Fabri
                 let there_is : stop_at x.far h.into.port ≡ stop_at d.index (came_by (suc j) hops) = λ n. stop_at (same n) (sym came n) in
                 let next =
                 next_is (stop_at i.0 at_port) i.0 at_port h d.from x (stop_switch i.0 at_port few) (stop_port i.0 at_port few)
-                (carries j h (256 * i.0 + h.out.port) (omega arith) is c) in (suc before.0, (stop_at i.0 at_port, before.1, comes_on (stop_at i.0 at_port) (stop_at x.far h.into.port) (stop_at d.index (came_by (suc j) hops)) next there_is))
+                (carries j h (256 * i.0 + h.out.port) (omega arith) is c) in (
+                  suc before.0,
+                  (
+                    stop_at i.0 at_port,
+                    before.1,
+                    comes_on (stop_at i.0 at_port) (stop_at x.far h.into.port)
+                        (stop_at d.index (came_by (suc j) hops)) next there_is,
+                  ),
+                )
             | false ↦ λ kind.
                 let begun = first_hop j h its.node d.from d.index is its.node_there kind w.0 wire to_at d.index_is in
                 (0, begun.1 ∙ ap (λ p. Some (stop_at d.index p)) (sym came))
@@ -512,7 +523,8 @@ lane_channels_rise s answers f origin vl is_end seen holds r level hops t nth ch
     let after : nth + 1 ≡ suc nth = omega arith in
     let later = subst (λ (n : ℕ). IsLaneChannel (cells_of s.seen.facts) f vl level hops n next) after d in
     r.rises channel next
-    (waits s [] s.seen.held f part seen (joined_closed f seen.is_fabric origin) vl holds t.lid t.is_lid (λ index edge is. (0, is)) level t.source t.node t.is_source hops t.end t.goes (nth + 2) carries
+    (waits s [] s.seen.held f part seen (joined_closed f seen.is_fabric origin) vl holds t.lid t.is_lid (λ index edge is. (0, is)) level t.source t.node
+    t.is_source hops t.end t.goes (nth + 2) carries
     answers nth channel next (omega arith) t.has_level c later)
 
 -- the element of a list that is made from another

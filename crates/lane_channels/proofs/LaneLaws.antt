@@ -33,7 +33,8 @@ one_lane_suffices s answers numbers rise = record { number = λ c. slice_index_o
         let a_is : a / 16 ≡ number_of (one.stop / 256) t.first =
         without_lane a (number_of (one.stop / 256) t.first) (lane_by s.said cells one.level one.stop t.first) t.channel_is t.lane_is in
         let b_is : b / 16 ≡ number_of t.first.to t.second =
-        without_lane b (number_of t.first.to t.second) (lane_between s.said cells one.level t.first.to (port_across cells (one.stop / 256) t.first.port) t.second.port) t.next_is
+        without_lane b (number_of t.first.to t.second)
+        (lane_between s.said cells one.level t.first.to (port_across cells (one.stop / 256) t.first.port) t.second.port) t.next_is
         t.lane_there_is in
         let takes : TakesAcross (edges_of cells s.seen.held w.lid) (edges_of cells s.seen.held w.lid) (one.stop / 256) (a / 16) (b / 16) =
         record {

@@ -1,5 +1,6 @@
 -- All packets for a LID followed, and then LID by LID up to the greatest top.
-use Rattle.std.proofs.Common.{◌≡◌, ◌<◌, ◌≤◌, ◌+◌, ◌*◌, ◌/◌, ℕ, zero, suc, Bool, List, [], ◌∷◌, length, replicate, refl, sym, ap, ◌∙◌, subst, arith, inl, inr, ◌⊎◌}
+use Rattle.std.proofs.Common.{◌≡◌, ◌<◌, ◌≤◌, ◌+◌, ◌*◌, ◌/◌, ℕ, zero, suc, Bool, List, [], ◌∷◌, length, replicate, refl, sym, ap, ◌∙◌, subst, arith, inl, inr}
+use Rattle.std.proofs.Common.{◌⊎◌}
 use Rattle.std.specs.Prelude.{Contains, Option, None, Some, map, slice_index_or, ◌↔◌}
 use Rattle.std.proofs.lemmas.Bool.{cases_lt}
 use Rattle.std.proofs.lemmas.List.{length-replicate}
@@ -170,7 +171,8 @@ module _ (s : SeenByLane) (others : List HeldPlan) (answers : Bool) where
                 (subst (λ (l : ℕ). OneTakes s.said cells (columns_for s others l) (SentFor s answers l) a b) same t.takes)
           ]
 
-      drops : (d : Dropped) → (w.dropped ≡ Some d) ⊎ IsDroppedOne s.said cells (columns_for s others lid) (SentFor s answers lid) lid d → IsDroppedByAny s others answers d
+      drops : (d : Dropped) → (w.dropped ≡ Some d) ⊎ IsDroppedOne s.said cells (columns_for s others lid) (SentFor s answers lid) lid d
+          → IsDroppedByAny s others answers d
       drops d (inl e) = h.dropped d e
       drops d (inr one) =
           let same = one.lid_is in

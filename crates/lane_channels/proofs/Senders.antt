@@ -92,7 +92,8 @@ module _ (said : LanesSaid) (cells : Cells) (columns : Columns) (lid : ℕ) (old
       → level ≡ level_of said asker.node asker.port asked → AreFollowed said cells columns lid (BeginsIf level first) w new
       → AreFollowed said cells columns lid (AnswersOf said asker lids (index + 1) first) old new
   one_asked asker lids index asked level first h is level_is one =
-      followed_then said cells columns lid (AnswersOf said asker lids index first) (BeginsIf level first) (AnswersOf said asker lids (index + 1) first) old w new
+      followed_then said cells columns lid (AnswersOf said asker lids index first) (BeginsIf level first) (AnswersOf said asker lids (index + 1) first) old w
+      new
       h one either earlier this
     where
       either : (l : ℕ) (b : Option ℕ) → AnswersOf said asker lids (index + 1) first l b
@@ -205,7 +206,8 @@ module _ (s : SeenByLane) (answers : Bool) (columns : Columns) (lid : ℕ) (old 
       → AreFollowed s.said cells columns lid (SentFrom s answers lid index) w new
       → AreFollowed s.said cells columns lid (SentBySome s answers lid (index + 1)) old new
   one_sender index h one =
-      followed_then s.said cells columns lid (SentBySome s answers lid index) (SentFrom s answers lid index) (SentBySome s answers lid (index + 1)) old w new h one
+      followed_then s.said cells columns lid (SentBySome s answers lid index) (SentFrom s answers lid index) (SentBySome s answers lid (index + 1)) old w new
+      h one
       either earlier (λ l b a. record { index = index; below = omega arith; sent = a })
     where
       either : (l : ℕ) (b : Option ℕ) → SentBySome s answers lid (index + 1) l b → SentBySome s answers lid index l b ⊎ SentFrom s answers lid index l b

@@ -44,7 +44,8 @@ in_step said cells held next level stop a b t = by (either held next (stop / 256
     )
 
     by : (slice_index_or held (stop / 256) None ≡ Some t.first) ⊎ (slice_index_or next (stop / 256) None ≡ Some t.first)
-        → (slice_index_or held t.first.to None ≡ Some t.second) ⊎ (slice_index_or next t.first.to None ≡ Some t.second) → TakesInStep held next (a / 16) (b / 16)
+        → (slice_index_or held t.first.to None ≡ Some t.second) ⊎ (slice_index_or next t.first.to None ≡ Some t.second)
+        → TakesInStep held next (a / 16) (b / 16)
     by (inl x) (inl y) = inl (across held held x y)
     by (inl x) (inr y) = inr (inl (across held next x y))
     by (inr x) (inl y) = inr (inr (inl (across next held x y)))
@@ -55,7 +56,8 @@ one_lane_suffices_in_step s next answers numbers rise =
     record {
       number = λ c. slice_index_or numbers (c / 16) 0;
       rises = λ a b w. rise w.lid (a / 16) (b / 16) w.is_lid
-          (in_step s.said (cells_of s.seen.facts) (edges_of (cells_of s.seen.facts) s.seen.held w.lid) (edges_of (cells_of s.seen.facts) next w.lid) w.takes.level
+          (in_step s.said (cells_of s.seen.facts) (edges_of (cells_of s.seen.facts) s.seen.held w.lid) (edges_of (cells_of s.seen.facts) next w.lid)
+          w.takes.level
           w.takes.stop a b w.takes.takes);
     }
 

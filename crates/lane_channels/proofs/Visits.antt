@@ -1,5 +1,6 @@
 -- What packets do at a stop, edge by edge.
-use Rattle.std.proofs.Common.{◌≡◌, ◌<◌, ◌≤◌, ◌+◌, ◌/◌, ℕ, zero, suc, Bool, true, false, cond, List, [], ◌∷◌, ◌++◌, length, refl, sym, ap, ◌∙◌, subst, arith, inl, inr, ◌⊎◌}
+use Rattle.std.proofs.Common.{◌≡◌, ◌<◌, ◌≤◌, ◌+◌, ◌/◌, ℕ, zero, suc, Bool, true, false, cond, List, [], ◌∷◌, ◌++◌, length, refl, sym, ap, ◌∙◌, subst, arith}
+use Rattle.std.proofs.Common.{inl, inr, ◌⊎◌}
 use Rattle.std.specs.Prelude.{Contains, Option, None, Some, slice_index_or, nat_lt, ◌&&◌}
 use Rattle.std.specs.Option.{option_or}
 use Rattle.std.proofs.lemmas.Option.{same_Some}
@@ -77,7 +78,8 @@ nexts_none old channel nexts none =
       follows = λ a b. ((λ f. inl f), (λ f. (elim f [ inl g ↦ g | inr t ↦ absurd (none b t.1) ])));
     }
 
-pub nexts_then : (old mid new : List (List ℕ)) (channel : ℕ) (these those all : ℕ → Type 0) → IsWithNexts old channel these mid → IsWithNexts mid channel those new
+pub nexts_then : (old mid new : List (List ℕ)) (channel : ℕ) (these those all : ℕ → Type 0) → IsWithNexts old channel these mid
+    → IsWithNexts mid channel those new
     → ((b : ℕ) → all b → these b ⊎ those b) → ((b : ℕ) → these b → all b) → ((b : ℕ) → those b → all b) → IsWithNexts old channel all new
 nexts_then old mid new channel these those all f g either one other =
     record { as_many = g.as_many ∙ f.as_many; follows = λ a b. ((λ h. to a b ((g.follows a b).0 h)), back a b) }
@@ -255,7 +257,8 @@ module _ (said : LanesSaid) (cells : Cells) (columns : Columns) (lid level stop 
             | inr h ↦ (g.stops s).1 (inr (t.0, h))
           ]
 
-  pub left_as : (these all : Edges) (old new : Walking) → Left these old new → ((e : Edge) → all e → these e) → ((e : Edge) → these e → all e) → Left all old new
+  pub left_as : (these all : Edges) (old new : Walking) → Left these old new → ((e : Edge) → all e → these e) → ((e : Edge) → these e → all e)
+      → Left all old new
   left_as these all old new f back to =
       left_then these (λ e. ⊥) all old new new f (left_none (λ e. ⊥) new (λ e none. none)) (λ e h. inl (back e h)) to (λ e none. absurd none)
 

@@ -1,5 +1,6 @@
 -- Packets followed from stop to stop, one after the other.
-use Rattle.std.proofs.Common.{◌≡◌, ◌<◌, ◌≤◌, ◌*◌, ◌/◌, ℕ, zero, suc, Bool, true, false, ◌||◌, List, [], ◌∷◌, ◌++◌, length, refl, sym, ap, ◌∙◌, subst, arith, inl, inr, ◌⊎◌, slice_set}
+use Rattle.std.proofs.Common.{◌≡◌, ◌<◌, ◌≤◌, ◌*◌, ◌/◌, ℕ, zero, suc, Bool, true, false, ◌||◌, List, [], ◌∷◌, ◌++◌, length, refl, sym, ap, ◌∙◌, subst, arith}
+use Rattle.std.proofs.Common.{inl, inr, ◌⊎◌, slice_set}
 use Rattle.std.specs.Prelude.{Contains, Option, None, Some, slice_index_or, nat_le, ◌==◌}
 use Rattle.std.specs.Option.{option_to_list}
 use Rattle.std.proofs.lemmas.Option.{same_Some}
@@ -13,7 +14,8 @@ use Rattle.lane_channels.specs.declared.stop.Dropped.{Dropped}
 use Rattle.lane_channels.specs.Stops.{Columns, HasEdge, IsNextStop}
 use Rattle.lane_channels.specs.LaneTurns.{DropsBefore, TakesByLane}
 use Rattle.lane_channels.specs.Visits.{DropsAlong, GoesAlong, IsVisit, IsVisitIfNew, TakesAlong, Walking}
-use Rattle.lane_channels.specs.Walks.{AreFollowed, Beginnings, Begins, BeginsIf, IsDone, IsDroppedOne, IsMarked, IsWhole, OneTakes, Reaches, Walked, is_done, mark_number}
+use Rattle.lane_channels.specs.Walks.{AreFollowed, Beginnings, Begins, BeginsIf, IsDone, IsDroppedOne, IsMarked, IsWhole, OneTakes, Reaches, Walked, is_done}
+use Rattle.lane_channels.specs.Walks.{mark_number}
 
 -- a stop is taken from those that are left
 pub record IsTaken (stops : List ℕ) (stop : ℕ) (rest : List ℕ) : Type 0 where
@@ -172,7 +174,8 @@ module _ (said : LanesSaid) (cells : Cells) (columns : Columns) (lid : ℕ) wher
     no_later = λ most. most;
     kept = λ l stop m. m;
     begun = λ stop is. inr (subst (λ (xs : List ℕ). Contains xs stop) (ap option_to_list (sym is) ∙ sym are) (Contains-push [] stop));
-    reached = λ stop c. record { first = first; begins = (refl, refl); count = 0; is_there = first_is first stop (subst (λ (xs : List ℕ). Contains xs stop) are c) };
+    reached = λ stop c.
+        record { first = first; begins = (refl, refl); count = 0; is_there = first_is first stop (subst (λ (xs : List ℕ). Contains xs stop) are c) };
     closed = λ h l stop later l_small m n. inl (h.closed l stop later l_small m n);
     recorded = λ h. h.recorded;
     noted = λ h. h.noted;

@@ -13,55 +13,60 @@ use Rattle.lane_channels.specs.Senders.{SentFor}
 use Rattle.lane_channels.specs.Stops.{Columns}
 use Rattle.lane_channels.specs.Walks.{IsDroppedOne, OneTakes}
 
--- the edges of a LID, by each table
+-- the edges of each usable switch for a LID, in a column for each table: the tables of `s`, and then `others`
 abbrev pub columns_for : SeenByLane → List HeldPlan → ℕ → Columns
 columns_for s others lid = map (λ held. edges_of (cells_of s.seen.facts) held lid) (s.seen.held ∷ others)
 
--- a packet that an end port sends for some LID takes `channel` and then `next`; both are channels by lane
+-- a packet that an end port sends for some LID, at a level that it has, takes `channel` and then `next`, each by the
+-- tables of `s` or one of `others`; both are channels by lane
 pub record WaitsByAny (s : SeenByLane) (others : List HeldPlan) (answers : Bool) (channel next : ℕ) : Type 0 where
   pub lid : ℕ
   pub is_lid : 1 ≤ lid
   pub takes : OneTakes s.said (cells_of s.seen.facts) (columns_for s others lid) (SentFor s answers lid) channel next
 
--- `waits` has, for each channel by lane, the channels that packets take next
+-- `waits` has, for each channel by lane, the channels that packets take next, by the tables of `s` or one of `others`
 pub record AreWaitsByAny (s : SeenByLane) (others : List HeldPlan) (answers : Bool) (waits : List (List ℕ)) : Type 0
   where
     pub as_many : length waits ≡ 4096 * length (switches (cells_of s.seen.facts))
     pub follows : (a b : ℕ) → Follows waits a b ↔ WaitsByAny s others answers a b
 
--- a packet that an end port sends for some LID is dropped for want of a lane
+-- `dropped` is a packet that an end port sends for some LID and that is dropped for want of a lane, by the tables of
+-- `s` or one of `others`
 pub record IsDroppedByAny (s : SeenByLane) (others : List HeldPlan) (answers : Bool) (dropped : Dropped) : Type 0 where
   pub is_lid : 1 ≤ dropped.lid
   pub one : IsDroppedOne s.said (cells_of s.seen.facts) (columns_for s others dropped.lid) (SentFor s answers dropped.lid)
       dropped.lid dropped
 
--- `dropped` is such a packet, or None if there is none
+-- a packet is dropped for want of a lane, by any of the tables: the given one; for None, no packet is
 abbrev pub IsSomeDropByAny : SeenByLane → List HeldPlan → Bool → Option Dropped → Type 0
 IsSomeDropByAny s others answers None = (dropped : Dropped) → IsDroppedByAny s others answers dropped → ⊥
 IsSomeDropByAny s others answers (Some dropped) = IsDroppedByAny s others answers dropped
 
--- channels by lane have numbers, each less than the numbers of the channels that packets take next
+-- channels by lane have numbers, each less than the numbers of the channels that packets take next by any of the tables
 pub record RiseByAny (s : SeenByLane) (others : List HeldPlan) (answers : Bool) : Type 0 where
   pub number : ℕ → ℕ
   pub rises : (a b : ℕ) → WaitsByAny s others answers a b → number a < number b
 
--- in the list that has `channel`, then the given channels, then `last`, each channel waits for the next one
+-- in the list that has `channel`, then the given channels, then `last`, each channel by lane waits for the next one, by
+-- any of the tables
 abbrev pub WaitOnByAny : SeenByLane → List HeldPlan → Bool → ℕ → List ℕ → ℕ → Type 0
 WaitOnByAny s others answers channel [] last = WaitsByAny s others answers channel last
 WaitOnByAny s others answers channel (next ∷ later) last =
     WaitsByAny s others answers channel next × WaitOnByAny s others answers next later last
 
--- each channel waits for the next one, and the last waits for the first
+-- the channels by lane of a list, at least one, wait in a credit loop by any of the tables: each for the next one, and
+-- the last for the first
 abbrev pub WaitInCycleByAny : SeenByLane → List HeldPlan → Bool → List ℕ → Type 0
 WaitInCycleByAny s others answers [] = ⊥
 WaitInCycleByAny s others answers (channel ∷ later) = WaitOnByAny s others answers channel later channel
 
--- the channels are a credit loop; there is none if the list is empty
+-- the channels by lane of a list wait in a credit loop by any of the tables; for an empty list, there are numbers of
+-- channels that rise
 abbrev pub IsCycleByAny : SeenByLane → List HeldPlan → Bool → List ℕ → Type 0
 IsCycleByAny s others answers [] = RiseByAny s others answers
 IsCycleByAny s others answers (channel ∷ later) = WaitInCycleByAny s others answers (channel ∷ later)
 
--- no credit loop has fewer channels than `channels`
+-- no credit loop by lane, by any of the tables, has fewer channels than `channels`
 abbrev pub NoneShorterByAny : SeenByLane → List HeldPlan → Bool → List ℕ → Type 0
 NoneShorterByAny s others answers channels =
     (cycle : List ℕ) → WaitInCycleByAny s others answers cycle → length channels ≤ length cycle

@@ -20,7 +20,7 @@ use Rattle.lane_channels.specs.LaneNetwork.{SeenByLane}
 use Rattle.lane_channels.specs.Levels.{HasLevel}
 use Rattle.lane_channels.specs.Waiting.{RiseByLane}
 
--- the lane of packets of a service level that come in at a node by one port and leave by another
+-- for a node, the port by which packets come in, the port by which they leave, and their service level: their lane
 abbrev pub LaneMaps : Type 0
 LaneMaps = ℕ → ℕ → ℕ → ℕ → ℕ
 
@@ -30,7 +30,7 @@ HoldLanes part said f vl =
     (port : NodePort) (node : Node) (into out level : ℕ) → IsEndPortIn part f port node → IsTrue (is_switch node.kind)
     → vl port.node into out level ≡ lane_of said node.guid into out level
 
--- the port by which a packet came in where it takes the hop at this index; 0 if it was sent there
+-- the port by which a packet came in at the node where it takes the hop at an index of the list; 0 if it was sent there
 abbrev pub came_by : ℕ → List Hop → ℕ
 came_by zero hops = 0
 came_by (suc nth) hops = option_map_or (λ (h : Hop). h.into.port) (slice_get hops nth) 0
@@ -48,13 +48,14 @@ pub record IsLaneChannel (cells : Cells) (f : Fabric) (vl : LaneMaps) (level : �
   pub is : IsChannel cells f hop one_lane
   pub channel_is : channel ≡ 16 * one_lane + lane_at vl level hops nth hop
 
--- a packet of `level` is dropped on none of the first `count` of these hops that go from one switch to another
+-- a packet of `level` is dropped for want of a lane on none of the first `count` of `hops` that go from one switch to
+-- another
 abbrev pub IsCarried : Cells → Fabric → LaneMaps → ℕ → List Hop → ℕ → Type 0
 IsCarried cells f vl level hops count =
     (nth : ℕ) (hop : Hop) (one_lane : ℕ) → nth < count → slice_get hops nth ≡ Some hop → IsChannel cells f hop one_lane
     → lane_at vl level hops nth hop < 15
 
--- a packet of `level` that an end port of the part sends for some LID takes these hops
+-- a packet that an end port of `part` sends for some LID, at the level `level` that it has, takes `hops` first
 pub record TravelsAt (s : SeenByLane) (answers : Bool) (part : Part) (f : Fabric) (level : ℕ) (hops : List Hop) : Type 0
   where
     pub source : NodePort
@@ -66,9 +67,9 @@ pub record TravelsAt (s : SeenByLane) (answers : Bool) (part : Part) (f : Fabric
     pub end : Standing
     pub goes : Goes f lid (sent_from source) hops end
 
--- if numbers rise by facts, tables and lanes, the facts describe all that is joined to an end port, and the end ports
--- and switches there hold the tables and the lanes, then the channels by lane that a packet takes, and is dropped on
--- none, have rising numbers
+-- two channels by lane that a packet takes one right after the other, without being dropped, have rising numbers, if
+-- numbers rise by facts, tables and lanes, the facts describe all that is joined to an end port, the end ports and
+-- switches there hold the tables and the lanes, and the packet is sent there at a level that it has
 abbrev pub LaneChannelsRise : Type 0
 LaneChannelsRise =
     (s : SeenByLane) (answers : Bool) (f : Fabric) (origin : NodePort) (vl : LaneMaps) → IsEndPort f origin
@@ -80,8 +81,10 @@ LaneChannelsRise =
     → IsLaneChannel (cells_of s.seen.facts) f vl level hops (nth + 1) next
     → r.number channel < r.number next
 
--- as `LaneChannelsRise`, in a step: numbers rise by the tables of `s` and by those of `next_held`, and for the packet's
--- LID each switch holds its entry of either
+-- in a step, two channels by lane that a packet takes one right after the other, without being dropped, have rising
+-- numbers, if numbers rise by the tables of `s` and by those of `next_held`, the facts describe all that is joined to
+-- an end port, its switches hold the lanes and, for the packet's LID, each its entry of one of the two tables, and the
+-- packet is sent there at a level that it has
 abbrev pub StepLaneChannelsRise : Type 0
 StepLaneChannelsRise =
     (s : SeenByLane) (next_held : HeldPlan) (answers : Bool) (f : Fabric) (origin : NodePort) (vl : LaneMaps)

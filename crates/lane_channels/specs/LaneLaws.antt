@@ -1,4 +1,4 @@
--- What numbers of channels by lane ensure, and lanes below 15.
+-- That numbers of channels by lane rule out credit loops, and lanes below 15 rule out drops.
 use Rattle.std.specs.Prelude.{ℕ, Bool, List}
 use Rattle.fact_store.specs.View.{cells_of}
 use Rattle.audit_channels.specs.Waiting.{RiseOnWays}
@@ -9,17 +9,19 @@ use Rattle.lane_channels.specs.LaneNetwork.{SeenByLane}
 use Rattle.lane_channels.specs.AnyTables.{IsDroppedByAny}
 use Rattle.lane_channels.specs.Waiting.{RiseByLane, WaitInCycle}
 
--- if numbers of channels rise on one lane, numbers of channels by lane rise, whatever the lanes and the service levels
+-- if numbers of channels rise on one lane by the held tables, numbers of channels by lane rise, whatever the lanes and
+-- the service levels are
 abbrev pub OneLaneSuffices : Type 0
 OneLaneSuffices =
     (s : SeenByLane) (answers : Bool) (numbers : List ℕ) → RiseOnWays (cells_of s.seen.facts) s.seen.held numbers
     → RiseByLane s answers
 
--- there is no credit loop by lane if numbers of channels by lane rise
+-- if numbers of channels by lane rise by the held tables, no channels by lane wait in a credit loop
 abbrev pub NeverBothByLane : Type 0
 NeverBothByLane = (s : SeenByLane) (answers : Bool) (cycle : List ℕ) → RiseByLane s answers → ¬ (WaitInCycle s answers cycle)
 
--- no packet is dropped for want of a lane, in a step either, if packets that have a service level have a lane below 15
+-- if all packets that have a service level have a lane below 15 by the text, no packet is dropped for want of a lane,
+-- by any of several tables
 abbrev pub AllCarried : Type 0
 AllCarried =
     (s : SeenByLane) (others : List HeldPlan) (answers : Bool) → CarriesAll s.said → (dropped : Dropped)

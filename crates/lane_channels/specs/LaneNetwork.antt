@@ -15,16 +15,17 @@ pub record SeenByLane : Type 0 where
   pub seen : Seen
   pub said : LanesSaid
 
--- the stored form: a pair
+-- the stored form of facts, tables and lanes: a pair
 abbrev pub seen_by_lane_code : Coded SeenByLane
 seen_by_lane_code = code_by (Seen × LanesSaid) (coded× seen_code (lanes.the_row).coded) (λ s. (s.seen, s.said)) (λ p.
     record { seen = p.0; said = p.1 }) (λ _. refl)
 
--- the lists of the vectors
+-- the lists of numbers that vectors have
 abbrev pub lists_of : List (Vec ℕ Global) → List (List ℕ)
 lists_of = map (λ lids. lids.items)
 
--- the ports at the far ends of the wires of usable switches, and where the packets of end ports first reach a switch
+-- the fields of a lane network: the port at the far end of the wire in each port of usable switches, and for each end
+-- port the stop at which its packets first reach a switch
 pub record IsLaneNetwork (cells : Cells) (far_ports : List ℕ) (firsts : List (Option ℕ)) : Type 0 where
   pub far_ports_are : far_ports ≡ map (far_port_by cells) (range_with_len 0 (256 * length (switches cells)))
   pub firsts_are : firsts ≡ map (first_stop cells) (end_ports cells)

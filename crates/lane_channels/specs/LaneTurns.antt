@@ -6,8 +6,8 @@ use Rattle.subnet_view.specs.Reading.{Cells}
 use Rattle.lanes_file.specs.Lanes.{LanesSaid}
 use Rattle.lane_channels.specs.Stops.{Columns, HasEdge, lane_between, lane_by, lane_number, port_across}
 
--- a packet of `level` at `stop` leaves the switch by `channel` and the next switch by `next`, each along an edge of some
--- column of its LID; it is dropped at neither
+-- a packet of `level` at `stop` leaves that switch by `channel` and the next one by `next`, channels by lane, each
+-- along the switch's edge in some column; it is dropped at neither
 pub record TakesByLane (said : LanesSaid) (cells : Cells) (columns : Columns) (level : ℕ) (stop : ℕ) (channel next : ℕ)
     : Type 0 where
   pub first : Edge
@@ -20,7 +20,8 @@ pub record TakesByLane (said : LanesSaid) (cells : Cells) (columns : Columns) (l
   pub next_is : next
       ≡ lane_number first.to second.port (lane_between said cells level first.to (port_across cells (stop / 256) first.port) second.port)
 
--- the switch at `stop` would forward a packet of `level` by port `out`, by some column of its LID, but drops it
+-- the switch at `stop` would forward a packet of `level` by port `out`, its edge in some column, but has no lane for it
+-- and drops it
 pub record DropsBefore (said : LanesSaid) (cells : Cells) (columns : Columns) (level : ℕ) (stop : ℕ) (out : ℕ) : Type 0
   where
     pub edge : Edge

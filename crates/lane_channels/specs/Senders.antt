@@ -10,7 +10,8 @@ use Rattle.lane_channels.specs.Levels.{HasLevel, IsAsked, lids_held}
 use Rattle.lane_channels.specs.Stops.{first_stop}
 use Rattle.lane_channels.specs.Walks.{Walked}
 
--- the packets from `first` on that answer those which `asker` sends for one of the first `count` of `lids`
+-- packets of `level` that begin at `first`, which `begin` is, answer those that `asker` sends for one of the first
+-- `count` of `lids`
 pub record AnswersOf (said : LanesSaid) (asker : EndPort) (lids : List ℕ) (count : ℕ) (first : Option ℕ) (level : ℕ)
     (begin : Option ℕ) : Type 0 where
   pub begins : begin ≡ first
@@ -20,28 +21,30 @@ pub record AnswersOf (said : LanesSaid) (asker : EndPort) (lids : List ℕ) (cou
   pub asked_is : slice_get lids index ≡ Some asked
   pub level_is : level_of said asker.node asker.port asked ≡ Some level
 
--- the packets from `first` on that answer those which one of `owners` sends for one of `lids`
+-- packets of `level` that begin at `first`, which `begin` is, answer those that one of `owners` sends for one of `lids`
 abbrev pub AnswersTo : LanesSaid → List EndPort → List ℕ → Option ℕ → ℕ → Option ℕ → Type 0
 AnswersTo said owners lids first level begin = (begin ≡ first) × IsAsked said owners lids level
 
--- the packets that the end port at `index` sends for `lid`
+-- the end port at `index` sends packets of `level` for `lid`, and they first reach a usable switch at the stop `begin`;
+-- at none for None
 pub record SentFrom (s : SeenByLane) (answers : Bool) (lid index level : ℕ) (begin : Option ℕ) : Type 0 where
   pub source : EndPort
   pub source_is : slice_get (end_ports (cells_of s.seen.facts)) index ≡ Some source
   pub has_level : HasLevel s.said answers s.seen.held source lid level
   pub begins : begin ≡ first_stop (cells_of s.seen.facts) source
 
--- the packets that end ports send for `lid`
+-- some end port sends packets of `level` for `lid`, and they first reach a usable switch at the stop `begin`; at none
+-- for None
 abbrev pub SentFor : SeenByLane → Bool → ℕ → ℕ → Option ℕ → Type 0
 SentFor s answers lid level begin = (index : ℕ) × SentFrom s answers lid index level begin
 
--- `asked` has the LIDs that end ports hold, if answers are followed
+-- `asked` has, for each end port, the LIDs that it holds; it is free if answers are not followed
 abbrev pub HasAsked : SeenByLane → Asked → Type 0
 HasAsked s asked =
     asked.answers ≡ true
     → lists_of asked.held_by.items ≡ map (lids_held s.seen.held) (end_ports (cells_of s.seen.facts))
 
--- nothing was followed
+-- no packets were followed: no marks, no channels that follow others, and no dropped packet
 pub record IsNothing (count : ℕ) (w : Walked) : Type 0 where
   pub waits : w.waits ≡ replicate count []
   pub marks : w.marks ≡ replicate count 0

@@ -1,6 +1,7 @@
--- Where packets come in at usable switches, and where they go from there. A stop is a port by which packets come in at a
--- usable switch: its number is 256 times the switch's index, plus the port, which is 0 for the switch's own packets.
-use Rattle.std.specs.Prelude.{◌≡◌, ℕ, zero, suc, ◌/◌, ◌%◌, ◌+◌, ◌*◌, ◌&&◌, List, [], Option, None, Some, length, nat_lt, slice_get, slice_index_or, if◌then◌else◌}
+-- Where packets come in at usable switches, and where they go from there. A stop is a port by which packets come in at
+-- a usable switch: its number is 256 times the switch's index, plus the port, which is 0 for the switch's own packets.
+use Rattle.std.specs.Prelude.{◌≡◌, ℕ, zero, suc, ◌/◌, ◌%◌, ◌+◌, ◌*◌, ◌&&◌, List, [], Option, None, Some, length, nat_lt, slice_get, slice_index_or}
+use Rattle.std.specs.Prelude.{if◌then◌else◌}
 use Rattle.std.specs.Option.{option_map_or}
 use Rattle.port_graph.specs.declared.edge.Edge.{Edge}
 use Rattle.subnet_view.specs.Reading.{Cells, switches}
@@ -29,14 +30,16 @@ abbrev pub far_port_by : Cells → ℕ → ℕ
 far_port_by cells number =
     option_map_or (λ g. far_port cells g (number % 256)) (slice_get (switches cells) (number / 256)) 0
 
--- the stop at which a sender's packets first reach a usable switch: at the sender itself if it is one, or else at the
--- far end of its wire, port `port` of `far`; None if they reach none
+-- the stop at which a sender's packets first reach a usable switch: at its own switch, if it has an index, by port 0,
+-- or else at the far end of its wire, by port `port` there; None if they reach none
 abbrev pub stop_by : Option ℕ → Far → ℕ → Option ℕ
 stop_by (Some index) far port = Some (stop_at index 0)
 stop_by None (Switch index) port = Some (stop_at index port)
 stop_by None Nothing port = None
 stop_by None (Port e) port = None
 
+-- the stop at which the packets of `source` first reach a usable switch, if `port` is the port at the far end of its
+-- wire; None if they reach none
 abbrev pub stop_from : Sender → ℕ → Option ℕ
 stop_from source port = stop_by source.switch source.far port
 
@@ -48,19 +51,19 @@ first_stop cells e = stop_from (sender_of cells e) (far_port cells e.node e.port
 abbrev pub guid_at : Cells → ℕ → ℕ
 guid_at cells index = slice_index_or (switches cells) index 0
 
--- the lane of packets that come in at the switch at `index` by port `into` and leave it by port `out`
+-- the lane of packets of `level` that come in at the switch at `index` by port `into` and leave it by port `out`
 abbrev pub lane_between : LanesSaid → Cells → ℕ → ℕ → ℕ → ℕ → ℕ
 lane_between said cells level index into out = lane_of said (guid_at cells index) into out level
 
--- the lane by which a packet at `stop` leaves along `edge`
+-- the lane by which a packet of `level` at `stop` leaves along `edge`
 abbrev pub lane_by : LanesSaid → Cells → ℕ → ℕ → Edge → ℕ
 lane_by said cells level stop edge = lane_between said cells level (stop / 256) (stop % 256) edge.port
 
--- the lane, unless packets on it are dropped
+-- `lane` if it is below 15; None if packets on it are dropped
 abbrev pub lane_if_carried : ℕ → Option ℕ
 lane_if_carried lane = if nat_lt lane 15 then Some lane else None
 
--- the number of the channel by port `out` of the switch at `index`, on this lane
+-- the number of the channel by port `out` of the switch at `index`, on `lane`
 abbrev pub lane_number : ℕ → ℕ → ℕ → ℕ
 lane_number index out lane = 16 * (256 * index + out) + lane
 
@@ -68,32 +71,33 @@ lane_number index out lane = 16 * (256 * index + out) + lane
 abbrev pub port_across : Cells → ℕ → ℕ → ℕ
 port_across cells index out = far_port_by cells (256 * index + out)
 
--- where a packet at `stop` goes along `edge`; None if it is dropped, or if there is no such switch
+-- the stop to which a packet of `level` at `stop` goes along `edge`; None if it is dropped, or if `edge` leads to no
+-- switch
 abbrev pub carried : LanesSaid → Cells → ℕ → ℕ → Edge → Option ℕ
 carried said cells level stop edge =
     if nat_lt edge.to (length (switches cells)) && nat_lt (lane_by said cells level stop edge) 15
     then Some (stop_at edge.to (port_across cells (stop / 256) edge.port)) else None
 
--- for each of several tables a column: for each usable switch, by rising GUID, its edge for a LID
+-- for each of several tables a column, which has the edge of each usable switch for a LID, by rising GUID
 abbrev pub Columns : Type 0
 Columns = List (List (Option Edge))
 
--- the edge of the switch at `index` by the column at `nth`; None if there is none
+-- the edge of the switch at `index` by the column at `nth`; None if it has none there
 abbrev pub edge_by : Columns → ℕ → ℕ → Option Edge
 edge_by columns index nth = slice_index_or (slice_index_or columns nth []) index None
 
--- the switch at `index` has this edge by some column
+-- the switch at `index` has the edge by some column
 abbrev pub HasEdge : Columns → ℕ → Edge → Type 0
 HasEdge columns index edge = (nth : ℕ) × (edge_by columns index nth ≡ Some edge)
 
--- a packet of `level` at `stop` goes to the stop `next`, along an edge of some column; it is not dropped
+-- a packet of `level` at `stop` goes to the stop `next`, along the switch's edge in some column; it is not dropped
 pub record IsNextStop (said : LanesSaid) (cells : Cells) (columns : Columns) (level stop next : ℕ) : Type 0 where
   pub edge : Edge
   pub leaves : HasEdge columns (stop / 256) edge
   pub carried_is : carried said cells level stop edge ≡ Some next
 
--- a packet of `level` that begins at `first` is at `stop` after `count` stops more; at each of them it goes along an edge
--- of some column
+-- a packet of `level` that begins at `first` comes to `stop` in `count` steps, each along the switch's edge in some
+-- column
 abbrev pub ComesAfter : LanesSaid → Cells → Columns → ℕ → ℕ → Option ℕ → ℕ → Type 0
 ComesAfter said cells columns level zero first stop = first ≡ Some stop
 ComesAfter said cells columns level (suc count) first stop =

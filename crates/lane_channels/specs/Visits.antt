@@ -11,7 +11,7 @@ use Rattle.lane_channels.specs.LaneTurns.{DropsBefore, TakesByLane}
 use Rattle.lane_channels.specs.Stops.{Columns, HasEdge, IsNextStop, edge_by, lane_between, lane_number}
 use Rattle.lane_channels.specs.Walks.{IsDone, Walked, mark_number}
 
--- some edges of a switch
+-- a set of edges, by the property that its members have
 abbrev pub Edges : Type 1
 Edges = Edge → Type 0
 
@@ -19,52 +19,53 @@ Edges = Edge → Type 0
 abbrev pub FirstEdges : Columns → ℕ → ℕ → Edges
 FirstEdges columns index count edge = (nth : ℕ) × (nth < count) × (edge_by columns index nth ≡ Some edge)
 
--- the edge of the switch at `index` by the column at `nth`, if there is one, is one by an earlier column
+-- the edge of the switch at `index` by the column at `nth`, if there is one, is also its edge by an earlier column
 abbrev pub IsNoOther : Columns → ℕ → ℕ → Type 0
 IsNoOther columns index nth = (edge : Edge) → edge_by columns index nth ≡ Some edge → FirstEdges columns index nth edge
 
--- packets of `level` that come in at the switch at `index` by port `into` leave it by `channel`, along one of these edges;
--- they are not dropped there
+-- packets of `level` that come in at the switch at `index` by port `into` leave it by `channel`, a channel by lane,
+-- along one of the edges `these`; they are not dropped there
 pub record LeavesAlong (said : LanesSaid) (cells : Cells) (these : Edges) (level index into channel : ℕ) : Type 0 where
   pub edge : Edge
   pub is_one : these edge
   pub lane_is : lane_between said cells level index into edge.port < 15
   pub channel_is : channel ≡ lane_number index edge.port (lane_between said cells level index into edge.port)
 
--- `new` is `old`, and each of the channels `nexts` also follows `channel`
+-- in `new` a channel follows another exactly if it does in `old`, or is one of `nexts` and the other is `channel`
 pub record IsWithNexts (old : List (List ℕ)) (channel : ℕ) (nexts : ℕ → Type 0) (new : List (List ℕ)) : Type 0 where
   pub as_many : length new ≡ length old
   pub follows : (a b : ℕ) → Follows new a b ↔ (Follows old a b ⊎ ((a ≡ channel) × nexts b))
 
--- a packet of `level` takes two channels in turn from `stop` on, the first along one of these edges
+-- a packet of `level` takes `channel` and then `next` from `stop` on, `channel` along one of the edges `these`
 abbrev pub TakesAlong : LanesSaid → Cells → Columns → Edges → ℕ → ℕ → ℕ → ℕ → Type 0
 TakesAlong said cells columns these level stop channel next =
     (t : TakesByLane said cells columns level stop channel next) × these t.first
 
--- a packet of `level` is dropped at `stop` before port `out`, along one of these edges
+-- a packet of `level` is dropped at `stop` for want of a lane to port `out`, along one of the edges `these`
 abbrev pub DropsAlong : LanesSaid → Cells → Columns → Edges → ℕ → ℕ → ℕ → Type 0
 DropsAlong said cells columns these level stop out =
     (d : DropsBefore said cells columns level stop out) × these d.edge
 
--- a packet of `level` at `stop` goes to the stop `next`, along one of these edges
+-- a packet of `level` at `stop` goes to the stop `next`, along one of the edges `these`
 abbrev pub GoesAlong : LanesSaid → Cells → Columns → Edges → ℕ → ℕ → ℕ → Type 0
 GoesAlong said cells columns these level stop next =
     (n : IsNextStop said cells columns level stop next) × these n.edge
 
--- what is kept, and the stops that are left to visit
+-- what is kept of the packets followed so far, and the stops that are left to visit
 pub record Walking : Type 0 where
   pub kept : Walked
   pub stops : List ℕ
 
--- what is kept, as specified
+-- what is kept of packets, without the stops that are left to visit
 abbrev pub walked : Walks → Walked
 walked walks = record { marks = walks.marks.items; waits = walks.waits; dropped = walks.dropped }
 
+-- what is kept of packets, and the stops that are left to visit
 abbrev pub walking : Walks → Walking
 walking walks = record { kept = walked walks; stops = walks.stops.items }
 
--- what a packet of `level`, for `lid`, does at `stop` along these edges is kept, and the stops to which it goes are left
--- to visit
+-- `new` is `old`, where what a packet of `level` for `lid` does at `stop` along the edges `these` is kept, and the
+-- stops to which it goes are left to visit
 pub record AreLeft (said : LanesSaid) (cells : Cells) (columns : Columns) (lid level stop : ℕ) (these : Edges)
     (old new : Walking) : Type 0 where
   pub as_many : length new.kept.waits ≡ length old.kept.waits
@@ -78,22 +79,23 @@ pub record AreLeft (said : LanesSaid) (cells : Cells) (columns : Columns) (lid l
   pub stops : (s : ℕ) → Contains new.stops s
       ↔ (Contains old.stops s ⊎ GoesAlong said cells columns these level stop s)
 
--- the stop is marked, and what a packet of `level` does there, along any edge, is kept
+-- `new` is `old` after a visit: `stop` is marked for `level` with `lid`, and what a packet does there along any edge is
+-- kept
 pub record IsVisit (said : LanesSaid) (cells : Cells) (columns : Columns) (lid level stop : ℕ) (old new : Walking)
     : Type 0 where
   pub marks : new.kept.marks ≡ slice_set old.kept.marks (mark_number level stop) lid
   pub left : AreLeft said cells columns lid level stop (HasEdge columns (stop / 256)) old new
 
--- nothing is left to follow from the stop and nothing changes, or it is visited
+-- nothing is left to follow from `stop` for packets of `level` and nothing changes, or `stop` is visited
 abbrev pub IsVisitIfNew : LanesSaid → Cells → Columns → ℕ → ℕ → ℕ → Walking → Walking → Type 0
 IsVisitIfNew said cells columns lid level stop old new =
     (IsDone (length (switches cells)) lid old.kept.marks level stop × (new ≡ old))
     ⊎ ((stop < 256 * length (switches cells)) × IsVisit said cells columns lid level stop old new)
 
--- no column has more edges than there are usable switches
+-- each column has at most as many edges as there are usable switches
 abbrev pub AreWithin : Cells → Columns → Type 0
 AreWithin cells columns = (nth : ℕ) → length (slice_index_or columns nth []) ≤ length (switches cells)
 
--- the columns, as specified
+-- the columns as lists
 abbrev pub columns_in : LidColumns → Columns
 columns_in c = map (λ column. column.items) c.columns.items

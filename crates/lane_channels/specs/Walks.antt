@@ -1,5 +1,5 @@
--- Packets for one LID followed from stop to stop. `columns` has the LID's edges by each table. A mark says from which stops packets of
--- which level were followed; 4096 marks belong to each switch.
+-- Packets for one LID followed from stop to stop. `columns` has the LID's edges by each table. A mark says from which
+-- stops packets of which level were followed; 4096 marks belong to each switch.
 use Rattle.std.specs.Prelude.{◌≡◌, ◌⊎◌, ◌<◌, ◌≤◌, ◌+◌, ◌*◌, ℕ, ◌==◌, ◌||◌, Bool, List, Option, None, Some, length, nat_le, slice_index_or}
 use Rattle.subnet_view.specs.Reading.{Cells, switches}
 use Rattle.audit_channels.specs.Orders.{Follows}
@@ -12,32 +12,35 @@ use Rattle.lane_channels.specs.LaneTurns.{DropsBefore, TakesByLane}
 abbrev pub mark_number : ℕ → ℕ → ℕ
 mark_number level stop = 16 * stop + level
 
--- packets for `lid` of `level` were followed from the stop
+-- the mark of `stop` and `level` is `lid`: packets of `level` for `lid` were followed from `stop`
 abbrev pub IsMarked : ℕ → List ℕ → ℕ → ℕ → Type 0
 IsMarked lid marks level stop = slice_index_or marks (mark_number level stop) 0 ≡ lid
 
--- nothing is left to follow from the stop, since there is no such switch among `count`, or packets were followed
+-- nothing is left to follow from `stop`: none of `count` switches has it, or packets of `level` for `lid` were followed
+-- from there
 abbrev pub is_done : ℕ → ℕ → List ℕ → ℕ → ℕ → Bool
 is_done count lid marks level stop =
     nat_le (256 * count) stop || slice_index_or marks (mark_number level stop) 0 == lid
 
+-- nothing is left to follow from `stop`: packets of `level` for `lid` were followed from there, or none of `count`
+-- switches has it
 abbrev pub IsDone : ℕ → ℕ → List ℕ → ℕ → ℕ → Type 0
 IsDone count lid marks level stop = IsMarked lid marks level stop ⊎ (256 * count ≤ stop)
 
--- packets that were followed to a stop were followed from there
+-- packets for `lid` that were followed from a stop were also followed from the stops to which they go from there
 abbrev pub IsClosed : LanesSaid → Cells → Columns → ℕ → List ℕ → Type 0
 IsClosed said cells columns lid marks =
     (level : ℕ) (stop next : ℕ) → level < 16 → IsMarked lid marks level stop
     → IsNextStop said cells columns level stop next
     → IsDone (length (switches cells)) lid marks level next
 
--- the channels that followed packets take in turn follow each other in `waits`
+-- the channels by lane that followed packets for `lid` take in turn follow each other in `waits`
 abbrev pub AreRecorded : LanesSaid → Cells → Columns → ℕ → List ℕ → List (List ℕ) → Type 0
 AreRecorded said cells columns lid marks waits =
     (level stop : ℕ) (a b : ℕ) → level < 16 → IsMarked lid marks level stop
     → TakesByLane said cells columns level stop a b → Follows waits a b
 
--- if no dropped packet is noted, no followed packet is dropped
+-- if no dropped packet is noted, no followed packet for `lid` is dropped for want of a lane
 abbrev pub IsNoted : LanesSaid → Cells → Columns → ℕ → List ℕ → Option Dropped → Type 0
 IsNoted said cells columns lid marks dropped =
     dropped ≡ None → (level stop : ℕ) (out : ℕ) → level < 16 → IsMarked lid marks level stop
@@ -47,7 +50,7 @@ IsNoted said cells columns lid marks dropped =
 abbrev pub Beginnings : Type 1
 Beginnings = ℕ → Option ℕ → Type 0
 
--- a packet of `level`, one of these, comes to the stop
+-- a packet of `level`, one of `these`, comes to `stop`
 pub record Reaches (said : LanesSaid) (cells : Cells) (columns : Columns) (these : Beginnings) (level : ℕ)
     (stop : ℕ) : Type 0 where
   pub first : Option ℕ
@@ -55,7 +58,7 @@ pub record Reaches (said : LanesSaid) (cells : Cells) (columns : Columns) (these
   pub count : ℕ
   pub is_there : ComesAfter said cells columns level count first stop
 
--- one of these packets takes `channel` and then `next`
+-- one of the packets `these` takes `channel` and then `next`
 pub record OneTakes (said : LanesSaid) (cells : Cells) (columns : Columns) (these : Beginnings)
     (channel next : ℕ) : Type 0 where
   pub level : ℕ
@@ -63,26 +66,27 @@ pub record OneTakes (said : LanesSaid) (cells : Cells) (columns : Columns) (thes
   pub reaches : Reaches said cells columns these level stop
   pub takes : TakesByLane said cells columns level stop channel next
 
--- one of these packets, for `lid`, is dropped for want of a lane
+-- `dropped` is for `lid`, and is one of the packets `these` that is dropped for want of a lane
 pub record IsDroppedOne (said : LanesSaid) (cells : Cells) (columns : Columns) (these : Beginnings) (lid : ℕ)
     (dropped : Dropped) : Type 0 where
   pub lid_is : dropped.lid ≡ lid
   pub reaches : Reaches said cells columns these dropped.level dropped.stop
   pub drops : DropsBefore said cells columns dropped.level dropped.stop dropped.out
 
--- what is kept of packets that were followed
+-- what is kept of packets that were followed: marks, the channels that follow each channel, and a dropped packet
 pub record Walked : Type 0 where
   pub marks : List ℕ
   pub waits : List (List ℕ)
   pub dropped : Option Dropped
 
--- followed packets are followed to their ends, with what they take in turn and whether one is dropped
+-- packets for `lid` that were followed at all are followed to their ends, what they take in turn is recorded and, if
+-- one is dropped, some dropped packet is noted
 pub record IsWhole (said : LanesSaid) (cells : Cells) (columns : Columns) (lid : ℕ) (w : Walked) : Type 0 where
   pub closed : IsClosed said cells columns lid w.marks
   pub recorded : AreRecorded said cells columns lid w.marks w.waits
   pub noted : IsNoted said cells columns lid w.marks w.dropped
 
--- these packets for `lid` were also followed
+-- `new` is `old` after the packets `these` for `lid` were followed too
 pub record AreFollowed (said : LanesSaid) (cells : Cells) (columns : Columns) (lid : ℕ) (these : Beginnings)
     (old new : Walked) : Type 0 where
   pub as_many : length new.waits ≡ length old.waits
@@ -100,10 +104,10 @@ pub record AreFollowed (said : LanesSaid) (cells : Cells) (columns : Columns) (l
   pub dropped_only : (d : Dropped) → new.dropped ≡ Some d
       → (old.dropped ≡ Some d) ⊎ IsDroppedOne said cells columns these lid d
 
--- packets of `level` that begin at `first`
+-- the packets of `level` that begin at `first`
 abbrev pub Begins : ℕ → Option ℕ → Beginnings
 Begins level first l f = (l ≡ level) × (f ≡ first)
 
--- packets of `level`, if there is one, that begin at `first`
+-- the packets of the given level that begin at `first`; none for None
 abbrev pub BeginsIf : Option ℕ → Option ℕ → Beginnings
 BeginsIf level first l f = (level ≡ Some l) × (f ≡ first)

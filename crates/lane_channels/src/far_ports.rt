@@ -13,8 +13,8 @@ use smp_bytes::{Guid, PortNum};
 use std::alloc::{AllocError, Global};
 use subnet_view::Wires;
 
-/// Returns, for each port of each usable switch, the port at the far end of its wire, or 0 if it has none. The port p
-/// of the switch at index i is at 256 * i + p.
+/// Returns, for each port of each usable switch, the port at the far end of its wire, or 0 if it has none. Port p of
+/// the switch at index i is at 256 * i + p. `wires` must be those of the facts of `network`.
 pub(crate) fn far_ports(
     alloc: Global,
     network: &Network,
@@ -34,7 +34,7 @@ pub(crate) fn far_ports(
 }
 
 /// Returns the port at the far end of the wire in a port of a usable switch, or 0 if there is none. `number` is 256
-/// times the switch's index, plus the port.
+/// times the switch's index, plus the port. `wires` must be those of the facts of `network`.
 fn far_port_by(network: &Network, wires: &Wires, number: usize) -> PortNum
     requires { cells_of wires.now ≡ cells_of network.now.facts }
     ensures { result ≡ far_port_by (cells_of network.now.facts) number }
@@ -56,6 +56,7 @@ fn far_port(wires: &Wires, node: Guid, port: PortNum) -> PortNum
 }
 
 /// Returns, for each sender, the stop at which its packets first reach a usable switch, or `None` if they reach none.
+/// `wires` must be those of the facts of `network`.
 pub(crate) fn first_stops(
     alloc: Global,
     network: &Network,
@@ -87,7 +88,7 @@ fn first_stop(wires: &Wires, source: &Sender) -> Option<usize>
     }
 }
 
-/// Returns the stop at `port` of the usable switch to which a wire leads, or `None` if it leads to none.
+/// Returns the stop at `port` of the usable switch `far`, or `None` if `far` is none.
 fn stop_over(far: Far, port: PortNum) -> Option<usize>
     requires { (index : ℕ) → switch_over far ≡ Some index → 256 * index + 256 < 2 ^ 64 + 1 }
     ensures { result ≡ stop_by None far port }

@@ -13,7 +13,7 @@ use smp_bytes::Lid;
 use std::alloc::{AllocError, Global};
 use subnet_view::EndPort;
 
-/// For what other end ports can ask each sender.
+/// Of what other end ports can ask a sender: the LIDs that it holds.
 #[derive(Drop)]
 pub(crate) struct Asked {
     /// Whether packets that answer others are followed.
@@ -22,7 +22,8 @@ pub(crate) struct Asked {
     pub(crate) held_by: Vec<Vec<Lid>>,
 }
 
-/// Returns the LIDs that each sender holds, if `answers` is set. Then it walks the held LIDs for each end port.
+/// Returns the LIDs that each sender holds if `answers` is true, otherwise none. If it is true, takes a walk over the
+/// held LIDs for each end port.
 pub(crate) fn asked_of(
     alloc: Global,
     by_lane: &LaneNetwork,
@@ -41,7 +42,8 @@ pub(crate) fn asked_of(
     Ok(Asked { answers, held_by })
 }
 
-/// Returns the LIDs that each end port holds, in the order of the end ports. Walks the held LIDs for each end port.
+/// Returns the LIDs that each end port holds, in the order of the end ports. Takes a walk over the held LIDs for each
+/// end port.
 fn held_by(alloc: Global, network: &Network) -> Result<Vec<Vec<Lid>>, AllocError>
     ensures { IfOk result (λ held_by. lists_of held_by.items
         ≡ map (lids_held network.now.held) (end_ports (cells_of network.now.facts))) }

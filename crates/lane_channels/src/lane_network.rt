@@ -1,7 +1,8 @@
 ghost use Rattle.std.specs.Prelude.{◌≡◌, ◌<◌, ◌+◌, ◌*◌, ◌%◌, ◌^◌, IfOk, map, slice_index_or};
 ghost use Rattle.fact_store.specs.View.{cells_of};
 ghost use Rattle.subnet_view.specs.EndPorts.{end_ports};
-ghost use Rattle.lane_channels.specs.Stops.{first_stop, guid_at, lane_between, lane_if_carried, lane_number, port_across};
+ghost use Rattle.lane_channels.specs.Stops.{first_stop, guid_at, lane_between, lane_if_carried, lane_number};
+ghost use Rattle.lane_channels.specs.Stops.{port_across};
 
 use crate::far_ports::{far_ports, first_stops};
 use fact_store::Refused;
@@ -17,9 +18,9 @@ use subnet_view::Wires;
 pub struct LaneNetwork<'a> {
     network: &'a Network<'a>,
     lanes: &'a Lanes,
-    /// For each port of each usable switch, the port at the far end of its wire.
+    /// For each port of each usable switch, the port at the far end of its wire; 0 if it has none.
     far_ports: Vec<PortNum>,
-    /// For each sender, where its packets first reach a switch.
+    /// For each sender, the stop at which its packets first reach a usable switch; `None` if they reach none.
     firsts: Vec<Option<usize>>,
 }
 
@@ -37,8 +38,8 @@ impl<'a> Model for LaneNetwork<'a> {
 }
 
 impl<'a> LaneNetwork<'a> {
-    /// Finds where the wires of `network` lead, for packets that take the lanes of `lanes`. Takes two searches for each
-    /// of 256 ports of each switch and for each end port.
+    /// Finds where the wires of `network` lead, for packets that take the lanes of `lanes`. Takes a search for a wire
+    /// for each of 256 ports of each usable switch, and for each end port.
     pub fn of(alloc: Global, network: &'a Network<'a>, lanes: &'a Lanes) -> Result<Self, Refused>
         ensures seen { IfOk result (λ by_lane. by_lane.seen ≡ network.now) }
         ensures said { IfOk result (λ by_lane. by_lane.said ≡ lanes.now) }
@@ -55,30 +56,31 @@ impl<'a> LaneNetwork<'a> {
         })
     }
 
-    /// Returns the network.
+    /// Returns the network, without its lanes.
     pub fn network(&self) -> &'a Network<'a>
         ensures { result.now ≡ self.now.seen }
     {
         self.network
     }
 
-    /// Returns the lanes.
+    /// Returns what the text of lanes says.
     pub fn lanes(&self) -> &'a Lanes
         ensures { result.now ≡ self.now.said }
     {
         self.lanes
     }
 
-    /// Returns, for each end port in order, where its packets first reach a usable switch, or `None` if they reach
-    /// none.
+    /// Returns, for each end port in order, the stop at which its packets first reach a usable switch, or `None` if
+    /// they reach none.
     pub fn firsts(&self) -> &[Option<usize>]
-        ensures { result.now ≡ map (first_stop (cells_of self.now.seen.facts)) (end_ports (cells_of self.now.seen.facts)) }
+        ensures { result.now
+            ≡ map (first_stop (cells_of self.now.seen.facts)) (end_ports (cells_of self.now.seen.facts)) }
     {
         &self.firsts
     }
 
-    /// Returns the lane of packets of `level` that come in at the switch at `index` by port `into` and leave it by
-    /// port `out`, or `None` if they are dropped there. Takes a search.
+    /// Returns the lane of packets of `level` that come in at the switch at `index` by port `into` and leave it by port
+    /// `out`, or `None` if they are dropped there. Takes a binary search among the maps.
     pub(crate) fn lane(&self, level: u8, index: usize, into: PortNum, out: PortNum) -> Option<u8>
         ensures { result
             ≡ lane_if_carried (lane_between self.now.said (cells_of self.now.seen.facts) level index into out) }
@@ -89,7 +91,7 @@ impl<'a> LaneNetwork<'a> {
     }
 
     /// Returns the port at the far end of the wire in port `out` of the switch at `index`, or 0 if there is none. Takes
-    /// one step.
+    /// constant time.
     pub(crate) fn port_across(&self, index: usize, out: PortNum) -> PortNum
         requires { 256 * index + 256 < 2 ^ 64 + 1 }
         ensures { result ≡ port_across (cells_of self.now.seen.facts) index out }
@@ -102,7 +104,7 @@ impl<'a> LaneNetwork<'a> {
 /// The lane of packets that are dropped.
 const DROPPED: u8 = 15;
 
-/// Returns the port of `stop`.
+/// Returns the port of `stop`, by which packets come in.
 pub(crate) fn port_of(stop: usize) -> PortNum
     ensures { result ≡ stop % 256 }
 {
@@ -116,14 +118,14 @@ fn switch_at(network: &Network, index: usize) -> Guid
     network.switch(index).unwrap_or(Guid::new(0))
 }
 
-/// Returns the port at `number`, or 0 if there is none.
+/// Returns the entry of `far_ports` at `number`, or 0 if there is none.
 fn far_port_at(far_ports: &[PortNum], number: usize) -> PortNum
     ensures { result ≡ slice_index_or far_ports.now number 0 }
 {
     far_ports.get(number).copied().unwrap_or(PortNum::new(0))
 }
 
-/// Returns the number of the channel by port `out` of the switch at `index`, on `lane`.
+/// Returns the number of the channel by port `out` of the switch at `index`, on `lane`, which must be below 15.
 pub(crate) fn lane_number(index: usize, out: PortNum, lane: u8) -> usize
     requires within { lane < 15 }
     requires room { 4096 * index + 4096 < 2 ^ 64 + 1 }

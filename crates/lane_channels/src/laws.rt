@@ -3,7 +3,8 @@ ghost use Rattle.lane_channels.specs.Fabrics.{LaneChannelsRise, StepLaneChannels
 ghost use Rattle.lane_channels.specs.LaneLaws.{AllCarried, NeverBothByLane, OneLaneSuffices};
 ghost use Rattle.lane_channels.specs.StepLaws.{HeldRiseInStep, NeverBothByLaneInStep, OneLaneSufficesInStep};
 
-/// If numbers of channels rise on one lane, numbers of channels by lane rise, whatever the lanes and service levels are.
+/// If numbers of channels rise on one lane, numbers of channels by lane rise, whatever the lanes and service levels
+/// are.
 #[tactic(auto, using(crate::proofs::LaneLaws::one_lane_suffices))]
 pub fn one_lane_suffices()
     ensures law { OneLaneSuffices }
@@ -15,7 +16,8 @@ pub fn never_both_by_lane()
     ensures law { NeverBothByLane }
 {}
 
-/// No packet is dropped for want of a lane if the text gives a lane below 15 to each packet that has a service level.
+/// No packet is dropped for want of a lane, whatever the tables, if the text gives a lane below 15 to each packet that
+/// has a service level.
 #[tactic(auto, using(crate::proofs::LaneLaws::all_carried))]
 pub fn all_carried()
     ensures law { AllCarried }

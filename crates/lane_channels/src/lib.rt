@@ -16,6 +16,6 @@ mod walk_state;
 
 pub use lane_network::LaneNetwork;
 pub use loops_by_lane::{LaneOrder, lane_order};
-pub use step_by_lane::{step_lane_order, step_lane_waits};
+pub use step_by_lane::step_lane_order;
 pub use stop::Dropped;
 pub use waits_by_lane::{LaneWaits, lane_waits};

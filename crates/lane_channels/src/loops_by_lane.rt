@@ -7,7 +7,7 @@ use crate::waits_by_lane::lane_waits;
 use audit_channels::{ChannelOrder, order_channels};
 use std::alloc::{AllocError, Global};
 
-/// What packets do by lane.
+/// A credit loop by lane and a packet that is dropped for want of a lane, if there are such.
 #[derive(Drop)]
 pub struct LaneOrder {
     /// A shortest credit loop; empty if there is none. The number of a channel is 16 times its number on one lane, plus
@@ -18,7 +18,7 @@ pub struct LaneOrder {
 }
 
 /// Finds a shortest credit loop of channels by lane, and a packet that is dropped for want of a lane. If `answers` is
-/// set, packets that answer others also have the level of what they answer. Takes what `lane_waits` and
+/// true, packets that answer others also have the level of what they answer. Takes what `lane_waits` and
 /// `order_channels` take.
 pub fn lane_order(
     alloc: Global,
@@ -36,7 +36,7 @@ pub fn lane_order(
     Ok(LaneOrder { cycle, dropped })
 }
 
-/// Returns the channels of a cycle, or none if numbers rise.
+/// Returns the channels of `order` if it is a cycle, otherwise none.
 pub(crate) fn cycle_in(alloc: Global, order: ChannelOrder) -> Vec<usize>
     ensures { result.items ≡ cycle_in order }
 {

@@ -1,4 +1,4 @@
-//! Channels by lane that packets take one after the other while switches change from the held tables to the next ones.
+//! Which channels by lane can come after which while switches change from the held tables to the next ones.
 ghost use Rattle.std.specs.Prelude.{◌≡◌, ◌/◌, [], ◌∷◌, IfOk};
 ghost use Rattle.fact_store.specs.View.{cells_of};
 ghost use Rattle.held_tables.specs.Blocks.{AreBlocks};
@@ -17,10 +17,11 @@ use packet_walks::{Blocks, Network};
 use smp_bytes::Lid;
 use std::alloc::{AllocError, Global};
 
-/// Finds a shortest credit loop of channels by lane, and a packet that is dropped for want of a lane, in a step: each
-/// switch forwards packets for a LID by its entry in the held tables or in those of `next`. LIDs and service levels stay
-/// as they are. If `answers` is set, packets that answer others also have the level of what they answer. Takes what
-/// `step_lane_waits` and `order_channels` take.
+/// Finds a shortest credit loop of channels by lane, and a packet that is dropped for want of a lane, in the step to
+/// the tables of `next`. In a step, each switch forwards packets for a LID by its entry in the held tables or by that
+/// in those of `next`, while LIDs and service levels stay as they are. `next` must have the facts of `by_lane`. If
+/// `answers` is true, packets that answer others also have the level of what they answer. Takes what `step_lane_waits`
+/// and `order_channels` take.
 pub fn step_lane_order(
     alloc: Global,
     by_lane: &LaneNetwork,
@@ -40,11 +41,11 @@ pub fn step_lane_order(
     Ok(LaneOrder { cycle, dropped })
 }
 
-/// Follows the packets of each service level that end ports send, for each LID, at each switch by its entry in the held
-/// tables and by that in those of `next`. If `answers` is set, packets that answer others also have the level of what
-/// they answer. Takes what `lane_waits` takes for both tables, but up to six searches in place of two where packets come
-/// in, if entries differ there.
-pub fn step_lane_waits(
+/// Follows the packets that each end port sends for each LID, at their service level, at each switch by its entry in
+/// the held tables and by that in those of `next`. `next` must have the facts of `by_lane`. If `answers` is true,
+/// packets that answer others also have the level of what they answer. Takes what `lane_waits` takes for both tables
+/// together, up to a constant factor.
+fn step_lane_waits(
     alloc: Global,
     by_lane: &LaneNetwork,
     next: &Network,
@@ -75,7 +76,8 @@ pub fn step_lane_waits(
     })
 }
 
-/// Returns the edges of `lid` by the held tables and by the next ones, from the blocks with its entries.
+/// Returns the edges of `lid` by the held tables and by the next ones. `held_blocks` and `next_blocks` must be those
+/// with its entries.
 fn two_columns(
     alloc: Global,
     held: &Network,
@@ -90,7 +92,8 @@ fn two_columns(
     requires next_number { next_blocks.now.number ≡ lid / 64 }
     ensures lid { IfOk result (λ columns. columns.lid ≡ lid) }
     ensures columns { IfOk result (λ columns. columns_in columns
-        ≡ edges_of (cells_of held.now.facts) held.now.held lid ∷ edges_of (cells_of next.now.facts) next.now.held lid ∷ []) }
+        ≡ edges_of (cells_of held.now.facts) held.now.held lid
+        ∷ edges_of (cells_of next.now.facts) next.now.held lid ∷ []) }
 {
     let mut columns = Vec::with_capacity(alloc, 2)?;
     columns.push(held.edges(alloc, held_blocks, lid)?)?;

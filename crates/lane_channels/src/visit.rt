@@ -1,10 +1,12 @@
-//! Visits of stops.
-ghost use Rattle.std.specs.Prelude.{◌≡◌, ◌<◌, ◌≤◌, ◌+◌, ◌*◌, ◌/◌, ◌^◌, None, OnOk, Some, length, slice_index_or, slice_set};
+//! One step of following packets by lane: what they do at a stop, and the stops to which they go on.
+ghost use Rattle.std.specs.Prelude.{◌≡◌, ◌<◌, ◌≤◌, ◌+◌, ◌*◌, ◌/◌, ◌^◌, None, OnOk, Some, length, slice_index_or};
+ghost use Rattle.std.specs.Prelude.{slice_set};
 ghost use Rattle.std.specs.Option.{option_or};
 ghost use Rattle.fact_store.specs.View.{cells_of};
 ghost use Rattle.subnet_view.specs.Reading.{switches};
 ghost use Rattle.lane_channels.specs.Stops.{HasEdge};
-ghost use Rattle.lane_channels.specs.Visits.{AreLeft, AreWithin, IsVisit, IsVisitIfNew, IsWithNexts, LeavesAlong, columns_in, walking};
+ghost use Rattle.lane_channels.specs.Visits.{AreLeft, AreWithin, IsVisit, IsVisitIfNew, IsWithNexts, LeavesAlong};
+ghost use Rattle.lane_channels.specs.Visits.{columns_in, walking};
 ghost use Rattle.lane_channels.specs.Walks.{is_done, mark_number};
 
 use crate::far_ports::stop_at;
@@ -16,7 +18,8 @@ use port_graph::Edge;
 use smp_bytes::{Lid, PortNum};
 use std::alloc::AllocError;
 
-/// Visits `stop`, unless there is no such switch or packets of `level` for the LID were followed from there.
+/// Visits `stop`, unless there is no such switch, or packets of `level` for the LID were followed from there before.
+/// `level` must be below 16.
 pub(crate) fn visit_if_new(
     by_lane: &LaneNetwork,
     columns: &LidColumns,
@@ -39,9 +42,12 @@ pub(crate) fn visit_if_new(
     visit(by_lane, columns, level, stop, walks)
 }
 
-/// Marks `stop`. Records the channels that a packet of `level` can take from there one after the other, notes it if it
-/// can be dropped there and no packet is noted yet, and adds the stops to which it can go. Takes, for each edge, a search
-/// and one for each edge of the switch to which it leads.
+/// Marks `stop` for the LID and `level`, and follows a packet of `level` from there along the edge of each column.
+/// `stop` must be at a usable switch, and `level` below 16.
+///
+/// For each edge, records which channels the packet can take next, and adds the stop to which it goes. Notes the packet
+/// if it can be dropped there and none is noted yet. Takes, for each edge, a binary search among the maps of lanes, and
+/// one more for each edge of the switch to which it leads.
 fn visit(
     by_lane: &LaneNetwork,
     columns: &LidColumns,
@@ -62,7 +68,7 @@ fn visit(
     leave(by_lane, columns, level, stop, walks)
 }
 
-/// Keeps what a packet of `level` does at `stop`, along the edge of each column.
+/// Follows a packet of `level` from `stop` along the edge of each column.
 fn leave(
     by_lane: &LaneNetwork,
     columns: &LidColumns,
@@ -86,7 +92,7 @@ fn leave(
     Ok(())
 }
 
-/// Keeps what a packet of `level` does at `stop` along `edge`.
+/// Follows a packet of `level` from `stop` along `edge`, which must be an edge of its switch by some column.
 fn leave_along(
     by_lane: &LaneNetwork,
     columns: &LidColumns,
@@ -140,8 +146,8 @@ fn note(noted: &mut Option<Dropped>, dropped: Dropped)
     *noted = noted.or(Some(dropped));
 }
 
-/// Records that packets of `level` which come in at the switch at `index` by port `into` take, after `channel`, the
-/// channels by which they can leave.
+/// Adds the channels that can come after `channel`: those by which packets of `level` leave the switch at `index`, by
+/// any column, if they come in by port `into` and are not dropped.
 fn record(
     by_lane: &LaneNetwork,
     columns: &LidColumns,
@@ -166,8 +172,8 @@ fn record(
     Ok(())
 }
 
-/// Records that packets of `level` which come in at the switch at `index` by port `into` take, after `channel`, the
-/// channel along `edge`, unless they are dropped there.
+/// Adds the channel along `edge` to those that can come after `channel`, unless packets of `level` that come in at the
+/// switch at `index` by port `into` are dropped there.
 fn record_along(
     by_lane: &LaneNetwork,
     level: u8,
@@ -190,7 +196,7 @@ fn record_along(
     }
 }
 
-/// Sets the mark at `number` to `lid`.
+/// Sets the mark at `number`, which must be there, to `lid`.
 fn mark(marks: &mut [u16], number: usize, lid: Lid)
     requires { number < length marks.old }
     ensures { marks.new ≡ slice_set marks.old number lid }
@@ -198,8 +204,8 @@ fn mark(marks: &mut [u16], number: usize, lid: Lid)
     marks[number] = lid.number();
 }
 
-/// Returns whether nothing is left to follow from `stop`: there is no such switch among `count`, or packets for `lid` of
-/// `level` were followed from there.
+/// Returns whether nothing has to be followed from `stop`: it is at none of `count` switches, or packets of `level` for
+/// `lid` were followed from there before.
 fn is_done(count: usize, lid: Lid, marks: &[u16], level: u8, stop: usize) -> bool
     requires level { level < 16 }
     requires room { 4096 * count < 2 ^ 64 }
@@ -215,7 +221,7 @@ fn mark_at(marks: &[u16], number: usize) -> u16
     marks.get(number).copied().unwrap_or(0)
 }
 
-/// Returns the number of the mark of `stop` and `level`.
+/// Returns the number of the mark of `stop` and `level`. `level` must be below 16.
 fn mark_number(level: u8, stop: usize) -> usize
     requires level { level < 16 }
     requires room { 16 * stop + 16 < 2 ^ 64 + 1 }

@@ -1,4 +1,4 @@
-//! The channels by lane that packets take one after the other.
+//! Which channels by lane can come after which: the packets of all senders, followed LID by LID.
 ghost use Rattle.std.specs.Prelude.{◌≡◌, ◌<◌, ◌≤◌, ◌*◌, ◌^◌, [], ◌∷◌, IfOk, IfSome, OnOk, Some, length, slice_get};
 ghost use Rattle.std.specs.Option.{option_map};
 ghost use Rattle.fact_store.specs.View.{cells_of};
@@ -25,22 +25,23 @@ use smp_bytes::Lid;
 use std::alloc::{AllocError, Global};
 use subnet_view::EndPort;
 
-/// The channels by lane that packets take one after the other, and whether a packet is dropped for want of a lane.
+/// Which channels by lane can come after which, and whether a packet is dropped for want of a lane.
 #[derive(Drop)]
 pub struct LaneWaits {
-    /// For each channel by lane, the channels that packets take next.
+    /// For each channel by lane, the channels that packets can take after it.
     pub waits: Waits,
     /// A packet that is dropped for want of a lane, or `None` if there is none.
     pub dropped: Option<Dropped>,
 }
 
-/// Follows the packets of each service level that end ports send, for each LID. If `answers` is set, packets that answer
-/// others also have the level of what they answer.
+/// Follows the packets that each end port sends for each LID, at their service level. If `answers` is true, packets
+/// that answer others also have the level of what they answer.
 ///
-/// Takes a step for each port of each switch, and what `Network::blocks` takes for each 64 LIDs up to the greatest top
-/// of a usable switch. For each of these LIDs, it takes a step for each switch, a search for each end port, and two
-/// searches for each port of a switch and each level by which packets come in there. If `answers` is set, it also walks
-/// the held LIDs for each end port, and takes a search for each LID of an end port and each end port that holds the LID.
+/// Takes what `Network::blocks` takes for each 64 LIDs up to the greatest top of a usable switch. For each of these
+/// LIDs, takes time linear in the number of switches, a binary search among levels for each end port, and two among
+/// maps for each port of a switch and each level at which packets come in there. If `answers` is true, it also walks
+/// the held LIDs for each end port, and takes a binary search for each LID of an end port and each end port that holds
+/// the LID.
 pub fn lane_waits(
     alloc: Global,
     by_lane: &LaneNetwork,
@@ -69,7 +70,7 @@ pub fn lane_waits(
     })
 }
 
-/// Returns the edges of `lid` by one table.
+/// Returns `edges` as the only column of `lid`.
 fn one_column(alloc: Global, lid: Lid, edges: Vec<Option<Edge>>) -> Result<LidColumns, AllocError>
     ensures lid { IfOk result (λ columns. columns.lid ≡ lid) }
     ensures columns { IfOk result (λ columns. columns_in columns ≡ edges.items ∷ []) }
@@ -79,7 +80,7 @@ fn one_column(alloc: Global, lid: Lid, edges: Vec<Option<Edge>>) -> Result<LidCo
     Ok(LidColumns { lid, columns })
 }
 
-/// Returns what is kept before a packet is followed, for `count` channels by lane.
+/// Returns what is known before any packet is followed, for `count` channels by lane.
 pub(crate) fn nothing_followed(alloc: Global, count: usize) -> Result<Walks, AllocError>
     ensures { IfOk result (λ walks. IsNothing count (walked walks)) }
 {
@@ -93,7 +94,7 @@ pub(crate) fn nothing_followed(alloc: Global, count: usize) -> Result<Walks, All
     })
 }
 
-/// Follows the packets for a LID that end ports send. `owners` are the end ports that hold the LID.
+/// Follows the packets for the LID of `columns` that end ports send. `owners` must be the end ports that hold the LID.
 pub(crate) fn follow_lid(
     by_lane: &LaneNetwork,
     asked: &Asked,
@@ -117,7 +118,8 @@ pub(crate) fn follow_lid(
     Ok(())
 }
 
-/// Follows the packets for a LID that the end port at `index` sends. `owners` are the end ports that hold the LID.
+/// Follows the packets for the LID of `columns` that the end port at `index` sends. `owners` must be the end ports that
+/// hold the LID.
 fn follow_sender(
     by_lane: &LaneNetwork,
     asked: &Asked,
@@ -135,7 +137,8 @@ fn follow_sender(
     requires waits { length walks.old.waits ≡ 4096 * length (switches (cells_of by_lane.now.seen.facts)) }
     requires marks { length walks.old.marks.items ≡ 4096 * length (switches (cells_of by_lane.now.seen.facts)) }
     ensures { OnOk result (AreFollowed by_lane.now.said (cells_of by_lane.now.seen.facts) (columns_in columns.now)
-        columns.now.lid (SentFrom by_lane.now asked.now.answers columns.now.lid index) (walked walks.old) (walked walks.new)) }
+        columns.now.lid (SentFrom by_lane.now asked.now.answers columns.now.lid index) (walked walks.old)
+        (walked walks.new)) }
 {
     let first = first_at(by_lane.firsts(), index);
     let port = port_at(by_lane.network().sources(), index);
@@ -148,7 +151,8 @@ fn follow_sender(
     follow_answers(by_lane, columns, owners, lids, first, walks)
 }
 
-/// Returns the first stop at `index`.
+/// Returns the first stop of packets of the end port at `index`, or `None` if they reach no switch. There must be such
+/// an end port.
 fn first_at(firsts: &[Option<usize>], index: usize) -> Option<usize>
     requires { index < length firsts.now }
     ensures { slice_get firsts.now index ≡ Some result }
@@ -156,7 +160,7 @@ fn first_at(firsts: &[Option<usize>], index: usize) -> Option<usize>
     firsts[index]
 }
 
-/// Returns the end port of the sender at `index`.
+/// Returns the end port of the sender at `index`, which must be there.
 fn port_at(sources: &[Sender], index: usize) -> &EndPort
     requires { index < length sources.now }
     ensures { option_map (λ s. s.port) (slice_get sources.now index) ≡ Some result.now }
@@ -164,7 +168,7 @@ fn port_at(sources: &[Sender], index: usize) -> &EndPort
     &sources[index].port
 }
 
-/// Returns the LIDs at `index`.
+/// Returns the LIDs that the end port at `index` holds. There must be such an end port.
 fn lids_at(held_by: &[Vec<Lid>], index: usize) -> &[Lid]
     requires { index < length held_by.now }
     ensures { slice_get (lists_of held_by.now) index ≡ Some result.now }
@@ -172,7 +176,7 @@ fn lids_at(held_by: &[Vec<Lid>], index: usize) -> &[Lid]
     &held_by[index]
 }
 
-/// Follows a packet of `level` from `first` on, or none if there is no level.
+/// Follows a packet of `level` from `first` on. Follows none if `level` or `first` is `None`.
 fn walk_at_level(
     by_lane: &LaneNetwork,
     columns: &LidColumns,
@@ -220,7 +224,8 @@ fn follow_answers(
     Ok(())
 }
 
-/// Returns the service level of packets from `port` to `lid`, or `None` if they have none. Takes a search.
+/// Returns the service level of packets from `port` to `lid`, or `None` if they have none. Takes a binary search among
+/// the blocks of levels.
 fn level_from(lanes: &Lanes, port: &EndPort, lid: Lid) -> Option<u8>
     ensures is { result ≡ level_of lanes.now port.now.node port.now.port lid }
     ensures within { IfSome result (λ l. l < 16) }

@@ -1,4 +1,4 @@
-//! Packets followed from stop to stop.
+//! Packets followed from stop to stop, over all mixtures of several tables.
 ghost use Rattle.std.specs.Prelude.{◌≡◌, ◌<◌, ◌≤◌, ◌*◌, ◌^◌, OnOk, length};
 ghost use Rattle.std.specs.Option.{option_to_list};
 ghost use Rattle.fact_store.specs.View.{cells_of};
@@ -11,9 +11,10 @@ use crate::visit::visit_if_new;
 use crate::walk_state::{LidColumns, Walks};
 use std::alloc::AllocError;
 
-/// Follows a packet of `level` from `first` on, at each stop along the edge of each column. Records the channels that it
-/// can take one after the other, and notes it if it can be dropped for want of a lane and no packet is noted yet. Visits
-/// no stop from which packets of this LID and level were followed before. Takes what a visit takes for each other stop.
+/// Follows a packet of `level` from `first` on, at each stop along the edge of each column. `level` must be below 16.
+///
+/// Records which channels can come after each channel that it takes. Notes the packet if it can be dropped for want of
+/// a lane and none is noted yet. Visits only stops from which packets of this LID and level were not followed before.
 pub(crate) fn walk(
     by_lane: &LaneNetwork,
     columns: &LidColumns,
@@ -37,11 +38,11 @@ pub(crate) fn walk(
         };
         visit_if_new(by_lane, columns, level, stop, walks)?;
     }
-    // There are fewer moves from stop to stop than that.
+    // Each stop is visited once, so there are fewer steps than that.
     Err(AllocError)
 }
 
-/// Puts `first` in place of `stops`.
+/// Replaces `stops` by `first`, or by nothing if it is `None`.
 fn begin(stops: &mut Vec<usize>, first: Option<usize>) -> Result<(), AllocError>
     ensures { OnOk result (stops.new.items ≡ option_to_list first) }
 {

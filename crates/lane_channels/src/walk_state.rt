@@ -1,4 +1,4 @@
-//! What is kept while packets for one LID are followed from stop to stop.
+//! What is known while packets for one LID are followed from stop to stop.
 ghost use Rattle.std.specs.Prelude.{◌≡◌, MatchOption, Some};
 ghost use Rattle.lane_channels.specs.Stops.{edge_by};
 ghost use Rattle.lane_channels.specs.Visits.{IsNoOther, columns_in};
@@ -8,20 +8,20 @@ use audit_channels::{Waits, edge_of};
 use port_graph::Edge;
 use smp_bytes::Lid;
 
-/// What is kept of packets that were followed.
+/// What was found of packets that were followed, and what is left to follow.
 #[derive(Drop)]
 pub(crate) struct Walks {
-    /// For each channel by lane, the channels that follow it.
+    /// For each channel by lane, the channels that can come after it.
     pub(crate) waits: Waits,
     /// For each stop and level, the last LID whose packets of that level were followed from there; 0 if there is none.
     pub(crate) marks: Vec<u16>,
-    /// A packet that is dropped for want of a lane, if one was found.
+    /// A packet that is dropped for want of a lane; `None` if none was found.
     pub(crate) dropped: Option<Dropped>,
-    /// While a packet is followed, the stops that are left to visit.
+    /// While a packet is followed, the stops that are still to be visited.
     pub(crate) stops: Vec<usize>,
 }
 
-/// The edges of a LID by each of several tables.
+/// The edges for a LID by each of several tables.
 #[derive(Drop)]
 pub(crate) struct LidColumns {
     pub(crate) lid: Lid,
@@ -30,8 +30,8 @@ pub(crate) struct LidColumns {
 }
 
 impl LidColumns {
-    /// Returns the edge of the switch at `index` by the column at `nth`, or `None` if there is none or the first column
-    /// has the same. Takes a few steps.
+    /// Returns the edge of the switch at `index` by the column at `nth`. Returns `None` if there is none, or if `nth`
+    /// is not 0 and the first column has this edge. Takes constant time.
     pub(crate) fn other_edge(&self, index: usize, nth: usize) -> Option<Edge>
         ensures { MatchOption result (IsNoOther (columns_in self.now) index nth)
             (λ edge. edge_by (columns_in self.now) index nth ≡ Some edge) }
@@ -44,7 +44,8 @@ impl LidColumns {
         if edge == first { None } else { edge }
     }
 
-    /// Returns the edge of the switch at `index` by the column at `nth`, or `None` if there is none. Takes one step.
+    /// Returns the edge of the switch at `index` by the column at `nth`, or `None` if there is none. Takes constant
+    /// time.
     fn edge(&self, index: usize, nth: usize) -> Option<Edge>
         ensures { result ≡ edge_by (columns_in self.now) index nth }
     {

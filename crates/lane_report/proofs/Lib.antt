@@ -1,3 +1,4 @@
 pub mod Judged
 pub mod Leveled
 pub mod NoneMissing
+pub mod Rows

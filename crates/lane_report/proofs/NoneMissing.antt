@@ -26,7 +26,7 @@ nothing_given : {X Y : Type 0} (f : X → List Y) → ((x : X) → f x ≡ []) �
 nothing_given f none [] = refl
 nothing_given f none (x ∷ xs) = ap (λ ys. ys ++ flat_map f xs) (none x) ∙ nothing_given f none xs
 
-none_fourth : (a b c d : Bool) → d ≡ true → (a && b && c && not d) ≡ false
+pub none_fourth : (a b c d : Bool) → d ≡ true → (a && b && c && not d) ≡ false
 none_fourth true true true d e = ap not e
 none_fourth true true false d e = refl
 none_fourth true false c d e = refl

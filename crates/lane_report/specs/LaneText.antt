@@ -14,36 +14,37 @@ abbrev pub pair_line : PacketPair → List ℕ
 pair_line pair =
     codes "no-level " ++ port_text pair.source.node pair.source.port ++ codes " " ++ decimal pair.lid ++ codes "\n"
 
--- the first packets without a service level, and how many more there are
+-- the lines of the first packets without a service level, and how many more there are
 abbrev pub missing_text : Listed PacketPair → List ℕ
 missing_text few = flat_map pair_line few.first ++ more_line (codes "no-level") (more_of few)
 
--- the line of a packet that is dropped: its LID, the switch, the ports by which it comes in and would leave, and its
--- service level
+-- the line of a dropped packet: its LID, the switch, the ports by which it comes in and would leave, and its service
+-- level
 abbrev pub drop_line : Cells → Dropped → List ℕ
 drop_line cells d =
     codes "dropped " ++ decimal d.lid ++ codes " at " ++ guid_text (guid_at cells (d.stop / 256)) ++ codes " "
     ++ decimal (d.stop % 256) ++ codes " " ++ decimal d.out ++ codes " level " ++ decimal d.level ++ codes "\n"
 
--- the packet that is dropped, if one is
+-- the line of the packet that is dropped; empty for None
 abbrev pub dropped_text : Cells → Option Dropped → List ℕ
 dropped_text cells None = []
 dropped_text cells (Some d) = drop_line cells d
 
--- the switch, the port and the lane of `channel`
+-- a blank, and the switch, the port and the lane of `channel`
 abbrev pub channel_text : Cells → ℕ → List ℕ
 channel_text cells channel =
     codes " " ++ port_text (guid_at cells (channel / 4096)) (channel / 16 % 256) ++ codes " vl " ++ decimal (channel % 16)
 
--- the channels of a credit loop
+-- the channels by lane of a credit loop; `none` if the list is empty
 abbrev pub channels_text : Cells → List ℕ → List ℕ
 channels_text cells [] = codes " none"
 channels_text cells (channel ∷ later) = codes " by lane" ++ flat_map (channel_text cells) (channel ∷ later)
 
--- the line of a credit loop by lane
+-- the line of a credit loop by lane; `none` if `cycle` is empty
 abbrev pub cycle_line : Cells → List ℕ → List ℕ
 cycle_line cells cycle = codes "credit loop" ++ channels_text cells cycle ++ codes "\n"
 
--- what is found by lane: packets without a service level, a packet that is dropped, and the credit loop
+-- what is found by lane, as lines: the first packets without a service level, a packet that is dropped, if one is, and
+-- the credit loop, if there is one
 abbrev pub lanes_text : Cells → Listed PacketPair → Option Dropped → List ℕ → List ℕ
 lanes_text cells few dropped cycle = missing_text few ++ dropped_text cells dropped ++ cycle_line cells cycle

@@ -1,6 +1,7 @@
--- Packets without a service level.
-use Rattle.std.specs.Prelude.{Bool, not, ◌&&◌, List, [], filter, map, is_some, if◌then◌else◌}
-use Rattle.std.specs.List.{flat_map}
+-- Packets between adapters to which a text of lanes gives no service level.
+use Rattle.std.specs.Prelude.{ℕ, ◌%◌, ◌≡◌, ◌&&◌, Bool, false, not, List, [], filter, find, map, Option, None, Some, is_some, nat_lt}
+use Rattle.std.specs.Prelude.{slice_index, if◌then◌else◌}
+use Rattle.std.specs.List.{flat_map, list_all, range_with_len}
 use Rattle.subnet_view.specs.Reading.{Cells}
 use Rattle.subnet_view.specs.EndPorts.{end_ports}
 use Rattle.held_tables.specs.declared.held.HeldLid.{HeldLid}
@@ -8,29 +9,73 @@ use Rattle.held_tables.specs.Held.{HeldPlan}
 use Rattle.held_tables.specs.Tables.{is_owner, is_same_end, lines_of}
 use Rattle.audit_counts.specs.declared.site.Site.{Site}
 use Rattle.audit_counts.specs.Sites.{are_adapters, are_joined, site_of}
-use Rattle.lanes_file.specs.Lanes.{LanesSaid, level_of}
+use Rattle.lanes_file.specs.Lanes.{LanesSaid, is_block, level_by, level_of}
+use Rattle.lanes_file.specs.declared.lanes.LevelBlock.{LevelBlock}
+use Rattle.lane_report.specs.declared.level_row.RowSender.{RowSender}
 use Rattle.lane_report.specs.declared.levels_missing.PacketPair.{PacketPair}
 
--- both are adapter ports, `site` is another one in the component of `owner`, and its packets for the LID of `line` have
--- no service level
+-- `site` and `owner` are of different adapter ports in one component, and the text gives packets from `site` for the
+-- LID of `line` no service level
 abbrev pub lacks_level : LanesSaid → HeldLid → Site → Site → Bool
 lacks_level said line owner site =
     are_joined site owner && are_adapters site.port owner.port && not (is_same_end site.port owner.port)
     && not (is_some (level_of said site.port.node site.port.port line.lid))
 
+-- the packet from `site` for the LID of `line`
 abbrev pub pair_of : HeldLid → Site → PacketPair
 pair_of line site = record { source = site.port; lid = line.lid }
 
--- the packets without a service level for the LID of `line`, which the end port of `owner` holds
+-- for the LID of `line`, which the end port of `owner` holds, the packets from `sites` without a service level
 abbrev pub missing_for : LanesSaid → List Site → HeldLid → Site → List PacketPair
 missing_for said sites line owner = map (pair_of line) (filter (lacks_level said line owner) sites)
 
--- those for the LID of `line`; none if its end port is not one of the facts
+-- for the LID of `line`, the packets without a service level from other adapter ports of its component; none if the
+-- line's end port is not one of the facts
 abbrev pub missing_at : LanesSaid → Cells → HeldLid → List PacketPair
 missing_at said cells line =
     if is_owner (end_ports cells) line.port
     then missing_for said (map (site_of cells) (end_ports cells)) line (site_of cells line.port) else []
 
--- the packets without a service level for all held LIDs
+-- for all held LIDs, the packets without a service level between adapter ports of one component
 abbrev pub missing_levels : LanesSaid → Cells → HeldPlan → List PacketPair
 missing_levels said cells held = flat_map (missing_at said cells) (lines_of held)
+
+-- the block of levels of packets from the end port of `site` to the LIDs from 64 times `number` on; None if the text
+-- has none
+abbrev pub block_of : LanesSaid → ℕ → Site → Option LevelBlock
+block_of said number site = find (is_block site.port.node site.port.port number) said.levels
+
+-- each byte of `block` is a service level, so that packets to each of its LIDs have one
+abbrev pub gives_each : LevelBlock → Bool
+gives_each block = list_all (λ index. nat_lt (slice_index block.levels index) 16) (range_with_len 0 64)
+
+-- there is a block, and each of its bytes is a service level
+abbrev pub is_full : Option LevelBlock → Bool
+is_full None = false
+is_full (Some block) = gives_each block
+
+-- the end port of `site` with its levels for the LIDs from 64 times `number` on
+abbrev pub sender_at : LanesSaid → ℕ → Site → RowSender
+sender_at said number site = record { site = site; block = block_of said number site }
+
+-- the end ports of `sites` whose packets may lack a level for one of the LIDs from 64 times `number` on
+abbrev pub row_of : LanesSaid → List Site → ℕ → List RowSender
+row_of said sites number = filter (λ sender. not (is_full sender.block)) (map (sender_at said number) sites)
+
+-- `senders` is the row of `sites` for the LIDs from 64 times `number` on
+abbrev pub IsRow : LanesSaid → List Site → ℕ → List RowSender → Type 0
+IsRow said sites number senders = senders ≡ row_of said sites number
+
+-- both are adapter ports, `sender` is another one in the component of `owner`, and by its block its packets for the LID
+-- of `line` have no service level
+abbrev pub sender_lacks : LanesSaid → HeldLid → Site → RowSender → Bool
+sender_lacks said line owner sender =
+    are_joined sender.site owner && are_adapters sender.site.port owner.port
+    && not (is_same_end sender.site.port owner.port)
+    && not (is_some (level_by said.level (line.lid % 64) sender.block))
+
+-- the packets without a service level that the end ports of a row send to the LID of `line`, which the end port of
+-- `owner` holds
+abbrev pub missing_in_row : LanesSaid → List RowSender → HeldLid → Site → List PacketPair
+missing_in_row said senders line owner =
+    map (λ sender. pair_of line sender.site) (filter (sender_lacks said line owner) senders)

@@ -20,12 +20,12 @@ use Rattle.sm_cli.specs.declared.fault.Fault.{Fault}
 use Rattle.sm_cli.specs.InputLanes.{AreLanesAndFiles, AreNoLanesAndFiles}
 use Rattle.sm_cli.specs.declared.input_lanes.LanesAndFiles.{LanesAndFiles}
 
--- facts, tables and lanes
+-- facts, tables and lanes together
 abbrev pub seen_of : Facts → HeldPlan → LanesSaid → SeenByLane
 seen_of facts held said = record { seen = record { facts = facts; held = held }; said = said }
 
--- what is found by lane: packets without a service level, at most `most` of them listed, a packet that is dropped for
--- want of a lane, if one is, and a shortest credit loop, if there is one
+-- the findings by lane are right: packets without a service level, at most `most` of them listed, a packet that is
+-- dropped for want of a lane, if one is, and a shortest credit loop, if there is one
 pub record IsFoundByLane (most : ℕ) (s : SeenByLane) (answers : Bool) (missing : Listed PacketPair)
     (dropped : Option Dropped) (cycle : List ℕ) : Type 0 where
   pub missing_are : missing ≡ all_listed most (missing_levels s.said (cells_of s.seen.facts) s.seen.held)
@@ -33,29 +33,32 @@ pub record IsFoundByLane (most : ℕ) (s : SeenByLane) (answers : Bool) (missing
   pub waits : IsLaneCycle s answers cycle
   pub shortest : NoneShorter s answers cycle
 
--- nothing was found that is wrong
+-- nothing wrong was found by lane: each packet between adapters has a service level, none is dropped for want of a
+-- lane, and there is no credit loop
 pub record IsSoundByLane (missing : Listed PacketPair) (dropped : Option Dropped) (cycle : List ℕ) : Type 0 where
   pub none_missing : missing.count ≡ 0
   pub none_dropped : dropped ≡ None
   pub no_cycle : cycle ≡ []
 
--- the tables pass by lane: packets arrive, each has a service level and is carried by a lane, and channels by lane can be
--- numbered so that the numbers rise along the route of every packet; no channel carries more than `bound` pairs of
--- adapter ports, if there is a bound
+-- the tables pass by lane: they are whole for the facts, packets arrive, each between adapters has a service level,
+-- none is dropped for want of a lane, and channels by lane can be numbered so that numbers rise; if there is a bound,
+-- no channel has a load above it
 pub record PassesByLane (bound : Option ℕ) (s : SeenByLane) (answers : Bool) : Type 0 where
   pub delivers : DeliversWithin bound (cells_of s.seen.facts) s.seen.held
   pub leveled : missing_levels s.said (cells_of s.seen.facts) s.seen.held ≡ []
   pub carried : (dropped : Dropped) → IsDroppedByLane s answers dropped → ⊥
   pub rise : RiseByLane s answers
 
--- `prints` holds of the text of an audit with what was found by lane; `passed` says whether the tables pass by lane
+-- `prints` holds of the text of an audit with what was found by lane; `passed` says whether the tables pass by lane,
+-- within the maximum load that `asked` may have
 pub record IsTold (asked : LaneAuditAsked) (most : ℕ) (s : SeenByLane) (missing : Listed PacketPair)
     (dropped : Option Dropped) (cycle : List ℕ) (prints : List ℕ → Type 0) (passed : Bool) : Type 0 where
   pub answered : prints (findings_text most (cells_of s.seen.facts) s.seen.held
       ++ lanes_text (cells_of s.seen.facts) missing dropped cycle)
   pub judged : IsTrue passed ↔ PassesByLane asked.audit.max_load s asked.answers
 
--- the audit by lane was written, with a shortest credit loop if there is one
+-- `prints` holds of the text of the audit by lane, with a shortest credit loop if there is one; `passed` says whether
+-- the tables pass by lane
 pub record IsAuditedByLane (asked : LaneAuditAsked) (facts : Facts) (held : HeldPlan) (said : LanesSaid)
     (prints : List ℕ → Type 0) (passed : Bool) : Type 0 where
   pub missing : Listed PacketPair
@@ -64,21 +67,22 @@ pub record IsAuditedByLane (asked : LaneAuditAsked) (facts : Facts) (held : Held
   pub found : IsFoundByLane (most_told asked.audit.all) (seen_of facts held said) asked.answers missing dropped cycle
   pub told : IsTold asked (most_told asked.audit.all) (seen_of facts held said) missing dropped cycle prints passed
 
--- the lanes, the tables and then the files were read, and their audit was written
+-- the lanes, the tables and then the files were read, and `prints` holds of the text of their audit by lane; `passed`
+-- says whether the tables pass
 pub record HasAuditedByLane {S : Type 0} (state : S → SourceState) (asked : LaneAuditAsked) (olds news : List S)
     (prints : List ℕ → Type 0) (passed : Bool) : Type 0 where
   pub told : LanesAndFiles
   pub read : AreLanesAndFiles state asked.audit.floor olds news told
   pub audited : IsAuditedByLane asked told.read.store told.read.held told.lanes prints passed
 
--- the inputs were read, and their audit failed
+-- the lanes, the tables and the files were read, and their audit by lane failed for `fault`
 pub record FailsToAuditByLane {S : Type 0} (state : S → SourceState) (floor : ℕ) (olds news : List S)
     (sink_failed : Bool) (fault : Fault) : Type 0 where
   pub told : LanesAndFiles
   pub read : AreLanesAndFiles state floor olds news told
   pub why : IsAnswerFault sink_failed fault
 
--- why an audit by lane over open inputs fails: the inputs are not read, or their audit fails
+-- an audit by lane over open inputs fails for `fault`: the inputs are not read, or their audit fails
 abbrev pub IsLaneAuditFault : {S : Type 0} → (S → SourceState) → ℕ → List S → List S → Bool → Fault → Type 0
 IsLaneAuditFault state floor olds news sink_failed fault =
     AreNoLanesAndFiles state olds news fault ⊎ FailsToAuditByLane state floor olds news sink_failed fault

@@ -12,17 +12,18 @@ use byte_io::{Sink, WriteFault};
 use lane_channels::LaneOrder;
 use packet_walks::Network;
 
-/// What is found by lane.
+/// What is found by lane, by tables or in a step.
 #[derive(Drop)]
 pub struct LaneFindings {
-    /// The packets without a service level.
+    /// The packets between joined adapters without a service level.
     pub missing: FirstFew<PacketPair>,
-    /// A credit loop and a packet that is dropped for want of a lane, if there are any.
+    /// A credit loop and a packet that is dropped for want of a lane, if there are such.
     pub order: LaneOrder,
 }
 
 impl LaneFindings {
-    /// Returns whether each packet has a service level, none is dropped for want of a lane, and there is no credit loop.
+    /// Returns whether nothing wrong was found: no packet between adapters lacks a service level, none is dropped for
+    /// want of a lane, and there is no credit loop.
     pub fn is_sound(&self) -> bool
         ensures { IsTrue result ↔ IsSoundByLane self.now.missing self.now.order.dropped self.now.order.cycle.items }
     {
@@ -30,10 +31,11 @@ impl LaneFindings {
     }
 
     /// Writes the first packets without a service level and how many more there are, then a packet that is dropped, if
-    /// one is, and then the credit loop, or that there is none.
+    /// there is one, and then the credit loop, or that there is none.
     pub fn write<W: Sink>(&self, sink: &mut W, network: &Network) -> Result<(), WriteFault>
         ensures { WritesPart W.written W.has_failed result sink.old sink.new
-            (lanes_text (cells_of network.now.facts) self.now.missing self.now.order.dropped self.now.order.cycle.items) }
+            (lanes_text (cells_of network.now.facts) self.now.missing self.now.order.dropped
+            self.now.order.cycle.items) }
     {
         write_missing(sink, &self.missing)?;
         write_dropped(sink, network, self.order.dropped)?;

@@ -24,7 +24,7 @@ use std::alloc::Global;
 /// The options of an audit by lane.
 #[derive(Clone, Copy, Debug, PartialEq, Eq)]
 pub struct LaneAuditAsked {
-    /// The options of an audit.
+    /// The options that an audit on one lane has too.
     pub audit: AuditAsked,
     /// Whether packets that answer others also have the service level of what they answer.
     pub answers: bool,
@@ -32,12 +32,13 @@ pub struct LaneAuditAsked {
 
 /// Reads the lanes from the first input, the tables from the second and then the files in order. Writes what these
 /// tables do with the packets of the subnet that the files describe together, with credit loops by lane. Returns
-/// whether the tables pass by lane and no channel carries more pairs than `asked.audit.max_load`.
+/// whether the tables pass by lane and no channel has a load over `asked.audit.max_load`. There must be at least two
+/// inputs.
 ///
 /// # Errors
 ///
-/// Returns the first fault. If an input is refused or memory runs out, nothing is written. If a write fails, how much
-/// was written before is unspecified.
+/// Returns the fault of the first input that is refused, `Memory` if memory is refused, or `Write` if a write fails.
+/// Nothing is written unless the error is `Write`; how much is written then is unspecified.
 pub fn run_lane_audit<S: Source, W: Sink>(
     alloc: Global,
     inputs: &mut [S],
@@ -59,7 +60,7 @@ pub fn run_lane_audit<S: Source, W: Sink>(
     }
 }
 
-/// Reads the lanes from the first input, and the tables and files from the others.
+/// Reads the lanes from the first input, and the tables and files from the others. There must be at least two inputs.
 fn read_parts<S: Source>(
     alloc: Global,
     inputs: &mut [S],
@@ -76,7 +77,7 @@ fn read_parts<S: Source>(
     }
 }
 
-/// Returns the lanes, and what tables and files say.
+/// Returns the lanes of `told`, and what its tables and files say.
 fn parts(told: LanesAndFiles) -> (Lanes, TablesAndFacts)
     ensures { result ≡ (told.lanes, told.read) }
 {
@@ -85,7 +86,7 @@ fn parts(told: LanesAndFiles) -> (Lanes, TablesAndFacts)
 }
 
 /// Writes the audit of the tables in the subnet of the files by the lanes, and flushes. Returns whether the tables pass
-/// by lane and no channel carries more pairs than `asked.audit.max_load`.
+/// by lane and no channel has a load over `asked.audit.max_load`.
 fn answer<W: Sink>(
     alloc: Global,
     sink: &mut W,
@@ -110,8 +111,8 @@ fn answer<W: Sink>(
     tell(sink, asked, &audit, lanes, &found)
 }
 
-/// Finds what packets do by lane: which have no service level, whether one is dropped, and a credit loop. Keeps the
-/// first `most` packets without a service level.
+/// Finds what packets do by lane: which have no service level, whether one is dropped, and a shortest credit loop.
+/// Keeps the first `most` packets without a service level.
 fn findings(
     alloc: Global,
     most: usize,
@@ -128,8 +129,8 @@ fn findings(
 }
 
 /// Finds a shortest credit loop of channels by lane, and a packet that is dropped for want of a lane. There is neither,
-/// whatever lanes packets take, if numbers of channels rise on one lane and each packet has a lane below 15: only
-/// otherwise packets are followed by lane.
+/// whatever lanes packets take, if numbers of channels rise on one lane and each packet with a service level has a lane
+/// below 15. Otherwise packets are followed by lane.
 #[tactic(auto, using(crate::proofs::Judged::none_by_lane, lane_channels::proofs::LaneLaws::all_carried))]
 fn order_by_lane(
     alloc: Global,
@@ -154,8 +155,8 @@ fn order_by_lane(
     Ok(lane_order(alloc, &by_lane, answers)?)
 }
 
-/// Writes what an audit found, and flushes. Returns whether the tables pass by lane and no channel carries more pairs
-/// than `asked.audit.max_load`.
+/// Writes what an audit found, and flushes. Returns whether the tables pass by lane and no channel has a load over
+/// `asked.audit.max_load`. `found` must be what is found by `lanes` in the network of `audit`.
 fn tell<W: Sink>(
     sink: &mut W,
     asked: &LaneAuditAsked,
@@ -183,7 +184,8 @@ fn tell<W: Sink>(
 fn write_all<W: Sink>(sink: &mut W, audit: &Audit, found: &LaneFindings) -> Result<(), WriteFault>
     ensures writes { Writes W.written W.has_failed result sink.old sink.new
         (findings_text audit.now.most (cells_of audit.now.facts) audit.now.held
-        ++ lanes_text (cells_of audit.now.facts) found.now.missing found.now.order.dropped found.now.order.cycle.items) }
+        ++ lanes_text (cells_of audit.now.facts) found.now.missing found.now.order.dropped
+        found.now.order.cycle.items) }
     ensures flushed { OnOk result (IsTrue (W.is_flushed sink.new)) }
 {
     write_findings(sink, audit)?;

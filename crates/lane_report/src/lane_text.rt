@@ -27,7 +27,7 @@ pub(crate) fn write_missing<W: Sink>(
     write_more(sink, "no-level", few.more())
 }
 
-/// Writes a line for each packet without a service level.
+/// Writes a line for each of `pairs`, packets without a service level.
 fn write_pairs<W: Sink>(sink: &mut W, pairs: &[PacketPair]) -> Result<(), WriteFault>
     ensures { WritesPart W.written W.has_failed result sink.old sink.new (flat_map pair_line pairs.now) }
 {
@@ -37,7 +37,7 @@ fn write_pairs<W: Sink>(sink: &mut W, pairs: &[PacketPair]) -> Result<(), WriteF
     Ok(())
 }
 
-/// Writes the line of a packet without a service level: the end port that sends it, and its LID.
+/// Writes the line of `pair`, a packet without a service level: the end port that sends it, and its LID.
 fn write_pair<W: Sink>(sink: &mut W, pair: &PacketPair) -> Result<(), WriteFault>
     ensures { Writes W.written W.has_failed result sink.old sink.new (pair_line pair.now) }
 {
@@ -48,7 +48,7 @@ fn write_pair<W: Sink>(sink: &mut W, pair: &PacketPair) -> Result<(), WriteFault
     sink.write(b"\n")
 }
 
-/// Writes the packet that is dropped for want of a lane, or nothing if there is none.
+/// Writes the line of `dropped`, a packet that is dropped for want of a lane, or nothing if it is `None`.
 pub(crate) fn write_dropped<W: Sink>(
     sink: &mut W,
     network: &Network,
@@ -63,8 +63,8 @@ pub(crate) fn write_dropped<W: Sink>(
     }
 }
 
-/// Writes the line of a packet that is dropped for want of a lane: its LID, the switch, the ports by which it comes in
-/// and would leave, and its service level.
+/// Writes the line of `dropped`: its LID, the switch, the ports by which it comes in and would leave, and its service
+/// level.
 fn write_drop<W: Sink>(sink: &mut W, network: &Network, dropped: Dropped) -> Result<(), WriteFault>
     ensures { Writes W.written W.has_failed result sink.old sink.new
         (drop_line (cells_of network.now.facts) dropped) }
@@ -82,7 +82,7 @@ fn write_drop<W: Sink>(sink: &mut W, network: &Network, dropped: Dropped) -> Res
     sink.write(b"\n")
 }
 
-/// Writes the line of a credit loop by lane, or that there is none.
+/// Writes the line of the credit loop `cycle` by lane, or that there is none if `cycle` is empty.
 pub(crate) fn write_lane_cycle<W: Sink>(
     sink: &mut W,
     network: &Network,
@@ -96,7 +96,7 @@ pub(crate) fn write_lane_cycle<W: Sink>(
     sink.write(b"\n")
 }
 
-/// Writes the channels of a credit loop, or that there is none.
+/// Writes the channels of the credit loop `cycle`, or that there is none if `cycle` is empty.
 fn write_channels<W: Sink>(
     sink: &mut W,
     network: &Network,
@@ -112,7 +112,7 @@ fn write_channels<W: Sink>(
     write_each_channel(sink, network, cycle)
 }
 
-/// Writes each channel.
+/// Writes each of `channels`.
 fn write_each_channel<W: Sink>(
     sink: &mut W,
     network: &Network,

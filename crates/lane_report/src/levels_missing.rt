@@ -5,8 +5,9 @@ ghost use Rattle.subnet_view.specs.EndPorts.{end_ports};
 ghost use Rattle.audit_counts.specs.FirstFew.{all_listed};
 ghost use Rattle.audit_counts.specs.Sites.{site_of};
 ghost use Rattle.lane_report.specs.declared.levels_missing.PacketPair.{PacketPair as Pair};
-ghost use Rattle.lane_report.specs.LevelsMissing.{lacks_level, missing_for, missing_levels};
+ghost use Rattle.lane_report.specs.LevelsMissing.{missing_in_row, missing_levels, sender_lacks};
 
+use crate::level_row::{LevelRow, RowSender};
 use audit_counts::{FirstFew, Site, are_adapters, index_of, site_in, sites};
 use fact_store::Refused;
 use held_tables::HeldLid;
@@ -16,7 +17,7 @@ use smp_bytes::Lid;
 use std::alloc::{AllocError, Global};
 use subnet_view::EndPort;
 
-/// An end port that sends packets to a LID.
+/// A packet by the end port that sends it and its LID.
 #[derive(Clone, Copy, Debug, PartialEq, Eq)]
 pub struct PacketPair {
     pub source: EndPort,
@@ -24,8 +25,9 @@ pub struct PacketPair {
 }
 
 /// Finds the packets without a service level that adapter ports send to the LIDs of other adapter ports of their
-/// components. Keeps the first `most`, in the order of the LIDs and then of the end ports. Takes one step if the text
-/// gives each packet a level, else what `sites` takes, and a search for each LID and each end port.
+/// components. Keeps the first `most`, in the order of the held LIDs and then of the end ports. Takes constant time if
+/// the text gives each packet a level. Otherwise takes what `sites` takes, and time linear in the number of held LIDs
+/// times that of end ports.
 #[tactic(auto, using(crate::proofs::NoneMissing::nothing_listed))]
 pub fn pairs_without_level(
     alloc: Global,
@@ -43,8 +45,8 @@ pub fn pairs_without_level(
     Ok(pairs_at_sites(alloc, most, network, &sites, lanes)?)
 }
 
-/// Finds the packets without a service level. `sites` has the site of each end port. Takes a search for each LID and
-/// each end port.
+/// Finds the packets without a service level that adapter ports send to the LIDs of other adapter ports of their
+/// components, and keeps the first `most`. `sites` must have the site of each end port, in order.
 fn pairs_at_sites(
     alloc: Global,
     most: usize,
@@ -58,30 +60,34 @@ fn pairs_at_sites(
 {
     let mut few = FirstFew::new(alloc, most);
     let mut index = 0;
+    let mut row = LevelRow::of(alloc, lanes, sites, 0)?;
     for line in network.lids() {
         index = index_of(sites, index, &line.port);
         if let Some(owner) = site_in(sites, index) {
-            add_for(&mut few, sites, lanes, line, &owner)?;
+            row = row.turned_to(alloc, lanes, sites, line.lid.block())?;
+            add_for(&mut few, lanes, &row.senders, line, &owner)?;
         }
     }
     Ok(few)
 }
 
-/// Adds the packets without a service level for the LID of `line`, which the end port of `owner` holds.
+/// Adds the packets without a service level for the LID of `line`, which the end port of `owner` holds, from the end
+/// ports of a row: `senders` are to be those of the block of the LID.
 fn add_for(
     few: &mut FirstFew<PacketPair>,
-    sites: &[Site],
     lanes: &Lanes,
+    senders: &[RowSender],
     line: &HeldLid,
     owner: &Site,
 ) -> Result<(), AllocError>
     ensures { OnOk result ((most : ℕ) (pairs : List Pair) → few.old ≡ all_listed most pairs
-        → few.new ≡ all_listed most (pairs ++ missing_for lanes.now sites.now line.now owner.now)) }
+        → few.new ≡ all_listed most (pairs ++ missing_in_row lanes.now senders.now line.now owner.now)) }
 {
-    for site in sites {
-        if lacks_level(lanes, line, owner, site) {
+    for index in 0..senders.len() {
+        let sender = &senders[index];
+        if lacks_level(lanes, line, owner, sender) {
             few.add(PacketPair {
-                source: site.port,
+                source: sender.site.port,
                 lid: line.lid,
             })?;
         }
@@ -89,15 +95,14 @@ fn add_for(
     Ok(())
 }
 
-/// Returns whether both are adapter ports, `site` is another one in the component of `owner`, and its packets for the
-/// LID of `line` have no service level.
-fn lacks_level(lanes: &Lanes, line: &HeldLid, owner: &Site, site: &Site) -> bool
-    ensures { result ≡ lacks_level lanes.now line.now owner.now site.now }
+/// Returns whether `owner` and the site of `sender` are different adapter ports of one component, and by its block
+/// packets from `sender` for the LID of `line` have no service level.
+fn lacks_level(lanes: &Lanes, line: &HeldLid, owner: &Site, sender: &RowSender) -> bool
+    ensures { result ≡ sender_lacks lanes.now line.now owner.now sender.now }
 {
+    let site = &sender.site;
     site.is_joined_to(owner)
         && are_adapters(&site.port, &owner.port)
         && !is_same_end(&site.port, &owner.port)
-        && lanes
-            .level(site.port.node, site.port.port, line.lid)
-            .is_none()
+        && lanes.level_by(sender.block.as_ref(), line.lid).is_none()
 }

@@ -4,6 +4,7 @@
 mod lane_findings;
 mod lane_run;
 mod lane_text;
+mod level_row;
 mod levels_missing;
 
 pub use lane_findings::LaneFindings;

@@ -61,7 +61,8 @@ given own level index test (block ∷ blocks) less e =
     ] e
 
 -- so it is a level that some packets have
-level_given : (said : LanesSaid) (level : ℕ) → IsWellFormed said → IsGiven said.level level said.levels → (gives said.level said.levels level ≡ true) × (level < 16)
+level_given : (said : LanesSaid) (level : ℕ) → IsWellFormed said → IsGiven said.level level said.levels → (gives said.level said.levels level ≡ true)
+    × (level < 16)
 level_given said level is (inl e) = (
   ap (λ o. is_level o level || list_any (block_gives level) said.levels) e
       ∙ ap (λ b. b || list_any (block_gives level) said.levels) (eq-eqb level level refl),
@@ -79,6 +80,8 @@ carried_if_given false false e g = absurd (cc)
 pub all_carried : (said : LanesSaid) → IsWellFormed said → carries_all said ≡ true → CarriesAll said
 all_carried said is each node port lid level e switch into out =
     let (some, small) = level_given said level is (given said.level level (lid % 64) (is_block node port (lid / 64)) said.levels (omega arith) e) in
-    let one = list_all_at (λ l. carries said.lanes said.maps l || not (gives said.level said.levels l)) (range_with_len 0 16) each level (below 16 level small) in
-    let parts = and_parts (has_lane level said.lanes) (list_all (map_has_lane level) said.maps) (carried_if_given (carries said.lanes said.maps level) (gives said.level said.levels level) one some) in
+    let one = list_all_at (λ l. carries said.lanes said.maps l || not (gives said.level said.levels l)) (range_with_len 0 16) each level
+    (below 16 level small) in
+    let parts = and_parts (has_lane level said.lanes) (list_all (map_has_lane level) said.maps)
+    (carried_if_given (carries said.lanes said.maps level) (gives said.level said.levels level) one some) in
     ltb-true (lane_of said switch into out level) 15 (has_lane_by level said.lanes (is_map switch into out) said.maps parts.0 parts.1)

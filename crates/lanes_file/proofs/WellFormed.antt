@@ -24,7 +24,8 @@ use Rattle.lanes_file.specs.LanesItem.{said_by, said_with}
 use Rattle.lanes_file.specs.LanesLine.{alone, block_line, lanes_line, line_in, line_of, map_line}
 use Rattle.lanes_file.specs.LanesTextFault.{LanesLineFault}
 use Rattle.lanes_file.specs.WellFormed.{AreLanes, HasLanes, IsWellFormed}
-use Rattle.lanes_file.specs.Reading.{block_after, block_with, is_no_lane, is_no_level, item_of, items_from, lanes_said, lanes_with, level_with, lines_after, map_after, map_with, start, then_or}
+use Rattle.lanes_file.specs.Reading.{block_after, block_with, is_no_lane, is_no_level, item_of, items_from, lanes_said, lanes_with, level_with, lines_after}
+use Rattle.lanes_file.specs.Reading.{map_after, map_with, start, then_or}
 use Rattle.lanes_file.specs.Words.{at_most, small_of}
 use Rattle.lanes_file.proofs.KeySearch.{key_total}
 

@@ -1,49 +1,51 @@
--- Whether packets that have a service level have a lane on which they are carried.
+-- Whether packets that have a service level have a lane below 15, on which they are carried.
 use Rattle.std.specs.Prelude.{◌≡◌, ◌<◌, ℕ, Bool, false, List, Option, None, Some, ◌==◌, ◌&&◌, ◌||◌, not, is_some, nat_lt, slice_index, slice_index_or}
 use Rattle.std.specs.List.{list_all, list_any, range_with_len}
 use Rattle.lanes_file.specs.declared.lanes.LaneMap.{LaneMap}
 use Rattle.lanes_file.specs.declared.lanes.LevelBlock.{LevelBlock}
 use Rattle.lanes_file.specs.Lanes.{LanesSaid, lane_of, level_of}
 
--- the lane of service level `level` in this list is below 15
+-- `lanes` gives packets of service level `level` a lane below 15; false past the end
 abbrev pub has_lane : ℕ → List ℕ → Bool
 has_lane level lanes = nat_lt (slice_index_or lanes level 15) 15
 
+-- `map` gives packets of service level `level` a lane below 15
 abbrev pub map_has_lane : ℕ → LaneMap → Bool
 map_has_lane level map = has_lane level map.lanes
 
--- packets of service level `level` have a lane below 15 by each map, and by `lanes`, those without a map
+-- packets of service level `level` have a lane below 15 by each of `maps` and, without a map, by `lanes`
 abbrev pub carries : List ℕ → List LaneMap → ℕ → Bool
 carries lanes maps level = has_lane level lanes && list_all (map_has_lane level) maps
 
--- a LID of the block has this service level
+-- a LID of `block` has the service level `level`
 abbrev pub block_gives : ℕ → LevelBlock → Bool
 block_gives level block = list_any (λ index. slice_index block.levels index == level) (range_with_len 0 64)
 
--- the level of packets that no block gives one is `level`
+-- packets that no block gives a level have the service level `level`; false if they have none (None)
 abbrev pub is_level : Option ℕ → ℕ → Bool
 is_level None level = false
 is_level (Some own) level = own == level
 
--- some packets have this service level, by a block or as all others, whose level is `own`
+-- some packets have the service level `level`, by one of `blocks` or as the others, whose level is `own`
 abbrev pub gives : Option ℕ → List LevelBlock → ℕ → Bool
 gives own blocks level = is_level own level || list_any (block_gives level) blocks
 
--- each service level that some packets have has a lane below 15 by each map, and by `lanes`, those without a map
+-- each service level that some packets have has a lane below 15 by each of `maps` and, for packets without a map, by
+-- `lanes`
 abbrev pub each_is_carried : List ℕ → List LaneMap → Option ℕ → List LevelBlock → Bool
 each_is_carried lanes maps own blocks =
     list_all (λ level. carries lanes maps level || not (gives own blocks level)) (range_with_len 0 16)
 
--- the text gives such lanes and levels
+-- each service level that `said` gives to some packets has a lane below 15 by each of its maps and its other lanes
 abbrev pub carries_all : LanesSaid → Bool
 carries_all said = each_is_carried said.lanes said.maps said.level said.levels
 
--- a packet that has a service level has a lane below 15 in each switch
+-- by `said`, each packet that has a service level has a lane below 15 in each switch, between any two ports
 abbrev pub CarriesAll : LanesSaid → Type 0
 CarriesAll said =
     (node port lid level : ℕ) → level_of said node port lid ≡ Some level
     → (switch into out : ℕ) → lane_of said switch into out level < 15
 
--- each packet has a service level
+-- `said` has a line `level`, so each packet has a service level
 abbrev pub has_level_for_all : LanesSaid → Bool
 has_level_for_all said = is_some said.level

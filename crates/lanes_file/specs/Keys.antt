@@ -1,10 +1,11 @@
--- The keys of the lines that rise: a node's GUID and two numbers.
+-- The keys by which maps and blocks of levels must rise in a text of lanes: a node's GUID and two numbers.
 use Rattle.std.specs.Prelude.{ℕ, Bool, true, Option, None, Some}
 use Rattle.std.specs.declared.cmp.Ordering.{Ordering}
 use Rattle.std.specs.Ordering.{is_lt, nat_cmp, ordering_then}
 use Rattle.lanes_file.specs.declared.lanes.LaneMap.{LaneMap}
 use Rattle.lanes_file.specs.declared.lanes.LevelBlock.{LevelBlock}
 
+-- a node's GUID, and two numbers
 abbrev pub Key : Type 0
 Key = (ℕ × ℕ) × ℕ
 
@@ -12,13 +13,15 @@ Key = (ℕ × ℕ) × ℕ
 abbrev pub key_cmp : Key → Key → Ordering
 key_cmp a b = ordering_then (ordering_then (nat_cmp a.0.0 b.0.0) (nat_cmp a.0.1 b.0.1)) (nat_cmp a.1 b.1)
 
--- the key is greater than `last`, if there is such
+-- `key` is greater than the key before, or there is none before (None)
 abbrev pub is_after : Option Key → Key → Bool
 is_after None key = true
 is_after (Some last) key = is_lt (key_cmp last key)
 
+-- the key of a map: its node, then the port that packets come in by, then the one that they leave by
 abbrev pub map_key : LaneMap → Key
 map_key map = ((map.node, map.into), map.out)
 
+-- the key of a block of levels: its node, its port and its number
 abbrev pub block_key : LevelBlock → Key
 block_key block = ((block.node, block.port), block.number)

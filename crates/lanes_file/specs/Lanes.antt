@@ -3,6 +3,7 @@ use Rattle.std.specs.Prelude.{ℕ, ◌/◌, ◌%◌, ◌==◌, ◌&&◌, Bool, L
 use Rattle.lanes_file.specs.declared.lanes.LaneMap.{LaneMap}
 use Rattle.lanes_file.specs.declared.lanes.LevelBlock.{LevelBlock}
 
+-- what a text of lanes says: lanes, maps, a level, and blocks of levels
 pub record LanesSaid : Type 0 where
   -- for each service level the lane of packets that no map is for; [] without a line `lanes`
   pub lanes : List ℕ
@@ -18,7 +19,7 @@ abbrev pub lanes_or_none : Option (List ℕ) → List ℕ
 lanes_or_none None = []
 lanes_or_none (Some lanes) = lanes
 
--- what is said, by its parts
+-- what is said, from the lanes and the level, if there are any, and the lists of maps and blocks
 abbrev pub said_in : Option (List ℕ) → List LaneMap → Option ℕ → List LevelBlock → LanesSaid
 said_in lanes maps level levels = record { lanes = lanes_or_none lanes; maps = maps; level = level; levels = levels }
 
@@ -30,7 +31,7 @@ nothing_said = said_in None [] None []
 abbrev pub is_map : ℕ → ℕ → ℕ → LaneMap → Bool
 is_map node into out map = map.node == node && map.into == into && map.out == out
 
--- the lanes that a map gives, or `lanes` if there is no map
+-- the lanes that a map gives; without a map (None), `lanes`
 abbrev pub lanes_by : List ℕ → Option LaneMap → List ℕ
 lanes_by lanes None = lanes
 lanes_by lanes (Some map) = map.lanes
@@ -43,11 +44,11 @@ lanes_between said node into out = lanes_by said.lanes (find (is_map node into o
 abbrev pub lane_of : LanesSaid → ℕ → ℕ → ℕ → ℕ → ℕ
 lane_of said node into out level = slice_index_or (lanes_between said node into out) level 15
 
--- the block has the levels of packets from `port` of `node` to the LIDs from 64 times `number` on
+-- `block` has the levels of packets from `port` of `node` to the LIDs from 64 times `number` on
 abbrev pub is_block : ℕ → ℕ → ℕ → LevelBlock → Bool
 is_block node port number block = block.node == node && block.port == port && block.number == number
 
--- the byte at `index` of a block as a service level; `level` if the byte is over 15 or there is no block
+-- the byte at `index` of the block as a service level; `level` if the byte is over 15, or there is no block (None)
 abbrev pub level_by : Option ℕ → ℕ → Option LevelBlock → Option ℕ
 level_by level index None = level
 level_by level index (Some block) =

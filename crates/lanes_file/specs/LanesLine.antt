@@ -1,4 +1,4 @@
--- What a line says: nothing, or lanes, a map, a level or a block of levels.
+-- What a line of a text of lanes says: nothing, or lanes, a map, a level or a block of levels.
 use Rattle.std.specs.Prelude.{ℕ, List, [], ◌∷◌, Option, None, Some, option_map, option_and_then, codes, if◌then◌else◌}
 use Rattle.std.specs.Str.{bytes_eq}
 use Rattle.text_words.specs.Text.{words}
@@ -8,41 +8,43 @@ use Rattle.lanes_file.specs.declared.line.MapLine.{MapLine}
 use Rattle.lanes_file.specs.declared.line.LevelsLine.{LevelsLine}
 use Rattle.lanes_file.specs.Words.{small_of, bare_guid_of, port_of, bytes_of}
 
--- the word of a list; None if it has more or none
+-- the word of a list of one; None if it has more or none
 abbrev pub alone : List (List ℕ) → Option (List ℕ)
 alone (word ∷ []) = Some word
 alone _ = None
 
--- reads the part of a `lanes` line after its first word: 16 bytes
+-- reads the part of a `lanes` line after its first word: 16 bytes; None for other words
 abbrev pub lanes_line : List (List ℕ) → Option (List ℕ)
 lanes_line words = option_and_then (bytes_of 16) (alone words)
 
--- a `sl2vl` line with these words after its first
+-- reads a `sl2vl` line with these words after its first; None if one of them is not what it should be
 abbrev pub map_of : List ℕ → List ℕ → List ℕ → List ℕ → Option MapLine
 map_of node into out lanes =
     option_and_then (λ g. option_and_then (λ i. option_and_then (λ o. option_map
     (λ h. record { node = g; into = i; out = o; lanes = h }) (bytes_of 16 lanes)) (small_of 254 out))
     (small_of 254 into)) (bare_guid_of node)
 
--- reads the part of a `sl2vl` line after its first word: a GUID, two ports and 16 bytes
+-- reads the part of a `sl2vl` line after its first word: a GUID, two ports and 16 bytes; None for other words
 abbrev pub map_line : List (List ℕ) → Option MapLine
 map_line [] = None
 map_line (node ∷ []) = None
 map_line (node ∷ into ∷ []) = None
 map_line (node ∷ into ∷ out ∷ rest) = option_and_then (map_of node into out) (alone rest)
 
--- reads the part of a `level` line after its first word; the inner value is None if the level is above 15
+-- reads the part of a `level` line after its first word: a number; None for other words, and the inner value is
+-- None if the level is above 15
 abbrev pub level_line : List (List ℕ) → Option (Option ℕ)
 level_line words = option_and_then (small_of 15) (alone words)
 
--- a `levels` line with these words after its first
+-- reads a `levels` line with these words after its first; None if one of them is not what it should be
 abbrev pub block_of : List ℕ → List ℕ → List ℕ → Option LevelsLine
 block_of port number levels =
     option_and_then (λ p. option_and_then (λ n. option_map
     (λ h. record { node = p.0; port = p.1; number = n; levels = h }) (bytes_of 64 levels)) (small_of 767 number))
     (port_of port)
 
--- reads the part of a `levels` line after its first word: a node with a port, a number and 64 bytes
+-- reads the part of a `levels` line after its first word: a node with a port, a number and 64 bytes; None if it is no
+-- such part
 abbrev pub block_line : List (List ℕ) → Option LevelsLine
 block_line [] = None
 block_line (port ∷ []) = None

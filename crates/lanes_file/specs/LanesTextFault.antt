@@ -5,13 +5,15 @@ use Rattle.text_words.specs.declared.fault.LinesFault.{LinesFault}
 use Rattle.lanes_file.specs.declared.fault.LanesTextError.{LanesTextError}
 use Rattle.lanes_file.specs.declared.fault.LanesTextError.TheVariants.{Syntax, Port, Block, Lane, Level, Repeated}
 
+-- a fault of a line, with the line's number
 abbrev pub LanesLineFault : Type 0
 LanesLineFault = LineFault LanesTextError
 
+-- why a text of lanes is refused: the fault of a line, or memory
 abbrev pub LanesTextFault : Type 0
 LanesTextFault = LinesFault LanesTextError
 
--- the word for a fault
+-- the word that is printed for a fault of a line
 abbrev pub wrong_word : LanesTextError → List ℕ
 wrong_word Syntax = codes "syntax"
 wrong_word Port = codes "port"

@@ -1,4 +1,4 @@
--- What a text says: what its lines say in order, up to its first fault.
+-- What a text of lanes says: what its lines say in order, up to its first fault.
 use Rattle.std.specs.Prelude.{ℕ, ◌+◌, ◌==◌, ◌&&◌, not, Bool, true, false, List, [], ◌∷◌, Option, None, Some, Result, Ok, Err, nat_lt, if◌then◌else◌}
 use Rattle.std.specs.List.{list_any}
 use Rattle.text_words.specs.Text.{lines}
@@ -17,11 +17,11 @@ use Rattle.lanes_file.specs.Lanes.{LanesSaid, nothing_said}
 use Rattle.lanes_file.specs.LanesItem.{said_by}
 use Rattle.lanes_file.specs.LanesLine.{line_of}
 
--- the state before the first line
+-- the state before the first line: no line was read
 abbrev pub start : LinesBefore
 start = record { has_lanes = false; map = None; has_level = false; block = None }
 
--- the state after a line; later lines are checked by it
+-- the state after a line that says an item, from the state before it; later lines are checked by it
 abbrev pub lines_after : LinesBefore → LanesItem → LinesBefore
 lines_after before Nothing = before
 lines_after before (Lanes lanes) = record before { has_lanes = true }
@@ -29,59 +29,61 @@ lines_after before (Map map) = record before { map = Some (map_key map) }
 lines_after before (Level level) = record before { has_level = true }
 lines_after before (Block block) = record before { block = Some (block_key block) }
 
--- the fault of the line `number`
+-- the fault `what` at the line `number`
 abbrev pub fault_at : {T : Type 0} → ℕ → LanesTextError → Result T LanesLineFault
 fault_at number what = Err (record { line = number; wrong = what })
 
--- a byte that is no lane
+-- the byte `b` is no lane: it is over 15
 abbrev pub is_no_lane : ℕ → Bool
 is_no_lane b = nat_lt 15 b
 
--- a byte that is no service level, other than 255, which says that a LID has none of its own
+-- the byte `b` is no service level, nor 255, which says that a LID has none of its own
 abbrev pub is_no_level : ℕ → Bool
 is_no_level b = nat_lt 15 b && not (b == 255)
 
--- the lanes of all packets, if there is no such line before
+-- the lanes of packets that no map is for, if each is up to 15 and there is no `lanes` line before (`is_second`)
 abbrev pub lanes_with : ℕ → Bool → List ℕ → Result LanesItem LanesLineFault
 lanes_with number is_second lanes =
     if list_any is_no_lane lanes then fault_at number wrong.Lane
     else if is_second then fault_at number wrong.Repeated
     else Ok (Lanes lanes)
 
--- a map, if its lanes are up to 15 and it comes after `last`, the key of the map before
+-- a map, if its lanes are up to 15 and its key is greater than `last`, that of the map before, if there is one
 abbrev pub map_after : ℕ → Option Key → LaneMap → Result LanesItem LanesLineFault
 map_after number last map =
     if list_any is_no_lane map.lanes then fault_at number wrong.Lane
     else if is_after last (map_key map) then Ok (Map map)
     else fault_at number wrong.Repeated
 
--- a map, by the numbers on its line; None stands for a port over 254
+-- a map, by the numbers on its line; None stands for a port over 254, which is a fault
 abbrev pub map_with : ℕ → Option Key → ℕ → Option ℕ → Option ℕ → List ℕ → Result LanesItem LanesLineFault
 map_with number last node None out lanes = fault_at number wrong.Port
 map_with number last node (Some into) None lanes = fault_at number wrong.Port
 map_with number last node (Some into) (Some out) lanes =
     map_after number last (record { node = node; into = into; out = out; lanes = lanes })
 
--- the service level of all packets, if there is no such line before; None stands for a level over 15
+-- the service level of packets that no block gives one, if it is up to 15 (None stands for a greater one) and there is
+-- no `level` line before (`is_second`)
 abbrev pub level_with : ℕ → Bool → Option ℕ → Result LanesItem LanesLineFault
 level_with number is_second None = fault_at number wrong.Level
 level_with number is_second (Some level) = if is_second then fault_at number wrong.Repeated else Ok (Level level)
 
--- a block, if its levels are in range and it comes after `last`, the key of the block before
+-- a block, if its levels are in range and its key is greater than `last`, that of the block before, if there is one
 abbrev pub block_after : ℕ → Option Key → LevelBlock → Result LanesItem LanesLineFault
 block_after number last block =
     if list_any is_no_level block.levels then fault_at number wrong.Level
     else if is_after last (block_key block) then Ok (Block block)
     else fault_at number wrong.Repeated
 
--- a block, by the numbers on its line; None stands for a number out of range
+-- a block, by the numbers on its line; None stands for a number out of range, which is a fault
 abbrev pub block_with : ℕ → Option Key → ℕ → Option ℕ → Option ℕ → List ℕ → Result LanesItem LanesLineFault
 block_with number last node None block levels = fault_at number wrong.Port
 block_with number last node (Some port) None levels = fault_at number wrong.Block
 block_with number last node (Some port) (Some block) levels =
     block_after number last (record { node = node; port = port; number = block; levels = levels })
 
--- what the line `number` says, after the lines before it
+-- what the line `number` says, after the lines before it; a fault if the grammar has no such line (None) or it may not
+-- follow
 abbrev pub item_of : ℕ → LinesBefore → Option LanesLine → Result LanesItem LanesLineFault
 item_of number before None = fault_at number wrong.Syntax
 item_of number before (Some line.Empty) = Ok Nothing
@@ -90,7 +92,7 @@ item_of number before (Some (line.Map l)) = map_with number before.map l.node l.
 item_of number before (Some (line.Level level)) = level_with number before.has_level level
 item_of number before (Some (line.Block l)) = block_with number before.block l.node l.port l.number l.levels
 
--- `next` of the item of a line, or `last` of its fault
+-- `next` of the item that a line says, or `last` of its fault
 abbrev pub then_or : {T : Type 0} → Result LanesItem LanesLineFault → (LanesItem → T) → (LanesLineFault → T) → T
 then_or (Ok item) next last = next item
 then_or (Err fault) next last = last fault
@@ -102,7 +104,7 @@ first_fault_from number before (l ∷ later) =
     then_or (item_of number before (line_of l))
     (λ item. first_fault_from (number + 1) (lines_after before item) later) Some
 
--- what the lines before the first fault say
+-- what each line before the first fault says, in order
 abbrev pub items_from : ℕ → LinesBefore → List (List ℕ) → List LanesItem
 items_from number before [] = []
 items_from number before (l ∷ later) =

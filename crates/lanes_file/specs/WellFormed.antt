@@ -6,13 +6,15 @@ use Rattle.lanes_file.specs.declared.lanes.LaneMap.{LaneMap}
 use Rattle.lanes_file.specs.Keys.{key_cmp, map_key, block_key}
 use Rattle.lanes_file.specs.Lanes.{LanesSaid}
 
--- each is up to 15
+-- each of `lanes` is up to 15
 abbrev pub AreLanes : List ℕ → Type 0
 AreLanes lanes = AllByRecursion (λ lane. lane < 16) lanes
 
+-- each lane of `map` is up to 15
 abbrev pub HasLanes : LaneMap → Type 0
 HasLanes map = AreLanes map.lanes
 
+-- the lanes and the levels of `said` are up to 15, and its maps and its blocks rise by their keys
 pub record IsWellFormed (said : LanesSaid) : Type 0 where
   pub lanes : AreLanes said.lanes
   pub map_lanes : AllByRecursion HasLanes said.maps

@@ -13,8 +13,8 @@ pub enum LanesTextError {
     Lane,
     /// A service level is above 15, and is not `ff` of a block.
     Level,
-    /// It is a second line `lanes` or `level`, or its GUID and the two numbers after it are not greater than those of
-    /// the line of its kind before it.
+    /// The line is a second `lanes` or `level`, or it is a `sl2vl` or `levels` whose GUID and two numbers after it are
+    /// not greater than those of the line of its kind before it.
     Repeated,
 }
 
@@ -35,8 +35,8 @@ impl LineError for LanesTextError {
     }
 }
 
-/// The number of a text's first faulty line, from 1, and what is wrong with it.
+/// The number of the first faulty line of a text of lanes, from 1, and what is wrong with it.
 pub type LanesLineFault = LineFault<LanesTextError>;
 
-/// Why a text could not be read.
+/// Why a text of lanes could not be read: its first fault, or a lack of memory.
 pub type LanesTextFault = LinesFault<LanesTextError>;

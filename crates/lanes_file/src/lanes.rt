@@ -1,9 +1,9 @@
 //! What a text of lanes says.
-ghost use Rattle.std.specs.Prelude.{◌≡◌, ◌<◌, IfSome, IsTrue, find, option_copied, slice_index_or};
+ghost use Rattle.std.specs.Prelude.{◌≡◌, ◌<◌, ◌%◌, IfSome, IsTrue, find, option_copied, slice_index_or};
 ghost use Rattle.std.specs.List.{list_all, list_any};
 ghost use Rattle.lanes_file.specs.Carried.{CarriesAll, block_gives, carries, carries_all, each_is_carried};
 ghost use Rattle.lanes_file.specs.Carried.{gives, has_lane, has_level_for_all, map_has_lane};
-ghost use Rattle.lanes_file.specs.Lanes.{is_block, is_map, lane_of, lanes_between, level_of};
+ghost use Rattle.lanes_file.specs.Lanes.{is_block, is_map, lane_of, lanes_between, level_by, level_of};
 ghost use Rattle.lanes_file.specs.WellFormed.{AreLanes, HasLanes, IsWellFormed};
 
 use crate::lanes_builder::LanesBuilder;
@@ -20,11 +20,11 @@ const LEVEL_END: u8 = 16;
 #[derive(Clone, Copy, Debug, PartialEq, Eq)]
 pub struct LaneMap {
     pub node: Guid,
-    /// The port by which packets come in, up to 254; 0 is the switch itself.
+    /// The port by which packets come in, up to 254. It is 0 for packets that the switch sends itself.
     pub into: PortNum,
     /// The port by which packets leave, up to 254.
     pub out: PortNum,
-    /// The lane of each service level, up to 15.
+    /// The lane of each service level. Lanes are up to 15.
     pub lanes: [u8; 16],
 }
 
@@ -32,9 +32,9 @@ pub struct LaneMap {
 #[derive(Clone, Copy, Debug, PartialEq, Eq)]
 pub struct LevelBlock {
     pub node: Guid,
-    /// Up to 254.
+    /// The number of the end port, up to 254.
     pub port: PortNum,
-    /// Up to 767: the block has the levels of the LIDs from 64 times this number on.
+    /// The number of the block, up to 767. It has the levels of the LIDs from 64 times this number on.
     pub number: u16,
     /// The service level for each LID, up to 15, or 255 if the LID has no level of its own.
     pub levels: [u8; 64],
@@ -61,7 +61,7 @@ impl Model for Lanes {
 }
 
 impl Lanes {
-    /// Returns what the lines of a text say.
+    /// Returns what the lines of a text say. Lanes and levels must be in range, and maps and blocks must rise.
     pub(crate) fn of(said: LanesBuilder) -> Self
         requires { IsWellFormed said }
         ensures { result ≡ said }
@@ -81,7 +81,7 @@ impl Lanes {
     }
 
     /// Returns the lane of packets of service level `level` that come into the switch `node` by port `into` and leave
-    /// by port `out`. Returns 15 if the text says none. Takes a search among the maps.
+    /// by port `out`. Returns 15 if the text says none. Takes a binary search among the maps.
     pub fn lane(&self, node: Guid, into: PortNum, out: PortNum, level: u8) -> u8
         ensures is { result ≡ lane_of self.now node into out level }
         ensures within { result < 16 }
@@ -90,12 +90,22 @@ impl Lanes {
     }
 
     /// Returns the service level of packets from `port` of `node` to `lid`, or `None` if the text says none. Takes a
-    /// search among the blocks.
+    /// binary search among the blocks.
     pub fn level(&self, node: Guid, port: PortNum, lid: Lid) -> Option<u8>
         ensures is { result ≡ level_of self.now node port lid }
         ensures within { IfSome result (λ s. s < 16) }
     {
-        let Some(block) = self.block(node, port, lid.block()) else {
+        self.level_by(self.block(node, port, lid.block()), lid)
+    }
+
+    /// Returns the service level of packets to `lid` from an end port whose block with this LID is `block`, if it has
+    /// one. If the block has no level for the LID, or there is no block, returns the level of the line `level`, or
+    /// `None` without such a line.
+    pub fn level_by(&self, block: Option<&LevelBlock>, lid: Lid) -> Option<u8>
+        ensures is { result ≡ level_by self.now.level (lid % 64) (option_copied block.entry) }
+        ensures within { IfSome result (λ s. s < 16) }
+    {
+        let Some(block) = block else {
             return self.level;
         };
         let level = block.levels[lid.in_block()];
@@ -106,9 +116,22 @@ impl Lanes {
         }
     }
 
-    /// Returns whether the lane of each service level that some packets have is below 15, in each switch. Then no packet
-    /// is dropped for want of a lane. Takes a walk along the maps for each of 16 levels, and one along the blocks for
-    /// each level that has no such lane.
+    /// Returns the levels of packets from `port` of `node` to the 64 LIDs from 64 times `number` on, or `None` if the
+    /// text has no such block. Takes a binary search among the blocks.
+    pub fn block(&self, node: Guid, port: PortNum, number: u16) -> Option<&LevelBlock>
+        ensures { option_copied result ≡ find (is_block node port number) self.now.levels }
+    {
+        let index = self
+            .levels
+            .binary_search_by_key(&((node, port), number), |block| {
+                ((block.node, block.port), block.number)
+            })
+            .ok()?;
+        Some(&self.levels[index])
+    }
+
+    /// Returns whether each service level that the text gives to some packets has a lane below 15, in each switch. If
+    /// so, no packet is dropped for want of a lane. Takes time linear in the numbers of maps and blocks.
     pub fn carries_all(&self) -> bool
         ensures is { result ≡ carries_all self.now }
         ensures carried { IsTrue result → CarriesAll self.now }
@@ -121,14 +144,15 @@ impl Lanes {
         )
     }
 
-    /// Returns whether there is a line `level`, so that each packet has a service level.
+    /// Returns whether there is a line `level`. If so, each packet has a service level.
     pub fn has_level_for_all(&self) -> bool
         ensures { result ≡ has_level_for_all self.now }
     {
         self.level.is_some()
     }
 
-    /// Returns the lane of each service level from port `into` to port `out` of `node`; none if the text says none.
+    /// Returns the lane of each service level from port `into` to port `out` of `node`, or an empty list if the text
+    /// says none.
     fn lanes_between(&self, node: Guid, into: PortNum, out: PortNum) -> &[u8]
         ensures is { result.now ≡ lanes_between self.now node into out }
         ensures lanes { AreLanes result.now }
@@ -139,7 +163,7 @@ impl Lanes {
         }
     }
 
-    /// Returns the lane of each service level of packets that no map is for; none if the text says none.
+    /// Returns the lane of each service level of packets that no map is for, or an empty list if the text says none.
     fn lanes_without_map(&self) -> &[u8]
         ensures is { result.now ≡ self.now.lanes }
         ensures lanes { AreLanes result.now }
@@ -150,7 +174,8 @@ impl Lanes {
         }
     }
 
-    /// Returns the map for packets from port `into` to port `out` of `node`, if there is one.
+    /// Returns the map for packets from port `into` to port `out` of `node`, or `None` if there is none. Takes a binary
+    /// search.
     fn map(&self, node: Guid, into: PortNum, out: PortNum) -> Option<&LaneMap>
         ensures is { option_copied result ≡ find (is_map node into out) self.now.maps }
         ensures lanes { IfSome result (λ map. HasLanes map.now) }
@@ -161,22 +186,9 @@ impl Lanes {
             .ok()?;
         Some(&self.maps[index])
     }
-
-    /// Returns the block `number` of the levels of `port` of `node`, if there is one.
-    fn block(&self, node: Guid, port: PortNum, number: u16) -> Option<&LevelBlock>
-        ensures { option_copied result ≡ find (is_block node port number) self.now.levels }
-    {
-        let index = self
-            .levels
-            .binary_search_by_key(&((node, port), number), |block| {
-                ((block.node, block.port), block.number)
-            })
-            .ok()?;
-        Some(&self.levels[index])
-    }
 }
 
-/// Returns the lane of a service level, or 15 if there are fewer.
+/// Returns the lane of service level `level` in `lanes`, or 15 if there are fewer.
 fn lane_at(lanes: &[u8], level: u8) -> u8
     ensures is { result ≡ slice_index_or lanes.now level 15 }
     ensures within { AreLanes lanes.now → result < 16 }
@@ -187,15 +199,16 @@ fn lane_at(lanes: &[u8], level: u8) -> u8
     }
 }
 
-/// Returns whether the lane of each service level that some packets have is below 15 by each map, and by `lanes`, those
-/// without a map. `own` is the level of packets without a block.
+/// Returns whether each service level that some packets have has a lane below 15 by each map, and by `lanes`, which are
+/// for packets without a map. `own` is the level of packets that no block gives one.
 fn each_is_carried(lanes: &[u8], maps: &[LaneMap], own: Option<u8>, blocks: &[LevelBlock]) -> bool
     ensures { result ≡ each_is_carried lanes.now maps.now own blocks.now }
 {
     (0..LEVEL_END).all(|level| carries(lanes, maps, level) || !gives(own, blocks, level))
 }
 
-/// Returns whether the lane of service level `level` is below 15 by each map, and by `lanes`, those without a map.
+/// Returns whether the lane of service level `level` is below 15 by each map, and by `lanes`, which are for packets
+/// without a map.
 fn carries(lanes: &[u8], maps: &[LaneMap], level: u8) -> bool
     ensures { result ≡ carries lanes.now maps.now level }
 {
@@ -209,29 +222,29 @@ fn each_has_lane(maps: &[LaneMap], level: u8) -> bool
     maps.iter().all(|map| has_lane(&map.lanes, level))
 }
 
-/// Returns whether service level `level` is `own`, that of packets without a block, or that of a LID of one of the
-/// blocks.
+/// Returns whether some packets have service level `level`: it is `own`, that of packets that no block gives one, or a
+/// block gives it to a LID.
 fn gives(own: Option<u8>, blocks: &[LevelBlock], level: u8) -> bool
     ensures { result ≡ gives own blocks.now level }
 {
     own == Some(level) || any_gives(blocks, level)
 }
 
-/// Returns whether a LID of one of the blocks has service level `level`.
+/// Returns whether one of `blocks` gives service level `level` to a LID.
 fn any_gives(blocks: &[LevelBlock], level: u8) -> bool
     ensures { result ≡ list_any (block_gives level) blocks.now }
 {
     blocks.iter().any(|block| block_gives(block, level))
 }
 
-/// Returns whether the lane of service level `level` is below 15.
+/// Returns whether the lane of service level `level` in `lanes` is below 15.
 fn has_lane(lanes: &[u8], level: u8) -> bool
     ensures { result ≡ has_lane level lanes.now }
 {
     lane_at(lanes, level) < NO_LANE
 }
 
-/// Returns whether a LID of the block has service level `level`.
+/// Returns whether `block` gives service level `level` to a LID.
 fn block_gives(block: &LevelBlock, level: u8) -> bool
     ensures { result ≡ block_gives level block.now }
 {

@@ -37,7 +37,7 @@ impl LanesBuilder {
         }
     }
 
-    /// Returns what the lines say after another line, which says `item`.
+    /// Returns what the lines say together with another line, which says `item`.
     pub(crate) fn with(self, item: LanesItem) -> Result<Self, AllocError>
         ensures { IfOk result (λ said. said ≡ said_with self item) }
     {

@@ -6,18 +6,18 @@ use crate::words::{bare_guid, block_number, bytes, node_port, port, small};
 use smp_bytes::{Guid, PortNum};
 use text_words::{is_word, split_word};
 
-/// What a line says.
+/// What a line says, before it is checked whether it may come there.
 #[derive(Clone, Copy)]
 pub(crate) enum LanesLine {
     Empty,
     Lanes([u8; 16]),
     Map(MapLine),
-    /// Up to 15; `None` if it is greater.
+    /// The level, or `None` if it is above 15.
     Level(Option<u8>),
     Block(LevelsLine),
 }
 
-/// A map of a switch, as a line gives it. A port is `None` if it is above 254.
+/// A map of a switch, as a line gives it. A port is `None` if it is above 254. Lanes may be above 15.
 #[derive(Clone, Copy)]
 pub(crate) struct MapLine {
     pub(crate) node: Guid,
@@ -26,18 +26,18 @@ pub(crate) struct MapLine {
     pub(crate) lanes: [u8; 16],
 }
 
-/// A block of the levels of an end port, as a line gives it. A number is `None` if it is out of range.
+/// A block of the levels of an end port, as a line gives it. Levels may be out of range.
 #[derive(Clone, Copy)]
 pub(crate) struct LevelsLine {
     pub(crate) node: Guid,
-    /// Up to 254.
+    /// The port, or `None` if it is above 254.
     pub(crate) port: Option<PortNum>,
-    /// Up to 767.
+    /// The number of the block, or `None` if it is above 767.
     pub(crate) number: Option<u16>,
     pub(crate) levels: [u8; 64],
 }
 
-/// Returns what a line says, or `None` if the grammar has no such line.
+/// Returns what `line` says, or `None` if the grammar has no such line.
 #[tactic(auto, unfolding(crate::specs::LanesLine::line_of))]
 pub(crate) fn read_line(line: &[u8]) -> Option<LanesLine>
     ensures { result ≡ line_of line.now }
@@ -58,7 +58,7 @@ pub(crate) fn read_line(line: &[u8]) -> Option<LanesLine>
     }
 }
 
-/// Returns the word of a line, or `None` if it has more or none.
+/// Returns the only word of `line`, or `None` if it has more or none.
 fn alone(line: &[u8]) -> Option<&[u8]>
     ensures { option_map (λ x. x.now) result ≡ alone (words line.now) }
 {

@@ -14,19 +14,19 @@ use smp_bytes::{Guid, PortNum};
 /// The greatest lane, and the greatest service level.
 const MAX_LANE: u8 = 15;
 
-/// The byte of a LID that has no service level of its own.
+/// The byte of a block for a LID that has no service level of its own.
 const NO_LEVEL: u8 = 0xFF;
 
-/// What must be kept of the lines so far to check later ones.
+/// What must be known of the lines so far to check later ones.
 #[derive(Clone, Copy)]
 pub(crate) struct LinesBefore {
-    /// There is a line `lanes`.
+    /// Whether there is a line `lanes`.
     pub(crate) has_lanes: bool,
-    /// The node and the two ports of the last line `sl2vl`.
+    /// The node and the two ports of the last line `sl2vl`; `None` if there is none.
     pub(crate) map: Option<((Guid, PortNum), PortNum)>,
-    /// There is a line `level`.
+    /// Whether there is a line `level`.
     pub(crate) has_level: bool,
-    /// The node, the port and the number of the last line `levels`.
+    /// The node, the port and the number of the last line `levels`; `None` if there is none.
     pub(crate) block: Option<((Guid, PortNum), u16)>,
 }
 
@@ -83,7 +83,7 @@ impl LinesBefore {
     }
 }
 
-/// Returns the fault `wrong` of the line numbered `line`.
+/// Returns the fault `wrong` of line number `line`.
 fn wrong(line: usize, wrong: LanesTextError) -> Result<LanesItem, LanesLineFault>
     ensures { result ≡ Err (record { line = line; wrong = wrong }) }
 {
@@ -136,8 +136,8 @@ fn map_item(
     )
 }
 
-/// Returns what a `sl2vl` line numbered `number` says if its lanes are up to 15 and it comes after the `sl2vl` line of
-/// `last`, if there is one.
+/// Returns what a `sl2vl` line numbered `number` says, or what is wrong with it: its lanes must be up to 15, and it
+/// must come after the `sl2vl` line of `last`, if there is one.
 fn map_after(
     number: usize,
     last: Option<((Guid, PortNum), PortNum)>,
@@ -154,7 +154,7 @@ fn map_after(
     }
 }
 
-/// Returns whether a node and two ports come after `last`, if there are such.
+/// Returns whether the node and the two ports of `key` come after those of `last`. Returns true if `last` is `None`.
 fn is_map_after(last: Option<((Guid, PortNum), PortNum)>, key: ((Guid, PortNum), PortNum)) -> bool
     ensures { result ≡ is_after last key }
 {
@@ -211,8 +211,8 @@ fn block_item(
     )
 }
 
-/// Returns what a `levels` line numbered `number` says if its levels are in range and it comes after the `levels` line
-/// of `last`, if there is one.
+/// Returns what a `levels` line numbered `number` says, or what is wrong with it: its levels must be in range, and it
+/// must come after the `levels` line of `last`, if there is one.
 fn block_after(
     number: usize,
     last: Option<((Guid, PortNum), u16)>,
@@ -238,7 +238,8 @@ fn has_no_level(levels: &[u8]) -> bool
         .any(|level| *level > MAX_LANE && *level != NO_LEVEL)
 }
 
-/// Returns whether a node, a port and a number come after `last`, if there are such.
+/// Returns whether the node, the port and the number of `key` come after those of `last`. Returns true if `last` is
+/// `None`.
 fn is_block_after(last: Option<((Guid, PortNum), u16)>, key: ((Guid, PortNum), u16)) -> bool
     ensures { result ≡ is_after last key }
 {

@@ -22,11 +22,11 @@ use text_words::{LinesFault, split_line};
 /// levels 0000000000000100/1 0 ffff0001ff..
 /// ```
 ///
-/// Takes a step for each byte, and twice as many if memory is refused.
+/// Takes time linear in the length of the text.
 ///
 /// # Errors
 ///
-/// Returns the first fault of the lines. Returns `Memory` only if they have none.
+/// Returns the first fault of the lines. If they have none, returns `Memory` if memory is refused.
 pub fn parse(alloc: Global, text: &[u8]) -> Result<Lanes, LanesTextFault>
     ensures judged { JudgesButFor is_memory result (option_map LinesFault.Line (first_fault text.now)) }
     ensures lanes { IfOk result (λ lanes. lanes ≡ lanes_said text.now) }
@@ -41,7 +41,7 @@ pub fn parse(alloc: Global, text: &[u8]) -> Result<Lanes, LanesTextFault>
     }
 }
 
-/// Reads the lines of a text.
+/// Returns what the lines of `text` say, or their first fault, or `Memory` if memory is refused before.
 #[tactic(auto, using(crate::proofs::Folds::reading))]
 fn read_lines(alloc: Global, text: &[u8]) -> Result<LanesBuilder, LanesTextFault>
     ensures { IsReadAs text.now result }
@@ -60,7 +60,7 @@ fn read_lines(alloc: Global, text: &[u8]) -> Result<LanesBuilder, LanesTextFault
     Ok(said)
 }
 
-/// Returns the first fault of a text. Takes no memory.
+/// Returns the first fault of `text`, or `None` if it has none. Does not allocate.
 #[tactic(auto, using(crate::proofs::Folds::judging))]
 fn first_fault(text: &[u8]) -> Option<LanesLineFault>
     ensures { result ≡ first_fault text.now }

@@ -6,7 +6,8 @@ ghost use Rattle.lanes_file.specs.Words.{small_of, bare_guid_of, port_of, bytes_
 use smp_bytes::{Guid, LAST_BLOCK, PortNum};
 use text_words::number;
 
-/// Parses decimal digits as a number. The inner value is `None` if the number is above `most`.
+/// Parses decimal digits as a number. The inner value is `None` if the number is above `most`. Returns `None` if `word`
+/// is no number.
 pub(crate) fn small(word: &[u8], most: u8) -> Option<Option<u8>>
     ensures { result ≡ small_of most word.now }
 {
@@ -18,7 +19,8 @@ pub(crate) fn small(word: &[u8], most: u8) -> Option<Option<u8>>
     })
 }
 
-/// Parses the number of a block. The inner value is `None` if the number is above 767.
+/// Parses the number of a block. The inner value is `None` if the number is above 767. Returns `None` if `word` is no
+/// number.
 pub(crate) fn block_number(word: &[u8]) -> Option<Option<u16>>
     ensures { result ≡ small_of 767 word.now }
 {
@@ -30,7 +32,8 @@ pub(crate) fn block_number(word: &[u8]) -> Option<Option<u16>>
     })
 }
 
-/// Parses the number of a port. The inner value is `None` if the number is above 254.
+/// Parses the number of a port. The inner value is `None` if the number is above 254. Returns `None` if `word` is no
+/// number.
 pub(crate) fn port(word: &[u8]) -> Option<Option<PortNum>>
     ensures { result ≡ small_of 254 word.now }
 {
@@ -51,7 +54,8 @@ pub(crate) fn bare_guid(word: &[u8]) -> Option<Guid>
     Some(Guid::new(number(word, 16)?))
 }
 
-/// Parses a node's GUID and a port of it, as in `0000000000000100/1`. The port is `None` if it is above 254.
+/// Parses a node's GUID and a port of it, as in `0000000000000100/1`. The port is `None` if it is above 254. Returns
+/// `None` if `word` is not written so.
 pub(crate) fn node_port(word: &[u8]) -> Option<(Guid, Option<PortNum>)>
     ensures { result ≡ port_of word.now }
 {
@@ -70,14 +74,14 @@ fn before_slash(word: &[u8]) -> Option<(&[u8], &[u8])>
     Some((&word[..len], &word[len + 1..]))
 }
 
-/// Returns the index of the first slash, or `None` if there is none.
+/// Returns the index of the first slash of `word`, or `None` if there is none.
 fn slash(word: &[u8]) -> Option<usize>
     ensures { result ≡ position (λ b. b == 47) word.now }
 {
     word.iter().position(|b| *b == b'/')
 }
 
-/// Parses `N` bytes, each as two hex digits of either case. Returns `None` if `word` is not so many digits.
+/// Parses `N` bytes, each as two hex digits of either case. Returns `None` if `word` is not 2 * `N` hex digits.
 pub(crate) fn bytes<const N: usize>(word: &[u8]) -> Option<[u8; N]>
     ensures { result ≡ bytes_of N word.now }
 {

@@ -9,40 +9,40 @@ use Rattle.next_run.specs.declared.asked.StepLanes.TheVariants.{One, ByText}
 use Rattle.next_run.specs.declared.asked.HeldOrder.{HeldOrder}
 use Rattle.next_run.specs.declared.asked.HeldOrder.TheVariants.{Ignored, NearPlan, NearNamed}
 
--- the step may go by an order that the held tables imply
+-- the step may go by an order that the held tables imply, which is asked for
 abbrev pub is_told : HeldOrder → Bool
 is_told Ignored = false
 is_told NearPlan = true
 is_told NearNamed = true
 
--- a text names an order
+-- a text that names an order is asked for
 abbrev pub is_named : HeldOrder → Bool
 is_named Ignored = false
 is_named NearPlan = false
 is_named NearNamed = true
 
--- there is a text of lanes
+-- a text of lanes is asked for
 abbrev pub has_lanes : StepLanes → Bool
 has_lanes One = false
 has_lanes (ByText answers) = true
 
--- packets that answer others also have the service level of what they answer
+-- it is asked for that packets which answer others also have the service level of what they answer
 abbrev pub has_answers : StepLanes → Bool
 has_answers One = false
 has_answers (ByText answers) = answers
 
--- the rule of the order that a text names, or else the plan's rule
+-- the rule `named` of the order that a text names; without one (None), the plan's rule `rule`
 abbrev pub rule_or : RuleValue → Option RuleValue → RuleValue
 rule_or rule None = rule
 rule_or rule (Some named) = named
 
--- the positions of switches in the order of the named rule, or else these positions
+-- the positions of switches in the order of the named rule; without one (None), `positions`
 abbrev pub preferred_positions : List ℕ → Cells → Option RuleValue → List ℕ
 preferred_positions positions cells None = positions
 preferred_positions positions cells (Some named) = positions_by named cells
 
--- the rule whose order decides if the held tables imply several: it spreads in the order that a text names, or else it
--- is the plan's
+-- the rule whose order decides if the held tables imply several orders: the one that spreads in the order that a text
+-- names, if this is asked for, or else the plan's rule
 abbrev pub preferred_rule : HeldOrder → RuleValue → List ℕ → RuleValue
 preferred_rule Ignored rule named = rule
 preferred_rule NearPlan rule named = rule

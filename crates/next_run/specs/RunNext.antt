@@ -1,6 +1,6 @@
 -- What a step from held tables towards a plan does: it reads its inputs in order and writes the tables to write next,
 -- or returns a fault.
-use Rattle.std.specs.Prelude.{◌≡◌, ◌⊎◌, ◌↔◌, ◌+◌, ◌++◌, ℕ, Bool, true, false, List, [], ◌∷◌, Option, None, Some, IsTrue, if◌then◌else◌}
+use Rattle.std.specs.Prelude.{◌≡◌, ◌⊎◌, ◌↔◌, ◌+◌, ◌++◌, ℕ, Bool, true, false, List, Option, None, Some, IsTrue, if◌then◌else◌}
 use Rattle.std.specs.Io.KnownBytes.{Appends}
 use Rattle.byte_io.specs.Source.{SourceState}
 use Rattle.fact_store.specs.View.{Facts, cells_of}
@@ -39,24 +39,25 @@ use Rattle.next_run.specs.declared.step_choice.StepChoice.{StepChoice}
 abbrev pub planned : ℕ → RuleValue → Facts → HeldPlan
 planned lmc rule facts = held_plan (plan_of rule lmc (cells_of facts))
 
--- how a step towards the plan chooses entries: by the order of the plan's switches if the held tables are right by it,
+-- how a step towards a plan chooses entries: by the order that `positions` give if the held tables are right by it,
 -- otherwise by settled entries
 abbrev pub chosen_by : Cells → List ℕ → HeldPlan → StepRuleValue
 chosen_by cells positions held = if are_right cells (position_at positions) held then by_order positions else settled_first
 
--- how a step towards the plan of `facts` by `rule` chooses entries
+-- how a step towards the plan of `facts` by `rule` chooses entries: by the order of the plan if the held tables are
+-- right by it, otherwise by settled entries
 abbrev pub step_rule : RuleValue → Facts → HeldPlan → StepRuleValue
 step_rule rule facts held = chosen_by (cells_of facts) (positions_by rule (cells_of facts)) held
 
--- the tables to write next towards the plan, if the step does not go by the order that the held tables imply
+-- the tables to write next towards the plan of `facts`, if the step does not go by an order that the held tables imply
 abbrev pub stepped : ℕ → RuleValue → Facts → HeldPlan → HeldPlan
 stepped lmc rule facts held = next_tables (cells_of facts) (step_rule rule facts held) held (planned lmc rule facts)
 
--- the text of a step: the LIDs of the plan, and then the tables to write next
+-- the text of a step: the LIDs of the plan of `facts`, and then the tables `next` to write next
 abbrev pub text_of_step : ℕ → RuleValue → Facts → HeldPlan → List ℕ
 text_of_step lmc rule facts next = next_text (plan_of rule lmc (cells_of facts)).given next
 
--- the text of a step towards the plan
+-- the text of a step towards the plan of `facts`, if it does not go by an order that the held tables imply
 abbrev pub step_text : ℕ → RuleValue → Facts → HeldPlan → List ℕ
 step_text lmc rule facts held = text_of_step lmc rule facts (stepped lmc rule facts held)
 
@@ -67,33 +68,35 @@ pub record Choice : Type 0 where
   pub goal : Option HeldPlan
   pub order : Option (List ℕ)
 
+-- the choice that the code's value stands for
 abbrev pub choice_of : StepChoice → Choice
 choice_of choice = record { by = value_of choice.by; goal = choice.goal; order = items_of choice.order }
 
--- the tables of a goal, or else those of the plan
+-- the tables of the goal, if there is one, or else `plan`
 abbrev pub goal_or : HeldPlan → Option HeldPlan → HeldPlan
 goal_or plan None = plan
 goal_or plan (Some goal) = goal
 
--- the tables to write next as a choice says
+-- the tables to write next towards the goal of `choice`, or else `plan`, by the rule of steps that it has
 abbrev pub next_by_choice : Cells → Choice → HeldPlan → HeldPlan → HeldPlan
 next_by_choice cells choice held plan = next_tables cells choice.by held (goal_or plan choice.goal)
 
--- the goal of a step by the order that the held tables imply, of several the one nearest to `preferred`; None if `told`
--- is false or the held tables are right by the order of the plan's switches
+-- the goal of a step by the order that the held tables imply, of several the one nearest to `preferred`; None if the
+-- step may not go by it (the first is false), or the held tables are right by the plan's order (the second is true)
 abbrev pub IsGoalFrom : Bool → Bool → Cells → HeldPlan → HeldPlan → List ℕ → List ℕ → Option Goal → Type 0
 IsGoalFrom false right cells held plan positions preferred goal = goal ≡ None
 IsGoalFrom true true cells held plan positions preferred goal = goal ≡ None
 IsGoalFrom true false cells held plan positions preferred goal = IsGoal cells held plan positions preferred goal
 
--- the goal of a step towards the plan of `facts` by `rule`, if the step may go by the order that the held tables imply;
--- of several orders it is the one nearest to the order of the rule `preferred`
+-- the goal of a step towards the plan of `facts` by `rule`, if the step may go by the order that the held tables imply
+-- (`told`); of several orders it is the one nearest to the order of the rule `preferred`
 abbrev pub IsGoalOf : Bool → RuleValue → RuleValue → Facts → HeldPlan → HeldPlan → Option Goal → Type 0
 IsGoalOf told rule preferred facts held plan goal =
     IsGoalFrom told (are_right (cells_of facts) (position_at (positions_by rule (cells_of facts))) held) (cells_of facts)
     held plan (positions_by rule (cells_of facts)) (positions_by preferred (cells_of facts)) goal
 
--- a step with a goal goes by the order that the held tables imply, towards the goal's tables
+-- the choice of a step: with a goal, it goes by the goal's order towards the goal's tables; without one, towards the
+-- plan
 abbrev pub choice_by : RuleValue → Facts → HeldPlan → Option Goal → Choice
 choice_by rule facts held None = record { by = step_rule rule facts held; goal = None; order = None }
 choice_by rule facts held (Some goal) = record {
@@ -102,27 +105,28 @@ choice_by rule facts held (Some goal) = record {
   order = Some (switches_by (cells_of facts) goal.positions);
 }
 
--- `choice` is how a step chooses entries, and the tables that it goes towards
+-- `choice` is how a step chooses entries, the tables that it goes towards, and the order that it goes by, if the held
+-- tables imply it; `told` says whether it may go by it
 pub record IsChoice (told : Bool) (rule preferred : RuleValue) (facts : Facts) (held plan : HeldPlan) (choice : Choice)
     : Type 0 where
   pub goal : Option Goal
   pub goal_is : IsGoalOf told rule preferred facts held plan goal
   pub is : choice ≡ choice_by rule facts held goal
 
--- the tables to write next, towards the goal if there is one, otherwise towards the plan
+-- the tables to write next, towards the goal's tables if there is a goal, otherwise towards `plan`
 abbrev pub next_towards : RuleValue → Facts → HeldPlan → HeldPlan → Option Goal → HeldPlan
 next_towards rule facts held plan None = next_tables (cells_of facts) (step_rule rule facts held) held plan
 next_towards rule facts held plan (Some goal) = next_tables (cells_of facts) (by_order goal.positions) held goal.tables
 
--- `next` are the tables to write next; `goal` is that of a step by the order that the held tables imply, and `told` says
--- whether the step may go by it
+-- `next` are the tables to write next; `goal` is that of a step by the order that the held tables imply, and `told`
+-- says whether the step may go by it
 pub record IsNextStep (told : Bool) (rule preferred : RuleValue) (facts : Facts) (held plan : HeldPlan)
     (goal : Option Goal) (next : HeldPlan) : Type 0 where
   pub goal_is : IsGoalOf told rule preferred facts held plan goal
   pub is : next ≡ next_towards rule facts held plan goal
 
--- a step was made: `next` are the tables to write next, and `order` has the switches in the order that the step goes by,
--- if the held tables imply it
+-- a step was made: `next` are the tables to write next, and `order` has the switches in the order that the step goes
+-- by, if the held tables imply it
 pub record IsMade (told : Bool) (rule preferred : RuleValue) (facts : Facts) (held plan next : HeldPlan)
     (order : Option (List ℕ)) : Type 0 where
   pub goal : Option Goal
@@ -134,9 +138,9 @@ abbrev pub IsSaid : {W : Type 0} → (W → Option (List ℕ)) → (W → Bool) 
 IsSaid written has_failed old new text = IsTrue (has_failed new) ⊎ Appends (written old) (written new) text
 
 -- There is room for the plan, and no LID moves. `prints` holds of the step's text, and `says` of the text of what can
--- happen while the step is written, and of the order that it goes by, if the held tables imply it. `passed` says whether
--- nothing bad can happen: on one lane, or by lane if a text gives `lanes`. `told` says whether the step may go by such an
--- order, of several the one nearest to the order of the rule `preferred`
+-- happen while the step is written, and of the order that it goes by, if the held tables imply it. `passed` says
+-- whether nothing bad can happen: on one lane, or by lane if a text gives `lanes`. `told` says whether the step may go
+-- by such an order, of several the one nearest to the order of the rule `preferred`.
 pub record IsStep (lmc : ℕ) (told : Bool) (rule preferred : RuleValue) (lanes : Option LanesSaid) (answers : Bool)
     (facts : Facts) (held : HeldPlan) (prints says : List ℕ → Type 0) (passed : Bool) : Type 0 where
   pub has_room : no_room lmc (cells_of facts) ≡ None
@@ -150,24 +154,24 @@ pub record IsStep (lmc : ℕ) (told : Bool) (rule preferred : RuleValue) (lanes 
   pub said : says (verdict_text (cells_of facts) verdict ++ step_order_text (order_of_step (cells_of facts) goal))
   pub judged : IsTrue passed ↔ IsSound verdict
 
--- why there are no next tables, as a fault of the run; `at` is the input of the held tables
+-- the fault of a step as a fault of the run; `at` is the input of the held tables
 abbrev pub fault_of_step : ℕ → StepFault → Fault
 fault_of_step at (steps.Moves lid) = Text at (Moves lid)
 fault_of_step at steps.Memory = Memory
 
--- why there are no next tables: the plan gives a LID of the held tables, the input `at`, to another end port, or memory
--- ran out
+-- there are no next tables for `fault`: the plan gives the LID `moved` of the held tables, the input `at`, to another
+-- end port, or memory ran out
 abbrev pub StopsBy : ℕ → Option ℕ → Fault → Type 0
 StopsBy at moved (Text input (Moves lid)) = (input ≡ at) × (moved ≡ Some lid)
 StopsBy at moved Memory = Unit {0}
 StopsBy at moved fault = ⊥
 
--- why there are no next tables from `held` towards `plan`
+-- there are no next tables from `held`, the input `at`, towards `plan` for `fault`: a LID moves, or memory ran out
 abbrev pub StopsNext : ℕ → HeldPlan → HeldPlan → Fault → Type 0
 StopsNext at held plan = StopsBy at (first_moved held plan)
 
--- why there is no step: the plan has no room, it gives a LID of the held tables, the input `at`, to another end port,
--- the output has failed, or memory ran out
+-- there is no step for `fault`: the plan has no room, it gives a LID of the held tables, the input `at`, to another end
+-- port, the output has failed, or the plan has room and memory ran out
 abbrev pub StopsStep : ℕ → ℕ → RuleValue → Facts → HeldPlan → Bool → Fault → Type 0
 StopsStep at lmc rule facts held sink_failed (NoRoom why) = no_room lmc (cells_of facts) ≡ Some why
 StopsStep at lmc rule facts held sink_failed (Text input (Moves lid)) =
@@ -183,25 +187,26 @@ StopsStep at lmc rule facts held sink_failed fault = ⊥
 abbrev pub reader_of : {S : Type 0} → (S → SourceState) → StepAsked → Reader S StepInputs
 reader_of state asked = step_reader state asked.floor (has_lanes asked.lanes) (is_named asked.held_order)
 
--- the number of texts before the tables
+-- the number of texts that come before the tables
 abbrev pub texts_before : StepAsked → ℕ
 texts_before asked = texts_for asked.rule + texts_if (has_lanes asked.lanes) + texts_if (is_named asked.held_order)
 
--- the step that is asked for was written, from what its inputs say
+-- `prints` and `says` hold of the texts of the step that is asked for, from what its inputs say; `passed` says whether
+-- nothing bad can happen while it is written
 abbrev pub IsStepOf : StepAsked → RuleValue → StepInputs → (List ℕ → Type 0) → (List ℕ → Type 0) → Bool → Type 0
 IsStepOf asked rule told prints says passed =
     IsStep asked.lmc (is_told asked.held_order) rule (preferred_rule asked.held_order rule told.others.order.items)
     told.lanes (has_answers asked.lanes) told.others.read.store told.others.read.held prints says passed
 
 -- the inputs were read (the text that the rule takes, the text of lanes and that of an order, if there are such, the
--- tables and the files), and the step was written
+-- tables and the files), and the step that is asked for was made and written
 abbrev pub HasStepped : {S : Type 0} → (S → SourceState) → StepAsked → List S → List S
     → (List ℕ → Type 0) → (List ℕ → Type 0) → Bool → Type 0
 HasStepped state asked olds news prints says passed =
     WithInputs state (reader_of state asked) asked.rule olds news
     (λ rule told. IsStepOf asked rule told prints says passed)
 
--- why a step over open inputs fails: the inputs are not read, or the step is not written
+-- a step over open inputs fails for `fault`: the inputs are not read, or the step is not made or written
 abbrev pub IsStepFault : {S : Type 0} → (S → SourceState) → StepAsked → List S → List S
     → Bool → Fault → Type 0
 IsStepFault state asked olds news sink_failed fault =

@@ -5,13 +5,14 @@ use Rattle.held_tables.specs.Held.{HeldPlan}
 use Rattle.step_loops.specs.LoopLids.{AreLoopLids}
 use Rattle.step_loops.specs.StepOrder.{NoneShorter, NumbersRise, WaitInCycle}
 
--- a shortest credit loop that some mixture of the two tables makes; empty if numbers rise
+-- the channels are a shortest credit loop that mixtures of the two tables make; for an empty list, numbers of channels
+-- rise in the step
 abbrev pub IsCycleInStep : Cells → HeldPlan → HeldPlan → List ℕ → Type 0
 IsCycleInStep cells held next [] = (numbers : List ℕ) × NumbersRise cells held next numbers
 IsCycleInStep cells held next (channel ∷ later) =
     WaitInCycle cells held next (channel ∷ later) × NoneShorter cells held next (channel ∷ later)
 
--- a credit loop in a step, and for each of its channels the least LID for which packets that hold it wait for the next
--- one
+-- `cycle` is a shortest credit loop in a step, empty if there is none, and `lids` has for each of its channels the
+-- least LID for which packets that hold it wait for the next one
 abbrev pub IsLoopInStep : Cells → HeldPlan → HeldPlan → List ℕ → List ℕ → Type 0
 IsLoopInStep cells held next cycle lids = IsCycleInStep cells held next cycle × AreLoopLids cells held next cycle lids

@@ -1,23 +1,22 @@
 -- The line of the order that a step goes by.
 use Rattle.std.specs.Prelude.{ℕ, List, [], ◌++◌, Option, None, Some, Vec, codes, length, map, option_map}
-use Rattle.std.specs.List.{flat_map, range_with_len}
+use Rattle.std.specs.List.{flat_map}
 use Rattle.std.specs.declared.alloc.Global.{Global}
 use Rattle.smp_bytes.specs.Text.{guid_text}
 use Rattle.subnet_view.specs.Reading.{Cells}
-use Rattle.spread_labels.specs.Orders.{position_of}
+use Rattle.two_orders.specs.Growth.{positions_in}
 use Rattle.next_tables.specs.EntriesByOrder.{switch_at}
 use Rattle.between_orders.specs.Between.{Goal}
 
--- the usable switches in the order of their positions
+-- the GUIDs of the usable switches in the order of their positions
 abbrev pub switches_by : Cells → List ℕ → List ℕ
-switches_by cells positions =
-    map (λ nth. switch_at cells (position_of positions nth)) (range_with_len 0 (length positions))
+switches_by cells positions = map (switch_at cells) (positions_in positions (length positions))
 
--- the switches in the order that a step goes by, if it is one that the held tables imply
+-- the GUIDs of the switches in the order that a step goes by; None if it goes by none that the held tables imply
 abbrev pub order_of_step : Cells → Option Goal → Option (List ℕ)
 order_of_step cells goal = option_map (λ (g : Goal). switches_by cells g.positions) goal
 
--- the switches of an order, as specified
+-- the switches of an order as a list; None for None
 abbrev pub items_of : Option (Vec ℕ Global) → Option (List ℕ)
 items_of order = option_map (λ switches. switches.items) order
 
@@ -25,7 +24,7 @@ items_of order = option_map (λ switches. switches.items) order
 abbrev pub switch_word : ℕ → List ℕ
 switch_word guid = codes " 0x" ++ guid_text guid
 
--- the line of the order that a step goes by, if it is one that the held tables imply
+-- the line of the order that a step goes by; empty for None
 abbrev pub step_order_text : Option (List ℕ) → List ℕ
 step_order_text None = []
 step_order_text (Some switches) = codes "order" ++ flat_map switch_word switches ++ codes "\n"

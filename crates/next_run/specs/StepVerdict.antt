@@ -12,7 +12,6 @@ use Rattle.lane_report.specs.declared.levels_missing.PacketPair.{PacketPair}
 use Rattle.lane_report.specs.LaneText.{lanes_text}
 use Rattle.lane_report.specs.LevelsMissing.{missing_levels}
 use Rattle.lane_report.specs.RunLaneAudit.{IsSoundByLane, seen_of}
-use Rattle.step_loops.specs.StepOrder.{NumbersRise}
 use Rattle.next_run.specs.LoopText.{loop_text}
 use Rattle.next_run.specs.StepLoops.{IsLoopInStep}
 use Rattle.next_run.specs.declared.step_verdict.StepVerdict.{StepVerdict}
@@ -25,25 +24,27 @@ pub data Verdict : Type 0 where
   on_one_lane : List ℕ → List ℕ → Verdict
   by_lane : Listed PacketPair → Option Dropped → List ℕ → Verdict
 
+-- the verdict that the code's value stands for
 abbrev pub verdict_of : StepVerdict → Verdict
 verdict_of (OnOneLane found) = on_one_lane found.channels.items found.lids.items
 verdict_of (ByLane found) = by_lane found.missing found.order.dropped found.order.cycle.items
 
--- numbers of channels rise on one lane in the step from `held` to `next`
-abbrev pub CanRise : Cells → HeldPlan → HeldPlan → Type 0
-CanRise cells held next = (numbers : List ℕ) × NumbersRise cells held next numbers
-
--- what is found by lane in the step from `held` to `next`: the first packets to LIDs of `next` that have no service
--- level; a packet that some mixture of the two tables drops for want of a lane, if one does; and a shortest credit loop
--- of some mixtures
-pub record IsFoundInStep (said : LanesSaid) (answers : Bool) (facts : Facts) (held next : HeldPlan)
-    (missing : Listed PacketPair) (dropped : Option Dropped) (cycle : List ℕ) : Type 0 where
-  pub missing_are : missing ≡ all_listed (most_told false) (missing_levels said (cells_of facts) next)
+-- `dropped` is a packet that, in the step from `held` to `next`, is dropped for want of a lane, by either table, None
+-- if none is; and `cycle` is a shortest credit loop by lane, empty if there is none
+pub record IsOrderInStep (said : LanesSaid) (answers : Bool) (facts : Facts) (held next : HeldPlan)
+    (dropped : Option Dropped) (cycle : List ℕ) : Type 0 where
   pub drop : IsSomeDropByAny (seen_of facts held said) (next ∷ []) answers dropped
   pub waits : IsCycleByAny (seen_of facts held said) (next ∷ []) answers cycle
   pub shortest : NoneShorterByAny (seen_of facts held said) (next ∷ []) answers cycle
 
--- the verdict on the step from `held` to `next`: on one lane, or by lane if a text gives lanes
+-- the findings by lane in the step from `held` to `next`: the first packets to LIDs of `next` without a service level,
+-- a packet that is dropped for want of a lane, if one is, and a shortest credit loop, if there is one
+pub record IsFoundInStep (said : LanesSaid) (answers : Bool) (facts : Facts) (held next : HeldPlan)
+    (missing : Listed PacketPair) (dropped : Option Dropped) (cycle : List ℕ) : Type 0 where
+  pub missing_are : missing ≡ all_listed (most_told false) (missing_levels said (cells_of facts) next)
+  pub order : IsOrderInStep said answers facts held next dropped cycle
+
+-- the verdict is right of the step from `held` to `next`: on one lane, if no text gives lanes (None), or else by lane
 abbrev pub IsVerdict : Option LanesSaid → Bool → Facts → HeldPlan → HeldPlan → Verdict → Type 0
 IsVerdict None answers facts held next (on_one_lane cycle lids) = IsLoopInStep (cells_of facts) held next cycle lids
 IsVerdict None answers facts held next (by_lane missing dropped cycle) = ⊥
@@ -51,12 +52,13 @@ IsVerdict (Some said) answers facts held next (on_one_lane cycle lids) = ⊥
 IsVerdict (Some said) answers facts held next (by_lane missing dropped cycle) =
     IsFoundInStep said answers facts held next missing dropped cycle
 
--- the text of a verdict
+-- the text of a verdict: the credit loop and its LIDs, or what is found by lane
 abbrev pub verdict_text : Cells → Verdict → List ℕ
 verdict_text cells (on_one_lane cycle lids) = loop_text cells cycle lids
 verdict_text cells (by_lane missing dropped cycle) = lanes_text cells missing dropped cycle
 
--- nothing was found that is wrong
+-- nothing wrong was found: no credit loop on one lane; or by lane no credit loop, no dropped packet and no packet
+-- without a service level
 abbrev pub IsSound : Verdict → Type 0
 IsSound (on_one_lane cycle lids) = cycle ≡ []
 IsSound (by_lane missing dropped cycle) = IsSoundByLane missing dropped cycle

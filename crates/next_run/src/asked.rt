@@ -6,14 +6,16 @@ use attr_codec::Lmc;
 use sm_cli::RuleAsked;
 use smp_bytes::Generation;
 
-/// Which order a step goes by if the held tables are not right by the order of the plan's switches, but imply others.
+/// By which order a step goes if the held tables are not right by the order of the plan's switches.
 #[derive(Clone, Copy, Debug, PartialEq, Eq)]
 pub enum HeldOrder {
-    /// None: the step goes by settled entries.
+    /// By none: the step goes by settled entries.
     Ignored,
-    /// Of the orders that the held tables imply, the one nearest to the order of the plan's switches.
+    /// By the one of the orders that the held tables imply that is nearest to the order of the plan's switches. If they
+    /// imply none, the step goes by settled entries.
     NearPlan,
-    /// Of the orders that the held tables imply, the one nearest to the order that a text names.
+    /// By the one of the orders that the held tables imply that is nearest to the order that a text names. If they
+    /// imply none, the step goes by settled entries.
     NearNamed,
 }
 
@@ -44,8 +46,8 @@ impl HeldOrder {
 pub enum StepLanes {
     /// On one lane.
     One,
-    /// Lane by lane, by a text of lanes. If `answers` is set, packets that answer others also have the service level of
-    /// what they answer.
+    /// Lane by lane, by a text of lanes. If `answers` is true, packets that answer others also have the service level
+    /// of what they answer.
     ByText { answers: bool },
 }
 
@@ -74,13 +76,13 @@ impl StepLanes {
 /// The options of a step.
 #[derive(Clone, Copy, Debug, PartialEq, Eq)]
 pub struct StepAsked {
-    /// Each adapter port has 2^LMC LIDs in the plan.
+    /// The LMC of the plan: each adapter port has 2^LMC LIDs.
     pub lmc: Lmc,
-    /// The rule by which the plan is made.
+    /// The plan's rule of routing.
     pub rule: RuleAsked,
-    /// Facts of generations before this one are ignored.
+    /// The least floor of what is read: older facts are ignored.
     pub floor: Generation,
-    /// Which order the step goes by if the held tables are not right by the order of the plan's switches.
+    /// By which order the step goes if the held tables are not right by the order of the plan's switches.
     pub held_order: HeldOrder,
     /// How credit loops are judged.
     pub lanes: StepLanes,

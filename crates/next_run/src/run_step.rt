@@ -1,5 +1,6 @@
 //! A step from held tables towards the plan of the subnet that files describe.
-ghost use Rattle.std.specs.Prelude.{◌≡◌, ◌⊎◌, ◌+◌, ◌++◌, ◌≤◌, Err, IfErr, IfOk, IsTrue, None, OnErr, OnOk, false, length};
+ghost use Rattle.std.specs.Prelude.{◌≡◌, ◌⊎◌, ◌+◌, ◌++◌, ◌≤◌, Err, IfErr, IfOk, IsTrue, None, OnErr, OnOk, false};
+ghost use Rattle.std.specs.Prelude.{length};
 ghost use Rattle.std.specs.Io.KnownBytes.{Appends};
 ghost use Rattle.std.specs.Option.{option_map};
 ghost use Rattle.fact_store.specs.View.{cells_of};
@@ -38,18 +39,22 @@ struct MadeStep {
     order: Option<Vec<Guid>>,
 }
 
-/// Reads the inputs in order (`read_inputs`): the text that the rule takes, the text of lanes and the text of an order, if
-/// there are such, the text of the held tables, then the files. Writes to `sink` the tables to write next, towards the
-/// plan of the subnet that the files describe together. Writes to `told` whether channels can wait for each other by any
-/// mixtures of both tables, in a line like an audit's: on one lane and with a line of LIDs, or lane by lane. If the step
-/// goes by an order that the held tables imply, a last line has the switches in this order. Returns whether the channels
-/// cannot wait for each other and, lane by lane, each packet has a service level and a lane.
+/// Reads the inputs in order (`read_inputs`): the text that the rule takes, the text of lanes and the text of an order,
+/// if there are such, the text of the held tables, then the files. Writes to `sink` the tables to write next, towards
+/// the plan of the subnet that the files describe together. There must be an input for each text.
+///
+/// Writes to `told` what can happen while these tables are written, by any mixture of both tables. On one lane, that is
+/// whether channels can wait for each other, and for which LIDs. Lane by lane, these are the lines of an audit by lane.
+/// If the step goes by an order that the held tables imply, a last line has the switches in this order. Returns whether
+/// no channels can wait for each other and, lane by lane, each packet between joined adapters has a service level and
+/// no packet lacks a lane. A failed write to `told` is no error.
 ///
 /// # Errors
 ///
-/// Returns the first fault of the inputs. If they have none, reports that the plan has no room for its LIDs. If it has
-/// room, reports that it gives a LID to an end port while another one holds it. If an input is refused or memory runs
-/// out, nothing is written. If a write fails, how much was written before is unspecified.
+/// Returns the fault of the first input that is refused. If none is, returns `NoRoom` if the plan has no room for its
+/// LIDs. If it has room, returns a fault of the held tables' text if the plan gives a LID to an end port while another
+/// one holds it, `Memory` if memory is refused, or `Write` if a write to `sink` fails. Nothing is written to `sink`
+/// unless the error is `Write`; how much is written then is unspecified. Nothing is written to `told`.
 pub fn run_next<S: Source, W: Sink, E: Sink>(
     alloc: Global,
     inputs: &mut [S],
@@ -86,8 +91,8 @@ fn texts_before(asked: StepAsked) -> usize
     asked.rule.texts() + texts_if(asked.lanes.has_lanes()) + texts_if(asked.held_order.is_named())
 }
 
-/// Writes the step that is asked for from what the inputs say, towards the plan by `rule`. Writes to `told` what
-/// `run_next` does, and returns what it returns.
+/// Writes the step that is asked for from what the inputs say, towards the plan by `rule`. Writes to `told` and returns
+/// what `run_next` does.
 fn step<W: Sink, E: Sink>(
     alloc: Global,
     asked: StepAsked,
@@ -160,7 +165,7 @@ fn named_rule(
     }
 }
 
-/// Writes what can happen while the step is written, and the order that it goes by, if there is one.
+/// Writes to `told` what can happen while the step is written, and the order that it goes by, if `order` is not `None`.
 fn write_told<E: Sink>(
     told: &mut E,
     from: &Network,
@@ -174,9 +179,10 @@ fn write_told<E: Sink>(
     write_step_order(told, order)
 }
 
-/// Makes the step from the tables of the network `from` towards a plan of the same facts by `rule`. `told` says whether
-/// the step may go by an order that the tables of `from` imply, of several the one nearest to the order of `named`, or
-/// of `rule` if `named` is `None`. `input` is the number of the held tables' text, for faults.
+/// Makes the step from the tables of the network `from` towards `plan`, by `rule`. `from` must have the facts of
+/// `store`. `told` says whether the step may go by an order that the tables of `from` imply, of several the one nearest
+/// to the order of `named`, or of `rule` if `named` is `None`. `input` is the index of the held tables' text, for
+/// faults.
 fn made_step(
     alloc: Global,
     input: usize,
@@ -212,7 +218,8 @@ fn made_step(
 }
 
 /// Returns the tables to write next as `choice` says, from the tables of the network `from`, towards the tables of the
-/// network `plan` if `choice` has no others. `input` is the number of the held tables' text, for faults.
+/// network `plan` if `choice` has no goal. Both networks must have the facts of `store`. `input` is the index of the
+/// held tables' text, for faults.
 fn next_by_choice(
     alloc: Global,
     input: usize,
@@ -235,7 +242,7 @@ fn next_by_choice(
 }
 
 /// Returns the tables to write next by the rule `by`, from the tables of the network `from` towards the tables `goal`.
-/// `input` is the number of the held tables' text, for faults.
+/// `from` must have the facts of `store`. `input` is the index of the held tables' text, for faults.
 fn next_towards_goal(
     alloc: Global,
     input: usize,
@@ -256,8 +263,8 @@ fn next_towards_goal(
     next_towards(alloc, input, by, from, &to)
 }
 
-/// Returns the tables to write next by the rule `by`, from the tables of the network `from` towards the tables of the
-/// network `to`. `input` is the number of the held tables' text, for faults.
+/// Returns the tables to write next by the rule `by`, from the tables of the network `from` towards those of the
+/// network `to`. Both must have the same facts. `input` is the index of the held tables' text, for faults.
 fn next_towards(
     alloc: Global,
     input: usize,
@@ -277,7 +284,7 @@ fn next_towards(
     }
 }
 
-/// Turns the reason why there is no step into a fault of the run. `input` is the number of the held tables' text.
+/// Returns `fault`, why there is no step, as a fault of the run. `input` is the index of the held tables' text.
 fn fault_of_step(input: usize, fault: &StepFault) -> Fault
     ensures { result ≡ fault_of_step input fault.now }
 {

@@ -18,24 +18,27 @@ use ordered_steps::are_right;
 use packet_walks::Network;
 use plan_order::plan_positions;
 use smp_bytes::Guid;
-use std::alloc::{AllocError, Global};
+use std::alloc::Global;
 
-/// How a step chooses entries, and the tables that it goes towards.
+/// How a step chooses entries, and towards what.
 #[derive(Drop)]
 pub(crate) struct StepChoice {
-    /// How the step chooses entries.
+    /// The rule by which a switch takes its next entry.
     pub by: StepRule,
-    /// The tables that the step goes towards, if they are not the plan's.
+    /// The tables in between towards which the step goes, if it goes by an order that the held tables imply. `None` if
+    /// it goes towards the plan's tables.
     pub goal: Option<Held>,
-    /// The usable switches in the order that the step goes by, if it is one that the held tables imply.
+    /// The usable switches in the order that the step goes by, if the held tables imply it, otherwise `None`.
     pub order: Option<Vec<Guid>>,
 }
 
-/// Returns how a step from the tables of `from` towards the tables of `plan` chooses entries. `plan` is the plan of the
-/// same facts by `rule`. The step goes by the order of the plan's switches if the tables of `from` are right by it.
-/// Otherwise, if `told` is true and the tables imply an order, it goes by that order, towards tables between that order
-/// and the plan's; if they imply several, by the one nearest to the order of `named`, or of `rule` if `named` is `None`.
-/// Otherwise it goes by settled entries.
+/// Returns how a step from the tables of `from` towards the tables of `plan` chooses entries. Both networks must have
+/// the facts of `store`; `plan` is meant to hold the plan's tables by `rule`.
+///
+/// The step goes by the order of the plan's switches if the tables of `from` are right by it. Otherwise, if `told` is
+/// true and these tables imply an order, it goes by that order, towards tables between that order and the plan's. Of
+/// several implied orders it takes the one nearest to the order of `named`, or to the order of `rule` if `named` is
+/// `None`. Otherwise it goes by settled entries.
 pub(crate) fn step_choice(
     alloc: Global,
     told: bool,
@@ -44,16 +47,14 @@ pub(crate) fn step_choice(
     named: &Option<Rule>,
     from: &Network,
     plan: &Network,
-) -> Result<StepChoice, AllocError>
+) -> Result<StepChoice, Refused>
     requires from { from.now.facts ≡ store.now }
     requires plan { plan.now.facts ≡ store.now }
     ensures { IfOk result (λ choice. IsChoice told (value_of rule.now)
         (rule_or (value_of rule.now) (option_map value_of named.now)) store.now from.now.held plan.now.held
         (choice_of choice)) }
 {
-    let Ok(positions) = plan_positions(alloc, store, rule) else {
-        return Err(AllocError);
-    };
+    let positions = plan_positions(alloc, store, rule)?;
     if are_right(alloc, from, &positions)? {
         return Ok(StepChoice {
             by: StepRule::ByOrder(positions),
@@ -61,10 +62,7 @@ pub(crate) fn step_choice(
             order: None,
         });
     }
-    let Ok(goal) = goal_between(alloc, told, store, named, from, plan, &positions) else {
-        return Err(AllocError);
-    };
-    match goal {
+    match goal_between(alloc, told, store, named, from, plan, &positions)? {
         Some(StepGoal { positions, tables }) => {
             let switches = switches_by(alloc, from, &positions)?;
             Ok(StepChoice {
@@ -82,8 +80,8 @@ pub(crate) fn step_choice(
 }
 
 /// Returns the goal of a step by the order that the tables of `from` imply, of several the one nearest to the order of
-/// `named`, or to the order of `positions` if `named` is `None`. Returns `None` if `told` is false or they imply no
-/// order.
+/// `named`, or to `positions` if `named` is `None`. Returns `None` if `told` is false or the tables imply no order.
+/// Both networks must have the facts of `store`, and `positions` the position of each usable switch.
 fn goal_between(
     alloc: Global,
     told: bool,

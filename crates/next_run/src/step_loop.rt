@@ -14,7 +14,7 @@ use smp_bytes::Lid;
 use std::alloc::{AllocError, Global};
 use step_loops::{loop_lids, step_order};
 
-/// A shortest credit loop in a step. Both lists are empty if there is none.
+/// A shortest credit loop in a step, and its LIDs. Both lists are empty if there is none.
 #[derive(Drop)]
 pub(crate) struct StepLoop {
     pub channels: Vec<usize>,
@@ -23,7 +23,8 @@ pub(crate) struct StepLoop {
 }
 
 impl StepLoop {
-    /// Returns a shortest credit loop that some mixture of the two tables makes, or an empty one if there is none.
+    /// Returns a shortest credit loop that some mixtures of the two tables make, or an empty one if there is none.
+    /// `held` and `next` must have the same facts.
     pub fn of(alloc: Global, held: &Network, next: &Network) -> Result<Self, AllocError>
         requires { next.now.facts ≡ held.now.facts }
         ensures { IfOk result (λ found. IsLoopInStep (cells_of held.now.facts) held.now.held next.now.held
@@ -41,14 +42,14 @@ impl StepLoop {
         }
     }
 
-    /// Returns whether there is no credit loop.
+    /// Returns whether the credit loop is empty, so that there is none.
     pub fn is_none(&self) -> bool
         ensures { IsTrue result ↔ (self.now.channels.items ≡ []) }
     {
         self.channels.is_empty()
     }
 
-    /// Writes the line of the channels, and then the line of their LIDs, if there are any.
+    /// Writes the line of the channels, or that there are none, and then the line of their LIDs, if there are any.
     pub fn write<W: Sink>(&self, sink: &mut W, network: &Network) -> Result<(), WriteFault>
         ensures { WritesPart W.written W.has_failed result sink.old sink.new
             (loop_text (cells_of network.now.facts) self.now.channels.items self.now.lids.items) }
@@ -58,7 +59,7 @@ impl StepLoop {
     }
 }
 
-/// Writes the line of LIDs, if there are any.
+/// Writes the line of `lids`, or nothing if there are none.
 fn write_lids<W: Sink>(sink: &mut W, lids: &[Lid]) -> Result<(), WriteFault>
     ensures { WritesPart W.written W.has_failed result sink.old sink.new (lids_line lids.now) }
 {
@@ -70,7 +71,7 @@ fn write_lids<W: Sink>(sink: &mut W, lids: &[Lid]) -> Result<(), WriteFault>
     sink.write(b"\n")
 }
 
-/// Writes each LID.
+/// Writes each of `lids`.
 fn write_each_lid<W: Sink>(sink: &mut W, lids: &[Lid]) -> Result<(), WriteFault>
     ensures { WritesPart W.written W.has_failed result sink.old sink.new (flat_map lid_word lids.now) }
 {
@@ -80,7 +81,7 @@ fn write_each_lid<W: Sink>(sink: &mut W, lids: &[Lid]) -> Result<(), WriteFault>
     Ok(())
 }
 
-/// Writes a blank and a LID.
+/// Writes a blank and `lid`.
 fn write_lid<W: Sink>(sink: &mut W, lid: Lid) -> Result<(), WriteFault>
     ensures { WritesPart W.written W.has_failed result sink.old sink.new (lid_word lid) }
 {

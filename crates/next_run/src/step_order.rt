@@ -4,7 +4,6 @@ ghost use Rattle.std.specs.List.{flat_map};
 ghost use Rattle.fact_store.specs.View.{cells_of};
 ghost use Rattle.lft_blocks.specs.WritesPart.{WritesPart};
 ghost use Rattle.byte_io.specs.Writes.{Writes};
-ghost use Rattle.spread_labels.specs.Orders.{position_of};
 ghost use Rattle.next_tables.specs.EntriesByOrder.{switch_at};
 ghost use Rattle.next_run.specs.StepOrderText.{items_of, step_order_text, switch_word, switches_by};
 
@@ -12,9 +11,9 @@ use byte_io::{Sink, WriteFault, write_guid};
 use packet_walks::Network;
 use smp_bytes::Guid;
 use std::alloc::{AllocError, Global};
+use two_orders::positions_in;
 
-/// Returns the usable switches in the order of `positions`, which has the position of each switch by rising GUID. Takes
-/// a step for each pair of switches.
+/// Returns the usable switches in the order of `positions`, which has the position of each switch by rising GUID.
 pub(crate) fn switches_by(
     alloc: Global,
     network: &Network,
@@ -22,21 +21,11 @@ pub(crate) fn switches_by(
 ) -> Result<Vec<Guid>, AllocError>
     ensures { IfOk result (λ switches. switches.items ≡ switches_by (cells_of network.now.facts) positions.now) }
 {
-    (0..positions.len())
-        .map(|nth| switch_at(network, position_of(positions, nth)))
+    let indices = positions_in(alloc, positions, positions.len())?;
+    indices
+        .iter()
+        .map(|index| switch_at(network, *index))
         .collect(alloc)
-}
-
-/// Returns the index of `nth` in `positions`, or the length of the list if it is not there.
-fn position_of(positions: &[usize], nth: usize) -> usize
-    ensures { result ≡ position_of positions.now nth }
-{
-    for (index, position) in positions.iter().enumerate() {
-        if *position == nth {
-            return index;
-        }
-    }
-    positions.len()
 }
 
 /// Returns the GUID of the usable switch at `index`, or 0 if there is none.
@@ -46,7 +35,7 @@ fn switch_at(network: &Network, index: usize) -> Guid
     network.switch(index).unwrap_or(Guid::new(0))
 }
 
-/// Writes the line of the order that a step goes by, or nothing if it goes by no order that the held tables imply.
+/// Writes the line of `order`, by which a step goes, or nothing if it is `None`.
 pub(crate) fn write_step_order<W: Sink>(
     sink: &mut W,
     order: &Option<Vec<Guid>>,
@@ -60,7 +49,7 @@ pub(crate) fn write_step_order<W: Sink>(
     }
 }
 
-/// Writes the line of an order.
+/// Writes the line of an order: the word and each of `switches`.
 fn write_order_line<W: Sink>(sink: &mut W, switches: &[Guid]) -> Result<(), WriteFault>
     ensures { WritesPart W.written W.has_failed result sink.old sink.new (step_order_text (Some switches.now)) }
 {
@@ -69,7 +58,7 @@ fn write_order_line<W: Sink>(sink: &mut W, switches: &[Guid]) -> Result<(), Writ
     sink.write(b"\n")
 }
 
-/// Writes each switch.
+/// Writes each of `switches`, with a blank before it.
 fn write_each_switch<W: Sink>(sink: &mut W, switches: &[Guid]) -> Result<(), WriteFault>
     ensures { WritesPart W.written W.has_failed result sink.old sink.new (flat_map switch_word switches.now) }
 {

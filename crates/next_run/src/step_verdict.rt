@@ -1,13 +1,11 @@
 //! What can happen while a step is written, and its text.
-ghost use Rattle.std.specs.Prelude.{◌≡◌, ◌↔◌, [], ◌∷◌, IfOk, IsTrue};
+ghost use Rattle.std.specs.Prelude.{◌≡◌, ◌↔◌, IfOk, IsTrue};
 ghost use Rattle.fact_store.specs.View.{cells_of};
 ghost use Rattle.lft_blocks.specs.WritesPart.{WritesPart};
-ghost use Rattle.lane_channels.specs.AnyTables.{IsCycleByAny, IsSomeDropByAny, NoneShorterByAny};
-ghost use Rattle.lane_report.specs.RunLaneAudit.{seen_of};
-ghost use Rattle.next_run.specs.StepVerdict.{CanRise, IsFoundInStep, IsSound, IsVerdict, verdict_of, verdict_text};
+ghost use Rattle.next_run.specs.StepVerdict.{IsFoundInStep, IsOrderInStep, IsSound, IsVerdict, verdict_of};
+ghost use Rattle.next_run.specs.StepVerdict.{verdict_text};
 
 use crate::step_loop::StepLoop;
-use audit_channels::ChannelOrder;
 use audit_report::most_told;
 use byte_io::{Sink, WriteFault};
 use fact_store::{Refused, Store};
@@ -16,22 +14,22 @@ use lane_channels::{LaneNetwork, LaneOrder, step_lane_order};
 use lane_report::{LaneFindings, pairs_without_level};
 use lanes_file::Lanes;
 use packet_walks::Network;
-use std::alloc::{AllocError, Global};
-use step_loops::step_order;
+use std::alloc::Global;
 
 /// What can happen while a step is written.
 #[derive(Drop)]
 pub(crate) enum StepVerdict {
-    /// On one lane, a credit loop, if there is one.
+    /// On one lane, a credit loop, or an empty one if there is none.
     OnOneLane(StepLoop),
-    /// Lane by lane, packets without a service level, a packet that is dropped for want of a lane, and a credit loop.
+    /// Lane by lane, packets without a service level, a packet that is dropped for want of a lane, and a credit loop,
+    /// if there are such.
     ByLane(LaneFindings),
 }
 
 impl StepVerdict {
     /// Judges the step from the tables of the network `from` to the tables `next`, by all their mixtures: lane by lane
-    /// if there are `lanes`, otherwise on one lane. If `answers` is set, packets that answer others also have the
-    /// service level of what they answer.
+    /// if there are `lanes`, otherwise on one lane. `from` must have the facts of `store`. If `answers` is true,
+    /// packets that answer others also have the service level of what they answer.
     pub fn of(
         alloc: Global,
         store: &Store,
@@ -53,7 +51,7 @@ impl StepVerdict {
         }
     }
 
-    /// Returns whether nothing was found that is wrong.
+    /// Returns whether nothing wrong was found.
     pub fn is_sound(&self) -> bool
         ensures { IsTrue result ↔ IsSound (verdict_of self.now) }
     {
@@ -63,7 +61,7 @@ impl StepVerdict {
         }
     }
 
-    /// Writes what was found.
+    /// Writes what was found, as lines.
     pub fn write<W: Sink>(&self, sink: &mut W, network: &Network) -> Result<(), WriteFault>
         ensures { WritesPart W.written W.has_failed result sink.old sink.new
             (verdict_text (cells_of network.now.facts) (verdict_of self.now)) }
@@ -75,7 +73,8 @@ impl StepVerdict {
     }
 }
 
-/// Finds what can happen lane by lane in the step from the tables of `from` to those of `after`.
+/// Finds what can happen lane by lane in the step from the tables of `from` to those of `after`. Both must have the
+/// same facts. Packets without a service level are those of the tables of `after`.
 fn lane_findings(
     alloc: Global,
     lanes: &Lanes,
@@ -93,8 +92,9 @@ fn lane_findings(
 }
 
 /// Finds a shortest credit loop of channels by lane, and a packet that is dropped for want of a lane, in the step from
-/// the tables of `from` to those of `after`. There is neither, whatever lanes packets take, if numbers of channels rise
-/// on one lane in the step and each packet has a lane below 15: only otherwise packets are followed by lane.
+/// the tables of `from` to those of `after`. Both must have the same facts. Follows packets by lane only if the step
+/// can make a credit loop on one lane, or if some level that packets have lacks a lane below 15. Otherwise there is
+/// neither, whatever lanes packets take.
 fn order_in_step(
     alloc: Global,
     lanes: &Lanes,
@@ -103,14 +103,10 @@ fn order_in_step(
     after: &Network,
 ) -> Result<LaneOrder, Refused>
     requires { after.now.facts ≡ from.now.facts }
-    ensures cycle { IfOk result (λ found. IsCycleByAny (seen_of from.now.facts from.now.held lanes.now) (after.now.held ∷ []) answers
-        found.cycle.items) }
-    ensures shortest { IfOk result (λ found.
-        NoneShorterByAny (seen_of from.now.facts from.now.held lanes.now) (after.now.held ∷ []) answers found.cycle.items) }
-    ensures dropped { IfOk result (λ found.
-        IsSomeDropByAny (seen_of from.now.facts from.now.held lanes.now) (after.now.held ∷ []) answers found.dropped) }
+    ensures { IfOk result (λ found. IsOrderInStep lanes.now answers from.now.facts from.now.held after.now.held
+        found.dropped found.cycle.items) }
 {
-    if lanes.carries_all() && can_rise(alloc, from, after)? {
+    if lanes.carries_all() && StepLoop::of(alloc, from, after)?.is_none() {
         return Ok(LaneOrder {
             cycle: Vec::new(alloc),
             dropped: None,
@@ -118,15 +114,4 @@ fn order_in_step(
     }
     let by_lane = LaneNetwork::of(alloc, from, lanes)?;
     Ok(step_lane_order(alloc, &by_lane, after, answers)?)
-}
-
-/// Returns true only if numbers of channels rise on one lane in the step from the tables of `from` to those of `after`.
-fn can_rise(alloc: Global, from: &Network, after: &Network) -> Result<bool, AllocError>
-    requires { after.now.facts ≡ from.now.facts }
-    ensures { IfOk result (λ can. IsTrue can → CanRise (cells_of from.now.facts) from.now.held after.now.held) }
-{
-    match step_order(alloc, from, after)? {
-        ChannelOrder::Rises(_) => Ok(true),
-        ChannelOrder::Cycle(_) => Ok(false),
-    }
 }

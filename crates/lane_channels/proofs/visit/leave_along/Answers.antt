@@ -37,7 +37,8 @@ returns-in_ok-push-clause-left c =
     (walking (record { waits = c.record.new.waits; marks = old.marks; dropped = old.dropped; stops = c.push.new.self })) c.lane_number-channel.result
     (subst (λ p. lane p < 15) c.port_of.ensures carries.1)
     (c.lane_number-channel.ensures.is ∙ ap (lane_number (c.args.stop / 256) edge.port) (carries.0 ∙ ap lane c.port_of.ensures))
-    (subst (λ into. IsWithNexts old.waits c.lane_number-channel.result (LeavesAlong said cells (HasEdge columns edge.to) c.args.level edge.to into) c.record.new.waits)
+    (subst (λ into. IsWithNexts old.waits c.lane_number-channel.result (LeavesAlong said cells (HasEdge columns edge.to) c.args.level edge.to into)
+    c.record.new.waits)
     c.port_across-into_there.ensures c.in_ok-record.ensures)
     refl
     (inl (
@@ -60,6 +61,7 @@ returns-else-to-switch_count-clause-left c =
     (walking (record { waits = c.record.new.waits; marks = old.marks; dropped = old.dropped; stops = old.stops })) c.lane_number-channel.result
     (subst (λ p. lane p < 15) c.port_of.ensures carries.1)
     (c.lane_number-channel.ensures.is ∙ ap (lane_number (c.args.stop / 256) edge.port) (carries.0 ∙ ap lane c.port_of.ensures))
-    (subst (λ into. IsWithNexts old.waits c.lane_number-channel.result (LeavesAlong said cells (HasEdge columns edge.to) c.args.level edge.to into) c.record.new.waits)
+    (subst (λ into. IsWithNexts old.waits c.lane_number-channel.result (LeavesAlong said cells (HasEdge columns edge.to) c.args.level edge.to into)
+    c.record.new.waits)
     c.port_across-into_there.ensures c.in_ok-record.ensures)
     refl (inr (omega arith, refl))

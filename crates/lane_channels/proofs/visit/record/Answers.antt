@@ -9,7 +9,8 @@ use Rattle.lane_channels.proofs.visit.record.Goals as goal
 
 pub loop-nth-init : goal.loop-nth-init
 loop-nth-init c =
-    none_yet c.args.by_lane.now.said (cells_of c.args.by_lane.now.seen.facts) c.args.level c.args.index c.args.into c.args.channel (columns_in c.args.columns.now)
+    none_yet c.args.by_lane.now.said (cells_of c.args.by_lane.now.seen.facts) c.args.level c.args.index c.args.into c.args.channel
+    (columns_in c.args.columns.now)
     c.args.waits.now
 
 pub loop-nth-preserved : goal.loop-nth-preserved

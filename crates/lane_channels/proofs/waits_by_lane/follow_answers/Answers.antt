@@ -15,7 +15,8 @@ pub loop-nth-preserved : goal.loop-nth-preserved
 loop-nth-preserved c =
     one_owner c.args.by_lane.now.said (cells_of c.args.by_lane.now.seen.facts) (columns_in c.args.columns.now) c.args.columns.now.lid (walked c.args.walks.now)
     (walked c.loop-nth.walks) (walked c.follow_answers_to.new.walks) c.args.owners.now c.args.lids.now c.loop-nth.nth c.index-owners-nth.result c.args.first
-    c.loop-nth.invariant (item_there c.args.owners.now c.loop-nth.nth c.index-owners-nth.result (omega arith) c.index-owners-nth.is) c.in_ok-follow_answers_to.ensures
+    c.loop-nth.invariant (item_there c.args.owners.now c.loop-nth.nth c.index-owners-nth.result (omega arith) c.index-owners-nth.is)
+    c.in_ok-follow_answers_to.ensures
 
 pub returns : goal.returns
 returns c =

@@ -17,7 +17,8 @@ pub loop-index-preserved : goal.loop-index-preserved
 loop-index-preserved c =
     one_asked c.args.by_lane.now.said (cells_of c.args.by_lane.now.seen.facts) (columns_in c.args.columns.now) c.args.columns.now.lid (walked c.args.walks.now)
     (walked c.loop-index.walks) (walked c.walk_at_level.new.walks) c.args.asker.now c.args.lids.now c.loop-index.index c.index-lids-index.result
-    c.level_from-level.result c.args.first c.loop-index.invariant (item_there c.args.lids.now c.loop-index.index c.index-lids-index.result (omega arith) c.index-lids-index.is)
+    c.level_from-level.result c.args.first c.loop-index.invariant
+    (item_there c.args.lids.now c.loop-index.index c.index-lids-index.result (omega arith) c.index-lids-index.is)
     (c.level_from-level.ensures.is ∙ ap (λ (s : LanesSaid). level_of s c.args.asker.now.node c.args.asker.now.port c.index-lids-index.result) c.lanes.ensures)
     c.in_ok-walk_at_level.ensures
 

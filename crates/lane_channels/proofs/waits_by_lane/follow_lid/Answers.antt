@@ -14,7 +14,8 @@ loop-index-init c = no_senders c.args.by_lane.now c.args.asked.now.answers (colu
 
 pub loop-index-preserved : goal.loop-index-preserved
 loop-index-preserved c =
-    one_sender c.args.by_lane.now c.args.asked.now.answers (columns_in c.args.columns.now) c.args.columns.now.lid (walked c.args.walks.now) (walked c.loop-index.walks)
+    one_sender c.args.by_lane.now c.args.asked.now.answers (columns_in c.args.columns.now) c.args.columns.now.lid (walked c.args.walks.now)
+    (walked c.loop-index.walks)
     (walked c.follow_sender.new.walks) c.loop-index.index c.loop-index.invariant c.in_ok-follow_sender.ensures
 
 pub returns : goal.returns
@@ -22,10 +23,12 @@ returns c =
     let s = c.args.by_lane.now in
     let cells = cells_of s.seen.facts in
     let many : length c.sources-index-end.result.now ≡ length (end_ports cells) =
-    ap length c.sources-index-end.ensures ∙ (λ i. length (map (sender_of (cells_of (c.network.ensures i).facts)) (end_ports (cells_of (c.network.ensures i).facts))))
+    ap length c.sources-index-end.ensures
+    ∙ (λ i. length (map (sender_of (cells_of (c.network.ensures i).facts)) (end_ports (cells_of (c.network.ensures i).facts))))
     ∙ length-map (end_ports cells) (sender_of cells) in
     let whole : c.loop-index.index ≡ length (end_ports cells) = omega arith in
     all_senders s c.args.asked.now.answers (columns_in c.args.columns.now) c.args.columns.now.lid (walked c.args.walks.now) (walked c.loop-index.walks)
     (walked c.loop-index.walks)
-    (subst (λ (n : ℕ). AreFollowed s.said cells (columns_in c.args.columns.now) c.args.columns.now.lid (SentBySome s c.args.asked.now.answers c.args.columns.now.lid n)
+    (subst (λ (n : ℕ). AreFollowed s.said cells (columns_in c.args.columns.now) c.args.columns.now.lid
+    (SentBySome s c.args.asked.now.answers c.args.columns.now.lid n)
     (walked c.args.walks.now) (walked c.loop-index.walks)) whole c.loop-index.invariant)

@@ -7,7 +7,8 @@ use Rattle.lane_channels.proofs.walk.walk.Goals as goal
 
 pub loop-step-init : goal.loop-step-init
 loop-step-init c =
-    walk_begins c.args.by_lane.now.said (cells_of c.args.by_lane.now.seen.facts) (columns_in c.args.columns.now) c.args.columns.now.lid c.args.level c.args.first
+    walk_begins c.args.by_lane.now.said (cells_of c.args.by_lane.now.seen.facts) (columns_in c.args.columns.now) c.args.columns.now.lid c.args.level
+    c.args.first
     c.begin.new.stops.items (walked c.args.walks.now) c.in_ok-begin.ensures
 
 pub visit_if_new-requires-clause-waits : goal.visit_if_new-requires-clause-waits
@@ -30,7 +31,8 @@ pub loop-step-preserved : goal.loop-step-preserved
 loop-step-preserved c =
     let old = c.loop-step.walks in
     let popped = walking (record { waits = old.waits; marks = old.marks; dropped = old.dropped; stops = c.pop.new.self }) in
-    visited_if_new c.args.by_lane.now.said (cells_of c.args.by_lane.now.seen.facts) (columns_in c.args.columns.now) c.args.columns.now.lid c.args.level c.args.first
+    visited_if_new c.args.by_lane.now.said (cells_of c.args.by_lane.now.seen.facts) (columns_in c.args.columns.now) c.args.columns.now.lid c.args.level
+    c.args.first
     old.stops.items c.in-Some.stop (walked c.args.walks.now) popped (walking c.visit_if_new.new.walks) c.loop-step.invariant
     (taken old.stops.items c.pop.new.self.items c.in-Some.stop c.in-Some.ensures.items) c.in_ok-visit_if_new.ensures
     (c.loop-step.invariant.as_many_marks ∙ c.requires.marks) c.requires.level

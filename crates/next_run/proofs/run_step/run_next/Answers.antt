@@ -1,7 +1,6 @@
 -- The inputs were read, and the step goes on.
 use Rattle.std.proofs.Common.{Bool, inl, inr, subst}
 use Rattle.std.proofs.lemmas.Result.{IfErr-weaker, IfOk-weaker}
-use Rattle.std.specs.Prelude.{IfErr}
 use Rattle.lft_blocks.specs.Rules.{value_of}
 use Rattle.sm_cli.specs.InputReaders.{step_reader}
 use Rattle.sm_cli.specs.Inputs.{AreInputs, IsInputFault}
@@ -28,3 +27,10 @@ returns-in-Ok-clause-refused g c =
       inputs = subst Read (λ i. (c.has_lanes.ensures i, c.is_named.ensures i)) c.in-Ok.ensures.read;
       so = why;
     })) c.step.ensures.refused
+
+pub returns-in-Err-clause-refused : goal.returns-in-Err-clause-refused
+returns-in-Err-clause-refused g c =
+    let state = g.S.Source.state in
+    let Refused : Bool × Bool → Type 0 = λ x. IsInputFault state (step_reader state c.args.asked.floor x.0 x.1) c.args.asked.rule
+    c.args.inputs.now c.read_inputs.new.inputs c.in-Err.fault in
+    inl (subst Refused (λ i. (c.has_lanes.ensures i, c.is_named.ensures i)) c.in-Err.ensures.refused)

@@ -1,0 +1,106 @@
+//! The end ports whose packets may lack a service level, for 64 LIDs at a time.
+ghost use Rattle.std.specs.Prelude.{◌≡◌, IfOk};
+ghost use Rattle.lane_report.specs.LevelsMissing.{IsRow, gives_each, is_full, row_of, sender_at};
+
+use audit_counts::Site;
+use lanes_file::{Lanes, LevelBlock};
+use std::alloc::{AllocError, Global};
+
+/// The first number above all service levels.
+const LEVEL_END: u8 = 16;
+
+/// An end port, and the service levels of its packets to 64 LIDs.
+#[derive(Clone, Copy, Debug, PartialEq, Eq)]
+pub(crate) struct RowSender {
+    pub site: Site,
+    /// The block of levels for these LIDs, or `None` if the text has none.
+    pub block: Option<LevelBlock>,
+}
+
+/// The end ports whose packets may lack a service level for one of 64 LIDs in a row.
+#[derive(Drop)]
+pub(crate) struct LevelRow {
+    /// The number of the blocks: they are of the 64 LIDs from 64 times this number on.
+    pub number: u16,
+    /// The end ports that have no block with a level for each of these LIDs, in order.
+    pub senders: Vec<RowSender>,
+}
+
+impl LevelRow {
+    /// Returns the row of `sites` for the LIDs from 64 times `number` on. Takes a binary search for each site.
+    pub(crate) fn of(
+        alloc: Global,
+        lanes: &Lanes,
+        sites: &[Site],
+        number: u16,
+    ) -> Result<Self, AllocError>
+        ensures senders { IfOk result (λ row. IsRow lanes.now sites.now row.number row.senders.items) }
+        ensures number { IfOk result (λ row. row.number ≡ number) }
+    {
+        let senders = senders_of(alloc, lanes, sites, number)?;
+        Ok(LevelRow { number, senders })
+    }
+
+    /// Returns the row of `sites` for the LIDs from 64 times `number` on. `self` must be a row of `sites` by `lanes`.
+    /// Takes constant time if it has this number already.
+    pub(crate) fn turned_to(
+        self,
+        alloc: Global,
+        lanes: &Lanes,
+        sites: &[Site],
+        number: u16,
+    ) -> Result<Self, AllocError>
+        requires { IsRow lanes.now sites.now self.number self.senders.items }
+        ensures senders { IfOk result (λ row. IsRow lanes.now sites.now row.number row.senders.items) }
+        ensures number { IfOk result (λ row. row.number ≡ number) }
+    {
+        if self.number == number {
+            Ok(self)
+        } else {
+            LevelRow::of(alloc, lanes, sites, number)
+        }
+    }
+}
+
+/// Returns those of `sites` that have no block `number` with a level for each of its LIDs, with their blocks.
+fn senders_of(
+    alloc: Global,
+    lanes: &Lanes,
+    sites: &[Site],
+    number: u16,
+) -> Result<Vec<RowSender>, AllocError>
+    ensures { IfOk result (λ senders. senders.items ≡ row_of lanes.now sites.now number) }
+{
+    sites
+        .iter()
+        .map(|site| sender_at(lanes, number, site))
+        .filter(|sender| !is_full(&sender.block))
+        .collect(alloc)
+}
+
+/// Returns `site` with its block `number`, if the text has one.
+fn sender_at(lanes: &Lanes, number: u16, site: &Site) -> RowSender
+    ensures { result ≡ sender_at lanes.now number site.now }
+{
+    RowSender {
+        site: *site,
+        block: lanes.block(site.port.node, site.port.port, number).copied(),
+    }
+}
+
+/// Returns whether there is a block, and each of its bytes is a service level.
+fn is_full(block: &Option<LevelBlock>) -> bool
+    ensures { result ≡ is_full block.now }
+{
+    match block {
+        Some(block) => gives_each(block),
+        None => false,
+    }
+}
+
+/// Returns whether each byte of `block` is a service level.
+fn gives_each(block: &LevelBlock) -> bool
+    ensures { result ≡ gives_each block.now }
+{
+    (0..64).all(|index| block.levels[index] < LEVEL_END)
+}
