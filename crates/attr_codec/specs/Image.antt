@@ -2,7 +2,7 @@
 use Rattle.std.specs.Prelude.{ℕ, ◌^◌, ◌<◌, List, [], ◌∷◌, replicate}
 use Rattle.smp_bytes.specs.Field.{Entry, with_numbers}
 
--- 64 bytes that hold these entries, and 0 elsewhere
+-- 64 bytes that have the numbers of the entries in their fields, and 0 elsewhere
 abbrev pub image : List Entry → List ℕ
 image entries = with_numbers entries (replicate 64 0)
 

@@ -5,43 +5,55 @@ use Rattle.smp_bytes.specs.Field.{Field, Entry, number_in}
 use Rattle.attr_codec.specs.Image.{AllFit, image}
 use Rattle.attr_codec.specs.declared.node_info.NodeInfo.{NodeInfo}
 
+-- BaseVersion, a component of NodeInfo
 abbrev pub base_version : Field
 base_version = record { at = 0; len = 1 }
 
+-- ClassVersion, a component of NodeInfo
 abbrev pub class_version : Field
 class_version = record { at = 1; len = 1 }
 
+-- NodeType, a component of NodeInfo
 abbrev pub node_type : Field
 node_type = record { at = 2; len = 1 }
 
+-- NumPorts, a component of NodeInfo
 abbrev pub num_ports : Field
 num_ports = record { at = 3; len = 1 }
 
+-- SystemImageGUID, a component of NodeInfo
 abbrev pub system_image_guid : Field
 system_image_guid = record { at = 4; len = 8 }
 
+-- NodeGUID, a component of NodeInfo
 abbrev pub node_guid : Field
 node_guid = record { at = 12; len = 8 }
 
+-- PortGUID, a component of NodeInfo
 abbrev pub port_guid : Field
 port_guid = record { at = 20; len = 8 }
 
+-- PartitionCap, a component of NodeInfo
 abbrev pub partition_cap : Field
 partition_cap = record { at = 28; len = 2 }
 
+-- DeviceID, a component of NodeInfo
 abbrev pub device_id : Field
 device_id = record { at = 30; len = 2 }
 
+-- Revision, a component of NodeInfo
 abbrev pub revision : Field
 revision = record { at = 32; len = 4 }
 
+-- LocalPortNum, a component of NodeInfo
 abbrev pub local_port_num : Field
 local_port_num = record { at = 36; len = 1 }
 
+-- VendorID, a component of NodeInfo
 abbrev pub vendor_id : Field
 vendor_id = record { at = 37; len = 3 }
 
--- the value that 64 bytes spell
+-- the NodeInfo that 64 bytes spell
 abbrev pub node_info_in : List ℕ → NodeInfo
 node_info_in bytes =
     record {
@@ -59,7 +71,7 @@ node_info_in bytes =
       vendor_id = number_in vendor_id bytes;
     }
 
--- each field with its number
+-- each field of NodeInfo with its number in `info`
 abbrev pub entries_of : NodeInfo → List Entry
 entries_of info =
     record { field = base_version; number = info.base_version }
@@ -79,6 +91,6 @@ entries_of info =
 abbrev pub node_info_bytes : NodeInfo → List ℕ
 node_info_bytes info = image (entries_of info)
 
--- each number fits its field
+-- each number of `info` fits its field of NodeInfo
 abbrev pub FitsNodeInfo : NodeInfo → Type 0
 FitsNodeInfo info = AllFit (entries_of info)

@@ -1,4 +1,4 @@
--- The value of an attribute is read back from the bytes that spell it.
+-- Laws of spelling: NodeInfo and SMInfo are read back from the bytes that spell them.
 use Rattle.std.proofs.Common.{◌≡◌, ℕ, zero, suc, ◌<◌, ◌^◌, ◌∙◌, List, [], ◌∷◌, refl, sym, subst, true, replicate, length, get_or, arith}
 use Rattle.std.specs.Prelude.{Some, slice_get}
 use Rattle.smp_bytes.specs.Field.{Field, Entry, are_apart, bits_in, number_in, replaced, with_bits}
@@ -10,7 +10,7 @@ use Rattle.attr_codec.specs.declared.sm_info.SmInfo.{SmInfo}
 use Rattle.attr_codec.specs.SmInfo.{FitsSmInfo, guid, sm_key, act_count, priority, sm_state, sm_info_in, sm_info_bytes, sm_info_entries}
 use Rattle.attr_codec.specs.NodeInfo.{FitsNodeInfo, node_info_in, node_info_bytes, entries_of}
 
--- if all entries fit, the i-th one does
+-- if all entries fit their fields, the one at index `i` does
 fits_at : (entries : List Entry) (i : ℕ) (e : Entry) → AllFit entries → slice_get entries i ≡ Some e → e.number
     < 256 ^ e.field.len
 fits_at [] i e fits there = cc
@@ -18,13 +18,15 @@ fits_at (x ∷ entries) zero e fits there = let same : x ≡ e =
     cc in subst (λ (y : Entry). y.number < 256 ^ y.field.len) same fits.0
 fits_at (x ∷ entries) (suc i) e fits there = fits_at entries i e fits.1 there
 
--- the i-th field of an image holds its number
+-- if entries fit and their fields are apart and within 64 bytes, the image has the number of the one at index `i` in
+-- its field
 pub number_in-image : (entries : List Entry) → AllFit entries → (i : ℕ) (e : Entry) → are_all_apart 64 entries ≡ true
     → slice_get entries i ≡ Some e
     → number_in e.field (image entries) ≡ e.number
 number_in-image entries fits i e apart there =
     number_in-with_numbers 64 entries (replicate 64 0) i e refl apart there (fits_at entries i e fits there)
 
+-- NodeInfo whose numbers fit their fields is read back from the bytes that spell it
 pub node_info_reads_back : (info : NodeInfo) → FitsNodeInfo info → node_info_in (node_info_bytes info) ≡ info
 node_info_reads_back info fits =
     λ j. record {
@@ -42,11 +44,12 @@ node_info_reads_back info fits =
       vendor_id = number_in-image (entries_of info) fits 11 _ refl refl j;
     }
 
--- the byte with the priority and the state is 0 before they are written
+-- the byte of priority and state is 0 before these are written
 blank : (info : SmInfo) → get_or (image (sm_info_entries info)) 20 0 ≡ 0
 blank info = sym (byte-number_in 20 (image (sm_info_entries info)))
     ∙ number_in-with_numbers_apart 64 (record { at = 20; len = 1 }) (sm_info_entries info) (replicate 64 0) refl refl
 
+-- SMInfo whose numbers fit their fields is read back from the bytes that spell it
 pub sm_info_reads_back : (info : SmInfo) → FitsSmInfo info → sm_info_in (sm_info_bytes info) ≡ info
 sm_info_reads_back info fits =
     let whole = image (sm_info_entries info) in

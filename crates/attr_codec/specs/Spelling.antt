@@ -1,27 +1,27 @@
 -- How the 64 bytes of an attribute relate to the value that they spell.
 use Rattle.std.specs.Prelude.{◌≡◌, ℕ, ◌-◌, ◌<◌, ◌++◌, List, All, drop, length, replicate, take}
 
--- 64 bytes, each a number below 256
+-- `bytes` are 64 numbers, each below 256
 pub record Are64Bytes (bytes : List ℕ) : Type 0 where
   pub count : length bytes ≡ 64
   pub bytes_fit : All (λ byte. byte < 256) bytes
 
--- any 64 bytes are encoded again as they were decoded
+-- any 64 bytes are spelled again by the value that they spell
 abbrev pub KeepsAllBytes : {V : Type 0} → (List ℕ → V) → (V → List ℕ) → Type 0
 KeepsAllBytes value_in bytes_of = (bytes : List ℕ) → Are64Bytes bytes → bytes_of (value_in bytes) ≡ bytes
 
--- the first `count` of any 64 bytes are encoded again as they were decoded; the others are reserved, and encoded as 0
+-- the value that any 64 bytes spell spells their first `count` bytes again, and 0 for the others, which are reserved
 abbrev pub KeepsFirstBytes : {V : Type 0} → ℕ → (List ℕ → V) → (V → List ℕ) → Type 0
 KeepsFirstBytes count value_in bytes_of =
     (bytes : List ℕ) → Are64Bytes bytes → bytes_of (value_in bytes) ≡ take count bytes ++ replicate (64 - count) 0
 
--- 64 bytes that hold each field of `value`, and 0 after the first `count` bytes
+-- `bytes` are 64, spell `value`, and are 0 after the first `count`
 pub record Spells {V : Type 0} (count : ℕ) (value_in : List ℕ → V) (value : V) (bytes : List ℕ) : Type 0 where
   pub whole : length bytes ≡ 64
   pub fields : value_in bytes ≡ value
   pub reserved : drop count bytes ≡ replicate (64 - count) 0
 
--- `bytes_of` spells each value, with 0 after the first `count` bytes
+-- `bytes_of` spells each value that satisfies `is_value` (`Spells`)
 abbrev pub SpellsEachValue : {V : Type 0} → ℕ → (List ℕ → V) → (V → List ℕ) → (V → Type 0) → Type 0
 SpellsEachValue {V = V} count value_in bytes_of is_value =
     (value : V) → is_value value → Spells count value_in value (bytes_of value)

@@ -4,7 +4,8 @@ ghost use Rattle.smp_bytes.specs.Field.{bits_in, with_bits};
 
 use smp_bytes::wire::{bits_at, put_bits};
 
-/// Returns the number in `WIDTH` bits of the byte at `AT`. The lowest of them is bit `SHIFT`.
+/// Returns the number in `WIDTH` bits of the byte at `AT`. The lowest of them is bit `SHIFT`. There must be a bit, and
+/// all must lie within this byte.
 pub fn bits<const AT: usize, const SHIFT: u32, const WIDTH: u32>(bytes: &[u8; 64]) -> u8
     requires offset { AT < 64 }
     requires some { 1 ≤ WIDTH }
@@ -15,7 +16,8 @@ pub fn bits<const AT: usize, const SHIFT: u32, const WIDTH: u32>(bytes: &[u8; 64
     bits_at(bytes, AT, SHIFT, WIDTH)
 }
 
-/// Writes `number` into `WIDTH` bits of the byte at `AT`. The lowest of them is bit `SHIFT`. All other bits stay.
+/// Writes `number` into `WIDTH` bits of the byte at `AT`. The lowest of them is bit `SHIFT`. There must be a bit, all
+/// must lie within this byte, and `number` must fit in them. All other bits stay.
 pub fn with_bits<const AT: usize, const SHIFT: u32, const WIDTH: u32>(
     bytes: &mut [u8; 64],
     number: u8,

@@ -23,7 +23,7 @@ impl Model for LftBlock {
 }
 
 impl LftBlock {
-    /// Returns the port of entry `i`.
+    /// Returns the port of entry `i`, which must be less than 64.
     pub fn port(&self, i: usize) -> PortNum
         requires { i < 64 }
         ensures { result ≡ slice_index self.now i }
@@ -31,7 +31,7 @@ impl LftBlock {
         PortNum::new(self.ports[i])
     }
 
-    /// Sets the port of entry `i`.
+    /// Sets the port of entry `i`, which must be less than 64.
     pub fn set_port(&mut self, i: usize, to: PortNum)
         requires { i < 64 }
         ensures { self.new ≡ slice_set self.old i to }

@@ -168,7 +168,7 @@ impl PortInfo {
         port_info!(bits link_speed_supported (&self.bytes))
     }
 
-    /// Writes LinkSpeedSupported, 4 bits.
+    /// Writes LinkSpeedSupported. `to` must have at most 4 bits.
     pub fn set_link_speed_supported(&mut self, to: u8)
         requires { to < 2 ^ 4 }
         ensures { self.new ≡ with_bits link_speed_supported to self.old }
@@ -184,7 +184,7 @@ impl PortInfo {
         port_info!(bits port_physical_state (&self.bytes))
     }
 
-    /// Writes PortPhysicalState, 4 bits.
+    /// Writes PortPhysicalState. `to` must have at most 4 bits.
     pub fn set_port_physical_state(&mut self, to: u8)
         requires { to < 2 ^ 4 }
         ensures { self.new ≡ with_bits port_physical_state to self.old }
@@ -200,7 +200,7 @@ impl PortInfo {
         port_info!(bits link_down_default_state (&self.bytes))
     }
 
-    /// Writes LinkDownDefaultState, 4 bits.
+    /// Writes LinkDownDefaultState. `to` must have at most 4 bits.
     pub fn set_link_down_default_state(&mut self, to: u8)
         requires { to < 2 ^ 4 }
         ensures { self.new ≡ with_bits link_down_default_state to self.old }
@@ -216,7 +216,7 @@ impl PortInfo {
         port_info!(bits m_key_protect_bits (&self.bytes))
     }
 
-    /// Writes M_KeyProtectBits, 2 bits.
+    /// Writes M_KeyProtectBits. `to` must have at most 2 bits.
     pub fn set_m_key_protect_bits(&mut self, to: u8)
         requires { to < 2 ^ 2 }
         ensures { self.new ≡ with_bits m_key_protect_bits to self.old }

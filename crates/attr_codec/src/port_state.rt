@@ -21,7 +21,7 @@ const STATES: [PortState; 5] = [
 ];
 
 impl PortState {
-    /// Returns the state with this number, or `None` for the reserved numbers, 5 and above.
+    /// Returns the state with `number`, or `None` for the reserved numbers, 5 and above.
     pub fn from_number(number: u8) -> Option<Self>
         ensures { result ≡ state_of_number number }
     {

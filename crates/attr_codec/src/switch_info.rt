@@ -205,7 +205,7 @@ impl SwitchInfo {
         switch_info!(bits life_time_value (&self.bytes))
     }
 
-    /// Writes LifeTimeValue, 5 bits.
+    /// Writes LifeTimeValue. `to` must have at most 5 bits.
     pub fn set_life_time_value(&mut self, to: u8)
         requires { to < 2 ^ 5 }
         ensures { self.new ≡ with_bits life_time_value to self.old }

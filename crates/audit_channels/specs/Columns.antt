@@ -19,29 +19,30 @@ pub record TakesAcross (before now : List (Option Edge)) (vertex channel next : 
   pub channel_is : channel ≡ number_of vertex first
   pub next_is : next ≡ number_of first.to second
 
--- no packet leaves `vertex` and then the next vertex by edges of these columns
+-- no packet leaves `vertex` by its edge in `before` and then the next vertex by that one's edge in `now`
 abbrev pub TakesNone : List (Option Edge) → List (Option Edge) → ℕ → Type 0
 TakesNone before now vertex = (channel next : ℕ) → TakesAcross before now vertex channel next → ⊥
 
--- `turn` has two channels that a packet takes one after the other, from `vertex` on; both are channels of the columns'
--- vertices
+-- `turn` has two channels that a packet takes one after the other, from `vertex` on, by `before` and then by `now`;
+-- both are channels of vertices of these columns
 pub record IsTurn (before now : List (Option Edge)) (vertex : ℕ) (turn : Turn) : Type 0 where
   pub takes : TakesAcross before now vertex turn.channel turn.next
   pub channel_within : turn.channel < 256 * length before
   pub next_within : turn.next < 256 * length now
 
--- a packet takes `channel` and then `next` at one of the first `count` vertices
+-- a packet takes `channel` by `before` and then `next` by `now`, from one of the first `count` vertices on
 abbrev pub TakesAmong : ℕ → List (Option Edge) → List (Option Edge) → ℕ → ℕ → Type 0
 TakesAmong count before now channel next = (vertex : ℕ) × (vertex < count) × TakesAcross before now vertex channel next
 
--- `new` is `old`, and a channel also follows another if a packet takes them in this order at one of the first `count`
--- vertices
+-- in `new` a channel follows another exactly if it does in `old`, or a packet takes both in this order, by `before` and
+-- then by `now`, from one of the first `count` vertices on
 pub record IsWithSome (count : ℕ) (old : List (List ℕ)) (before now : List (Option Edge)) (new : List (List ℕ)) : Type 0
   where
     pub as_many : length new ≡ length old
     pub follows : (a b : ℕ) → Follows new a b ↔ (Follows old a b ⊎ TakesAmong count before now a b)
 
--- `new` is `old`, and a channel also follows another if a packet takes them in this order at some vertex
+-- in `new` a channel follows another exactly if it does in `old`, or a packet takes both in this order, by `before` and
+-- then by `now`, from some vertex on
 abbrev pub IsWithAcross : List (List ℕ) → List (Option Edge) → List (Option Edge) → List (List ℕ) → Type 0
 IsWithAcross old before now new = IsWithSome (length before) old before now new
 
@@ -49,6 +50,6 @@ IsWithAcross old before now new = IsWithSome (length before) old before now new
 abbrev pub TakesInTurn : List (Option Edge) → ℕ → ℕ → ℕ → Type 0
 TakesInTurn column vertex channel next = TakesAcross column column vertex channel next
 
--- `new` is `old`, and a channel also follows another if a packet takes them in this order by `column`
+-- in `new` a channel follows another exactly if it does in `old`, or a packet takes both in this order by `column`
 abbrev pub IsWithColumn : List (List ℕ) → List (Option Edge) → List (List ℕ) → Type 0
 IsWithColumn old column new = IsWithAcross old column column new

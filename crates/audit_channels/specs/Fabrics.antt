@@ -28,7 +28,7 @@ pub record IsChannel (cells : Cells) (f : Fabric) (hop : Hop) (channel : ℕ) : 
   pub index_is : index_in (switches cells) from.guid ≡ Some index
   pub channel_is : channel ≡ 256 * index + hop.out.port
 
--- `channel` and `next` are the channels of two consecutive hops, both between switches
+-- `channel` and `next` are the channels of two consecutive hops of `hops`, both between switches
 pub record TakeInTurn (cells : Cells) (f : Fabric) (hops : List Hop) (channel next : ℕ) : Type 0 where
   pub nth : ℕ
   pub hop : Hop
@@ -38,7 +38,7 @@ pub record TakeInTurn (cells : Cells) (f : Fabric) (hops : List Hop) (channel ne
   pub channel_is : IsChannel cells f hop channel
   pub next_is : IsChannel cells f later next
 
--- a packet that an end port of the part sends for some LID takes these hops
+-- a packet that an end port of `part` sends for some LID takes `hops` first, in this order
 pub record Travels (part : Part) (f : Fabric) (hops : List Hop) : Type 0 where
   pub source : NodePort
   pub node : Node
@@ -48,8 +48,9 @@ pub record Travels (part : Part) (f : Fabric) (hops : List Hop) : Type 0 where
   pub end : Standing
   pub goes : Goes f lid (sent_from source) hops end
 
--- if the numbers rise by facts and tables, the facts describe all that is joined to an end port, and the end ports and
--- switches there hold the tables, then the channels that a packet takes have rising numbers
+-- if `numbers` rise on ways by facts and tables, the facts describe all that is joined to an end port, and the end
+-- ports and switches there hold the tables, then of two channels that a packet takes in turn there the second has the
+-- greater number
 abbrev pub ChannelsRise : Type 0
 ChannelsRise =
     (facts : Facts) (held : HeldPlan) (f : Fabric) (origin : NodePort) (numbers : List ℕ) → IsEndPort f origin

@@ -7,21 +7,22 @@ use Rattle.audit_channels.specs.Orders.{Follows}
 abbrev pub has_none : List ℕ → ℕ → Bool
 has_none numbers channel = slice_index_or numbers channel 1 == 0
 
--- a channel of `following` has no number yet
+-- one of the channels `following` has no number yet
 abbrev pub is_held_up : List ℕ → List ℕ → Bool
 is_held_up numbers following = list_any (has_none numbers) following
 
--- the number of a channel: `number` if it has none and each channel that follows it has one, otherwise `old`
+-- the next number of a channel with the number `old`: `number`, if `old` is 0 (none) and each of the channels
+-- `following` has one; otherwise `old`
 abbrev pub next_number : List ℕ → List ℕ → ℕ → ℕ → ℕ
 next_number following numbers old number = if old == 0 && not (is_held_up numbers following) then number else old
 
--- `next` has the next number of each channel
+-- `next` has the next number of each channel, if `number` is the one that is given now
 pub record AreFurther (waits : List (List ℕ)) (numbers : List ℕ) (number : ℕ) (next : List ℕ) : Type 0 where
   pub as_many : length next ≡ length numbers
   pub each : (c : ℕ) → c < length numbers
       → slice_index_or next c 0 ≡ next_number (slice_index_or waits c []) numbers (slice_index_or numbers c 0) number
 
--- the number of a channel, if it has one, is less than the numbers of the channels that follow it; a channel without a
+-- the number of a channel that has one is less than the numbers of the channels that follow it; a channel without a
 -- number is followed by another channel without a number
 pub record AreGiven (waits : List (List ℕ)) (numbers : List ℕ) : Type 0 where
   pub as_many : length numbers ≡ length waits

@@ -4,24 +4,24 @@ use Rattle.std.specs.Prelude.{◌≡◌, ◌↔◌, ◌⊎◌, ◌<◌, ◌≤�
 use Rattle.audit_channels.specs.declared.order.ChannelOrder.{ChannelOrder}
 use Rattle.audit_channels.specs.declared.order.ChannelOrder.TheVariants.{Rises, Cycle}
 
--- `next` follows `channel`
+-- by `waits`, `next` follows `channel`
 abbrev pub Follows : List (List ℕ) → ℕ → ℕ → Type 0
 Follows waits channel next = Contains (slice_index_or waits channel []) next
 
--- each channel that follows another is less than the number of channels
+-- by `waits`, only numbers of channels follow channels: each is less than how many channels there are
 abbrev pub LeadToChannels : List (List ℕ) → Type 0
 LeadToChannels waits = (channel next : ℕ) → Follows waits channel next → next < length waits
 
--- `new` has the channels of `old` and `channel`
+-- `new` has exactly the channels of `old` and `channel`
 abbrev pub AreWith : List ℕ → ℕ → List ℕ → Type 0
 AreWith old channel new = (c : ℕ) → Contains new c ↔ (Contains old c ⊎ (c ≡ channel))
 
--- `new` is `old`, and `next` also follows `channel`
+-- in `new` a channel follows another exactly if it does in `old`, or they are `next` and `channel`
 pub record IsWith (old : List (List ℕ)) (channel next : ℕ) (new : List (List ℕ)) : Type 0 where
   pub as_many : length new ≡ length old
   pub follows : (a b : ℕ) → Follows new a b ↔ (Follows old a b ⊎ ((a ≡ channel) × (b ≡ next)))
 
--- each channel has a number, less than the numbers of the channels that follow it
+-- each channel has a number in `numbers`, less than the numbers of the channels that follow it
 pub record Rise (waits : List (List ℕ)) (numbers : List ℕ) : Type 0 where
   pub as_many : length numbers ≡ length waits
   pub rises : (channel next : ℕ) → Follows waits channel next → slice_index_or numbers channel 0
@@ -32,26 +32,26 @@ abbrev pub GoesOn : List (List ℕ) → ℕ → List ℕ → ℕ → Type 0
 GoesOn waits channel [] last = Follows waits channel last
 GoesOn waits channel (next ∷ later) last = Follows waits channel next × GoesOn waits next later last
 
--- each channel follows the one before, and the first follows the last
+-- the channels of a list, at least one, are a cycle: each follows the one before, and the first follows the last
 abbrev pub IsCycle : List (List ℕ) → List ℕ → Type 0
 IsCycle waits [] = ⊥
 IsCycle waits (channel ∷ later) = GoesOn waits channel later channel
 
--- no cycle has fewer channels than `channels`
+-- no cycle of channels that follow each other has fewer channels than `channels`
 abbrev pub NoneShorter : List (List ℕ) → List ℕ → Type 0
 NoneShorter waits channels = (cycle : List ℕ) → IsCycle waits cycle → length channels ≤ length cycle
 
--- the order is numbers that rise, or a cycle
+-- a channel order holds for `waits`: its numbers rise, or its channels are a cycle
 abbrev pub IsOrder : List (List ℕ) → ChannelOrder → Type 0
 IsOrder waits (Rises numbers) = Rise waits numbers.items
 IsOrder waits (Cycle channels) = IsCycle waits channels.items
 
--- if the order is a cycle, no cycle has fewer channels
+-- a channel order is numbers, or channels than which no cycle has fewer
 abbrev pub IsShortest : List (List ℕ) → ChannelOrder → Type 0
 IsShortest waits (Rises numbers) = Unit {0}
 IsShortest waits (Cycle channels) = NoneShorter waits channels.items
 
--- there is no cycle if numbers rise
+-- if numbers of channels rise, no list of channels is a cycle
 abbrev pub NoCycleWhereNumbersRise : Type 0
 NoCycleWhereNumbersRise =
     (waits : List (List ℕ)) (numbers cycle : List ℕ) → Rise waits numbers → ¬ (IsCycle waits cycle)

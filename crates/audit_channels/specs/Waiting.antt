@@ -1,6 +1,6 @@
--- Channels that packets take in turn by the held tables, and the order of channels. InfiniBand Architecture
--- Specification, Volume 1: switches, unicast forwarding by the linear forwarding table; link layer, flow control by
--- credits.
+-- Which channels packets wait for by the held tables: numbers that rise on ways, or a credit loop. InfiniBand
+-- Architecture Specification, Volume 1: switches, unicast forwarding by the linear forwarding table; link layer, flow
+-- control by credits.
 use Rattle.std.specs.Prelude.{◌≡◌, ◌↔◌, ◌<◌, ◌≤◌, ◌*◌, ℕ, List, [], ◌∷◌, Option, length, slice_index_or}
 use Rattle.port_graph.specs.declared.edge.Edge.{Edge}
 use Rattle.audit_channels.specs.Orders.{Follows}
@@ -18,7 +18,7 @@ pub record WaitsFor (cells : Cells) (held : HeldPlan) (channel next : ℕ) : Typ
   pub switch : ℕ
   pub takes : TakesInTurn (edges_of cells held lid) switch channel next
 
--- `waits` has, for each channel, the channels that packets take next
+-- `waits` has, for each channel, the channels that packets take next by the held tables
 pub record AreWaits (cells : Cells) (held : HeldPlan) (waits : List (List ℕ)) : Type 0 where
   pub as_many : length waits ≡ 256 * length (switches cells)
   pub follows : (a b : ℕ) → Follows waits a b ↔ WaitsFor cells held a b
@@ -27,36 +27,38 @@ pub record AreWaits (cells : Cells) (held : HeldPlan) (waits : List (List ℕ)) 
 abbrev pub IsAdded : List (Option Edge) → List (List ℕ) → Type 0
 IsAdded column waits = (switch channel next : ℕ) → TakesInTurn column switch channel next → Follows waits channel next
 
--- each channel of each switch has a number, less than the numbers of the channels that packets take next
+-- numbers rise on ways: each channel has one, less than the numbers of the channels that packets take next by the held
+-- tables
 pub record RiseOnWays (cells : Cells) (held : HeldPlan) (numbers : List ℕ) : Type 0 where
   pub as_many : length numbers ≡ 256 * length (switches cells)
   pub rises : (a b : ℕ) → WaitsFor cells held a b → slice_index_or numbers a 0 < slice_index_or numbers b 0
 
--- in the list that has `channel`, then the given channels, then `last`, each channel waits for the next one
+-- in the list that has `channel`, then the given channels, then `last`, each channel waits for the next one by the held
+-- tables
 abbrev pub WaitOn : Cells → HeldPlan → ℕ → List ℕ → ℕ → Type 0
 WaitOn cells held channel [] last = WaitsFor cells held channel last
 WaitOn cells held channel (next ∷ later) last = WaitsFor cells held channel next × WaitOn cells held next later last
 
--- each channel waits for the next one, and the last waits for the first
+-- the channels of a list, at least one, wait in a credit loop: each waits for the next one, and the last for the first
 abbrev pub WaitInCycle : Cells → HeldPlan → List ℕ → Type 0
 WaitInCycle cells held [] = ⊥
 WaitInCycle cells held (channel ∷ later) = WaitOn cells held channel later channel
 
--- the order is numbers that rise, or a cycle
+-- a channel order holds for the held tables: its numbers rise on ways, or its channels wait in a credit loop
 abbrev pub IsOrderOf : Cells → HeldPlan → ChannelOrder → Type 0
 IsOrderOf cells held (Rises numbers) = RiseOnWays cells held numbers.items
 IsOrderOf cells held (Cycle channels) = WaitInCycle cells held channels.items
 
--- no cycle has fewer channels than `channels`
+-- no credit loop of the held tables has fewer channels than `channels`
 abbrev pub NoneShorter : Cells → HeldPlan → List ℕ → Type 0
 NoneShorter cells held channels = (cycle : List ℕ) → WaitInCycle cells held cycle → length channels ≤ length cycle
 
--- if the order is a cycle, no cycle has fewer channels
+-- a channel order is numbers, or channels than which no credit loop of the held tables has fewer
 abbrev pub IsShortestOf : Cells → HeldPlan → ChannelOrder → Type 0
 IsShortestOf cells held (Rises numbers) = Unit {0}
 IsShortestOf cells held (Cycle channels) = NoneShorter cells held channels.items
 
--- there is no cycle if numbers rise
+-- if numbers of channels rise on ways, no channels wait in a credit loop
 abbrev pub NeverBoth : Type 0
 NeverBoth = (cells : Cells) (held : HeldPlan) (numbers cycle : List ℕ) → RiseOnWays cells held numbers
     → ¬ (WaitInCycle cells held cycle)

@@ -7,10 +7,9 @@ use crate::waits::Waits;
 use port_graph::Edge;
 use std::alloc::AllocError;
 
-/// Records which channels follow each other on the routes of packets for one LID. `column` has the edge by which these
-/// packets leave each vertex. The channel of a vertex's edge has the number 256 times the vertex, plus the edge's port.
-/// Takes a step for each vertex. If the next channel is not known to follow the vertex's channel, it also walks the
-/// channels that follow it.
+/// Records, for each vertex, that the channel of its edge in `column` is followed by the channel of the next vertex's
+/// edge. `column` has the edge by which packets for one LID leave each vertex, if there is one. The channel of an edge
+/// has the number 256 times its vertex, plus its port. `waits` must have 256 channels for each vertex.
 pub fn add_column(waits: &mut Waits, column: &[Option<Edge>]) -> Result<(), AllocError>
     requires channels { length waits.old ≡ 256 * length column.now }
     requires room { 256 * length column.now < 2 ^ 64 }
@@ -20,7 +19,8 @@ pub fn add_column(waits: &mut Waits, column: &[Option<Edge>]) -> Result<(), Allo
 }
 
 /// Records, for each vertex, that the channel of its edge in `before` is followed by the channel of the next vertex's
-/// edge in `now`. Records nothing for a vertex if one of these edges is missing.
+/// edge in `now`. Records nothing for a vertex if one of these edges is missing. `waits` must have 256 channels for
+/// each vertex of either column.
 #[tactic(auto, using(crate::proofs::Columns::none_so_far))]
 pub fn add_across(
     waits: &mut Waits,
@@ -40,7 +40,8 @@ pub fn add_across(
     Ok(())
 }
 
-/// Returns whether two columns are equal. Takes a step for each vertex, up to the first at which they differ.
+/// Returns whether `column` and `other` are equal. Takes time linear in the number of vertices before the first
+/// difference.
 pub fn is_same_column(column: &[Option<Edge>], other: &[Option<Edge>]) -> bool
     ensures { IsTrue result ↔ (column.now ≡ other.now) }
 {
@@ -77,14 +78,14 @@ fn turn_at(before: &[Option<Edge>], now: &[Option<Edge>], vertex: usize) -> Opti
     Some(Turn { channel, next })
 }
 
-/// Returns the edge of `vertex`, or `None` if it has none. Takes one step.
+/// Returns the edge of `vertex`, or `None` if it has none or is not in `column`. Takes constant time.
 pub fn edge_of(column: &[Option<Edge>], vertex: usize) -> Option<Edge>
     ensures { result ≡ slice_index_or column.now vertex None }
 {
     column.get(vertex).copied().flatten()
 }
 
-/// Returns the number of the channel of `edge`, an edge of `vertex`.
+/// Returns the number of the channel of `edge`, an edge of `vertex`. The number must fit in 64 bits.
 fn number_of(vertex: usize, edge: Edge) -> usize
     requires { 256 * vertex + 256 < 2 ^ 64 + 1 }
     ensures is { result ≡ number_of vertex edge }

@@ -7,7 +7,8 @@ use crate::numbers::has_none;
 use crate::waits::Waits;
 use std::alloc::{AllocError, Global};
 
-/// Returns the cycle that a walk from `first` over channels without a number reaches.
+/// Returns the cycle that a walk from `first` over channels without a number reaches. `first` must have no number, and
+/// `numbers` must be given so that each channel without a number is followed by another one.
 pub(crate) fn cycle_from(
     alloc: Global,
     waits: &Waits,
@@ -29,7 +30,7 @@ pub(crate) fn cycle_from(
     Ok(cycle)
 }
 
-/// Returns whether `next` follows `channel`.
+/// Returns whether `next` follows `channel` in `waits`.
 pub(crate) fn follows(waits: &Waits, channel: usize, next: usize) -> bool
     ensures { IsTrue result ↔ Follows waits.now channel next }
 {

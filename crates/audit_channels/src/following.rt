@@ -7,7 +7,8 @@ ghost use Rattle.audit_channels.specs.Orders.{AreWith};
 use crate::known::Known;
 use std::alloc::{AllocError, Global};
 
-/// Channels in the order in which they were added. Some of them are known, and are found without a walk.
+/// A list of channels without duplicates, in the order in which they were added. Some are also known, so that they are
+/// found in constant time.
 #[derive(Drop)]
 pub(crate) struct Following {
     channels: Vec<usize>,
@@ -26,14 +27,15 @@ impl Following {
         }
     }
 
-    /// Returns the channels. Takes one step.
+    /// Returns the channels in the order in which they were added. Takes constant time.
     pub(crate) fn channels(&self) -> &[usize]
         ensures { result.now ≡ self.now.channels.items }
     {
         &self.channels
     }
 
-    /// Adds `channel`, unless it is there already. Takes one step if it is known; otherwise walks all channels.
+    /// Adds `channel`, unless it is there already. Takes constant time if it is known, otherwise time linear in the
+    /// number of channels. If it returns an error, the channels are as before.
     pub(crate) fn add(&mut self, channel: usize) -> Result<(), AllocError>
         ensures added { OnOk result (AreWith self.old.channels.items channel self.new.channels.items) }
         ensures kept { OnErr result (self.new.channels.items ≡ self.old.channels.items) }
@@ -47,7 +49,7 @@ impl Following {
     }
 }
 
-/// Appends `channel`, unless it is there already.
+/// Appends `channel` to `channels`, unless it is there already.
 fn put(channels: &mut Vec<usize>, channel: usize) -> Result<(), AllocError>
     ensures added { OnOk result (AreWith channels.old.items channel channels.new.items) }
     ensures kept { OnErr result (channels.new.items ≡ channels.old.items) }

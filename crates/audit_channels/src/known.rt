@@ -17,15 +17,15 @@ impl Known {
         Known { row: 0, bits: 0 }
     }
 
-    /// Returns whether `channel` is known. Takes one step.
+    /// Returns whether `channel` is known. Takes constant time.
     pub(crate) fn has(self, channel: usize) -> bool
         ensures { IsTrue result ↔ Knows self channel }
     {
         self.row == channel / 64 && (self.bits >> (channel % 64)) & 1 == 1
     }
 
-    /// If `channel` is in the set's row or the set is empty, returns the set with `channel` added. Otherwise returns
-    /// the set unchanged.
+    /// Returns the set with `channel` added if the set is empty or `channel` is in its row; otherwise the set
+    /// unchanged.
     pub(crate) fn with(self, channel: usize) -> Self
         ensures kept { (other : ℕ) → Knows self other → Knows result other }
         ensures only { (other : ℕ) → Knows result other → Knows self other ⊎ (other ≡ channel) }

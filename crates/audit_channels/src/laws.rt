@@ -8,7 +8,8 @@ pub fn no_cycle_where_numbers_rise()
     ensures law { NoCycleWhereNumbersRise }
 {}
 
-/// No channels wait for each other in a cycle if the channels have numbers that rise along the routes of all packets.
+/// No channels wait for each other in a cycle, by facts and held tables, if the channels have numbers that rise along
+/// the routes of packets for all LIDs.
 pub fn never_both()
     ensures law { NeverBoth }
 {}

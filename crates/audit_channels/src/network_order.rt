@@ -13,8 +13,8 @@ use std::alloc::{AllocError, Global};
 /// leaves, plus the port there.
 ///
 /// Takes what `order_channels` takes, and what `Network::blocks` takes for each 64 LIDs up to the greatest top of a
-/// usable switch. For each of these LIDs, it also takes a step for each switch. If some switch forwards packets for the
-/// LID otherwise than for the LID before, it takes a step for each channel that follows a switch's channel.
+/// usable switch. For each of these LIDs, it also takes time linear in the number of switches. If some switch forwards
+/// packets for the LID otherwise than for the LID before, this includes the channels that follow each switch's channel.
 #[tactic(auto, using(crate::proofs::Orders::order_is, crate::proofs::Orders::shortest_is))]
 pub fn channel_order(alloc: Global, network: &Network) -> Result<ChannelOrder, AllocError>
     ensures order { IfOk result (λ found. IsOrderOf (cells_of network.now.facts) network.now.held found) }

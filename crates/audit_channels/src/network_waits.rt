@@ -9,8 +9,8 @@ use port_graph::Edge;
 use smp_bytes::Lid;
 use std::alloc::{AllocError, Global};
 
-/// Returns, for each channel, the channels that packets take next by the tables of `network`. Channels are numbered as
-/// in `channel_order`. Takes what `channel_order` takes without `order_channels`.
+/// Returns, for each channel, the channels that packets take next by the tables of `network`, whether or not an end
+/// port holds their LIDs. Channels are numbered as in `channel_order`.
 pub fn channel_waits(alloc: Global, network: &Network) -> Result<Waits, AllocError>
     ensures { IfOk result (λ waits. AreWaits (cells_of network.now.facts) network.now.held waits) }
 {
@@ -29,7 +29,8 @@ pub fn channel_waits(alloc: Global, network: &Network) -> Result<Waits, AllocErr
     Ok(waits)
 }
 
-/// Adds `column` to `waits`, unless it equals `before`, which the caller has added.
+/// Adds to `waits` what `column` says, unless `column` equals `before`. What `before` says must be in `waits` already.
+/// `waits` must have 256 channels for each vertex of `column`.
 fn add_after(
     waits: &mut Waits,
     before: &[Option<Edge>],

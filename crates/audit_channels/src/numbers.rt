@@ -1,4 +1,4 @@
-//! Numbers of channels, given from the greatest down. A channel gets a number when all channels that follow it have
+//! Numbers of channels, given from the greatest down. A channel gets a number once all channels that follow it have
 //! one.
 ghost use Rattle.std.specs.Prelude.{◌≡◌, ◌==◌, ◌<◌, IfOk, count_by, length, position};
 ghost use Rattle.audit_channels.specs.Numbers.{is_held_up, has_none, AreGiven, AreFurther, next_number};
@@ -6,8 +6,8 @@ ghost use Rattle.audit_channels.specs.Numbers.{is_held_up, has_none, AreGiven, A
 use crate::waits::Waits;
 use std::alloc::{AllocError, Global};
 
-/// Returns a number for each channel that does not lead to a cycle, and 0 for the others. A round takes a step for each
-/// channel and for each channel that follows it. There are as many rounds as the longest chain of numbered channels has
+/// Returns a number for each channel that leads to no cycle, and 0 for the others. A round takes time linear in the
+/// number of channels and of what follows each. There are as many rounds as the longest chain of numbered channels has
 /// channels, and one more if some channel gets no number.
 pub(crate) fn numbers(alloc: Global, waits: &Waits) -> Result<Vec<usize>, AllocError>
     ensures { IfOk result (λ numbers. AreGiven waits.now numbers.items) }
@@ -26,7 +26,8 @@ pub(crate) fn numbers(alloc: Global, waits: &Waits) -> Result<Vec<usize>, AllocE
     Ok(numbers)
 }
 
-/// Returns `numbers` with `number` for each channel that has no number but whose followers all have one.
+/// Returns `numbers`, but with `number` for each channel that has no number and whose followers all have one in
+/// `numbers`.
 fn further(
     alloc: Global,
     waits: &Waits,
@@ -43,7 +44,8 @@ fn further(
     Ok(next)
 }
 
-/// Returns the number of a channel: `number` if it has none and each channel that follows it has one, otherwise `old`.
+/// Returns the new number of a channel that has `old` and is followed by `following`. It is `number` if `old` is 0 and
+/// each channel of `following` has a number, otherwise `old`.
 fn next_number(following: &[usize], numbers: &[usize], old: usize, number: usize) -> usize
     ensures { result ≡ next_number following.now numbers.now old number }
 {
@@ -54,14 +56,14 @@ fn next_number(following: &[usize], numbers: &[usize], old: usize, number: usize
     }
 }
 
-/// Returns whether a channel of `following` has no number.
+/// Returns whether a channel of `following` has no number yet.
 fn is_held_up(following: &[usize], numbers: &[usize]) -> bool
     ensures { result ≡ is_held_up numbers.now following.now }
 {
     following.iter().any(|next| has_none(numbers, *next))
 }
 
-/// Returns whether `channel` has no number yet. Returns false if there is no such channel.
+/// Returns whether `channel` has no number yet. Returns false if `numbers` has no such channel.
 pub(crate) fn has_none(numbers: &[usize], channel: usize) -> bool
     ensures { result ≡ has_none numbers.now channel }
 {
@@ -71,7 +73,7 @@ pub(crate) fn has_none(numbers: &[usize], channel: usize) -> bool
     }
 }
 
-/// Returns the number of channels that have no number.
+/// Returns how many channels have no number.
 fn count_without(numbers: &[usize]) -> usize
     ensures { result ≡ count_by (λ n. n == 0) numbers.now }
 {

@@ -7,22 +7,23 @@ use crate::shortest::shortest_cycle;
 use crate::waits::Waits;
 use std::alloc::{AllocError, Global};
 
-/// Whether packets can wait for each other in a credit loop.
+/// Numbers of channels that rise, or a shortest cycle of channels.
 #[derive(Debug, Drop)]
 pub enum ChannelOrder {
-    /// The number of each channel. It is less than the numbers of the channels that follow it.
+    /// The number of each channel, less than the numbers of the channels that follow it.
     Rises(Vec<usize>),
-    /// A shortest cycle: each channel follows the one before, and the first follows the last. No cycle has fewer
+    /// A shortest cycle. Each channel follows the one before, and the first follows the last. No cycle has fewer
     /// channels, so no channel occurs twice.
     Cycle(Vec<usize>),
 }
 
-/// Returns numbers that rise, or a shortest cycle of channels if there are none.
+/// Returns numbers of the channels that rise, or a shortest cycle of channels if there are none.
 ///
-/// A round takes a step for each channel and for each channel that follows it. There are at most as many rounds as the
-/// longest chain of numbered channels has channels, and one more. If there is a cycle, finding it takes as many steps
-/// as the square of the number of channels that are walked until one recurs. Then each channel without a number costs a
-/// breadth-first search over the channels that it reaches by fewer channels than that cycle has.
+/// A round takes time linear in the number of channels and of what follows each. There are at most as many rounds as
+/// the longest chain of numbered channels has channels, and one more. If there is a cycle, finding a first one takes
+/// time quadratic in the number of channels that are walked until one recurs. Each channel without a number then costs
+/// a breadth-first search over the channels that it reaches by fewer channels than the shortest cycle found before it
+/// has.
 pub fn order_channels(alloc: Global, waits: &Waits) -> Result<ChannelOrder, AllocError>
     ensures order { IfOk result (λ found. IsOrder waits.now found) }
     ensures shortest { IfOk result (λ found. IsShortest waits.now found) }

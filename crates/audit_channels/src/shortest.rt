@@ -11,8 +11,7 @@ use crate::numbers::has_none;
 use crate::waits::Waits;
 use std::alloc::{AllocError, Global};
 
-/// Returns a cycle with the fewest channels, which is `known` if none is shorter. The searches from the channels share
-/// the marks, and each takes only the steps for what it reaches.
+/// Returns a cycle with the fewest channels, which is `known` if none is shorter. `known` must be a cycle.
 pub(crate) fn shortest_cycle(
     alloc: Global,
     waits: &Waits,
@@ -32,7 +31,8 @@ pub(crate) fn shortest_cycle(
     Ok(shortest)
 }
 
-/// Returns a shortest cycle through `first` if it is shorter than `known`, otherwise `known`.
+/// Returns a shortest cycle through `first` if it has fewer channels than `known`, otherwise `known`. `known` must be a
+/// cycle, and no mark may be greater than `first`.
 fn shorter_from(
     alloc: Global,
     waits: &Waits,
@@ -68,15 +68,15 @@ fn shorter_from(
 #[derive(Clone, Copy)]
 pub(crate) struct Visited {
     channel: usize,
-    /// The index of the channel from which it was reached.
+    /// The index, among those reached, of the channel from which it was reached; 0 for the first.
     from: usize,
-    /// The number of channels on the way to it, itself included.
+    /// The number of channels on the way to it, itself and the first included.
     count: usize,
 }
 
-/// Returns a shortest cycle through `first` if it has fewer than `least` channels, otherwise an empty list. Takes a
-/// step for each channel reached by a way of fewer than `least` channels, and for each channel that follows it. Marks
-/// each channel that it reaches with `first` + 1.
+/// Returns a shortest cycle through `first` if it has fewer than `least` channels, otherwise an empty list. Marks each
+/// channel that it reaches, except `first`, with `first` + 1. `first` must have no number, and no mark may be greater
+/// than `first`. Takes time linear in the number of channels reached and of what follows them.
 fn cycle_of(
     alloc: Global,
     waits: &Waits,
@@ -122,7 +122,7 @@ fn cycle_of(
     Ok(Vec::new(alloc))
 }
 
-/// Returns the channel reached at `index`. Returns `None` if there is none, or if a cycle that closes there has `least`
+/// Returns the channel reached at `index`. Returns `None` if there is none, or if it was reached by a way of `least`
 /// channels or more.
 fn in_turn(reached: &[Visited], index: usize, least: usize) -> Option<Visited>
     ensures some { IfSome result (λ here. (index < length reached.now) × (here ≡ at_index reached.now index)
@@ -133,8 +133,8 @@ fn in_turn(reached: &[Visited], index: usize, least: usize) -> Option<Visited>
     if here.count < least { Some(here) } else { None }
 }
 
-/// Adds each channel that follows `here` and has neither a number nor a mark of this search. Adds none if a cycle that
-/// closes at such a channel would have `least` channels or more.
+/// Reaches each channel that follows `here` and has neither a number nor a mark of this search, if a way to it has
+/// fewer than `least` channels. `here` must be the channel reached at `index`.
 fn reach_on(
     waits: &Waits,
     numbers: &[usize],
@@ -171,7 +171,7 @@ fn reach_on(
     Ok(())
 }
 
-/// Adds `next` if its channel has neither a number nor a mark of this search.
+/// Reaches `next` if its channel has neither a number nor a mark of this search. Marks it.
 fn reach(
     waits: &Waits,
     numbers: &[usize],
@@ -196,8 +196,8 @@ fn reach(
     Ok(())
 }
 
-/// Returns the way from `first` to the channel reached at `index`. The way is a cycle because `first` follows that
-/// channel.
+/// Returns the way from `first` to the channel reached at `index`. `first` must follow that channel, so the way is a
+/// cycle.
 fn way_back(
     alloc: Global,
     waits: &Waits,

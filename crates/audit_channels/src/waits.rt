@@ -5,7 +5,7 @@ use crate::following::Following;
 use std::alloc::{AllocError, Global};
 use std::marker::Model;
 
-/// For each channel, the channels that follow it: a packet that holds the channel can wait for them. Channels are
+/// For each channel, the channels that follow it. A packet that holds the channel can wait for them. Channels are
 /// numbered from 0.
 #[derive(Drop)]
 pub struct Waits {
@@ -43,7 +43,7 @@ impl Waits {
         self.channels.len()
     }
 
-    /// Returns the channels that follow `channel`; none if there is no such channel. Takes one step.
+    /// Returns the channels that follow `channel`, and none if there is no such channel. Takes constant time.
     pub fn at(&self, channel: usize) -> &[usize]
         ensures { result.now ≡ slice_index_or self.now channel [] }
     {
@@ -53,8 +53,8 @@ impl Waits {
         }
     }
 
-    /// Records that `next` follows `channel`. Takes one step if that is known; otherwise walks the channels that follow
-    /// `channel`.
+    /// Records that `next` follows `channel`. Both must be channels here. Takes constant time if this is known,
+    /// otherwise time linear in the number of channels that follow `channel`.
     pub fn add(&mut self, channel: usize, next: usize) -> Result<(), AllocError>
         requires channel { channel < length self.old }
         requires next { next < length self.old }

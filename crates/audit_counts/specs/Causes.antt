@@ -7,7 +7,7 @@ use Rattle.packet_walks.specs.declared.packet_end.End.TheVariants.{Taken, Lost}
 use Rattle.audit_counts.specs.declared.causes.Causes.{Causes}
 use Rattle.audit_counts.specs.declared.sent_packet.SentPacket.{SentPacket}
 
--- the two causes are equal
+-- two causes are equal
 abbrev pub is_cause : Cause → Cause → Bool
 is_cause AboveTop AboveTop = true
 is_cause NoEntry NoEntry = true
@@ -16,13 +16,13 @@ is_cause NoLink NoLink = true
 is_cause Foreign Foreign = true
 is_cause _ _ = false
 
--- a packet with this end is lost for `cause`
+-- a packet with this end is lost for `cause`; false if it is delivered or loops forever
 abbrev pub is_lost_end_for : Cause → Option End → Bool
 is_lost_end_for cause None = false
 is_lost_end_for cause (Some (Taken e)) = false
 is_lost_end_for cause (Some (Lost g why)) = is_cause cause why
 
--- the packet is lost for `cause`
+-- `packet` is lost for `cause`
 abbrev pub is_lost_for : Cause → SentPacket → Bool
 is_lost_for cause packet = is_lost_end_for cause packet.end
 
@@ -36,7 +36,7 @@ causes_of packets = record {
   foreign = count_by (is_lost_for Foreign) packets;
 }
 
--- each count grows by one if `is_for` is true of its cause
+-- `new` is `old`, where the count of each cause has grown by one if `is_for` is true of the cause
 pub record AreCausesIf (old : Causes) (is_for : Cause → Bool) (new : Causes) : Type 0 where
   pub above_top : new.above_top ≡ old.above_top + (if is_for AboveTop then 1 else 0)
   pub no_entry : new.no_entry ≡ old.no_entry + (if is_for NoEntry then 1 else 0)

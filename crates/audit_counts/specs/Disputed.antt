@@ -1,4 +1,4 @@
--- Disputed facts.
+-- How many facts are disputed: their newest generation says different values.
 use Rattle.std.specs.Prelude.{ℕ, Bool, true, false, count_by}
 use Rattle.fact_join.specs.declared.cell.Cell.{Cell}
 use Rattle.fact_join.specs.declared.cell.Cell.TheVariants.{Known, Disputed}

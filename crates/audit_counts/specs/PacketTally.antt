@@ -1,4 +1,4 @@
--- The counts of packets.
+-- The tally of packets: how many arrive, how many are lost for each cause, and the first that do not arrive.
 use Rattle.std.specs.Prelude.{◌≡◌, ℕ, true, List, filter, if◌then◌else◌}
 use Rattle.audit_counts.specs.declared.sent_packet.SentPacket.{SentPacket}
 use Rattle.audit_counts.specs.declared.packet_tally.PacketTally.{PacketTally}
@@ -7,8 +7,8 @@ use Rattle.audit_counts.specs.Packets.{arrives, goes_round, is_between, is_lost,
 use Rattle.audit_counts.specs.Pairs.{ArePairs, ArePairsIf, ArePairsWithArrived}
 use Rattle.audit_counts.specs.FirstFew.{listed, listed_of}
 
--- the tally of `packets`: how many there are and how many arrive, of all and between adapter ports; how many are lost
--- for each cause; and how many of each kind do not arrive, with the first `most` of them
+-- `tally` counts `packets`: how many there are and how many arrive, of all and of those between adapter ports; how many
+-- are lost for each cause; and how many of each kind do not arrive, with the first `most` of them
 pub record IsTally (most : ℕ) (packets : List SentPacket) (tally : PacketTally) : Type 0 where
   pub all : ArePairs packets tally.all
   pub between : ArePairs (filter is_between packets) tally.between
@@ -17,7 +17,8 @@ pub record IsTally (most : ℕ) (packets : List SentPacket) (tally : PacketTally
   pub misdelivered : tally.misdelivered ≡ listed_of most is_misdelivered packets
   pub round : tally.round ≡ listed_of most goes_round packets
 
--- `packet` is added to the packets of its kind, if it does not arrive
+-- in `new`, `packet` is added to the packets of its kind and to its cause, if it does not arrive; the rest is as in
+-- `old`, but `all` and `between` are left open
 pub record IsTold (old : PacketTally) (packet : SentPacket) (new : PacketTally) : Type 0 where
   pub causes : AreCausesIf old.causes (λ cause. is_lost_for cause packet) new.causes
   pub lost : new.lost ≡ (if is_lost packet then listed old.lost packet else old.lost)
@@ -25,13 +26,15 @@ pub record IsTold (old : PacketTally) (packet : SentPacket) (new : PacketTally) 
       ≡ (if is_misdelivered packet then listed old.misdelivered packet else old.misdelivered)
   pub round : new.round ≡ (if goes_round packet then listed old.round packet else old.round)
 
--- `packet` is added to the packets of its kind; `all` and `between` do not change
+-- `new` is `old` with `packet` added to the packets of its kind, if it does not arrive; `all` and `between` do not
+-- change
 pub record IsMissed (old : PacketTally) (packet : SentPacket) (new : PacketTally) : Type 0 where
   pub told : IsTold old packet new
   pub all : new.all ≡ old.all
   pub between : new.between ≡ old.between
 
--- `packet` is counted in `all` and `between`; the rest does not change
+-- `new` is `old` with `packet` counted in `all` and, if it is between adapter ports, in `between`; the rest does not
+-- change
 pub record IsCountedWith (old : PacketTally) (packet : SentPacket) (new : PacketTally) : Type 0 where
   pub all : ArePairsIf old.all true (arrives packet) new.all
   pub between : ArePairsIf old.between (is_between packet) (arrives packet) new.between
@@ -40,7 +43,7 @@ pub record IsCountedWith (old : PacketTally) (packet : SentPacket) (new : Packet
   pub misdelivered : new.misdelivered ≡ old.misdelivered
   pub round : new.round ≡ old.round
 
--- `packet` is added to the tally
+-- `new` is `old` with `packet` counted, and added to the packets of its kind if it does not arrive
 pub record IsWith (old : PacketTally) (packet : SentPacket) (new : PacketTally) : Type 0 where
   pub told : IsTold old packet new
   pub all : ArePairsIf old.all true (arrives packet) new.all

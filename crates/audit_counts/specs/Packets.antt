@@ -17,52 +17,53 @@ use Rattle.audit_counts.specs.Sites.{are_adapters, in_one_component}
 abbrev pub packet_of : Cells → HeldPlan → HeldLid → EndPort → SentPacket
 packet_of cells held line e = record { line = line; source = e; end = end_for cells held line.lid e }
 
--- a packet for the LID of `line` from each end port in the component of the line's end port
+-- the packets for the LID of `line`, one from each end port in the component of the line's end port
 abbrev pub sent_to : Cells → HeldPlan → HeldLid → List SentPacket
 sent_to cells held line =
     map (packet_of cells held line) (filter (λ e. in_one_component cells e line.port) (end_ports cells))
 
--- the packets for the LID of `line`; none if the line's port is not an end port of the facts
+-- the packets for the LID of `line` from the end ports of its component; none if the line's port is not an end port of
+-- the facts
 abbrev pub packets_for : Cells → HeldPlan → HeldLid → List SentPacket
 packets_for cells held line = if is_owner (end_ports cells) line.port then sent_to cells held line else []
 
--- the packets for all held LIDs
+-- for each held LID, the packets from the end ports of its component
 abbrev pub packets_of : Cells → HeldPlan → List SentPacket
 packets_of cells held = flat_map (packets_for cells held) (lines_of held)
 
--- the packet is delivered at the end port that holds its LID
+-- `packet` is delivered at the end port of its line
 abbrev pub arrives : SentPacket → Bool
 arrives packet = is_at packet.line.port packet.end
 
--- the packet is dropped at a node
+-- a packet with this end is lost at a node; false if it loops forever
 abbrev pub is_lost_end : Option End → Bool
 is_lost_end None = false
 is_lost_end (Some (Taken e)) = false
 is_lost_end (Some (Lost g cause)) = true
 
--- the packet is dropped at a node
+-- `packet` is lost at a node
 abbrev pub is_lost : SentPacket → Bool
 is_lost packet = is_lost_end packet.end
 
--- a port takes the packet
+-- a packet with this end is taken at a port; false if it loops forever
 abbrev pub is_taken_end : Option End → Bool
 is_taken_end None = false
 is_taken_end (Some (Taken e)) = true
 is_taken_end (Some (Lost g cause)) = false
 
--- a port takes the packet, but not the end port of the packet's line
+-- a port takes `packet`, but not the end port of its line
 abbrev pub is_misdelivered : SentPacket → Bool
 is_misdelivered packet = is_taken_end packet.end && not (arrives packet)
 
--- the packet loops forever
+-- a packet with this end loops forever (None)
 abbrev pub is_no_end : Option End → Bool
 is_no_end None = true
 is_no_end (Some e) = false
 
--- the packet loops forever
+-- `packet` loops forever
 abbrev pub goes_round : SentPacket → Bool
 goes_round packet = is_no_end packet.end
 
--- an adapter port sends the packet to the LID of an adapter port
+-- `packet` goes from an adapter port to the LID of an adapter port
 abbrev pub is_between : SentPacket → Bool
 is_between packet = are_adapters packet.source packet.line.port

@@ -1,10 +1,10 @@
--- The number of packets, and how many of them arrive.
+-- How many packets there are, and how many of them arrive.
 use Rattle.std.specs.Prelude.{◌≡◌, ◌+◌, ◌&&◌, ℕ, Bool, List, count_by, length, if◌then◌else◌}
 use Rattle.audit_counts.specs.declared.sent_packet.SentPacket.{SentPacket}
 use Rattle.audit_counts.specs.declared.pairs.Pairs.{Pairs}
 use Rattle.audit_counts.specs.Packets.{arrives}
 
--- `pairs` counts `packets`
+-- `pairs` has the number of `packets`, and how many of them arrive
 pub record ArePairs (packets : List SentPacket) (pairs : Pairs) : Type 0 where
   pub sent : pairs.sent ≡ length packets
   pub arrived : pairs.arrived ≡ count_by arrives packets

@@ -14,16 +14,16 @@ use Rattle.audit_ways.specs.Ways.{is_adapter}
 use Rattle.audit_counts.specs.declared.site.Census.{Census}
 use Rattle.audit_counts.specs.declared.site.Site.{Site}
 
--- the usable switch at which an end port lies: its own node, or the switch to which its wire leads; None if there is
--- none
+-- the usable switch at which the end port `e` lies: its own node, or the switch to which its wire leads; None if there
+-- is none
 abbrev pub switch_of : Cells → EndPort → Option ℕ
 switch_of cells e = option_map (λ h. h.0) (attachment_of cells e)
 
--- the root of the component of the switch at which the end port lies; None if there is none
+-- the root of the component of the usable switch at which the end port `e` lies; None if it lies at none
 abbrev pub root_at : Cells → EndPort → Option ℕ
 root_at cells e = option_and_then (root_of (graph_of cells)) (switch_of cells e)
 
--- the end port with its component's root and the port at the other end of its wire
+-- the site of the end port `e`: its component's root, and the port at the other end of its wire, if there is one
 abbrev pub site_of : Cells → EndPort → Site
 site_of cells e = record { port = e; root = root_at cells e; across = across cells e.node e.port }
 
@@ -31,43 +31,43 @@ site_of cells e = record { port = e; root = root_at cells e; across = across cel
 abbrev pub is_of : EndPort → Site → Bool
 is_of port site = is_same_end port site.port
 
--- the site of `port` in `sites`; None if there is none
+-- the optional site is one of `sites` and the site of `port`; for None, none of them is
 abbrev pub IsSiteOf : List Site → EndPort → Option Site → Type 0
 IsSiteOf sites port None = list_any (is_of port) sites ≡ false
 IsSiteOf sites port (Some site) = Contains sites site × (is_of port site ≡ true)
 
--- both components have a root, and the roots are equal
+-- there are two roots, and they are equal
 abbrev pub is_one_root : Option ℕ → Option ℕ → Bool
 is_one_root None s = false
 is_one_root (Some r) None = false
 is_one_root (Some r) (Some s) = r == s
 
--- the wire to `far` leads to `e`
+-- the wire to the port `far` leads to `e`; false if there is no wire
 abbrev pub leads_to : Option (ℕ × ℕ) → EndPort → Bool
 leads_to far e = option_map_or (is_at e.node e.port) far false
 
--- the sites are of one port, at switches of one component, or joined by a wire
+-- `a` and `b` are sites of one port, at switches of one component, or joined by a wire
 abbrev pub are_joined : Site → Site → Bool
 are_joined a b = is_same_end a.port b.port || is_one_root a.root b.root || leads_to a.across b.port
 
--- two end ports lie in one component
+-- the end ports `e` and `x` lie in one component, or are one
 abbrev pub in_one_component : Cells → EndPort → EndPort → Bool
 in_one_component cells e x = are_joined (site_of cells e) (site_of cells x)
 
--- the root of the first site; None if there is no site or it has no root
+-- the root of the first of the sites; None if there is no site or it has no root
 abbrev pub first_root : List Site → Option ℕ
 first_root [] = None
 first_root (site ∷ sites) = site.root
 
--- each site has a root, and all roots are equal
+-- each site has a root, and all these roots are equal; true of no sites
 abbrev pub are_one_component : List Site → Bool
 are_one_component sites = list_all (λ site. is_one_root site.root (first_root sites)) sites
 
--- both are end ports of adapters
+-- `e` and `x` are both end ports of adapters
 abbrev pub are_adapters : EndPort → EndPort → Bool
 are_adapters e x = is_adapter e && is_adapter x
 
--- both are end ports of adapters and lie in one component
+-- both sites are of end ports of adapters, and these lie in one component
 abbrev pub are_joined_adapters : Site → Site → Bool
 are_joined_adapters a b = are_joined a b && are_adapters a.port b.port
 

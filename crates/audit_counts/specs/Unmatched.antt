@@ -12,59 +12,61 @@ use Rattle.held_tables.specs.Tables.{is_owner, is_same_end, lines_of}
 use Rattle.audit_counts.specs.declared.unmatched.Unmatched.{Unmatched}
 use Rattle.audit_counts.specs.FirstFew.{Listed, all_listed, listed_of}
 
--- the LIDs of `lines` whose ports are not end ports of the facts
+-- the LIDs of `lines` whose ports are not end ports of the facts, the first `most` of them
 abbrev pub unowned_among : ℕ → Cells → List HeldLid → Listed HeldLid
 unowned_among most cells lines = listed_of most (λ line. not (is_owner (end_ports cells) line.port)) lines
 
--- LIDs whose ports are not end ports of the facts
+-- the held LIDs whose ports are not end ports of the facts, the first `most` of them
 abbrev pub unowned : ℕ → Cells → HeldPlan → Listed HeldLid
 unowned most cells held = unowned_among most cells (lines_of held)
 
--- more than one end port holds the line's LID
+-- more than one end port holds the LID of `line`
 abbrev pub is_twice : HeldPlan → HeldLid → Bool
 is_twice held line = is_told_twice (lines_of held) line.lid
 
--- the lines of the LIDs that more than one end port holds
+-- the held LIDs that several end ports hold, each with one of these, the first `most` of them
 abbrev pub twice : ℕ → HeldPlan → Listed HeldLid
 twice most held = listed_of most (is_twice held) (lines_of held)
 
--- switches that have tables but are not usable switches of the facts
+-- the switches that have tables but are not usable switches of the facts, the first `most` of them
 abbrev pub unknown : ℕ → Cells → HeldPlan → Listed ℕ
 unknown most cells held = listed_of most (λ g. not (is_usable cells g)) (map (λ s. s.guid) held.switches)
 
--- switch g has tables
+-- switch `g` has tables
 abbrev pub is_held : HeldPlan → ℕ → Bool
 is_held held g = list_any (λ s. s.guid == g) held.switches
 
--- the switches of `guids` without tables
+-- the switches of `guids` without tables, the first `most` of them
 abbrev pub tableless_among : ℕ → List ℕ → HeldPlan → Listed ℕ
 tableless_among most guids held = listed_of most (λ g. not (is_held held g)) guids
 
--- usable switches without tables
+-- the usable switches of the facts without tables, the first `most` of them
 abbrev pub tableless : ℕ → Cells → HeldPlan → Listed ℕ
 tableless most cells held = tableless_among most (switches cells) held
 
--- a line gives the end port a LID
+-- a line gives the end port `e` a LID
 abbrev pub has_lid : HeldPlan → EndPort → Bool
 has_lid held e = list_any (λ line. is_same_end e line.port) held.lids
 
--- the end ports of `ports` without a LID
+-- the end ports of `ports` without a LID, the first `most` of them
 abbrev pub lidless_among : ℕ → List EndPort → HeldPlan → Listed EndPort
 lidless_among most ports held = listed_of most (λ e. not (has_lid held e)) ports
 
--- end ports of the facts without a LID
+-- the end ports of the facts without a LID, the first `most` of them
 abbrev pub lidless : ℕ → Cells → HeldPlan → Listed EndPort
 lidless most cells held = lidless_among most (end_ports cells) held
 
--- nodes that the facts name but whose type is unknown, and switches whose table room is unknown
+-- the nodes that the facts name but whose type is unknown, and the switches whose table room is unknown, the first
+-- `most` of them
 abbrev pub unusable : ℕ → Cells → Listed ℕ
 unusable most cells = all_listed most (unusable_nodes cells)
 
--- ports that the facts name but of which it is unknown where they lead
+-- the ports that the facts name but of which it is unknown where they lead, the first `most` of them
 abbrev pub unjoined : ℕ → Cells → Listed EndPort
 unjoined most cells = all_listed most (unjoined_ports cells)
 
--- `found` has all kinds, with the first `most` elements of each
+-- `found` has each kind of difference between tables and facts, and of gap in the facts, with the first `most` items of
+-- each
 pub record IsUnmatched (most : ℕ) (cells : Cells) (held : HeldPlan) (found : Unmatched) : Type 0 where
   pub unowned_are : found.unowned ≡ unowned most cells held
   pub twice_are : found.twice ≡ twice most held

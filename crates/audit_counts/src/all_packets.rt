@@ -21,14 +21,14 @@ use std::alloc::{AllocError, Global};
 #[derive(Drop)]
 pub struct PacketSurvey {
     pub tally: PacketTally,
-    /// For each line, whether all packets for its LID are known to be delivered at its port.
+    /// For each line, true only if all packets for its LID are delivered at its port.
     pub told: Vec<bool>,
 }
 
 /// Counts the packets that end ports send to the LIDs of their components. Keeps the first `most` of each kind that do
-/// not arrive. Takes what `Network::blocks` and `Network::deliveries` take for each 64 LIDs. If the deliveries do not
-/// show that all packets for a LID arrive, that LID also costs what `Network::ends` takes, and a step for each end port
-/// if not all arrive.
+/// not arrive. `sites` must be those of the end ports, in order. Takes what `Network::blocks` and `Network::deliveries`
+/// take for each 64 LIDs. If the deliveries do not show that all packets for a LID arrive, that LID also costs what
+/// `Network::ends` takes.
 pub fn survey(
     alloc: Global,
     most: usize,
@@ -47,8 +47,9 @@ pub fn survey(
     Ok(PacketSurvey { tally, told })
 }
 
-/// Adds the packets for the LIDs of all lines to an empty tally. Appends to `told`, for each line, whether all packets
-/// for its LID are delivered at its port.
+/// Adds the packets for the LIDs of all lines to `tally`. Appends to `told`, which must be empty, an entry for each
+/// line, true only if all packets for its LID are delivered at its port. `sites` must be those of the end ports, in
+/// order.
 fn add_lines(
     alloc: Global,
     tally: &mut PacketTally,
@@ -91,7 +92,8 @@ fn add_lines(
     Ok(())
 }
 
-/// Adds the packets for the LID of `line` to the tally. Returns whether all are seen to be delivered at its port.
+/// Adds the packets for the LID of `line` to `tally`. Returns true only if all of them are delivered at its port.
+/// `owner` must be the site of that port, and among `sites`.
 fn add_packets(
     alloc: Global,
     tally: &mut PacketTally,
@@ -138,7 +140,8 @@ fn add_packets(
     Ok(false)
 }
 
-/// Adds the packets that the end ports in the component of `owner` send to it. The caller knows that all arrive.
+/// Adds the packets that the end ports in the component of `owner` send to it, as packets that all arrive. `owner` must
+/// be among `sites`, and `census` must be theirs.
 fn add_arrived(
     tally: &mut PacketTally,
     sites: &[Site],

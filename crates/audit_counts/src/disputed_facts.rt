@@ -6,7 +6,7 @@ ghost use Rattle.audit_counts.specs.Disputed.{disputed, is_disputed};
 use fact_join::Cell;
 use fact_store::{Sighting, Store};
 
-/// Returns the number of disputed facts. Walks all cells.
+/// Returns the number of disputed facts. Takes time linear in the number of cells.
 pub fn disputed(store: &Store) -> usize
     ensures { result ≡ disputed (cells_of store.now) }
 {
@@ -19,7 +19,7 @@ pub fn disputed(store: &Store) -> usize
     count
 }
 
-/// Returns whether the cell of `sighting` is disputed: its newest generation has different values.
+/// Returns whether the cell of `sighting` is disputed.
 fn is_disputed(sighting: &Sighting) -> bool
     ensures { result ≡ is_disputed sighting.now }
 {

@@ -5,7 +5,7 @@ ghost use Rattle.audit_counts.specs.FirstFew.{all_listed, listed, more_of, first
 use std::alloc::{AllocError, Global};
 use std::marker::Model;
 
-/// The number of items of a kind, and the first of them, which are listed.
+/// The number of items of a kind, and the first of them.
 #[derive(Drop)]
 pub struct FirstFew<T> {
     /// The maximum number of items that are kept.
@@ -34,7 +34,8 @@ impl<T: Drop> FirstFew<T> {
         }
     }
 
-    /// Counts `item`, and keeps it if fewer than `most` items are kept.
+    /// Counts `item`, and keeps it if fewer items are kept than the maximum. Returns an error if the count does not fit
+    /// in 64 bits or memory is refused.
     pub fn add(&mut self, item: T) -> Result<(), AllocError>
         ensures { OnOk result (self.new ≡ listed self.old item) }
     {
@@ -42,21 +43,21 @@ impl<T: Drop> FirstFew<T> {
         note(&mut self.first, self.most, item)
     }
 
-    /// Returns the first items, which are listed.
+    /// Returns the first items, at most as many as `new` or `of` was told to keep.
     pub fn first(&self) -> &[T]
         ensures { result.now ≡ self.now.first }
     {
         &self.first
     }
 
-    /// Returns the number of items.
+    /// Returns the number of all items, kept or not.
     pub fn count(&self) -> u64
         ensures { result ≡ self.now.count }
     {
         self.count
     }
 
-    /// Returns the number of items that are not listed.
+    /// Returns the number of items that are not kept.
     pub fn more(&self) -> u64
         ensures { result ≡ more_of self.now }
     {
@@ -65,7 +66,7 @@ impl<T: Drop> FirstFew<T> {
 }
 
 impl<T: Copy + Drop> FirstFew<T> {
-    /// Counts all `items`, and keeps the first `most` of them.
+    /// Counts `items`, and keeps the first `most` of them.
     pub(crate) fn of(alloc: Global, most: usize, items: &[T]) -> Result<Self, AllocError>
         ensures { IfOk result (λ few. few ≡ all_listed most items.now) }
     {
@@ -76,7 +77,7 @@ impl<T: Copy + Drop> FirstFew<T> {
     }
 }
 
-/// Appends `item` to `told` if that has fewer than `most` elements.
+/// Appends `item` to `told` if `told` has fewer than `most` elements.
 pub(crate) fn note<T: Drop>(told: &mut Vec<T>, most: usize, item: T) -> Result<(), AllocError>
     ensures { OnOk result (told.new.items ≡ first_few most told.old.items item) }
 {

@@ -8,11 +8,11 @@ use crate::sent_packet::SentPacket;
 use packet_walks::End;
 use std::alloc::{AllocError, Global};
 
-/// The number of packets and how many arrive. Of the others, the number and the first packets of each kind.
+/// How many packets there are and how many arrive. Of the others, the number and the first packets of each kind.
 #[derive(Drop)]
 pub struct PacketTally {
     pub all: Pairs,
-    /// The packets that adapter ports send to the LIDs of adapter ports.
+    /// Of all packets, those that adapter ports send to the LIDs of adapter ports.
     pub between: Pairs,
     pub causes: Causes,
     pub lost: FirstFew<SentPacket>,
@@ -38,7 +38,7 @@ impl PacketTally {
         }
     }
 
-    /// Adds a packet.
+    /// Adds `packet`. If it does not arrive, adds it to the packets of its kind too.
     pub(crate) fn add(&mut self, packet: SentPacket) -> Result<(), AllocError>
         ensures { OnOk result (IsWith self.old packet self.new) }
     {
@@ -49,7 +49,7 @@ impl PacketTally {
         self.miss(packet)
     }
 
-    /// Adds `count` packets that arrive; `between` of them are between adapter ports.
+    /// Adds `count` packets that arrive, and `between` to those between adapter ports.
     pub(crate) fn add_arrived(&mut self, count: u64, between: u64) -> Result<(), AllocError>
         ensures { OnOk result (IsWithArrived self.old count between self.new) }
     {
@@ -57,7 +57,7 @@ impl PacketTally {
         self.between.add_arrived(between)
     }
 
-    /// Counts a packet, and whether it arrives.
+    /// Counts `packet`, and whether it arrives, among all packets and, if it is one, among those between adapter ports.
     fn count(&mut self, packet: &SentPacket) -> Result<(), AllocError>
         ensures { OnOk result (IsCountedWith self.old packet.now self.new) }
     {
@@ -66,7 +66,7 @@ impl PacketTally {
         self.between.add(packet.is_between(), arrives)
     }
 
-    /// Adds a packet that does not arrive to the packets of its kind.
+    /// Adds `packet`, which must not arrive, to the packets of its kind.
     fn miss(&mut self, packet: SentPacket) -> Result<(), AllocError>
         requires { arrives packet ≡ false }
         ensures { OnOk result (IsMissed self.old packet self.new) }

@@ -23,7 +23,8 @@ impl Pairs {
         }
     }
 
-    /// Counts a packet if `is_one` is true. `arrives` says whether the packet arrives.
+    /// Counts a packet if `is_one` is true, and that it arrives if `arrives` is true too. Returns an error if the count
+    /// does not fit in 64 bits.
     pub(crate) fn add(&mut self, is_one: bool, arrives: bool) -> Result<(), AllocError>
         ensures { OnOk result (ArePairsIf self.old is_one arrives self.new) }
     {
@@ -37,7 +38,7 @@ impl Pairs {
         Ok(())
     }
 
-    /// Adds `count` packets that arrive.
+    /// Adds `count` packets that arrive. Returns an error if the count does not fit in 64 bits.
     pub(crate) fn add_arrived(&mut self, count: u64) -> Result<(), AllocError>
         ensures { OnOk result (ArePairsWithArrived self.old count self.new) }
     {

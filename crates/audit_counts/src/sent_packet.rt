@@ -5,14 +5,14 @@ use held_tables::HeldLid;
 use packet_walks::{End, is_same_end};
 use subnet_view::EndPort;
 
-/// A packet for a LID that an end port holds.
+/// A packet that an end port sends for a held LID, and where it ends.
 #[derive(Clone, Copy, Debug, PartialEq, Eq)]
 pub struct SentPacket {
-    /// The LID, and the end port that holds it.
+    /// The packet's LID, and the end port that holds it.
     pub line: HeldLid,
-    /// The end port that sends it.
+    /// The end port that sends the packet.
     pub source: EndPort,
-    /// Where it ends; `None` if it loops forever.
+    /// Where the packet ends; `None` if it loops.
     pub end: Option<End>,
 }
 

@@ -22,14 +22,15 @@ use subnet_view::{EndPort, SwitchGraph, Wires, end_ports, is_usable};
 #[derive(Clone, Copy, Debug, PartialEq, Eq)]
 pub struct Site {
     pub port: EndPort,
-    /// The least GUID of the switches in its component. `None` if it lies at no usable switch.
+    /// The least GUID of the switches in the port's component. `None` if the port lies at no usable switch.
     pub root: Option<Guid>,
-    /// The port at the other end of its wire. `None` if it has no wire.
+    /// The port at the other end of the port's wire. `None` if it has no wire.
     pub across: Option<(Guid, PortNum)>,
 }
 
 impl Site {
-    /// Returns whether the two end ports lie in one component.
+    /// Returns whether the end ports of `self` and `other` lie in one component: they are equal, they lie at usable
+    /// switches that wires join, or a wire of the first leads to the second.
     pub fn is_joined_to(&self, other: &Site) -> bool
         ensures { result ≡ are_joined self.now other.now }
     {
@@ -39,7 +40,7 @@ impl Site {
     }
 }
 
-/// Returns whether both components have a root, and the roots are equal.
+/// Returns whether both `one` and `other` are roots, and equal.
 fn is_one_root(one: Option<Guid>, other: Option<Guid>) -> bool
     ensures { result ≡ is_one_root one other }
 {
@@ -49,7 +50,7 @@ fn is_one_root(one: Option<Guid>, other: Option<Guid>) -> bool
     }
 }
 
-/// Returns whether the wire to `far` leads to `port`.
+/// Returns whether `far` is `port`.
 fn leads_to(far: Option<(Guid, PortNum)>, port: &EndPort) -> bool
     ensures { result ≡ leads_to far port.now }
 {
@@ -59,7 +60,7 @@ fn leads_to(far: Option<(Guid, PortNum)>, port: &EndPort) -> bool
     }
 }
 
-/// Returns whether all end ports lie in one component that has a root.
+/// Returns whether all end ports lie at usable switches of one component. Returns true if there is no end port.
 pub(crate) fn are_one_component(sites: &[Site]) -> bool
     ensures { result ≡ are_one_component sites.now }
 {
@@ -67,7 +68,7 @@ pub(crate) fn are_one_component(sites: &[Site]) -> bool
     sites.iter().all(|site| is_one_root(site.root, root))
 }
 
-/// Returns the root of the first site, or `None` if there is no site or it has no root.
+/// Returns the root of the first of `sites`, or `None` if there is no site or it has no root.
 fn first_root(sites: &[Site]) -> Option<Guid>
     ensures { result ≡ first_root sites.now }
 {
@@ -77,16 +78,16 @@ fn first_root(sites: &[Site]) -> Option<Guid>
     }
 }
 
-/// Properties of all end ports together.
+/// Whether all end ports lie in one component, and how many of them are ports of adapters.
 #[derive(Clone, Copy, Debug, PartialEq, Eq)]
 pub(crate) struct Census {
-    /// Whether all end ports lie in one component.
+    /// Whether each end port lies at a usable switch, and all these switches lie in one component.
     pub whole: bool,
-    /// The number of end ports of adapters.
+    /// How many of the end ports are ports of adapters.
     pub adapters: usize,
 }
 
-/// Returns the census of the end ports. Takes a step for each end port.
+/// Returns the census of `sites`. Takes time linear in their number.
 pub(crate) fn census_of(sites: &[Site]) -> Census
     ensures { IsCensus sites.now result }
 {
@@ -95,15 +96,15 @@ pub(crate) fn census_of(sites: &[Site]) -> Census
     Census { whole, adapters }
 }
 
-/// Returns the number of end ports of adapters.
+/// Returns how many of `sites` are those of adapter ports.
 fn adapter_count(sites: &[Site]) -> usize
     ensures { result ≡ count_by (λ site. is_adapter site.port) sites.now }
 {
     sites.iter().filter(|site| is_adapter(&site.port)).count()
 }
 
-/// Returns the number of end ports in the component of `owner`. Takes one step if all end ports lie in one component,
-/// otherwise a step for each end port.
+/// Returns the number of end ports in the component of `owner`. `owner` must be among `sites`, and `census` must be
+/// theirs. Takes constant time if all lie in one component, otherwise time linear in their number.
 pub(crate) fn joined_count(sites: &[Site], owner: &Site, census: Census) -> usize
     requires census { IsCensus sites.now census }
     requires listed { Contains sites.now owner.now }
@@ -115,8 +116,9 @@ pub(crate) fn joined_count(sites: &[Site], owner: &Site, census: Census) -> usiz
     sites.iter().filter(|site| site.is_joined_to(owner)).count()
 }
 
-/// Returns the number of adapter ports in the component of `owner` if `owner` is an adapter port, otherwise 0. Takes a
-/// step or two if all end ports lie in one component, otherwise a step for each end port.
+/// Returns the number of adapter ports in the component of `owner` if `owner` is an adapter port, otherwise 0. `owner`
+/// must be among `sites`, and `census` must be theirs. Takes constant time if all lie in one component or the answer is
+/// 0 for want of an adapter port, otherwise time linear in their number.
 pub(crate) fn joined_adapters(sites: &[Site], owner: &Site, census: Census) -> usize
     requires census { IsCensus sites.now census }
     requires listed { Contains sites.now owner.now }
@@ -134,22 +136,21 @@ pub(crate) fn joined_adapters(sites: &[Site], owner: &Site, census: Census) -> u
         .count()
 }
 
-/// Returns whether both are end ports of adapters and lie in one component.
+/// Returns whether `site` and `owner` are adapter ports in one component.
 fn are_joined_adapters(site: &Site, owner: &Site) -> bool
     ensures { result ≡ are_joined_adapters site.now owner.now }
 {
     site.is_joined_to(owner) && are_adapters(&site.port, &owner.port)
 }
 
-/// Returns whether both are end ports of adapters.
+/// Returns whether `port` and `other` are end ports of adapters.
 pub fn are_adapters(port: &EndPort, other: &EndPort) -> bool
     ensures { result ≡ are_adapters port.now other.now }
 {
     is_adapter(port) && is_adapter(other)
 }
 
-/// Returns the sites of the view's end ports, in order. Takes what building a graph of the switches takes, and about
-/// seven searches for each end port.
+/// Returns the sites of the view's end ports, in order.
 pub fn sites(alloc: Global, store: &Store) -> Result<Vec<Site>, Refused>
     ensures { IfOk result (λ sites. sites.items
         ≡ map (site_of (cells_of store.now)) (end_ports (cells_of store.now))) }
@@ -158,7 +159,7 @@ pub fn sites(alloc: Global, store: &Store) -> Result<Vec<Site>, Refused>
     sites_by_wires(alloc, &wires)
 }
 
-/// Returns the sites of the view's end ports, from its wires.
+/// Returns the sites of the view's end ports, in order, from the view's wires.
 fn sites_by_wires(alloc: Global, wires: &Wires) -> Result<Vec<Site>, Refused>
     ensures { IfOk result (λ sites. sites.items
         ≡ map (site_of (cells_of wires.now)) (end_ports (cells_of wires.now))) }
@@ -167,7 +168,8 @@ fn sites_by_wires(alloc: Global, wires: &Wires) -> Result<Vec<Site>, Refused>
     sites_by_graph(alloc, wires, &graph)
 }
 
-/// Returns the sites of the view's end ports, from its wires and the graph of its switches.
+/// Returns the sites of the view's end ports, in order, from the view's wires and the graph of its switches. `graph`
+/// must be the graph of these wires.
 fn sites_by_graph(alloc: Global, wires: &Wires, graph: &SwitchGraph) -> Result<Vec<Site>, Refused>
     requires { graph.now ≡ graph_of (cells_of wires.now) }
     ensures { IfOk result (λ sites. sites.items
@@ -178,7 +180,8 @@ fn sites_by_graph(alloc: Global, wires: &Wires, graph: &SwitchGraph) -> Result<V
     Ok(sites_of(alloc, wires, graph, &roots, &ports)?)
 }
 
-/// Returns the sites of `ports`.
+/// Returns the sites of `ports`, in order. `graph` must be the graph of `wires`, and `roots` must be the roots of its
+/// switches.
 fn sites_of(
     alloc: Global,
     wires: &Wires,
@@ -197,7 +200,7 @@ fn sites_of(
     Ok(sites)
 }
 
-/// Returns the site of `port`.
+/// Returns the site of `port`. `graph` must be the graph of `wires`, and `roots` must be the roots of its switches.
 fn site_of(wires: &Wires, graph: &SwitchGraph, roots: &[Option<Guid>], port: &EndPort) -> Site
     requires graph { graph.now ≡ graph_of (cells_of wires.now) }
     requires roots { roots.now ≡ map (root_of graph.now) (guids_of graph.now) }
@@ -240,8 +243,8 @@ fn switch_of(wires: &Wires, port: &EndPort) -> Option<Guid>
     Some(switch)
 }
 
-/// Returns the index of the site of `port`, or an index beyond the end if there is none. Takes a step or two if the
-/// site is at `index` or the next index; otherwise walks the sites.
+/// Returns the index of a site of `port`, or an index beyond the end if there is none. Takes constant time if that site
+/// is at `index` or the next index, otherwise time linear in the number of sites.
 pub fn index_of(sites: &[Site], index: usize, port: &EndPort) -> usize
     ensures { IsSiteOf sites.now port.now (slice_get sites.now result) }
 {
@@ -255,7 +258,7 @@ pub fn index_of(sites: &[Site], index: usize, port: &EndPort) -> usize
     first_at(sites, port)
 }
 
-/// Returns whether there is a site at `index`, and it is the site of `port`.
+/// Returns whether there is a site of `port` at `index`.
 fn is_site_at(sites: &[Site], index: usize, port: &EndPort) -> bool
     ensures { result ≡ option_map_or (is_of port.now) (slice_get sites.now index) false }
 {
@@ -272,7 +275,7 @@ pub fn site_in(sites: &[Site], index: usize) -> Option<Site>
     sites.get(index).copied()
 }
 
-/// Returns the index of the first site of `port`, or `sites.len()` if there is none.
+/// Returns the index of the first site of `port`, or the number of sites if there is none.
 fn first_at(sites: &[Site], port: &EndPort) -> usize
     ensures { IsSiteOf sites.now port.now (slice_get sites.now result) }
 {

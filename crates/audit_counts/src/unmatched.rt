@@ -17,9 +17,9 @@ use subnet_view::{EndPort, end_ports, is_end_port, is_usable, switches};
 /// Differences between tables and facts, and gaps in the facts.
 #[derive(Drop)]
 pub struct Unmatched {
-    /// LIDs whose ports are not end ports of the facts.
+    /// Lines of LIDs whose ports are not end ports of the facts.
     pub unowned: FirstFew<HeldLid>,
-    /// LIDs that more than one end port holds.
+    /// Lines of LIDs that more than one end port holds.
     pub twice: FirstFew<HeldLid>,
     /// Switches that have tables but are not usable switches of the facts.
     pub unknown: FirstFew<Guid>,
@@ -34,9 +34,7 @@ pub struct Unmatched {
 }
 
 impl Unmatched {
-    /// Compares tables and facts, and keeps the first `most` differences of each kind. Takes two searches for each held
-    /// LID, a walk over the held switches for each switch, a walk over the LIDs for each end port, and what
-    /// `unusable_nodes` and `unjoined_ports` take.
+    /// Compares tables and facts, and keeps the first `most` of each kind.
     pub fn of(alloc: Global, most: usize, network: &Network) -> Result<Self, Refused>
         ensures { IfOk result (IsUnmatched most (cells_of network.now.facts) network.now.held) }
     {
@@ -56,7 +54,8 @@ impl Unmatched {
     }
 }
 
-/// Returns the LIDs whose ports are not end ports of the facts, and the LIDs that more than one end port holds.
+/// Returns the lines of LIDs whose ports are not end ports of the facts, and the lines of LIDs that more than one end
+/// port holds.
 fn unowned_and_twice(
     alloc: Global,
     most: usize,
@@ -132,7 +131,7 @@ fn lidless_of(alloc: Global, most: usize, network: &Network) -> Result<FirstFew<
     Ok(lidless(alloc, most, network.held(), &ports)?)
 }
 
-/// Returns the LIDs of `lines` whose ports are not end ports of the facts.
+/// Returns those of `lines` whose ports are not end ports of the facts.
 fn unowned(
     alloc: Global,
     most: usize,
@@ -163,7 +162,7 @@ fn twice(alloc: Global, most: usize, network: &Network) -> Result<FirstFew<HeldL
     Ok(few)
 }
 
-/// Returns the switches that have tables but are not usable switches of the facts.
+/// Returns the switches of `held` that are not usable switches of the facts.
 fn unknown(
     alloc: Global,
     most: usize,
@@ -181,7 +180,7 @@ fn unknown(
     Ok(few)
 }
 
-/// Returns the switches of `guids` that have no tables.
+/// Returns the switches of `guids` that have no tables in `held`.
 fn tableless(
     alloc: Global,
     most: usize,
@@ -199,14 +198,14 @@ fn tableless(
     Ok(few)
 }
 
-/// Returns whether the switch `guid` has tables.
+/// Returns whether the switch `guid` has tables in `held`.
 fn is_held(held: &Held, guid: Guid) -> bool
     ensures { result ≡ is_held held.now guid }
 {
     held.switches().iter().any(|switch| switch.guid == guid)
 }
 
-/// Returns the end ports of `ports` that hold no LID.
+/// Returns the end ports of `ports` that have no LID in `held`.
 fn lidless(
     alloc: Global,
     most: usize,
@@ -224,7 +223,7 @@ fn lidless(
     Ok(few)
 }
 
-/// Returns whether a line gives the end port a LID.
+/// Returns whether a line of `held` gives `port` a LID.
 fn has_lid(held: &Held, port: &EndPort) -> bool
     ensures { result ≡ has_lid held.now port.now }
 {

@@ -168,7 +168,8 @@ module _ (by : RuleValue) (lmc : ℕ) (facts : Facts) (range : AreInRange facts)
       let same : on.attachment ≡ way.attachment = same_Some on.attachment way.attachment (sym on.attachment_is ∙ way.attachment_is) in
       let apart : (first.end.0 == t) ≡ false = (λ k. here k == (sym same k).0) ∙ on.apart in
       let next = (λ k. its_rule.next lid (here k) (sym same k).0) ∙ on.next in
-      let less = rises by facts (lid_numbers lmc its_cells (lids lmc its_cells) lid) t (attachment_is_switch facts e way.attachment way.attachment_is) g (entry_for held lid g) (entry_for held lid h) first.end
+      let less = rises by facts (lid_numbers lmc its_cells (lids lmc its_cells) lid) t (attachment_is_switch facts e way.attachment way.attachment_is) g
+      (entry_for held lid g) (entry_for held lid h) first.end
       second.end
       g_there way.apart apart way.next next first.wire (ap (λ x. across its_cells x (entry_for held lid h)) here ∙ second.wire) in
       let a_is : a ≡ 256 * w.switch + entry_for held lid g = takes.channel_is ∙ ap (λ p. 256 * w.switch + p) first.port_is in

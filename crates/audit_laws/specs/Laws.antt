@@ -1,4 +1,4 @@
--- The laws of audits.
+-- The laws of audits: plans pass, and where tables pass, packets arrive and the facts know all.
 use Rattle.std.specs.Prelude.{◌≡◌, ◌⊎◌, ◌≤◌, ℕ, false, Contains, IsTrue, Some}
 use Rattle.smp_bytes.specs.declared.node_type.NodeType.TheVariants.{Switch}
 use Rattle.fabric_model.specs.declared.cable.NodePort.{NodePort}
@@ -51,11 +51,11 @@ pub record KnowsAll (cells : Cells) : Type 0 where
   pub far_ends : (g p h q : ℕ) → link_of cells g p ≡ Some (h, q) → AreKnown cells h q
   pub switches : (g ports : ℕ) → IsNodeWith cells g Switch ports → AreKnown cells g 0
 
--- if tables pass by the facts, the facts know all
+-- if tables pass by the facts, these know all (`KnowsAll`)
 abbrev pub PassingAuditsKnowAll : Type 0
 PassingAuditsKnowAll = (facts : Facts) (held : HeldPlan) → Passes (cells_of facts) held → KnowsAll (cells_of facts)
 
--- each packet from an end port of the part to a LID of an end port of the part is delivered there
+-- each packet from an end port of `part` to a LID that an end port of `part` owns is delivered there
 abbrev pub EachArrivesIn : Part → Fabric → Type 0
 EachArrivesIn part f = (source target : NodePort) (from into : Node) (lid : ℕ) → IsEndPortIn part f source from
     → IsEndPortIn part f target into → 1 ≤ lid
@@ -70,7 +70,7 @@ PassingAuditsDeliver =
     → Passes (cells_of facts) held → EachArrivesIn (IsJoinedTo f origin) f
 
 -- if the facts describe all that is joined to an end port, and this part holds the tables, a packet that is counted as
--- not arriving is not delivered at the line's end port
+-- not arriving is not delivered at the end port of its line
 abbrev pub MissedPacketsMiss : Type 0
 MissedPacketsMiss =
     (facts : Facts) (held : HeldPlan) (f : Fabric) (origin : NodePort) → IsEndPort f origin

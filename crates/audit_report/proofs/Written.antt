@@ -1,5 +1,6 @@
 -- Parts of a text, written one after the other.
-use Rattle.std.proofs.Common.{Bool, Result, Ok, Err, refl, ◌≡◌, ◌<◌, ◌+◌, ℕ, suc, List, [], ◌∷◌, ◌++◌, Option, sym, ap, ◌∙◌, subst, arith, length, get_or, take, drop}
+use Rattle.std.proofs.Common.{Bool, Result, Ok, Err, refl, ◌≡◌, ◌<◌, ◌+◌, ℕ, suc, List, [], ◌∷◌, ◌++◌, Option, sym, ap, ◌∙◌, subst, arith, length, get_or, take}
+use Rattle.std.proofs.Common.{drop}
 use Rattle.std.specs.Io.KnownBytes.{Appends}
 use Rattle.std.proofs.lemmas.List.{take_more}
 use Rattle.std.proofs.lemmas.Result.{on_ok_weaker}

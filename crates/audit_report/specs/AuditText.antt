@@ -1,5 +1,6 @@
 -- An audit as text.
-use Rattle.std.specs.Prelude.{ℕ, ◌-◌, ◌/◌, ◌%◌, ◌==◌, not, List, [], ◌∷◌, ◌++◌, Option, None, Some, codes, count_by, decimal, filter, length, nat_lt, slice_index, if◌then◌else◌}
+use Rattle.std.specs.Prelude.{ℕ, ◌-◌, ◌/◌, ◌%◌, ◌==◌, not, List, [], ◌∷◌, ◌++◌, Option, None, Some, codes, count_by, decimal, filter, length, nat_lt}
+use Rattle.std.specs.Prelude.{slice_index, if◌then◌else◌}
 use Rattle.std.specs.Option.{option_map_or}
 use Rattle.std.specs.List.{flat_map}
 use Rattle.smp_bytes.specs.Text.{guid_text, port_text}
@@ -28,18 +29,18 @@ use Rattle.audit_report.specs.Passing.{Audited}
 use Rattle.audit_counts.specs.FirstFew.{Listed, listed_of, more_of}
 use Rattle.audit_counts.specs.Unmatched.{lidless, tableless, twice, unjoined, unknown, unowned, unusable}
 
--- a line of counts: `words`, how many packets there are, and how many arrive
+-- a line of counts: `words`, how many packets were sent, and how many arrived
 abbrev pub counts_line : List ℕ → ℕ → ℕ → List ℕ
 counts_line words sent arrived =
     words ++ codes "pairs " ++ decimal sent ++ codes " arrive " ++ decimal arrived ++ codes "\n"
 
--- the counts of all packets, of the packets between adapter ports, and of the other packets
+-- the counts of all packets, of those between adapter ports, and of the others, with a switch at one end at least
 abbrev pub pairs_text : Pairs → Pairs → List ℕ
 pairs_text all between =
     counts_line (codes "") all.sent all.arrived ++ counts_line (codes "between adapters ") between.sent between.arrived
     ++ counts_line (codes "with a switch ") (all.sent - between.sent) (all.arrived - between.arrived)
 
--- `word` and `count`
+-- a space, `word`, a space and `count`
 abbrev pub count_text : List ℕ → ℕ → List ℕ
 count_text word count = codes " " ++ word ++ codes " " ++ decimal count
 
@@ -50,7 +51,7 @@ causes_text causes =
     ++ count_text (codes "no-port") causes.no_port
     ++ count_text (codes "no-link") causes.no_link ++ count_text (codes "foreign") causes.foreign
 
--- how many packets are delivered at another port, and how many loop
+-- how many packets are delivered at another port than that of their LID, and how many loop
 abbrev pub others_text : ℕ → ℕ → List ℕ
 others_text misdelivered round = count_text (codes "misdelivered") misdelivered ++ count_text (codes "round") round
 
@@ -59,7 +60,7 @@ abbrev pub missed_line : Causes → ℕ → ℕ → List ℕ
 missed_line causes misdelivered round =
     codes "missed" ++ causes_text causes ++ others_text misdelivered round ++ codes "\n"
 
--- the entry by which a switch drops a packet; empty for a node that is no usable switch
+-- the entry by which a switch drops a packet; empty for None, a node that is no usable switch
 abbrev pub entry_text : Option ℕ → List ℕ
 entry_text entry = option_map_or (λ port. codes " by " ++ decimal port) entry []
 
@@ -67,7 +68,7 @@ entry_text entry = option_map_or (λ port. codes " by " ++ decimal port) entry [
 abbrev pub taken_text : EndPort → List ℕ
 taken_text e = codes " at " ++ port_text e.node e.port
 
--- why a packet is lost
+-- the cause for which a packet is lost, in words after a colon
 abbrev pub cause_text : Cause → List ℕ
 cause_text AboveTop = codes ": above top"
 cause_text NoEntry = codes ": no entry"
@@ -80,7 +81,7 @@ abbrev pub lost_text : Cells → HeldPlan → ℕ → ℕ → Cause → List ℕ
 lost_text cells held lid g cause =
     codes " at " ++ guid_text g ++ entry_text (entry_by cells held g lid) ++ cause_text cause
 
--- where a packet for `lid` ends; empty if it loops
+-- where a packet for `lid` ends; empty for None, if it loops
 abbrev pub end_text : Cells → HeldPlan → ℕ → Option End → List ℕ
 end_text cells held lid None = []
 end_text cells held lid (Some (Taken e)) = taken_text e
@@ -91,20 +92,20 @@ abbrev pub sent_text : List ℕ → SentPacket → List ℕ
 sent_text word packet =
     word ++ codes " " ++ port_text packet.source.node packet.source.port ++ codes " " ++ decimal packet.line.lid
 
--- the line of a packet: its sender, its LID, and where it ends
+-- the line of a packet: `word`, its sender, its LID, and where it ends
 abbrev pub packet_line : Cells → HeldPlan → List ℕ → SentPacket → List ℕ
 packet_line cells held word packet =
     sent_text word packet ++ end_text cells held packet.line.lid packet.end ++ codes "\n"
 
--- a line for each packet
+-- a line for each packet, with its sender, its LID and where it ends
 abbrev pub packets_text : Cells → HeldPlan → List ℕ → List SentPacket → List ℕ
 packets_text cells held word packets = flat_map (packet_line cells held word) packets
 
--- how many items of a kind are not listed; empty for 0
+-- the line that says how many items of the kind `word` are not listed; empty for 0
 abbrev pub more_line : List ℕ → ℕ → List ℕ
 more_line word count = if nat_lt 0 count then codes "more " ++ word ++ codes " " ++ decimal count ++ codes "\n" else []
 
--- a line for each listed item, and how many more there are
+-- a line for each listed item of the kind `word`, and how many more there are
 abbrev pub kind_text : {X : Type 0} → (List ℕ → X → List ℕ) → List ℕ → Listed X → List ℕ
 kind_text line word listed = flat_map (line word) listed.first ++ more_line word (more_of listed)
 
@@ -117,11 +118,11 @@ abbrev pub lid_line : List ℕ → HeldLid → List ℕ
 lid_line word line =
     word ++ codes " " ++ decimal line.lid ++ codes " " ++ port_text line.port.node line.port.port ++ codes "\n"
 
--- the line of a switch or another node
+-- the line of a node: `word` and the GUID
 abbrev pub switch_line : List ℕ → ℕ → List ℕ
 switch_line word guid = word ++ codes " " ++ guid_text guid ++ codes "\n"
 
--- the line of an end port or another port
+-- the line of a port: `word`, the node and the port
 abbrev pub port_line : List ℕ → EndPort → List ℕ
 port_line word e = word ++ codes " " ++ port_text e.node e.port ++ codes "\n"
 
@@ -129,7 +130,7 @@ port_line word e = word ++ codes " " ++ port_text e.node e.port ++ codes "\n"
 abbrev pub hundredths_text : ℕ → List ℕ
 hundredths_text n = decimal (n / 100) ++ codes "." ++ decimal (n / 10 % 10) ++ decimal (n % 10)
 
--- the greatest number and the mean
+-- the greatest number and the mean; `none` if there are no numbers
 abbrev pub figures_text : Option Figures → List ℕ
 figures_text None = codes " none"
 figures_text (Some figures) =
@@ -143,26 +144,26 @@ figures_line word figures = word ++ figures_text figures ++ codes "\n"
 abbrev pub ways_text : Option Figures → Option Figures → List ℕ
 ways_text hops load = figures_line (codes "hops") hops ++ figures_line (codes "load") load
 
--- the switch and the port of `channel`
+-- a space, and the switch and the port of `channel`
 abbrev pub channel_text : Cells → ℕ → List ℕ
 channel_text cells channel = codes " " ++ port_text (slice_index (switches cells) (channel / 256)) (channel % 256)
 
--- the channels of a credit loop
+-- the channels of a credit loop; `none` if the list is empty
 abbrev pub channels_text : Cells → List ℕ → List ℕ
 channels_text cells [] = codes " none"
 channels_text cells (channel ∷ later) = codes " on one lane" ++ flat_map (channel_text cells) (channel ∷ later)
 
--- the line of a credit loop, which is a loop if all packets use one virtual lane
+-- the line of a credit loop, which is one if all packets use one virtual lane; `none` if `cycle` is empty
 abbrev pub cycle_line : Cells → List ℕ → List ℕ
 cycle_line cells cycle = codes "credit loop" ++ channels_text cells cycle ++ codes "\n"
 
--- the packets that do not arrive, by kind
+-- the packets that are lost, misdelivered or loop, the first of each kind, and how many more there are
 abbrev pub missed_text : Cells → HeldPlan → Listed SentPacket → Listed SentPacket → Listed SentPacket → List ℕ
 missed_text cells held lost misdelivered round =
     listed_text cells held (codes "lost") lost ++ listed_text cells held (codes "misdelivered") misdelivered
     ++ listed_text cells held (codes "round") round
 
--- the counts of packets, and the first of each kind that do not arrive
+-- the counts of packets, and the first of each kind of those that do not arrive
 abbrev pub tally_text : Cells → HeldPlan → PacketTally → List ℕ
 tally_text cells held tally =
     pairs_text tally.all tally.between ++ missed_line tally.causes tally.misdelivered.count tally.round.count
@@ -182,11 +183,11 @@ unmatched_text found =
 abbrev pub disputed_line : ℕ → List ℕ
 disputed_line count = if count == 0 then [] else codes "disputed " ++ decimal count ++ codes "\n"
 
--- how many of `packets` there are, and how many arrive
+-- the line of `words`, how many `packets` there are, and how many of them arrive
 abbrev pub counts_told : List ℕ → List SentPacket → List ℕ
 counts_told words packets = counts_line words (length packets) (count_by arrives packets)
 
--- the counts of all packets, of the packets between adapter ports, and of the packets with a switch at one end
+-- the counts of all `packets`, of those between adapter ports, and of those with a switch at one end at least
 abbrev pub pairs_told : List SentPacket → List ℕ
 pairs_told packets =
     counts_told (codes "") packets ++ counts_told (codes "between adapters ") (filter is_between packets)
@@ -200,7 +201,7 @@ packets_told most cells held packets =
     ++ missed_text cells held (listed_of most is_lost packets) (listed_of most is_misdelivered packets)
     (listed_of most goes_round packets)
 
--- the first `most` of each kind of difference between tables and facts, and of gap in the facts
+-- the first `most` of each kind of difference between tables and facts, and of gap in the facts, as lines
 abbrev pub unmatched_told : ℕ → Cells → HeldPlan → List ℕ
 unmatched_told most cells held =
     kind_text lid_line (codes "unowned") (unowned most cells held) ++ kind_text lid_line (codes "twice") (twice most held)
@@ -210,7 +211,7 @@ unmatched_told most cells held =
     ++ kind_text port_line (codes "lidless") (lidless most cells held)
     ++ kind_text port_line (codes "unjoined") (unjoined most cells)
 
--- how many wires packets between adapter ports take, and how evenly they load the channels
+-- the figures of how many wires packets between adapter ports take, and of how often they take each channel, as lines
 abbrev pub ways_told : Cells → HeldPlan → List ℕ
 ways_told cells held = ways_text (figures_of (hops_of cells held)) (figures_of (loads_of cells held))
 
@@ -221,10 +222,10 @@ findings_text most cells held =
     packets_told most cells held (packets_of cells held) ++ unmatched_told most cells held ++ disputed_line (disputed cells)
     ++ ways_told cells held
 
--- the text of an audit with the credit loop `cycle`
+-- the text of an audit with the credit loop `cycle`, or without one if `cycle` is empty
 abbrev pub text_of : ℕ → Cells → HeldPlan → List ℕ → List ℕ
 text_of most cells held cycle = findings_text most cells held ++ cycle_line cells cycle
 
--- the text of an audit, with the credit loop that it found
+-- the text of an audit, with the credit loop that was found, if there is one
 unfoldable pub audit_text : Audited → List ℕ
 audit_text audit = text_of audit.most (cells_of audit.facts) audit.held audit.cycle

@@ -1,4 +1,4 @@
--- Which held tables pass.
+-- Which held tables pass an audit: they are whole and sound for facts, and within a bound of load.
 use Rattle.std.specs.Prelude.{◌≡◌, ℕ, Bool, true, List, [], ◌∷◌, Contains, Option, None, Some, nat_le}
 use Rattle.std.specs.Coded.{Coded, code_by, coded×, coded_ℕ}
 use Rattle.std.specs.Prelude.{refl}
@@ -30,28 +30,28 @@ use Rattle.audit_counts.specs.Sites.{in_one_component}
 use Rattle.audit_counts.specs.PacketTally.{IsTally}
 use Rattle.audit_counts.specs.Unmatched.{IsUnmatched}
 
--- if the line's end port is one of the facts, each packet that an end port of its component sends for the line's LID is
+-- if the port of `line` is an end port of the facts, each packet that an end port of its component sends for its LID is
 -- delivered there
 abbrev pub ArriveAt : Cells → HeldPlan → HeldLid → Type 0
 ArriveAt cells held line = (e : EndPort) → Contains (end_ports cells) line.port → Contains (end_ports cells) e
     → in_one_component cells e line.port ≡ true
     → IsBrought cells held line.lid e (Some (Taken line.port))
 
--- for each held LID, each packet from an end port of its component is delivered at the end port that holds it
+-- for each held LID of an end port of the facts, each packet from an end port of its component is delivered there
 abbrev pub EachArrives : Cells → HeldPlan → Type 0
 EachArrives cells held = (line : HeldLid) → Contains held.lids line → ArriveAt cells held line
 
--- channels can be numbered so that the numbers rise along the route of every packet
+-- channels can be numbered so that the numbers rise on ways: along the route of every packet for any LID
 abbrev pub CanRise : Cells → HeldPlan → Type 0
 CanRise cells held = (numbers : List ℕ) × RiseOnWays cells held numbers
 
--- a line gives `e` a LID
+-- a line of the held tables gives `e` a LID
 pub record HoldsLid (held : HeldPlan) (e : EndPort) : Type 0 where
   pub line : HeldLid
   pub is_held : Contains held.lids line
   pub is_its : line.port ≡ e
 
--- a line has the tables of switch `g`
+-- a line of the held tables has the top of switch `g`
 pub record HoldsTables (held : HeldPlan) (g : ℕ) : Type 0 where
   pub switch : HeldSwitch
   pub is_held : Contains held.switches switch
@@ -61,7 +61,7 @@ pub record HoldsTables (held : HeldPlan) (g : ℕ) : Type 0 where
 abbrev pub EachHoldsLid : Cells → HeldPlan → Type 0
 EachHoldsLid cells held = (e : EndPort) → Contains (end_ports cells) e → HoldsLid held e
 
--- if there is an end port, each usable switch has tables
+-- if the facts have an end port, each usable switch has tables
 abbrev pub EachHasTables : Cells → HeldPlan → Type 0
 EachHasTables cells held =
     (e : EndPort) (g : ℕ) → Contains (end_ports cells) e → Contains (switches cells) g → HoldsTables held g
@@ -70,13 +70,14 @@ EachHasTables cells held =
 abbrev pub EachNodeIsKnown : Cells → Type 0
 EachNodeIsKnown cells = (g : ℕ) → IsNamedNode cells g → IsKnownNode cells g
 
--- nothing is missing: each end port holds a LID, switches have tables, and nodes are known
+-- the tables are whole for the facts: each end port holds a LID, usable switches have tables, and named nodes are known
 pub record IsWholeFor (cells : Cells) (held : HeldPlan) : Type 0 where
   pub lids : EachHoldsLid cells held
   pub tables : EachHasTables cells held
   pub nodes : EachNodeIsKnown cells
 
--- the tables are right: packets arrive, and never wait in a credit loop
+-- the tables are sound: each packet for a LID that an end port of the sender's component holds arrives, and packets
+-- never wait in a credit loop
 pub record IsSound (cells : Cells) (held : HeldPlan) : Type 0 where
   pub arrive : EachArrives cells held
   pub rise : CanRise cells held
@@ -86,37 +87,40 @@ pub record Passes (cells : Cells) (held : HeldPlan) : Type 0 where
   pub whole : IsWholeFor cells held
   pub sound : IsSound cells held
 
--- the greatest load is at most the bound, or there is no load or no bound
+-- the greatest load is at most the bound; true if there is no bound or no load
 abbrev pub is_within : Option ℕ → Option Figures → Bool
 is_within None load = true
 is_within (Some bound) None = true
 is_within (Some bound) (Some load) = nat_le load.most bound
 
--- the tables pass, and no channel carries more than `bound` pairs of adapter ports, if there is a bound
+-- the tables pass and, if there is a bound, no channel has a load above it: the load counts one packet from each
+-- adapter port to each LID of another adapter port, if it is delivered there
 pub record PassesWithin (bound : Option ℕ) (cells : Cells) (held : HeldPlan) : Type 0 where
   pub passes : Passes cells held
   pub within : is_within bound (figures_of (loads_of cells held)) ≡ true
 
--- nothing is missing, each packet arrives, and no channel carries more than `bound` pairs of adapter ports, if there is
--- a bound
+-- the tables are whole for the facts, each packet arrives and, if there is a bound, no channel has a load above it: the
+-- load counts one packet from each adapter port to each LID of another adapter port, if it is delivered there
 pub record DeliversWithin (bound : Option ℕ) (cells : Cells) (held : HeldPlan) : Type 0 where
   pub whole : IsWholeFor cells held
   pub arrive : EachArrives cells held
   pub within : is_within bound (figures_of (loads_of cells held)) ≡ true
 
--- channels that wait for each other in a credit loop; empty if channels can be numbered so that the numbers rise
+-- the channels of a list wait for each other in a credit loop; for an empty list, channels can be numbered so that the
+-- numbers rise on ways
 abbrev pub IsCycle : Cells → HeldPlan → List ℕ → Type 0
 IsCycle cells held [] = CanRise cells held
 IsCycle cells held (channel ∷ later) = WaitInCycle cells held (channel ∷ later)
 
--- what an audit is about: the maximum number of lines of each kind, facts and tables, and the cycle that was found
+-- what an audit is about: the maximum number of lines of each kind, facts and tables, and the credit loop that was
+-- found
 pub record Audited : Type 0 where
   pub most : ℕ
   pub facts : Facts
   pub held : HeldPlan
   pub cycle : List ℕ
 
--- an audit is stored as nested pairs
+-- the stored form of an audit: nested pairs
 abbrev pub audited_code : Coded Audited
 audited_code =
     code_by (ℕ × (Facts × (HeldPlan × List ℕ)))
@@ -124,7 +128,8 @@ audited_code =
     (λ a. (a.most, (a.facts, (a.held, a.cycle))))
     (λ p. record { most = p.0; facts = p.1.0; held = p.1.1.0; cycle = p.1.1.1 }) (λ _. refl)
 
--- the findings of an audit are the findings for the facts and tables in `seen`
+-- the packets, differences, disputed facts, figures of routes and credit loop of an audit are those of the facts and
+-- tables in `seen`
 pub record IsFound (most : ℕ) (seen : Seen) (tally : PacketTally) (unmatched : Unmatched) (count : ℕ) (ways : WayFigures)
     (cycle : List ℕ) : Type 0 where
   pub counted : IsTally most (packets_of (cells_of seen.facts) seen.held) tally

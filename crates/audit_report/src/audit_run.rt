@@ -24,18 +24,19 @@ pub struct AuditAsked {
     pub floor: Generation,
     /// Whether to write all lines of each kind, or only the first 20.
     pub all: bool,
-    /// The maximum number of pairs of adapter ports that a channel may carry. `None` if there is no bound.
+    /// The maximum load of a channel: how many packets may take it, of one from each adapter port to each LID of
+    /// another. `None` if there is no bound.
     pub max_load: Option<u64>,
 }
 
-/// Reads the tables from the first input and then the files in order. Writes what these tables do with the packets of
-/// the subnet that the files describe together. Returns whether the tables pass and no channel carries more pairs than
-/// `asked.max_load`.
+/// Reads the tables from the first input, which there must be, and then the files in order. Writes what these tables do
+/// with the packets of the subnet that the files describe together. Returns whether the tables pass and no channel has
+/// a load over `asked.max_load`.
 ///
 /// # Errors
 ///
-/// Returns the first fault. If an input is refused or memory runs out, nothing is written. If a write fails, how much
-/// was written before is unspecified.
+/// Returns the fault of the first input that is refused, `Memory` if memory is refused, or `Write` if a write fails.
+/// Nothing is written unless the error is `Write`; how much is written then is unspecified.
 pub fn run_audit<S: Source, W: Sink>(
     alloc: Global,
     inputs: &mut [S],
@@ -57,8 +58,8 @@ pub fn run_audit<S: Source, W: Sink>(
     }
 }
 
-/// Writes the audit of `held` in the subnet of `store`, and flushes. Returns whether the tables pass and no channel
-/// carries more pairs than `asked.max_load`.
+/// Writes the audit of `held` in the subnet of `store`, and flushes. Returns whether the tables pass and no channel has
+/// a load over `asked.max_load`.
 fn answer<W: Sink>(
     alloc: Global,
     sink: &mut W,
@@ -79,15 +80,14 @@ fn answer<W: Sink>(
     }
 }
 
-/// Returns the maximum number of lines of each kind that are written.
+/// Returns the maximum number of lines of each kind that are written: 20, or 2^64 - 1 if `all` is true.
 pub fn most_told(all: bool) -> usize
     ensures { result ≡ most_told all }
 {
     if all { usize::MAX } else { MOST_TOLD }
 }
 
-/// Writes what an audit found, and flushes. Returns whether the tables pass and no channel carries more pairs than
-/// `max_load`.
+/// Writes what `audit` found, and flushes. Returns whether the tables pass and no channel has a load over `max_load`.
 fn tell<W: Sink>(sink: &mut W, max_load: Option<u64>, audit: &Audit) -> Result<bool, Fault>
     ensures told { IfOk result (λ passed.
         Appends (W.written sink.old) (W.written sink.new) (audit_text audit.now)

@@ -6,8 +6,8 @@ ghost use Rattle.subnet_view.specs.Reading.{switches};
 ghost use Rattle.byte_io.specs.Writes.{Writes};
 ghost use Rattle.lft_blocks.specs.WritesPart.{WritesPart};
 ghost use Rattle.audit_report.specs.AuditText.{audit_text, channel_text, channels_text, cycle_line, disputed_line};
-ghost use Rattle.audit_report.specs.AuditText.{cause_text, causes_text, count_text, counts_line, findings_text, listed_text};
-ghost use Rattle.audit_report.specs.AuditText.{missed_line};
+ghost use Rattle.audit_report.specs.AuditText.{cause_text, causes_text, count_text, counts_line, findings_text};
+ghost use Rattle.audit_report.specs.AuditText.{listed_text, missed_line};
 ghost use Rattle.audit_report.specs.AuditText.{more_line, others_text, pairs_text, tally_text};
 ghost use Rattle.audit_report.specs.AuditText.{figures_line, figures_text, hundredths_text, ways_text};
 ghost use Rattle.audit_report.specs.AuditText.{end_text, entry_text, lid_line, packet_line, packets_text};
@@ -35,7 +35,7 @@ use subnet_view::EndPort;
 /// - the wires that packets between adapter ports take, and the loads of channels;
 /// - a credit loop, if there is one.
 ///
-/// Takes no memory.
+/// Does not allocate.
 pub fn write_audit<W: Sink>(sink: &mut W, audit: &Audit) -> Result<(), WriteFault>
     ensures writes { Writes W.written W.has_failed result sink.old sink.new (audit_text audit.now) }
     ensures flushed { OnOk result (IsTrue (W.is_flushed sink.new)) }
@@ -45,7 +45,7 @@ pub fn write_audit<W: Sink>(sink: &mut W, audit: &Audit) -> Result<(), WriteFaul
     sink.flush()
 }
 
-/// Writes an audit without its credit loop, as `write_audit` does. Takes no memory.
+/// Writes an audit as `write_audit` does, but without its credit loop, and without flushing. Does not allocate.
 pub fn write_findings<W: Sink>(sink: &mut W, audit: &Audit) -> Result<(), WriteFault>
     ensures { WritesPart W.written W.has_failed result sink.old sink.new
         (findings_text audit.now.most (cells_of audit.now.facts) audit.now.held) }
@@ -86,7 +86,8 @@ fn write_pairs<W: Sink>(sink: &mut W, all: &Pairs, between: &Pairs) -> Result<()
     write_with_switch(sink, all, between)
 }
 
-/// Writes how many packets are to or from a switch, and how many of them arrive.
+/// Writes how many packets are in `all` but not in `between`, which are to or from a switch, and how many of them
+/// arrive.
 fn write_with_switch<W: Sink>(sink: &mut W, all: &Pairs, between: &Pairs) -> Result<(), WriteFault>
     ensures { Writes W.written W.has_failed result sink.old sink.new
         (counts_line (codes "with a switch ") (all.now.sent - between.now.sent)
@@ -149,7 +150,7 @@ fn write_causes<W: Sink>(sink: &mut W, causes: &Causes) -> Result<(), WriteFault
     write_count(sink, "foreign", causes.foreign)
 }
 
-/// Writes `word` and `count`.
+/// Writes `word` and `count`, with a space before each.
 fn write_count<W: Sink>(sink: &mut W, word: &str, count: u64) -> Result<(), WriteFault>
     ensures { Writes W.written W.has_failed result sink.old sink.new (count_text word.now count) }
 {
@@ -188,7 +189,7 @@ fn write_listed<W: Sink>(
     write_more(sink, word, few.more())
 }
 
-/// Writes a line for each packet.
+/// Writes a line for each of `packets`, which begins with `word`.
 fn write_packets<W: Sink>(
     sink: &mut W,
     network: &Network,
@@ -204,7 +205,7 @@ fn write_packets<W: Sink>(
     Ok(())
 }
 
-/// Writes the line of a packet: the end port that sends it, its LID, and where it ends.
+/// Writes the line of `packet`: `word`, the end port that sends it, its LID, and where it ends.
 fn write_packet<W: Sink>(
     sink: &mut W,
     network: &Network,
@@ -219,7 +220,7 @@ fn write_packet<W: Sink>(
     sink.write(b"\n")
 }
 
-/// Writes `word`, the end port that sends the packet, and the packet's LID.
+/// Writes `word`, the end port that sends `packet`, and the packet's LID.
 fn write_sent<W: Sink>(sink: &mut W, word: &str, packet: &SentPacket) -> Result<(), WriteFault>
     ensures { Writes W.written W.has_failed result sink.old sink.new (sent_text word.now packet.now) }
 {
@@ -247,7 +248,7 @@ fn write_end<W: Sink>(
     }
 }
 
-/// Writes the port that takes a packet.
+/// Writes that `port` takes a packet.
 fn write_taken<W: Sink>(sink: &mut W, port: &EndPort) -> Result<(), WriteFault>
     ensures { Writes W.written W.has_failed result sink.old sink.new (taken_text port.now) }
 {
@@ -285,7 +286,7 @@ fn write_cause<W: Sink>(sink: &mut W, cause: Cause) -> Result<(), WriteFault>
     }
 }
 
-/// Writes the entry by which a packet is lost, or nothing if `entry` is `None`.
+/// Writes `entry`, by which a packet is lost, or nothing if it is `None`.
 fn write_entry<W: Sink>(sink: &mut W, entry: Option<u8>) -> Result<(), WriteFault>
     ensures { WritesPart W.written W.has_failed result sink.old sink.new (entry_text entry) }
 {
@@ -319,7 +320,7 @@ fn write_lids<W: Sink>(sink: &mut W, word: &str, few: &FirstFew<HeldLid>) -> Res
     write_more(sink, word, few.more())
 }
 
-/// Writes a line for each LID.
+/// Writes a line for each of `lines`, which begins with `word`.
 fn write_each_lid<W: Sink>(sink: &mut W, word: &str, lines: &[HeldLid]) -> Result<(), WriteFault>
     ensures { WritesPart W.written W.has_failed result sink.old sink.new (flat_map (lid_line word.now) lines.now) }
 {
@@ -329,7 +330,7 @@ fn write_each_lid<W: Sink>(sink: &mut W, word: &str, lines: &[HeldLid]) -> Resul
     Ok(())
 }
 
-/// Writes the line of a LID and the end port that holds it.
+/// Writes `word`, the LID of `line` and the end port that holds it, as a line.
 fn write_lid<W: Sink>(sink: &mut W, word: &str, line: &HeldLid) -> Result<(), WriteFault>
     ensures { Writes W.written W.has_failed result sink.old sink.new (lid_line word.now line.now) }
 {
@@ -349,7 +350,7 @@ fn write_switches<W: Sink>(sink: &mut W, word: &str, few: &FirstFew<Guid>) -> Re
     write_more(sink, word, few.more())
 }
 
-/// Writes a line for each switch.
+/// Writes a line for each of `guids`, which begins with `word`.
 fn write_each_switch<W: Sink>(sink: &mut W, word: &str, guids: &[Guid]) -> Result<(), WriteFault>
     ensures { WritesPart W.written W.has_failed result sink.old sink.new (flat_map (switch_line word.now) guids.now) }
 {
@@ -359,7 +360,7 @@ fn write_each_switch<W: Sink>(sink: &mut W, word: &str, guids: &[Guid]) -> Resul
     Ok(())
 }
 
-/// Writes the line of a switch.
+/// Writes `word` and the switch `guid`, as a line.
 fn write_switch<W: Sink>(sink: &mut W, word: &str, guid: Guid) -> Result<(), WriteFault>
     ensures { Writes W.written W.has_failed result sink.old sink.new (switch_line word.now guid) }
 {
@@ -377,7 +378,7 @@ fn write_ports<W: Sink>(sink: &mut W, word: &str, few: &FirstFew<EndPort>) -> Re
     write_more(sink, word, few.more())
 }
 
-/// Writes a line for each end port.
+/// Writes a line for each of `ports`, which begins with `word`.
 fn write_each_port<W: Sink>(sink: &mut W, word: &str, ports: &[EndPort]) -> Result<(), WriteFault>
     ensures { WritesPart W.written W.has_failed result sink.old sink.new (flat_map (port_line word.now) ports.now) }
 {
@@ -387,7 +388,7 @@ fn write_each_port<W: Sink>(sink: &mut W, word: &str, ports: &[EndPort]) -> Resu
     Ok(())
 }
 
-/// Writes the line of an end port.
+/// Writes `word` and the end port `port`, as a line.
 fn write_end_port<W: Sink>(sink: &mut W, word: &str, port: &EndPort) -> Result<(), WriteFault>
     ensures { Writes W.written W.has_failed result sink.old sink.new (port_line word.now port.now) }
 {
@@ -469,7 +470,8 @@ fn write_hundredths<W: Sink>(sink: &mut W, number: u64) -> Result<(), WriteFault
     write_number(sink, number % 10)
 }
 
-/// Writes the line of a credit loop. Each channel is written as a switch and the port by which packets leave it.
+/// Writes the line of the credit loop `cycle`, or that there is none if `cycle` is empty. Each channel is written as a
+/// switch and the port by which packets leave it.
 pub fn write_cycle<W: Sink>(
     sink: &mut W,
     network: &Network,
@@ -483,7 +485,7 @@ pub fn write_cycle<W: Sink>(
     sink.write(b"\n")
 }
 
-/// Writes the channels of a credit loop, or that there is none.
+/// Writes the channels of the credit loop `cycle`, or that there is none if `cycle` is empty.
 fn write_channels<W: Sink>(
     sink: &mut W,
     network: &Network,
@@ -499,7 +501,7 @@ fn write_channels<W: Sink>(
     write_each_channel(sink, network, cycle)
 }
 
-/// Writes each channel.
+/// Writes each of `channels`.
 fn write_each_channel<W: Sink>(
     sink: &mut W,
     network: &Network,
@@ -524,7 +526,7 @@ fn write_channel<W: Sink>(sink: &mut W, network: &Network, channel: usize) -> Re
     write_port(sink, switch_of(network, channel), port)
 }
 
-/// Returns the switch of `channel`.
+/// Returns the switch of `channel`, or GUID 0 if there is none.
 fn switch_of(network: &Network, channel: usize) -> Guid
     ensures { result ≡ slice_index (switches (cells_of network.now.facts)) (channel / 256) }
 {

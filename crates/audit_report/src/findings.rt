@@ -19,10 +19,10 @@ use packet_walks::Network;
 use std::alloc::{AllocError, Global};
 use std::marker::Model;
 
-/// What the tables that switches hold do with the packets of a subnet.
+/// An audit: the network of the tables that switches hold, and what was found in it.
 #[derive(Drop)]
 pub struct Audit<'a> {
-    /// The maximum number of lines of each kind.
+    /// The maximum number of lines that are kept of each kind.
     most: usize,
     pub(crate) network: Network<'a>,
     pub(crate) findings: Findings,
@@ -37,7 +37,7 @@ pub(crate) struct Findings {
     pub(crate) disputed: usize,
     /// The figures of the wires that packets between adapter ports take, and of the loads of channels.
     pub(crate) ways: WayFigures,
-    /// Channels that wait for each other in a credit loop; empty if there is no credit loop.
+    /// The channels of a shortest credit loop; empty if there is no credit loop.
     pub(crate) cycle: Vec<usize>,
 }
 
@@ -62,11 +62,11 @@ impl<'a> Model for Audit<'a> {
 impl<'a> Audit<'a> {
     /// Audits the tables `held` in the subnet of `store`. Follows the packets for each held LID from every end port of
     /// its owner's component. Counts the wires and channels that packets between adapter ports take, and looks for a
-    /// credit loop. Keeps the first `most` lines of each kind.
+    /// shortest credit loop. Keeps the first `most` lines of each kind.
     ///
     /// Costs what `Network::deliveries` takes for each 64 LIDs, and twice what `Network::edges` takes for each LID. If
-    /// the deliveries do not show that all packets for a LID arrive, that LID also costs what `Network::ends` takes. If
-    /// not all are delivered at its port, it costs that twice, and a step or two for each end port.
+    /// the deliveries do not show that all packets for a LID arrive, that LID also costs what `Network::ends` takes,
+    /// and costs this twice if not all are delivered at its port.
     pub fn of(alloc: Global, most: usize, store: &'a Store, held: &'a Held) -> Result<Self, Refused>
         ensures most { IfOk result (λ audit. audit.most ≡ most) }
         ensures facts { IfOk result (λ audit. audit.facts ≡ store.now) }
@@ -83,8 +83,9 @@ impl<'a> Audit<'a> {
         })
     }
 
-    /// Returns whether the tables pass and no channel carries more pairs of adapter ports than `bound`, if there is a
-    /// bound.
+    /// Returns whether the tables pass and no channel has a load over `bound`, which is no bound if it is `None`. The
+    /// load of a channel counts the delivered packets that take it, one from each adapter port to each LID of another
+    /// adapter port.
     pub fn passes_within(&self, bound: Option<u64>) -> bool
         ensures { IsTrue result ↔ PassesWithin bound (cells_of self.now.facts) self.now.held }
     {
@@ -106,9 +107,8 @@ impl<'a> Audit<'a> {
         self.is_whole() && self.is_sound()
     }
 
-    /// Returns whether nothing is missing. Each end port of the view must hold a LID. If there is an end port, each
-    /// usable switch must have tables. The type of each node that the view names must be known and, if it is a switch,
-    /// its table room.
+    /// Returns whether nothing is missing. Each end port of the view holds a LID. If there is an end port, each usable
+    /// switch has tables. The type of each node that the view names is known and, if it is a switch, its table room.
     fn is_whole(&self) -> bool
         ensures { IsTrue result ↔ IsWholeFor (cells_of self.now.facts) self.now.held }
     {
@@ -143,23 +143,23 @@ impl<'a> Audit<'a> {
         self.all_arrive() && self.can_rise()
     }
 
-    /// Returns whether channels can be numbered so that the numbers rise along the route of every packet. Then there is
-    /// no credit loop. Takes one step.
+    /// Returns whether channels can be numbered so that the numbers rise along the route of every packet. If so, there
+    /// is no credit loop. Takes constant time.
     pub fn can_rise(&self) -> bool
         ensures { IsTrue result ↔ CanRise (cells_of self.now.facts) self.now.held }
     {
         self.findings.cycle.is_empty()
     }
 
-    /// Returns whether nothing is missing, each packet arrives, and no channel carries more pairs of adapter ports than
-    /// `bound`, if there is a bound. Credit loops do not matter.
+    /// Returns whether nothing is missing, each packet arrives, and no channel has a load over `bound`, if there is a
+    /// bound. Credit loops do not matter.
     pub fn delivers_within(&self, bound: Option<u64>) -> bool
         ensures { IsTrue result ↔ DeliversWithin bound (cells_of self.now.facts) self.now.held }
     {
         self.is_whole() && self.all_arrive() && self.is_within(bound)
     }
 
-    /// Returns whether each packet arrives.
+    /// Returns whether each packet to a held LID from its owner's component is delivered at its owner.
     fn all_arrive(&self) -> bool
         ensures { IsTrue result ↔ EachArrives (cells_of self.now.facts) self.now.held }
     {
@@ -208,7 +208,8 @@ fn packets_and_ways(
     most: usize,
     network: &Network,
 ) -> Result<(PacketTally, WayFigures), Refused>
-    ensures tally { IfOk result (λ both. IsTally most (packets_of (cells_of network.now.facts) network.now.held) both.0) }
+    ensures tally { IfOk result (λ both.
+        IsTally most (packets_of (cells_of network.now.facts) network.now.held) both.0) }
     ensures ways { IfOk result (λ both. IsToldOfWays (cells_of network.now.facts) network.now.held both.1) }
 {
     let survey = survey_of(alloc, most, network)?;
@@ -216,7 +217,7 @@ fn packets_and_ways(
     Ok((survey.tally, ways))
 }
 
-/// Counts the packets, and finds the LIDs whose packets are all seen to arrive.
+/// Counts the packets, and finds lines whose packets are known to arrive.
 fn survey_of(alloc: Global, most: usize, network: &Network) -> Result<PacketSurvey, Refused>
     ensures tally { IfOk result (λ survey.
         IsTally most (packets_of (cells_of network.now.facts) network.now.held) survey.tally) }
@@ -226,7 +227,7 @@ fn survey_of(alloc: Global, most: usize, network: &Network) -> Result<PacketSurv
     Ok(survey(alloc, most, network, &sites)?)
 }
 
-/// Finds where tables and facts differ, and a shortest credit loop. The list of its channels is empty if there is none.
+/// Finds where tables and facts differ, and a shortest credit loop, which is empty if there is none.
 fn unmatched_and_cycle(
     alloc: Global,
     most: usize,

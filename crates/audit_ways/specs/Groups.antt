@@ -16,12 +16,12 @@ use Rattle.audit_ways.specs.declared.sender_groups.Groups.{Groups}
 use Rattle.audit_ways.specs.WayTally.{weighed}
 use Rattle.audit_ways.specs.Ways.{is_adapter}
 
--- if the wire leads to a switch, its index is below `count`
+-- if `far` is a switch, its index is below `count`
 abbrev pub IsWithin : ℕ → Far → Type 0
 IsWithin count far = (index : ℕ) → far ≡ Switch index → index < count
 
--- the sum, over all packets, of `number` of the switch that the packet reaches first; of None if it reaches an adapter
--- over one wire
+-- the sum, over all packets of `groups`, of `number` of the switch that the packet reaches first; of None if it reaches
+-- an adapter over one wire
 abbrev pub total : (Option ℕ → ℕ) → Groups → ℕ
 total number groups = weighed (λ i. number (Some i)) groups.weights.items + groups.direct * number None
 
@@ -30,16 +30,16 @@ pub record IsGroupedWith (old : Groups) (far : Far) (new : Groups) : Type 0 wher
   pub as_many : length new.weights.items ≡ length old.weights.items
   pub sums : (number : Option ℕ → ℕ) → total number new ≡ total number old + number (switch_over far)
 
--- how many packets reach the switch first; for None, how many reach an adapter over one wire
+-- how many packets of `groups` reach the switch at the index first; for None, how many reach an adapter over one wire
 abbrev pub packets_at : Groups → Option ℕ → ℕ
 packets_at groups None = groups.direct
 packets_at groups (Some index) = slice_index groups.weights.items index
 
--- `number` of the switch to which the wire in `e` leads; of None if it leads to none
+-- the value of `number` at the index of the usable switch to which the wire in `e` leads; at None if it leads to none
 abbrev pub by_switch : Cells → (Option ℕ → ℕ) → EndPort → ℕ
 by_switch cells number e = number (switch_over (far_of cells e.node e.port))
 
--- `groups` has a packet from each of `ports`
+-- `groups` has one packet from each of `ports`, by where the wire in the port leads
 pub record AreGrouped (cells : Cells) (ports : List EndPort) (groups : Groups) : Type 0 where
   pub as_many : length groups.weights.items ≡ length (switches cells)
   pub sums : (number : Option ℕ → ℕ) → sum_by (by_switch cells number) ports ≡ total number groups
@@ -48,7 +48,7 @@ pub record AreGrouped (cells : Cells) (ports : List EndPort) (groups : Groups) :
 abbrev pub adapters : Cells → List EndPort
 adapters cells = filter is_adapter (end_ports cells)
 
--- the order by node and port
+-- the order of ports by node, and then by port number
 abbrev pub port_cmp : ℕ × ℕ → ℕ × ℕ → Ordering
 port_cmp a b = ordering_then (nat_cmp a.0 b.0) (nat_cmp a.1 b.1)
 
@@ -65,14 +65,15 @@ pub record IsRoster (cells : Cells) (roster : List Sender) : Type 0 where
   pub moved : IsPermutation (map (sender_of cells) (end_ports cells)) roster
   pub by_port : AreByPort roster
 
--- the wire in `e` leads to `far`, as a sender in `sources` says
+-- by one of `sources`, the wire in `e` leads to `far`
 pub record LeadsTo (sources : List Sender) (e : EndPort) (far : Far) : Type 0 where
   pub source : Sender
   pub there : Contains sources source
   pub port_is : source.port ≡ e
   pub far_is : source.far ≡ far
 
--- where the wire in the adapter port `e` leads; None if `e` is no adapter port or not in `sources`
+-- a target is where the wire in `e` leads, by one of `sources`; it is None exactly if `e` is no adapter port or not in
+-- `sources`
 abbrev pub IsTargetAmong : List Sender → EndPort → Option Far → Type 0
 IsTargetAmong sources e None = (is_adapter e && list_any (λ source. is_same_end e source.port) sources) ≡ false
 IsTargetAmong sources e (Some far) = (is_adapter e ≡ true) × LeadsTo sources e far

@@ -4,7 +4,7 @@ use Rattle.port_graph.specs.declared.edge.Edge.{Edge}
 use Rattle.audit_ways.specs.declared.way_tally.WayTally.{WayTally}
 use Rattle.audit_ways.specs.Ways.{Way, one_wire, times_on, way_from}
 
--- a sum over some routes, of any number that depends on the route
+-- some routes, given as the sum over them of any number that depends on the route
 abbrev pub Sum : Type 0
 Sum = (Way → ℕ) → ℕ
 
@@ -12,7 +12,7 @@ Sum = (Way → ℕ) → ℕ
 abbrev pub over : ℕ → ℕ → ℕ
 over bound number = if nat_lt bound number then 1 else 0
 
--- `tally` counts the routes over which `sum` sums; there are `channels` channels
+-- `tally` counts the routes over which `sum` sums, their wires and the loads of `channels` channels
 pub record IsCounted (channels : ℕ) (sum : Sum) (tally : WayTally) : Type 0 where
   pub as_many : length tally.loads.items ≡ channels
   pub count : tally.hops.count ≡ sum (λ way. 1)
@@ -20,7 +20,8 @@ pub record IsCounted (channels : ℕ) (sum : Sum) (tally : WayTally) : Type 0 wh
   pub most : (bound : ℕ) → (tally.hops.most ≤ bound) ↔ (sum (λ way. over bound way.wires) ≡ 0)
   pub loads : (channel : ℕ) → slice_index tally.loads.items channel ≡ sum (times_on channel)
 
--- the load of each channel grows by `times` for each time that the channel occurs in `channels`
+-- `new` is `old`, where the load of each channel has grown by `times` for each time that the channel occurs in
+-- `channels`
 pub record IsLoadedWith (old channels : List ℕ) (times : ℕ) (new : List ℕ) : Type 0 where
   pub as_many : length new ≡ length old
   pub load : (channel : ℕ) → slice_index new channel ≡ slice_index old channel
@@ -33,16 +34,17 @@ pub record IsCountedWith (old : WayTally) (way : Way) (times : ℕ) (new : WayTa
   pub most : new.hops.most ≡ max old.hops.most way.wires
   pub loads : IsLoadedWith old.loads.items way.channels times new.loads.items
 
--- the sum of `number i` times the weight at `i`
+-- the sum of each weight of a list times `number` of its index
 abbrev pub weighed : (ℕ → ℕ) → List ℕ → ℕ
 weighed number [] = 0
 weighed number (weight ∷ weights) = weight * number 0 + weighed (λ i. number (suc i)) weights
 
--- the sum over `direct` routes of one wire and, for each switch, over as many routes from it as its weight says
+-- the sum over `direct` routes of one wire and, for each switch, over as many routes from it, by `edges`, as its weight
+-- says
 abbrev pub grouped : List (Option Edge) → List ℕ → ℕ → Sum
 grouped edges weights direct number = weighed (λ i. number (way_from edges i)) weights + direct * number one_wire
 
--- if `old` counts the routes of some sum, `new` counts these routes and the routes of `more`
+-- if `old` counts the routes of some sum, then `new` counts these routes and those of `more`
 abbrev pub IsCountedMore : ℕ → WayTally → Sum → WayTally → Type 0
 IsCountedMore channels old more new =
     (sum : Sum) → IsCounted channels sum old → IsCounted channels (λ number. sum number + more number) new

@@ -26,14 +26,15 @@ pub record Way : Type 0 where
   pub wires : ℕ
   pub channels : List ℕ
 
--- the channels that a packet takes from `switch` on; the first argument is the maximum number of channels
+-- the channels that a packet takes from `switch` on by `edges`, at most as many as the first number
 abbrev pub channels_from : ℕ → List (Option Edge) → ℕ → List ℕ
 channels_from zero edges switch = []
 channels_from (suc steps) edges switch =
     option_map_or (λ edge. number_of switch edge
     ∷ channels_from steps edges edge.to) (slice_index_or edges switch None) []
 
--- the route from an adapter over one wire to `switch`, from there over channels, and over one wire to an adapter
+-- the route from an adapter over one wire to `switch`, then over the channels that `edges` give, and over one wire to
+-- an adapter
 abbrev pub way_from : List (Option Edge) → ℕ → Way
 way_from edges switch = record {
   wires = length (channels_from (length edges) edges switch) + 2;
@@ -41,29 +42,29 @@ way_from edges switch = record {
       channels_from (length edges) edges switch;
 }
 
--- the route from an adapter to an adapter
+-- the route over one wire from an adapter to an adapter
 abbrev pub one_wire : Way
 one_wire = record { wires = 1; channels = [] }
 
--- the route of a packet whose sender's wire leads to the given far end
+-- the route, by `edges`, of a packet whose sender's wire leads to the given far end; one wire if that is no switch
 abbrev pub way_over : List (Option Edge) → Far → Way
 way_over edges Nothing = one_wire
 way_over edges (Switch index) = way_from edges index
 way_over edges (Port e) = one_wire
 
--- an end port of an adapter (the end port of a switch is its port 0)
+-- `e` is an end port of an adapter; the end port of a switch is its port 0
 abbrev pub is_adapter : EndPort → Bool
 is_adapter e = not (e.port == 0)
 
--- `e` is an adapter port other than the line's, and `arrives` holds
+-- `e` is an adapter port other than the port of `line`, and `arrives` holds
 abbrev pub reaches_if : HeldLid → EndPort → Bool → Bool
 reaches_if line e arrives = is_adapter e && not (is_same_end line.port e) && arrives
 
--- `e` is an adapter port other than the line's, and its packet, which ends at `end`, is delivered there
+-- `e` is an adapter port other than the port of `line`, and `end` is a delivery at that port
 abbrev pub reaches_by : HeldLid → EndPort → Option End → Bool
 reaches_by line e end = reaches_if line e (is_at line.port end)
 
--- `e` is an adapter port other than the line's, and its packet for the LID of `line` is delivered at the line's port
+-- `e` is an adapter port other than the port of `line`, and its packet for the LID of `line` is delivered there
 abbrev pub reaches : Cells → HeldPlan → HeldLid → EndPort → Bool
 reaches cells held line e = reaches_by line e (end_for cells held line.lid e)
 
@@ -72,7 +73,8 @@ abbrev pub AllComeTo : Cells → HeldPlan → HeldLid → Type 0
 AllComeTo cells held line =
     (e : EndPort) → Contains (end_ports cells) e → is_at line.port (end_for cells held line.lid e) ≡ true
 
--- if `told` marks the line at an index, all packets for its LID are delivered at its port
+-- for each line that `told` marks, by the line's index, all packets that end ports send for its LID are delivered at
+-- its port
 abbrev pub AreTold : Cells → HeldPlan → List Bool → Type 0
 AreTold cells held told = (index : ℕ) (line : HeldLid) → slice_get (lines_of held) index ≡ Some line
     → slice_index_or told index false ≡ true → AllComeTo cells held line
@@ -81,15 +83,16 @@ AreTold cells held told = (index : ℕ) (line : HeldLid) → slice_get (lines_of
 abbrev pub way_of : Cells → HeldPlan → HeldLid → EndPort → Way
 way_of cells held line e = way_over (edges_of cells held line.lid) (far_of cells e.node e.port)
 
--- the routes of the packets for the LID of `line` that adapter ports send and that are delivered
+-- the routes of the packets for the LID of `line` that other adapter ports send and that are delivered at its port
 abbrev pub ways_to : Cells → HeldPlan → HeldLid → List Way
 ways_to cells held line = map (way_of cells held line) (filter (reaches cells held line) (end_ports cells))
 
--- an adapter port of the facts
+-- `e` is an adapter port of the facts
 abbrev pub is_target : Cells → EndPort → Bool
 is_target cells e = is_adapter e && is_owner (end_ports cells) e
 
--- the routes to the LID of `line`; none if its port is no adapter port of the facts
+-- the routes of the packets that other adapter ports send for the LID of `line` and that are delivered there; none if
+-- its port is no adapter port of the facts
 abbrev pub ways_for : Cells → HeldPlan → HeldLid → List Way
 ways_for cells held line = if is_target cells line.port then ways_to cells held line else []
 
@@ -97,7 +100,7 @@ ways_for cells held line = if is_target cells line.port then ways_to cells held 
 abbrev pub ways_of : Cells → HeldPlan → List Way
 ways_of cells held = flat_map (ways_for cells held) (lines_of held)
 
--- the number of wires of each route
+-- the number of wires of each route of `ways_of`
 abbrev pub hops_of : Cells → HeldPlan → List ℕ
 hops_of cells held = map (λ w. w.wires) (ways_of cells held)
 
@@ -105,7 +108,7 @@ hops_of cells held = map (λ w. w.wires) (ways_of cells held)
 abbrev pub times_on : ℕ → Way → ℕ
 times_on channel way = count_by (λ x. x == channel) way.channels
 
--- how often the routes take `channel`
+-- how often the routes `ways` take `channel`, together
 abbrev pub load_of : List Way → ℕ → ℕ
 load_of ways channel = sum_by (times_on channel) ways
 
@@ -119,11 +122,11 @@ is_to_switch (Port e) = false
 abbrev pub channels_of : Cells → List ℕ
 channels_of cells = filter (λ n. is_to_switch (far_by cells n)) (range_with_len 0 (256 * length (switches cells)))
 
--- how often each channel is taken
+-- how often each channel of the subnet is taken by the routes of all delivered packets from adapter ports to others
 abbrev pub loads_of : Cells → HeldPlan → List ℕ
 loads_of cells held = map (load_of (ways_of cells held)) (channels_of cells)
 
--- `told` has the figures of the wires that packets take, and of the loads of channels
+-- `told` has the figures of the numbers of wires that routes take, and of the loads of channels
 pub record IsToldOfWays (cells : Cells) (held : HeldPlan) (told : WayFigures) : Type 0 where
   pub hops : told.hops ≡ figures_of (hops_of cells held)
   pub load : told.load ≡ figures_of (loads_of cells held)

@@ -4,7 +4,7 @@ ghost use Rattle.audit_ways.specs.Figures.{IsTotal, IsTotalWith, figures_by};
 
 use std::alloc::AllocError;
 
-/// The maximum and the mean of some numbers.
+/// The greatest of some numbers, and their mean.
 #[derive(Clone, Copy, Debug, PartialEq, Eq)]
 pub struct Figures {
     /// The greatest number.
@@ -13,7 +13,7 @@ pub struct Figures {
     pub hundredths: u64,
 }
 
-/// The count, the sum and the maximum of some numbers.
+/// The count, the sum and the maximum of some numbers, while they are added.
 #[derive(Clone, Copy)]
 pub(crate) struct Total {
     pub(crate) count: u64,
@@ -33,7 +33,7 @@ impl Total {
         }
     }
 
-    /// Adds `number`, `times` times. Returns an error if a value does not fit in 64 bits.
+    /// Adds `number`, `times` times. Returns an error if the count, the sum or the product does not fit in 64 bits.
     pub(crate) fn add(&mut self, number: u64, times: u64) -> Result<(), AllocError>
         ensures { OnOk result (IsTotalWith self.old number times self.new) }
     {

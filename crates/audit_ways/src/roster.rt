@@ -10,7 +10,7 @@ use smp_bytes::{Guid, PortNum};
 use std::alloc::{AllocError, Global};
 use subnet_view::EndPort;
 
-/// Returns the end ports of the network as senders, sorted by node and port.
+/// Returns the senders of the network, one for each end port, sorted by node and port.
 pub(crate) fn roster(alloc: Global, network: &Network) -> Result<Vec<Sender>, AllocError>
     ensures { IfOk result (λ roster. IsRoster (cells_of network.now.facts) roster.items) }
 {
@@ -19,7 +19,7 @@ pub(crate) fn roster(alloc: Global, network: &Network) -> Result<Vec<Sender>, Al
     Ok(roster)
 }
 
-/// Sorts senders by node and port.
+/// Sorts `sources` by node and port.
 fn sort(sources: &mut [Sender])
     ensures permutation { IsPermutation sources.old sources.new }
     ensures by_port { AreByPort sources.new }
@@ -27,15 +27,15 @@ fn sort(sources: &mut [Sender])
     sources.sort_unstable_by_key(port_of);
 }
 
-/// Returns the node and the port of a sender.
+/// Returns the node and the port of `source`.
 fn port_of(source: &Sender) -> (Guid, PortNum)
     ensures { result ≡ port_of source.now }
 {
     (source.port.node, source.port.port)
 }
 
-/// Returns where the wire in an adapter port leads, or `None` if `port` is no adapter port or not in the roster. Takes
-/// a binary search.
+/// Returns where the wire in the adapter port `port` leads, or `None` if `port` is no adapter port or not in `roster`.
+/// `roster` must be sorted by node and port. Takes a binary search.
 pub(crate) fn target_among(roster: &[Sender], port: &EndPort) -> Option<Far>
     requires { AreByPort roster.now }
     ensures { IsTargetAmong roster.now port.now result }

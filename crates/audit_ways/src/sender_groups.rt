@@ -14,17 +14,17 @@ use packet_walks::{Ends, Far, Network, is_same_end};
 use std::alloc::{AllocError, Global};
 use subnet_view::EndPort;
 
-/// Packets, grouped by where their senders' wires lead.
+/// How many packets reach each switch first.
 #[derive(Drop)]
 pub(crate) struct Groups {
-    /// For each switch, the number of packets that reach it first.
+    /// For each switch, the number of packets whose senders' wires lead to it.
     pub(crate) weights: Vec<u64>,
-    /// The number of packets that reach an adapter over one wire.
+    /// The number of all other packets, which go over one wire.
     pub(crate) direct: u64,
 }
 
 impl Groups {
-    /// Returns empty groups for the switches of `network`.
+    /// Returns groups of no packets, for the switches of `network`.
     fn none(alloc: Global, network: &Network) -> Result<Self, AllocError>
         ensures { IfOk result (AreGrouped (cells_of network.now.facts) []) }
     {
@@ -34,7 +34,8 @@ impl Groups {
         })
     }
 
-    /// Adds a packet whose sender's wire leads to `far`. Returns an error if a count does not fit in 64 bits.
+    /// Adds a packet whose sender's wire leads to `far`, which must be no switch or one of the groups'. Returns an
+    /// error if a count does not fit in 64 bits.
     pub(crate) fn join(&mut self, far: &Far) -> Result<(), AllocError>
         requires { IsWithin (length self.old.weights.items) far.now }
         ensures { OnOk result (IsGroupedWith self.old far.now self.new) }
@@ -45,7 +46,7 @@ impl Groups {
         }
     }
 
-    /// Adds a packet that reaches an adapter over one wire.
+    /// Adds a packet that reaches no switch first. Returns an error if the count does not fit in 64 bits.
     fn join_direct(&mut self) -> Result<(), AllocError>
         ensures direct { OnOk result (self.new.direct ≡ self.old.direct + 1) }
         ensures weights { self.new.weights ≡ self.old.weights }
@@ -54,7 +55,7 @@ impl Groups {
         Ok(())
     }
 
-    /// Removes a packet whose sender's wire leads to `far`. There must be such a packet.
+    /// Removes a packet whose sender's wire leads to `far`. There must be one.
     pub(crate) fn leave(&mut self, far: &Far)
         requires { 1 ≤ packets_at self.old (switch_over far.now) }
         ensures { IsGroupedWith self.new far.now self.old }
@@ -66,7 +67,7 @@ impl Groups {
     }
 }
 
-/// Subtracts one from the weight of the switch `first`.
+/// Subtracts one from the weight of the switch `first`, which must be at least 1.
 fn unload(weights: &mut [u64], first: usize)
     requires { 1 ≤ slice_index weights.old first }
     ensures { weights.old ≡ slice_set weights.new first (slice_index weights.new first + 1) }
@@ -74,7 +75,7 @@ fn unload(weights: &mut [u64], first: usize)
     weights[first] -= 1;
 }
 
-/// Groups one packet from each adapter port. Takes a step for each end port.
+/// Groups one packet from each adapter port. Takes time linear in the number of end ports.
 pub(crate) fn senders(alloc: Global, network: &Network) -> Result<Groups, AllocError>
     ensures { IfOk result (AreGrouped (cells_of network.now.facts) (adapters (cells_of network.now.facts))) }
 {
@@ -88,7 +89,7 @@ pub(crate) fn senders(alloc: Global, network: &Network) -> Result<Groups, AllocE
 }
 
 /// Groups the packets for the LID of `line` that other adapter ports send and that are delivered at the line's port.
-/// `ends` says where each end port's packet ends. Takes a step for each end port.
+/// `ends` must say where each end port's packet for that LID ends. Takes time linear in the number of end ports.
 pub(crate) fn group_packets(
     alloc: Global,
     network: &Network,
@@ -110,7 +111,7 @@ pub(crate) fn group_packets(
     Ok(groups)
 }
 
-/// Returns whether `port` is an adapter port other than the line's, and `arrives` is true.
+/// Returns whether `port` is an adapter port other than that of `line`, and `arrives` is true.
 fn reaches(line: &HeldLid, port: &EndPort, arrives: bool) -> bool
     ensures { result ≡ reaches_if line.now port.now arrives }
 {

@@ -1,4 +1,4 @@
-//! Counts of routes.
+//! Counts of routes, of their wires, and of how often they take each channel.
 ghost use Rattle.std.specs.Prelude.{◌≡◌, ◌+◌, ◌*◌, IfOk, OnOk, length};
 ghost use Rattle.audit_ways.specs.WayTally.{IsCounted, IsCountedMore, IsCountedWith, grouped};
 ghost use Rattle.audit_ways.specs.Ways.{one_wire, way_from};
@@ -8,7 +8,7 @@ use crate::figures::Total;
 use port_graph::Edge;
 use std::alloc::{AllocError, Global};
 
-/// Counts of routes, of their wires and of their channels.
+/// Counts of routes, while they are added.
 #[derive(Drop)]
 pub(crate) struct WayTally {
     /// The count, the sum and the maximum of the routes' numbers of wires.
@@ -28,8 +28,9 @@ impl WayTally {
         })
     }
 
-    /// Adds the route from each switch as many times as its weight, and `direct` routes over one wire. Takes a step for
-    /// each switch and, if its weight is above 0, for each channel of its route.
+    /// Adds the route from each switch as many times as `weights` says, and `direct` routes over one wire. `weights`
+    /// must have a weight for each switch of `edges`, and there must be 256 channels for each. Takes time linear in the
+    /// number of switches and, for each weight above 0, in the number of channels of its route.
     pub(crate) fn add(
         &mut self,
         edges: &[Option<Edge>],
@@ -52,7 +53,7 @@ impl WayTally {
         Ok(())
     }
 
-    /// Adds the route from the switch `first`, `times` times.
+    /// Adds the route from the switch `first`, `times` times: a wire to it, its channels, and a wire to an adapter.
     fn add_from(
         &mut self,
         edges: &[Option<Edge>],
@@ -67,7 +68,7 @@ impl WayTally {
         self.hops.add(wires, times)
     }
 
-    /// Adds the route over one wire, `times` times.
+    /// Adds a route over one wire, `times` times.
     fn add_direct(&mut self, times: u64) -> Result<(), AllocError>
         ensures { OnOk result (IsCountedWith self.old one_wire times self.new) }
     {

@@ -23,26 +23,27 @@ use std::alloc::{AllocError, Global};
 /// Figures of the delivered packets that adapter ports send to each other's LIDs.
 #[derive(Clone, Copy, Debug, PartialEq, Eq)]
 pub struct WayFigures {
-    /// The figures of the number of wires that a packet takes, including the wires at the adapters. `None` if there is
+    /// The figures of the numbers of wires that packets take, including the wires at the adapters. `None` if there is
     /// no packet.
     pub hops: Option<Figures>,
-    /// The figures of the number of times that a channel is taken. `None` if there is no channel.
+    /// The figures of the numbers of packets that take each channel. `None` if there is no channel.
     pub load: Option<Figures>,
 }
 
 /// Computes how many wires packets between adapter ports take, and how evenly they load the channels.
 ///
 /// Costs what `Network::ends` and `Network::edges` take for each LID, and what `Network::blocks` takes for each 64
-/// LIDs. Each LID also costs a walk from each switch with an adapter, and a step for each end port if not all packets
-/// for the LID are delivered. Returns an error if memory runs out or a number does not fit in 64 bits.
+/// LIDs. Each LID also costs a walk from each switch at which packets for it begin. Returns an error if memory is
+/// refused or a number does not fit in 64 bits.
 pub fn figures_of_ways(alloc: Global, network: &Network) -> Result<WayFigures, AllocError>
     ensures { IfOk result (IsToldOfWays (cells_of network.now.facts) network.now.held) }
 {
     figures_of_ways_told(alloc, network, &[])
 }
 
-/// Computes the figures of `figures_of_ways`. If `told` is true at the index of a line, all packets for its LID must be
-/// known to be delivered at its port. Such a line does not cost what `Network::ends` takes.
+/// Computes the figures as `figures_of_ways` does, with less work for lines whose packets are known to arrive. If
+/// `told` is true at the index of a line, all packets for its LID must be delivered at its port. Such a line does not
+/// cost what `Network::ends` takes.
 pub fn figures_of_ways_told(
     alloc: Global,
     network: &Network,
@@ -58,7 +59,8 @@ pub fn figures_of_ways_told(
     Ok(WayFigures { hops, load })
 }
 
-/// Counts the routes of the delivered packets between adapter ports.
+/// Counts the routes of the delivered packets between adapter ports. If `told` is true at the index of a line, all
+/// packets for its LID must be delivered at its port.
 fn tally_of(alloc: Global, network: &Network, told: &[bool]) -> Result<WayTally, AllocError>
     requires { AreTold (cells_of network.now.facts) network.now.held told.now }
     ensures { IfOk result (IsCounted (256 * length (switches (cells_of network.now.facts)))
@@ -87,16 +89,16 @@ fn tally_of(alloc: Global, network: &Network, told: &[bool]) -> Result<WayTally,
     Ok(tally)
 }
 
-/// Returns whether all packets for the LID of the line at `index` are known to arrive, by `told`. Returns false if
-/// `told` has no such entry.
+/// Returns the entry of `told` at `index`, or false if there is none.
 fn is_told(told: &[bool], index: usize) -> bool
     ensures { result ≡ slice_index_or told.now index false }
 {
     told.get(index).copied().unwrap_or(false)
 }
 
-/// Adds the routes of the packets for the LID of `line`. `far` is where the wire in the line's port leads. `senders`
-/// has a packet from each adapter port. It is changed and then restored.
+/// Adds the routes of the delivered packets for the LID of `line`, whose port must be an adapter port of the facts.
+/// `far` must be where the wire in that port leads. `senders` must have a packet from each adapter port; it is changed
+/// and then restored. If `told` is true, all packets for the LID must be delivered at the port.
 fn add_ways(
     alloc: Global,
     tally: &mut WayTally,
@@ -129,8 +131,8 @@ fn add_ways(
     senders.join(far)
 }
 
-/// Returns the delivered packets for the LID of `line`, or `None` if all are delivered. If `told` is true, they are
-/// known to be.
+/// Returns the delivered packets for the LID of `line` from other adapter ports, or `None` if all packets for it are
+/// delivered. If `told` is true, they must be.
 fn some_of_all(
     alloc: Global,
     network: &Network,
@@ -156,7 +158,8 @@ fn some_of_all(
     }
 }
 
-/// Totals the loads of the network's channels.
+/// Totals the loads of the network's channels, its ports with wires between usable switches. `loads` must have 256
+/// entries for each switch.
 fn loads_of(network: &Network, loads: &[u64]) -> Result<Total, AllocError>
     requires { length loads.now ≡ 256 * length (switches (cells_of network.now.facts)) }
     ensures { IfOk result (IsTotal (map (slice_index loads.now) (channels_of (cells_of network.now.facts)))) }
@@ -170,7 +173,7 @@ fn loads_of(network: &Network, loads: &[u64]) -> Result<Total, AllocError>
     Ok(total)
 }
 
-/// Returns whether a wire leads to a usable switch.
+/// Returns whether `far` is a usable switch.
 fn is_to_switch(far: Far) -> bool
     ensures { result ≡ is_to_switch far }
 {

@@ -1,5 +1,5 @@
--- Choices among candidates that balance the loads of channels. Positions send packets to ends, which are attached at
--- some positions. For each end, each position chooses one of its candidates.
+-- Choices among candidates that balance the loads of channels. Packets go to ends (adapters), each at a position; for
+-- each end, each position chooses one of its candidates.
 use Rattle.std.specs.Prelude.{ℕ, zero, suc, ◌+◌, ◌*◌, ◌%◌, Bool, not, List, [], ◌-◌, ◌/◌, ◌^◌, min, nat_le, if◌then◌else◌}
 use Rattle.std.specs.Prelude.{◌∷◌, ◌++◌, filter, length, map, replicate, reverse, slice_index, slice_index_or, slice_set}
 use Rattle.port_graph.specs.declared.edge.Edge.{Edge}
@@ -11,12 +11,13 @@ use Rattle.balanced_choices.specs.declared.ways.Change.TheVariants.{Add, Remove}
 use Rattle.balanced_choices.specs.declared.rounds.Destination.{Destination}
 use Rattle.balanced_choices.specs.Loads.{candidates_at, lightest, way_from, with_changes}
 
--- for one end, the number of the candidate that each position takes, and the loads of channels
+-- for one end, the number of the candidate that each position chooses; and the loads of channels
 pub record Chosen : Type 0 where
   pub choices : List ℕ
   pub loads : List ℕ
 
--- position p takes the candidate with number k, and its packets are added to its way
+-- the choices once position `p` has chosen the candidate with the number `k`, and the packets that it sends are added
+-- along their way
 abbrev pub with_choice : List (List Edge) → List ℕ → Chosen → ℕ → ℕ → Chosen
 with_choice ways sent old p k =
     let choices = slice_set old.choices p k in
@@ -25,52 +26,52 @@ with_choice ways sent old p k =
       loads = with_changes (Add (slice_index sent p)) old.loads (way_from ways choices p);
     }
 
--- the positions of the list choose one after the other
+-- the choices once the positions of a list have chosen, one after the other, as `choice` says
 abbrev pub choose_each : (Chosen → ℕ → ℕ) → List (List Edge) → List ℕ → Chosen → List ℕ → Chosen
 choose_each choice ways sent old [] = old
 choose_each choice ways sent old (p ∷ ps) =
     choose_each choice ways sent (with_choice ways sent old p (choice old p)) ps
 
--- whether a candidate of position p leads up
+-- whether a candidate of position `p` leads up
 abbrev pub is_below : List (List Edge) → ℕ → Bool
 is_below ways p = leads_up p (edges_at ways p)
 
 -- all positions, each after those that its candidates lead to: first those without a candidate that leads up, from the
--- last to the first, and then the others, from the first to the last
+-- last to the first; then the others, from the first to the last
 abbrev pub near_first : List (List Edge) → List ℕ
 near_first ways =
     filter (λ p. not (is_below ways p)) (reverse (numbers_from 0 (length ways)))
     ++ filter (is_below ways) (numbers_from 0 (length ways))
 
--- n modulo the count; 0 if the count is 0
+-- `n` modulo a count; 0 if the count is 0
 abbrev pub in_turn : ℕ → ℕ → ℕ
 in_turn zero n = 0
 in_turn (suc count) n = n % suc count
 
--- the number n without its digits below the digit of this weight; n itself if the weight is 0
+-- `n` divided by a weight, rounded down; `n` itself if the weight is 0
 abbrev pub digits_from : ℕ → ℕ → ℕ
 digits_from zero n = n
 digits_from (suc w) n = n / suc w
 
--- the number of the candidate that position p takes at first towards the end with this number: the digits of the number
--- from `weights[p]` on, plus p, modulo the number of candidates
+-- the number of the candidate that position `p` chooses at first towards the end with the number `number`: that number
+-- divided by `weights[p]`, plus `p`, modulo how many candidates there are
 abbrev pub first_choice : List (List Edge) → List ℕ → ℕ → ℕ → ℕ
 first_choice ways weights number p =
     in_turn (length (candidates_at ways p)) (digits_from (slice_index weights p) number + p)
 
--- the first choices for the end with this number
+-- the first choices towards the end with the number `number`, and the loads with its packets added
 abbrev pub first_choices : List (List Edge) → List ℕ → List ℕ → List ℕ → ℕ → Chosen → Chosen
 first_choices ways sent weights order number old =
     choose_each (λ now p. first_choice ways weights number p) ways sent old order
 
--- the loads without the packets that the positions of the list send
+-- the loads without the packets that the positions of a list send, given the choices
 abbrev pub without_packets : List (List Edge) → List ℕ → List ℕ → List ℕ → List ℕ → List ℕ
 without_packets ways sent choices loads [] = loads
 without_packets ways sent choices loads (p ∷ ps) =
     without_packets ways sent choices (with_changes (Remove (slice_index sent p)) loads (way_from ways choices p)) ps
 
--- new choices for an end: its packets are removed from the loads, and then each position takes the candidate of the
--- least peak
+-- new choices for an end: its packets are taken off the loads, and then each position of `order` chooses the candidate
+-- of least peak
 abbrev pub new_choices : List (List Edge) → List ℕ → List ℕ → Chosen → Chosen
 new_choices ways sent order old =
     choose_each (λ now p. lightest ways now.choices now.loads p) ways sent
@@ -80,34 +81,37 @@ new_choices ways sent order old =
     })
     order
 
--- the choices for the end with this number in a round: the first choices in round 0, and new ones in a later round
+-- the choices for the end with the number `number` in a round: the first ones in round 0, new ones in later rounds
 abbrev pub choices_in : ℕ → List (List Edge) → List ℕ → List ℕ → List ℕ → ℕ → Chosen → Chosen
 choices_in zero ways sent weights order number old = first_choices ways sent weights order number old
 choices_in (suc round) ways sent weights order number old = new_choices ways sent order old
 
--- the choices for each end, and the loads of channels
+-- for each end, the number of the candidate that each position chooses; and the loads of channels
 pub record Balance : Type 0 where
   pub choices : List (List ℕ)
   pub loads : List ℕ
 
--- the choices for `end` are made; `first` is the first end at its position, and `number` is the number of `first`
+-- the balance once choices for `end` are made in a round; `first` is the first end at its position, with the number
+-- `number`
 abbrev pub with_end : ℕ → List (List Edge) → List ℕ → List ℕ → List ℕ → ℕ → ℕ → Balance → ℕ → Balance
 with_end round ways sent weights order number first old end =
     let before : Chosen = record { choices = slice_index_or old.choices end []; loads = old.loads } in
     let own = choices_in round ways sent weights order (number + (end - first)) before in
     record { choices = slice_set old.choices end own.choices; loads = own.loads }
 
--- the choices for the ends of the list, all at one position, are made one after the other
+-- the balance once choices for each end of a list, all at one position, are made in a round; `first` is the first end
+-- there, with the number `number`
 abbrev pub with_ends : ℕ → List (List Edge) → List ℕ → List ℕ → List ℕ → ℕ → ℕ → Balance → List ℕ → Balance
 with_ends round ways sent weights order number first old [] = old
 with_ends round ways sent weights order number first old (end ∷ ends) =
     with_ends round ways sent weights order number first (with_end round ways sent weights order number first old end) ends
 
--- the candidates of each position towards position t
+-- the candidates of each position towards position `t`
 abbrev pub towards : List (List Edge) → ℕ → List (List Edge)
 towards graph t = map (candidates graph t) (numbers_from 0 (length graph))
 
--- the choices for the ends of the destinations are made; the first end has the index `end`
+-- the balance once choices for all ends of the destinations are made in a round; the first of these ends has the index
+-- `end`
 abbrev pub with_all : ℕ → List (List Edge) → List ℕ → List ℕ → Balance → ℕ → List Destination → Balance
 with_all round graph sent weights old end [] = old
 with_all round graph sent weights old end (d ∷ ds) =
@@ -116,12 +120,12 @@ with_all round graph sent weights old end (d ∷ ds) =
     (with_ends round ways sent weights (near_first ways) d.number end old (numbers_from end d.ends))
     (end + d.ends) ds
 
--- n plus the number of all ends of the destinations
+-- `n` plus how many ends the destinations have
 abbrev pub ends_of : ℕ → List Destination → ℕ
 ends_of n [] = n
 ends_of n (d ∷ ds) = ends_of (n + d.ends) ds
 
--- n plus the sum of the numbers, at most 2^64 - 1
+-- `n` plus the sum of some numbers, at most 2^64 - 1
 abbrev pub sum_from : ℕ → List ℕ → ℕ
 sum_from n [] = n
 sum_from n (x ∷ xs) = sum_from (min (n + x) (2 ^ 64 - 1)) xs
@@ -131,15 +135,15 @@ abbrev pub mean : ℕ → ℕ → ℕ
 mean sum zero = 0
 mean sum (suc count) = sum / suc count
 
--- the mean of the loads of a graph's channels
+-- the mean load of the channels of a graph, rounded down; 0 if it has none
 abbrev pub mean_load : List (List Edge) → List ℕ → ℕ
 mean_load graph loads = mean (sum_from 0 loads) (sum_from 0 (map length graph))
 
--- no load exceeds the mean by more than an eighth of the mean
+-- whether no load exceeds the mean by more than an eighth of the mean, both rounded down
 abbrev pub are_even : List (List Edge) → List ℕ → Bool
 are_even graph loads = nat_le (greatest 0 loads - mean_load graph loads) (mean_load graph loads / 8)
 
--- the balance before the first round: each choice is 0, and each load is 0
+-- the balance before the first round: all choices and all loads are 0
 abbrev pub at_first : List (List Edge) → List Destination → Balance
 at_first graph destinations =
     record {
@@ -147,18 +151,18 @@ at_first graph destinations =
       loads = replicate (256 * length graph) 0;
     }
 
--- the balance after one more round; after the first round, nothing changes if loads are even
+-- the balance after the given round; rounds after the first change nothing if loads are even
 abbrev pub with_round : ℕ → List (List Edge) → List ℕ → List ℕ → List Destination → Balance → Balance
 with_round zero graph sent weights destinations old = with_all zero graph sent weights old 0 destinations
 with_round (suc round) graph sent weights destinations old =
     if are_even graph old.loads then old else with_all (suc round) graph sent weights old 0 destinations
 
--- the balance after this many rounds
+-- the balance after a number of rounds
 abbrev pub after_rounds : ℕ → List (List Edge) → List ℕ → List ℕ → List Destination → Balance
 after_rounds zero graph sent weights destinations = at_first graph destinations
 after_rounds (suc round) graph sent weights destinations =
     with_round round graph sent weights destinations (after_rounds round graph sent weights destinations)
 
--- the balanced choices: the first ones, and then new ones, at most twice, until loads are even
+-- the balanced choices for each end: the first ones and, while loads are not even, new ones, at most twice
 unfoldable pub balanced_choices : List (List Edge) → List ℕ → List ℕ → List Destination → List (List ℕ)
 balanced_choices graph sent weights destinations = (after_rounds 3 graph sent weights destinations).choices

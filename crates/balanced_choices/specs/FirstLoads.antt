@@ -17,30 +17,30 @@ pub record Passing : Type 0 where
   pub had : List (List ℕ)
   pub loads : List ℕ
 
--- how many packets for end k position p has had
+-- how many packets for end `k` position `p` has had
 abbrev pub had_at : Passing → ℕ → ℕ → ℕ
 had_at packets k p = slice_index (slice_index_or packets.had k []) p
 
--- the packets once position p has passed on those that it had for end k, by edge e
+-- the packets once position `p` has passed on by edge `e` those that it had for end `k`
 abbrev pub with_passed : ℕ → ℕ → Passing → Edge → Passing
 with_passed p k old e = record {
   had = slice_set old.had k (with_changes (Add (had_at old k p)) (slice_index_or old.had k []) (e.to ∷ []));
   loads = with_changes (Add (had_at old k p)) old.loads (channel_by p e ∷ []);
 }
 
--- the edge of the candidates that position p takes at first towards the end with this number, by the digits of the
--- number from this weight on; None if there are no candidates
+-- the candidate that position `p` takes at first towards the end with the number `number`: that number divided by
+-- `weight`, plus `p`, modulo how many there are; None if there are none
 abbrev pub first_edge : List Edge → ℕ → ℕ → ℕ → Option Edge
 first_edge edges weight p number = slice_get edges (in_turn (length (take 256 edges)) (digits_from weight number + p))
 
--- the packets once position p has passed on those that it had for the ends of the list; `number` is the number of end 0
+-- the packets once position `p` has passed on those that it had for the ends of a list; `number` is the number of end 0
 abbrev pub passed_to : List Edge → ℕ → ℕ → ℕ → Passing → List ℕ → Passing
 passed_to edges weight p number old [] = old
 passed_to edges weight p number old (k ∷ ks) =
     passed_to edges weight p number
     (option_map_or (with_passed p k old) (first_edge edges weight p (number + k)) old) ks
 
--- the packets once the positions of the list, one after the other, have passed on those that they had for the first
+-- the packets once the positions of a list, one after the other, have passed on those that they had for the first
 -- `ends` ends
 abbrev pub passed_on : List (List Edge) → List ℕ → ℕ → ℕ → Passing → List ℕ → Passing
 passed_on ways weights number ends old [] = old
@@ -48,20 +48,20 @@ passed_on ways weights number ends old (p ∷ ps) =
     passed_on ways weights number ends
     (passed_to (edges_at ways p) (slice_index weights p) p number old (numbers_from 0 ends)) ps
 
--- the loads with the packets to the ends of a destination; each position passes on before the positions that its
+-- the loads with the packets to the ends of the destination `d` added; each position passes on before those that its
 -- candidates lead to
 abbrev pub loads_with : List (List Edge) → List ℕ → List ℕ → List ℕ → Destination → List ℕ
 loads_with ways sent weights loads d =
     (passed_on ways weights d.number d.ends (record { had = replicate d.ends sent; loads = loads })
     (reverse (near_first ways))).loads
 
--- the loads with the packets to all ends of the destinations
+-- the loads with the packets to all ends of the destinations added
 abbrev pub loads_with_all : List (List Edge) → List ℕ → List ℕ → List ℕ → List Destination → List ℕ
 loads_with_all graph sent weights loads [] = loads
 loads_with_all graph sent weights loads (d ∷ ds) =
     loads_with_all graph sent weights (loads_with (towards graph d.position) sent weights loads d) ds
 
--- the loads of channels if all packets take first choices
+-- the loads of channels if all packets to all ends take first choices
 unfoldable pub first_loads : List (List Edge) → List ℕ → List ℕ → List Destination → List ℕ
 first_loads graph sent weights destinations =
     loads_with_all graph sent weights (replicate (256 * length graph) 0) destinations

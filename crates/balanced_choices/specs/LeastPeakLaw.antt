@@ -3,13 +3,13 @@ use Rattle.std.specs.Prelude.{◌<◌, ◌≤◌, ◌-◌, ◌^◌, ℕ, List, A
 use Rattle.port_graph.specs.declared.edge.Edge.{Edge}
 use Rattle.balanced_choices.specs.Loads.{candidates_at, lightest, peak}
 
--- the number at index i is in the list, no number is less, and the earlier ones are greater
+-- no number of `ns` is less than the one at index `i`, and the earlier ones are greater
 pub record IsFirstLeast (ns : List ℕ) (i : ℕ) : Type 0 where
   pub within : i < length ns
   pub least : (k : ℕ) → k < length ns → slice_index ns i ≤ slice_index ns k
   pub first : (k : ℕ) → k < i → slice_index ns i < slice_index ns k
 
--- the lightest candidate of a position is the first of the least peak, if loads are at most 2^64 - 1
+-- if peaks are at most 2^64 - 1 and there is a candidate, `lightest` gives the first candidate of least peak
 abbrev pub LightestIsLeast : Type 0
 LightestIsLeast = (ways : List (List Edge)) (choices loads : List ℕ) (p : ℕ)
     → All (λ n. n ≤ 2 ^ 64 - 1) (map (peak ways choices loads p) (candidates_at ways p))

@@ -1,8 +1,10 @@
--- The candidate that a number takes.
+-- The turn of a number among candidates, kept while numbers rise: the number divided by a weight, plus an offset,
+-- modulo a count.
 use Rattle.std.specs.Prelude.{◌≡◌, ◌<◌, ◌+◌, ◌*◌, ◌/◌, ◌%◌, ◌^◌}
 use Rattle.balanced_choices.specs.declared.round_robin.RoundRobin.{RoundRobin}
 
--- the `weight` numbers from `start` on have one digit, and their turn is `choice`
+-- `turn.start` is the first of `weight` numbers with one turn, and `turn.choice` is that turn: start divided by weight,
+-- plus offset, modulo count
 pub record IsTurn (turn : RoundRobin) : Type 0 where
   pub weight : 0 < turn.weight
   pub offset : turn.offset < 2 ^ 63
@@ -10,7 +12,7 @@ pub record IsTurn (turn : RoundRobin) : Type 0 where
   pub whole : turn.start ≡ turn.start / turn.weight * turn.weight
   pub choice : turn.choice ≡ (turn.start / turn.weight + turn.offset) % turn.count
 
--- the turns have equal weight, offset and count
+-- the turns `old` and `new` have equal weight, offset and count
 pub record IsOfSame (old new : RoundRobin) : Type 0 where
   pub weight : new.weight ≡ old.weight
   pub offset : new.offset ≡ old.offset

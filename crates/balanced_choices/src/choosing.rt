@@ -15,7 +15,8 @@ use crate::ways::{Change, change_way, lightest};
 use port_graph::{Adjacency, Edge};
 use std::alloc::{AllocError, Global};
 
-/// Returns all positions, each after the positions that its candidates lead to.
+/// Returns all positions. If `ways` are candidates towards one target, each comes after the positions that its
+/// candidates lead to.
 pub(crate) fn near_first(alloc: Global, ways: &Adjacency) -> Result<Vec<usize>, AllocError>
     ensures order { IfOk result (λ order. order.items ≡ near_first ways.now) }
     ensures positions { IfOk result (λ order. All (λ p. p < length ways.now) order.items) }
@@ -60,8 +61,8 @@ fn is_below(ways: &Adjacency, position: usize) -> bool
     ways.at(position).iter().any(|edge| edge.to < position)
 }
 
-/// Makes the choices for the end with this number: in round 0 the first choices, and in a later round new ones, by
-/// which its packets take other ways.
+/// Makes the choices for the end with the number `number`: in round 0 the first choices, and in a later round new ones,
+/// before which its packets are removed from their ways.
 pub(crate) fn choose(
     alloc: Global,
     round: usize,
@@ -95,8 +96,8 @@ pub(crate) fn choose(
     Ok(())
 }
 
-/// Makes the first choices for the end with this number: each position takes its candidates in turn, by the number's
-/// digits from the position's weight on.
+/// Makes the first choices for the end with the number `number`: each position takes its candidates in turn, by the
+/// number's digits from the position's weight on.
 fn choose_in_turn(
     ways: &Adjacency,
     order: &[usize],
@@ -140,7 +141,7 @@ pub(crate) fn first_choice(
     in_turn(ways.at(position).len().min(PORTS), digits + position)
 }
 
-/// Returns `number` without its digits below the digit of this weight, or `number` itself if `weight` is 0.
+/// Returns `number` without its digits below the digit of weight `weight`, or `number` itself if `weight` is 0.
 fn digits_from(weight: usize, number: usize) -> usize
     ensures digits { result ≡ digits_from weight number }
     ensures less { result ≤ number }
@@ -148,7 +149,7 @@ fn digits_from(weight: usize, number: usize) -> usize
     if weight == 0 { number } else { number / weight }
 }
 
-/// Returns `number` modulo `count`, or 0 if `count` is 0. `count` is at most 256.
+/// Returns `number` modulo `count`, or 0 if `count` is 0. `count` must be at most 256.
 fn in_turn(count: usize, number: usize) -> u8
     requires { count ≤ 256 }
     ensures { result ≡ in_turn count number }
@@ -160,7 +161,7 @@ fn in_turn(count: usize, number: usize) -> u8
     }
 }
 
-/// Makes new choices for an end: each position takes the candidate whose way has the least peak.
+/// Makes new choices for an end: each position takes the first candidate whose way has the least peak.
 fn choose_lightest(
     ways: &Adjacency,
     order: &[usize],

@@ -5,7 +5,8 @@ ghost use Rattle.balanced_choices.specs.BalancedChoices.{are_even, mean, mean_lo
 use port_graph::Adjacency;
 use spread_labels::greatest_of;
 
-/// Returns whether no load exceeds the mean load of the graph's channels by more than an eighth of the mean.
+/// Returns whether no load exceeds the mean load of the channels of `graph` by more than an eighth of the mean. Mean
+/// and eighth are rounded down.
 pub fn are_even(graph: &Adjacency, loads: &[usize]) -> bool
     ensures { result ≡ are_even graph.now loads.now }
 {
@@ -31,7 +32,7 @@ fn sum(numbers: &[usize]) -> usize
     sum
 }
 
-/// Counts the edges of a graph, but returns at most 2^64 - 1.
+/// Returns the number of edges of `graph`, but at most 2^64 - 1.
 fn count_edges(graph: &Adjacency) -> usize
     ensures { result ≡ sum_from 0 (map length graph.now) }
 {

@@ -17,8 +17,8 @@ use spread_labels::{CandidateSets, TARGETS};
 use std::alloc::{AllocError, Global};
 
 /// Returns the load of each channel if the packets to all ends of all destinations take first choices. Position p sends
-/// `sent[p]` packets to each end. For each 64 destinations, takes a step or two for each edge and each label. For each
-/// end, takes a step for each position.
+/// `sent[p]` packets to each end. Finds candidates for 64 destinations at a time. For each end, takes time linear in
+/// the number of positions.
 pub fn first_loads(
     alloc: Global,
     graph: &Adjacency,
@@ -49,7 +49,7 @@ pub fn first_loads(
     Ok(loads)
 }
 
-/// Adds the packets to all ends of at most 64 destinations to the loads of channels.
+/// Adds the packets to all ends of `destinations` to the loads of channels. There must be at most 64 destinations.
 fn add_packets(
     alloc: Global,
     graph: &Adjacency,
@@ -76,8 +76,7 @@ fn add_packets(
     Ok(())
 }
 
-/// Adds the packets to all ends of a destination to the loads of channels. `ways` has the candidates towards the
-/// destination.
+/// Adds the packets to all ends of `destination` to the loads of channels. `ways` must have the candidates towards it.
 fn add_packets_to(
     alloc: Global,
     ways: &Adjacency,
@@ -101,7 +100,8 @@ fn add_packets_to(
     Ok(())
 }
 
-/// Returns all positions, each before the positions that its candidates lead to.
+/// Returns all positions. If `ways` are candidates towards one target, each comes before the positions that its
+/// candidates lead to.
 fn far_first(alloc: Global, ways: &Adjacency) -> Result<Vec<usize>, AllocError>
     ensures order { IfOk result (λ order. order.items ≡ reverse (near_first ways.now)) }
     ensures positions { IfOk result (λ order. All (λ p. p < length ways.now) order.items) }
@@ -122,7 +122,7 @@ fn copies(alloc: Global, list: &[usize], count: u16) -> Result<Vec<Vec<usize>>, 
     Ok(copies)
 }
 
-/// Lets a position pass on the packets that it has had for each end of a destination. `edges` are its candidates, and
+/// Lets `position` pass on the packets that it has had for each end of `destination`. `edges` are its candidates, and
 /// `weight` is its digit weight. Adds the packets to the loads of channels.
 fn pass_on(
     edges: &[Edge],

@@ -3,7 +3,7 @@ ghost use Rattle.std.specs.Prelude.{◌≡◌, ◌<◌, ◌+◌, ◌/◌, ◌%�
 ghost use Rattle.balanced_choices.specs.RoundRobins.{IsTurn, IsOfSame};
 
 /// The candidates in turn by a digit of a number, modulo the number of candidates. The turn of a number that is close
-/// to the last number is found without a division.
+/// to the one before is found without a division.
 #[derive(Clone, Copy)]
 pub struct RoundRobin {
     /// The weight of the digit.
@@ -12,14 +12,15 @@ pub struct RoundRobin {
     offset: usize,
     /// The number of candidates.
     count: usize,
-    /// The least number that has the same digit as the last number.
+    /// The least number that has the same digit as the current one.
     start: usize,
     /// The turn of the numbers that have this digit: the index of their candidate.
     choice: usize,
 }
 
 impl RoundRobin {
-    /// Returns the turn of `number` among `count` candidates, by its digits from `weight` on plus `offset`.
+    /// Returns the turn of `number` among `count` candidates, by its digits from `weight` on plus `offset`. `weight`
+    /// and `count` must not be 0, and `offset` and `number` must be less than 2^63.
     pub fn at(weight: usize, offset: usize, count: usize, number: usize) -> Self
         requires weight { 0 < weight }
         requires offset { offset < 2 ^ 63 }
@@ -42,7 +43,7 @@ impl RoundRobin {
     }
 
     /// Returns the turn of the number 0 among `count` candidates, by digits from `weight` on plus `position`. If
-    /// `weight` is 0, the digits are the whole number.
+    /// `weight` is 0, the digits are the number itself. `count` must not be 0, and less than 2^63.
     pub fn first(weight: usize, position: usize, count: usize) -> Self
         requires { (0 < count) × (count < 2 ^ 63) }
         ensures turn { IsTurn result }
@@ -53,7 +54,7 @@ impl RoundRobin {
         RoundRobin::at(weight.max(1), position % count, count, 0)
     }
 
-    /// Moves to the turn of `number`.
+    /// Moves to the turn of `number`, which must be less than 2^63.
     pub fn go_to(&mut self, number: usize)
         requires turn { IsTurn self.old }
         requires number { number < 2 ^ 63 }
@@ -85,7 +86,7 @@ impl RoundRobin {
     }
 }
 
-/// Returns the candidate after `choice` among `count`. After the last it is 0.
+/// Returns the candidate after `choice` among `count`, or 0 if `choice` is the last one.
 fn next_round(choice: usize, count: usize) -> usize
     requires { choice < count }
     ensures { result ≡ (choice + 1) % count }

@@ -18,7 +18,7 @@ const ROUNDS: usize = 3;
 /// A position at which ends are attached. Packets are sent to these ends.
 #[derive(Clone, Copy, Debug, PartialEq, Eq)]
 pub struct Destination {
-    /// The position.
+    /// The position at which its ends are attached.
     pub position: usize,
     /// The number of its ends.
     pub ends: u16,
@@ -27,12 +27,12 @@ pub struct Destination {
     pub number: u32,
 }
 
-/// Finds for each end of each destination, in their order, the number of the candidate that each position takes.
+/// Returns for each end of each destination, in their order, the number of the candidate that each position takes.
 /// Position p sends `sent[p]` packets to each end. Its first choice is by the digits of the end's number from
 /// `weights[p]` on. Candidates and their numbers are in the order of the position's edges. A position without
-/// candidates has number 0. Takes at most three rounds. In each round, takes for each 64 destinations a step or two for
-/// each edge and each label, and for each end a step for each position and each edge of each candidate's way. Keeps a
-/// byte for each end and position.
+/// candidates has number 0. Takes at most three rounds. In each, finds candidates for 64 destinations at a time. From
+/// the second round on, walks the ways of all candidates of each position for each end. Keeps a byte for each end and
+/// position.
 pub fn balanced_choices(
     alloc: Global,
     graph: &Adjacency,
@@ -141,8 +141,7 @@ fn make_round(
     )
 }
 
-/// Makes the choices of a round for all ends of some destinations. Finds the candidates towards 64 destinations at a
-/// time.
+/// Makes the choices of a round for all ends of `destinations`. Finds the candidates towards 64 destinations at a time.
 fn choose_all(
     alloc: Global,
     round: usize,
@@ -187,7 +186,7 @@ fn choose_all(
     Ok(())
 }
 
-/// Makes the choices for the ends of at most 64 destinations. The first end has the index `first`. Returns the index
+/// Makes the choices for the ends of `destinations`, at most 64. The first end has the index `first`. Returns the index
 /// after the last end.
 fn choose_some(
     alloc: Global,
@@ -246,7 +245,7 @@ pub(crate) fn positions_of(
 }
 
 /// Makes the choices for the ends at one position, from the index `first` up to, but not including, `last`. The end at
-/// `first` has this number.
+/// `first` has the number `number`, and the numbers of the others follow it.
 fn choose_between(
     alloc: Global,
     round: usize,
@@ -280,7 +279,7 @@ fn choose_between(
     Ok(())
 }
 
-/// Returns the candidates of each position towards target `k` of the sets.
+/// Returns the candidates of each position towards target `k`, which must be less than 64, by `sets`.
 pub(crate) fn ways_towards(
     alloc: Global,
     graph: &Adjacency,
@@ -301,7 +300,7 @@ pub(crate) fn ways_towards(
     Ok(ways)
 }
 
-/// Finds the edges whose set has `target`. Replaces the contents of `found`.
+/// Finds the edges whose set has `target`, which must be less than 64. Replaces the contents of `found`.
 fn find_having(
     edges: &[Edge],
     sets: &[TargetSet],

@@ -24,7 +24,8 @@ fn changed(change: Change, load: usize) -> usize
     }
 }
 
-/// Changes the loads of the channels of the way from `from`. `taken` has the edge that is taken at each position.
+/// Makes `change` to the loads of the channels of the way from `from`, which ends at the latest after as many edges as
+/// there are positions. `taken` must have the edge that is taken at each position.
 pub(crate) fn change_way(taken: &[Option<Edge>], loads: &mut [usize], from: usize, change: Change)
     requires { length loads.old ≡ 256 * length taken.now }
     ensures { loads.new ≡ with_changes change loads.old (way_by taken.now from) }
@@ -53,8 +54,8 @@ fn edge_at(taken: &[Option<Edge>], position: usize) -> Option<Edge>
     }
 }
 
-/// Returns the number of the candidate of `position` whose way has the least peak, or the first such candidate if
-/// several have it. If there are several candidates, takes a step for each edge of each one's way.
+/// Returns the number of the candidate of `position` whose way has the least peak, or the first such one. Returns 0 if
+/// there is no candidate. Only the first 256 candidates count.
 pub(crate) fn lightest(
     ways: &Adjacency,
     taken: &[Option<Edge>],

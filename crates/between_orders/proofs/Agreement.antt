@@ -28,7 +28,8 @@ use Rattle.two_orders.specs.LabelLaws.{grown_twice}
 use Rattle.two_orders.specs.Trees.{tree}
 use Rattle.two_orders.specs.TwoOrders.{TwoOrders, two_orders}
 use Rattle.two_orders.proofs.Agreement.{agreement_grows, agreement_stays, grown_are_vertices, grows_again}
-use Rattle.between_orders.specs.Agreement.{AgreeTo, AreOnTheWay, AreRightBy, GoalsAreFew, GoalsGoFurther, IsOnward, IsRightByGrown, OrdersStay, StepsKeepAgreement}
+use Rattle.between_orders.specs.Agreement.{AgreeTo, AreOnTheWay, AreRightBy, GoalsAreFew, GoalsGoFurther, IsOnward, IsRightByGrown, OrdersStay}
+use Rattle.between_orders.specs.Agreement.{StepsKeepAgreement}
 use Rattle.between_orders.specs.Agreement.{TellsPositions, order_of_plan}
 use Rattle.between_orders.specs.Agreement.IsOnward.{first, second, goal}
 use Rattle.between_orders.specs.Between.{Goal, IsGoalBetween}
@@ -103,7 +104,8 @@ module _ (facts : Facts) (by : List ℕ) where
       grown_stays : AgreesUpTo P (number_at (positions_in (grown_by edges positions) (length edges))) k
       grown_stays = agreement_stays edges lead by positions k by_positions
 
-      further : AgreesUpTo P (number_at (positions_in (grown_by (tree edges (positions_in (grown_by edges positions) (length edges))) by) (length edges))) (suc k)
+      further : AgreesUpTo P (number_at (positions_in (grown_by (tree edges (positions_in (grown_by edges positions) (length edges))) by) (length edges)))
+          (suc k)
       further = agreement_grows edges lead by (positions_in (grown_by edges positions) (length edges)) k grown_stays
 
       fewer : (q : ℕ → ℕ) → AgreesUpTo P q (suc k) → AgreesUpTo P q k
@@ -214,7 +216,8 @@ module _ (facts : Facts) (by : List ℕ) where
   pub told_right_by_plan : (tables : HeldPlan) (k : ℕ) → TellsPositions cells tables by → AgreeTo cells tables by k → length (switches cells) ≤ suc k
       → AreRightBy cells (positions_in (order_of_plan (cells_of facts) by) (length (edges_in (cells_of facts)))) tables
   told_right_by_plan tables k told agree many =
-      right_by_plan tables (position_in told.taken) k (told_orders_are_right cells tables P told.taken told.is_told).2 (agree.agrees told.taken told.is_told) many
+      right_by_plan tables (position_in told.taken) k (told_orders_are_right cells tables P told.taken told.is_told).2 (agree.agrees told.taken told.is_told)
+      many
 
   -- by the second order of a step, if they have reached its goal
   pub reached_right_by_plan : (held next : HeldPlan) (count : ℕ) (told : TellsPositions cells held by) → IsRightByGrown cells held told.positions

@@ -177,7 +177,8 @@ module _ (facts : Facts) (tables : HeldPlan) (lid i j : ℕ) (i_in : i < length 
       absurd (never (over_taken (owners_of tables lid) (switch_at (cells_of facts) i)
       (cause_of (cells_of facts) tables lid (switch_at (cells_of facts) i)) far own_port h))
 
-  none_across : slice_index_or (row_of (cells_of facts) (switch_at (cells_of facts) i)) (entry_for tables lid (switch_at (cells_of facts) i)) Nothing ≡ Port own_port
+  none_across : slice_index_or (row_of (cells_of facts) (switch_at (cells_of facts) i)) (entry_for tables lid (switch_at (cells_of facts) i)) Nothing ≡ Port
+      own_port
       → ⊥
   none_across h =
       let none = row_is_none (cells_of facts) (switch_at (cells_of facts) i) (entry_for tables lid (switch_at (cells_of facts) i)) own_port h in

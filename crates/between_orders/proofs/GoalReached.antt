@@ -1,5 +1,6 @@
 -- Steps towards the goal between an order that grows and one that grows over its tree end in it.
-use Rattle.std.proofs.Common.{◌≡◌, ◌∙◌, ◌<◌, ◌≤◌, ◌⊎◌, ◌*◌, ◌==◌, ℕ, zero, suc, true, false, cond, List, length, Option, None, Some, refl, sym, ap, subst, arith}
+use Rattle.std.proofs.Common.{◌≡◌, ◌∙◌, ◌<◌, ◌≤◌, ◌⊎◌, ◌*◌, ◌==◌, ℕ, zero, suc, true, false, cond, List, length, Option, None, Some, refl, sym, ap, subst}
+use Rattle.std.proofs.Common.{arith}
 use Rattle.std.specs.Prelude.{nat_lt, slice_get}
 use Rattle.std.proofs.lemmas.Bool.{le-ltb}
 use Rattle.fact_store.specs.View.{AreInRange, Facts, cells_of}
@@ -43,7 +44,8 @@ use Rattle.between_orders.proofs.SameGoal.{same_next, same_step}
 use Rattle.between_orders.proofs.StandStill.{goal_stands_still}
 
 -- if the goal delivers, a walk leads to a switch from which the plan leads to the end port
-module _ (facts : Facts) (range : AreInRange facts) (told by : List ℕ) (held plan : HeldPlan) (line : HeldLid) (is : IsGoalLine (cells_of facts) plan line) where
+module _ (facts : Facts) (range : AreInRange facts) (told by : List ℕ) (held plan : HeldPlan) (line : HeldLid)
+    (is : IsGoalLine (cells_of facts) plan line) where
   abbrev cells : Cells
   cells = cells_of facts
 

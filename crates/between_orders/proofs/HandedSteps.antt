@@ -74,7 +74,8 @@ module _ (facts : Facts) (told by : List ℕ) (plan tables : HeldPlan) where
 
   pub next_right : AreRightBy cells orders.first tables → AreRightBy cells orders.first next
   next_right right =
-      (all_are_step cells q tables between next (grown_is_order facts told) right (λ lid some. (goal_turns_well facts orders tables plan lid).0) next_by_order).1
+      (all_are_step cells q tables between next (grown_is_order facts told) right (λ lid some. (goal_turns_well facts orders tables plan lid).0)
+      next_by_order).1
 
   pub between_owners : (lid : ℕ) → owners_of between lid ≡ owners_of plan lid
   between_owners lid = owners_by_lids between plan (lids_between cells (edges_in cells) orders tables plan) lid
@@ -102,7 +103,8 @@ abbrev pub steps_between : Facts → TwoOrders → HeldPlan → HeldPlan → ℕ
 steps_between facts orders plan start zero = start
 steps_between facts orders plan start (suc n) = next_between facts orders plan (steps_between facts orders plan start n)
 
-module _ (facts : Facts) (told by : List ℕ) (plan start : HeldPlan) (right : AreRightBy (cells_of facts) (grown_twice (edges_in (cells_of facts)) told by).first start) where
+module _ (facts : Facts) (told by : List ℕ) (plan start : HeldPlan)
+    (right : AreRightBy (cells_of facts) (grown_twice (edges_in (cells_of facts)) told by).first start) where
   abbrev at : ℕ → HeldPlan
   at n = steps_between facts (grown_twice (edges_in (cells_of facts)) told by) plan start n
 
@@ -144,7 +146,8 @@ orders_are_grown facts tables told by right =
 pub right_by_first : (facts : Facts) (tables : HeldPlan) (told by : List ℕ) → IsRightByGrown (cells_of facts) tables told
     → AreRightBy (cells_of facts) (grown_twice (edges_in (cells_of facts)) told by).first tables
 right_by_first facts tables told by right =
-    (rightness_is_told (cells_of facts) (position_at (positions_in (grown_by (edges_in (cells_of facts)) told) (length (edges_in (cells_of facts))))) tables).0 right
+    (rightness_is_told (cells_of facts) (position_at (positions_in (grown_by (edges_in (cells_of facts)) told) (length (edges_in (cells_of facts)))))
+    tables).0 right
 
 module _ (facts : Facts) (by preferred : List ℕ) (plan : HeldPlan) (tables : ℕ → HeldPlan) (goals : ℕ → Goal) (count : ℕ)
     (are : AreHandedSteps facts by preferred plan tables goals count) (its : TellsPositions (cells_of facts) (tables 0) preferred)
@@ -170,7 +173,8 @@ module _ (facts : Facts) (by preferred : List ℕ) (plan : HeldPlan) (tables : �
       let is : IsGoalBetween (cells_of facts) (tables 0) plan by preferred (goals 0) = are.goal_is 0 some in
       let own : AreOrders (cells_of facts) (tables 0) all_edges by preferred (Some (orders_from (cells_of facts) (tables 0) all_edges by its.positions)) =
       (its.taken, its.is_told, ap (orders_from (cells_of facts) (tables 0) all_edges by) its.are) in
-      let same = one_orders (cells_of facts) (tables 0) all_edges by preferred is.orders (orders_from (cells_of facts) (tables 0) all_edges by its.positions) is.are own in
+      let same = one_orders (cells_of facts) (tables 0) all_edges by preferred is.orders (orders_from (cells_of facts) (tables 0) all_edges by its.positions)
+      is.are own in
       made_by 0 preferred is (same ∙ orders_are_grown facts (tables 0) its.positions by grown)
 
   later_made : (n : ℕ) → suc n < count → Made n → AreRightBy (cells_of facts) its_orders.first (tables (suc n)) → Made (suc n)

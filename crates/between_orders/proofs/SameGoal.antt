@@ -12,7 +12,8 @@ use Rattle.held_tables.specs.Tables.{entry_for}
 use Rattle.held_tables.proofs.HeldTables.{within_length}
 use Rattle.packet_walks.specs.declared.next_hop.NextHop.{NextHop}
 use Rattle.packet_walks.specs.declared.next_hop.NextHop.TheVariants.{To, Ends}
-use Rattle.next_tables.specs.EntriesByOrder.{IsNextByOrder, IsTriedByOrder, comes_down, goes_up, is_down, is_up, leads_in, may_change, none_comes_down, none_goes_up, switch_at}
+use Rattle.next_tables.specs.EntriesByOrder.{IsNextByOrder, IsTriedByOrder, comes_down, goes_up, is_down, is_up, leads_in, may_change, none_comes_down}
+use Rattle.next_tables.specs.EntriesByOrder.{none_goes_up, switch_at}
 use Rattle.next_tables.specs.EntriesByOrder.{tried, tried_at, tried_entry, turns_well}
 use Rattle.next_tables.specs.Next.{comes_to, delivers, step_at}
 use Rattle.next_tables.proofs.Hops.{to_within}
@@ -56,7 +57,8 @@ module _ (cells : Cells) (q : ℕ → ℕ) (held a b : HeldPlan) (line : HeldLid
       || (entry_for held line.lid (switch_at cells x) == entry_for a line.lid (switch_at cells x)))
       (λ x. not (comes_down q x i (step_at cells held line.lid (switch_at cells x)))
       || (entry_for held line.lid (switch_at cells x) == entry_for b line.lid (switch_at cells x))) n
-      (λ x less. ap (λ e. not (comes_down q x i (step_at cells held line.lid (switch_at cells x))) || (entry_for held line.lid (switch_at cells x) == e)) (entries x less))
+      (λ x less. ap (λ e. not (comes_down q x i (step_at cells held line.lid (switch_at cells x))) || (entry_for held line.lid (switch_at cells x) == e))
+      (entries x less))
 
   none_up : (j : ℕ) → j < n → none_goes_up cells q held a line.lid j ≡ none_goes_up cells q held b line.lid j
   none_up j less =

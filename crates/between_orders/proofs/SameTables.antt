@@ -37,5 +37,6 @@ module _ (cells : Cells) (by to : StepRuleValue) (one one_goal other other_goal 
   unfolding next_tables
   next_same lids alike =
       let switches_same = same_mapped (next_switch one one_goal) (next_switch other other_goal) (switches cells) (λ k g at. switch_same g (alike k g at)) in
-      let tables_same = same_mapped (next_table cells by one one_goal) (next_table cells to other other_goal) (switches cells) (λ k g at. table_same g (alike k g at)) in
+      let tables_same = same_mapped (next_table cells by one one_goal) (next_table cells to other other_goal) (switches cells)
+      (λ k g at. table_same g (alike k g at)) in
       λ i. record { lids = lids i; switches = switches_same i; blocks = blocks_of 0 (tables_same i) }

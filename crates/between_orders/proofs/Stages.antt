@@ -35,7 +35,8 @@ use Rattle.between_orders.proofs.GoalEntries.{top_is}
 use Rattle.between_orders.proofs.GoalReached.{goal_ends_right, goal_is_reached}
 use Rattle.between_orders.proofs.GoalReaches.{goal_reaches_all}
 use Rattle.between_orders.proofs.GoalTurns.{columns, goal_is}
-use Rattle.between_orders.proofs.HandedSteps.{between_owners, next_between, next_is, next_line, next_owners, none_held, none_leads, orders_are_grown, right_at, right_by_first, stays, stays_at, steps_between}
+use Rattle.between_orders.proofs.HandedSteps.{between_owners, next_between, next_is, next_line, next_owners, none_held, none_leads, orders_are_grown, right_at}
+use Rattle.between_orders.proofs.HandedSteps.{right_by_first, stays, stays_at, steps_between}
 use Rattle.between_orders.proofs.Safe.{lids_between}
 use Rattle.between_orders.proofs.SameTables.{next_same}
 use Rattle.between_orders.proofs.WholeTables.{whole_tables_grow}

@@ -38,8 +38,10 @@ kept_or_chosen false false now held other same is = refl
 
 module _ (facts : Facts) (range : AreInRange facts) (orders : TwoOrders) (held plan next : HeldPlan) (line : HeldLid)
     (is : IsGoalLine (cells_of facts) plan line)
-    (step : IsLineStep (cells_of facts) (position_at orders.first) held (tables_between (cells_of facts) (edges_in (cells_of facts)) orders held plan) line next)
-    (delivering : (i g : ℕ) → slice_get (switches (cells_of facts)) i ≡ Some g → (entry_for held line.lid g ≡ 255) ⊎ DeliverFrom (cells_of facts) held line i) where
+    (step : IsLineStep (cells_of facts) (position_at orders.first) held (tables_between (cells_of facts) (edges_in (cells_of facts)) orders held plan) line
+    next)
+    (delivering : (i g : ℕ) → slice_get (switches (cells_of facts)) i ≡ Some g → (entry_for held line.lid g ≡ 255)
+    ⊎ DeliverFrom (cells_of facts) held line i) where
   abbrev cells : Cells
   cells = cells_of facts
 

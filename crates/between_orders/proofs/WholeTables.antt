@@ -97,7 +97,8 @@ module _ (facts : Facts) (tables : HeldPlan) (preferred taken : List ℕ) (whole
   }
 
   abbrev p : ℕ → ℕ
-  p = number_at (positions_in (grown_by (edges_in (cells_of facts)) (told_positions taken (length (edges_in (cells_of facts))))) (length (edges_in (cells_of facts))))
+  p = number_at (positions_in (grown_by (edges_in (cells_of facts)) (told_positions taken (length (edges_in (cells_of facts)))))
+      (length (edges_in (cells_of facts))))
 
   no_earlier : (a b k : ℕ) → a < length (switches its_cells) → b < length (switches its_cells) → Walk (heads wires) b a k → p a ≤ p b → q a ≤ q b
   no_earlier a b k a_in b_in walk low =

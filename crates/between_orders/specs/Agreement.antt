@@ -15,42 +15,43 @@ use Rattle.between_orders.specs.Between.{Goal, IsGoal}
 use Rattle.between_orders.specs.BetweenLaws.{next_towards}
 use Rattle.between_orders.specs.Orders.{edges_in, orders_from, told_positions}
 
--- the plan's order, as it grows by the plan's positions
+-- the plan's order: it grows by the positions `by` of the plan
 abbrev pub order_of_plan : Cells → List ℕ → List ℕ
 order_of_plan cells by = grown_by (edges_in cells) by
 
--- tables imply an order, and it agrees with the plan's order on the first k switches
+-- `tables` imply an order, and it agrees with the plan's order on the first `k` switches
 pub record AgreeTo (cells : Cells) (tables : HeldPlan) (by : List ℕ) (k : ℕ) : Type 0 where
   pub some : IsTold cells tables (order_of_plan cells by) None → ⊥
   pub agrees : (taken : List ℕ) → IsTold cells tables (order_of_plan cells by) (Some taken)
       → AgreesUpTo (order_of_plan cells by) (position_in taken) k
 
--- tables are right for every LID by these positions
+-- `tables` are right for every LID by `positions`
 abbrev pub AreRightBy : Cells → List ℕ → HeldPlan → Type 0
 AreRightBy cells positions tables = (lid : ℕ) → 1 ≤ lid → AreRight cells (position_at positions) tables lid
 
--- the tables are right by the order that grows by the positions `told`
+-- `tables` are right for every LID by the order that grows by the positions `told`
 abbrev pub IsRightByGrown : Cells → HeldPlan → List ℕ → Type 0
 IsRightByGrown cells tables told =
     are_right cells (position_at (positions_in (grown_by (edges_in cells) told) (length (edges_in cells)))) tables ≡ true
 
--- the tables imply an order, and `positions` are the positions of the switches in it
+-- `tables` imply an order, the one nearest to the plan's, and `positions` are the positions of the switches in it
 pub record TellsPositions (cells : Cells) (tables : HeldPlan) (by : List ℕ) : Type 0 where
   pub taken : List ℕ
   pub is_told : IsTold cells tables (order_of_plan cells by) (Some taken)
   pub positions : List ℕ
   pub are : positions ≡ told_positions taken (length (edges_in cells))
 
--- after a step towards the goal between two orders, where the plan's order is preferred, the order of the tables agrees
--- with the plan's order at least as far as before
+-- after a step towards the goal between two orders, where the plan's order is preferred, the order that the tables
+-- imply agrees with the plan's order at least as far as before
 abbrev pub StepsKeepAgreement : Type 0
 StepsKeepAgreement =
     (facts : Facts) (held plan : HeldPlan) (by : List ℕ) (goal : Goal) (k : ℕ)
     → IsGoal (cells_of facts) held plan by by (Some goal) → AgreeTo (cells_of facts) held by k
     → AgreeTo (cells_of facts) (next_towards facts held goal) by k
 
--- the next tables are right by the first or by the second order of a step from `held`. Being right by the second order
--- may count as a goal if `held` is right by the order that grows by the order that it implies
+-- `next` is right by the first or by the second order of a step from `held`. If it is right by the second, it may count
+-- as a goal reached (`later` is one more than `count`), if `held` is right by the order that grows by the order that it
+-- implies
 pub data IsOnward (cells : Cells) (held next : HeldPlan) (by : List ℕ) (count later : ℕ) : Type 0 where
   first : (told : TellsPositions cells held by)
       → AreRightBy cells (orders_from cells held (edges_in cells) by told.positions).first next → later ≡ count
@@ -62,21 +63,22 @@ pub data IsOnward (cells : Cells) (held next : HeldPlan) (by : List ℕ) (count 
       → AreRightBy cells (orders_from cells held (edges_in cells) by told.positions).second next → later ≡ suc count
       → IsOnward cells held next by count later
 
--- each goal that is reached takes the agreement one switch further, and other steps on the way do not make it less
+-- if `next` is onward from `held`, and the order of `held` agrees with the plan's on the first `count` switches, the
+-- order of `next` agrees with it on the first `later` switches: each goal that is reached takes it one switch further
 abbrev pub GoalsGoFurther : Type 0
 GoalsGoFurther =
     (facts : Facts) (held next : HeldPlan) (by : List ℕ) (count later : ℕ)
     → IsOnward (cells_of facts) held next by count later → AgreeTo (cells_of facts) held by count
     → AgreeTo (cells_of facts) next by later
 
--- a sequence of tables, each reached from the one before by a step or a goal. The first tables imply an order, and
--- `reached m` is the number of goals reached by `tables m`
+-- each of `tables` is onward from the one before; the first ones imply an order, and `reached m` is the number of goals
+-- that were reached by then
 pub record AreOnTheWay (cells : Cells) (by : List ℕ) (tables : ℕ → HeldPlan) (reached : ℕ → ℕ) : Type 0 where
   pub told : TellsPositions cells (tables 0) by
   pub none_yet : reached 0 ≡ 0
   pub each : (m : ℕ) → IsOnward cells (tables m) (tables (suc m)) by (reached m) (reached (suc m))
 
--- once n - 1 goals are reached, for n switches, the tables are right by the plan's order
+-- once n - 1 goals are reached, for n switches, tables on the way are right by the plan's order
 abbrev pub GoalsAreFew : Type 0
 GoalsAreFew =
     (facts : Facts) (by : List ℕ) (tables : ℕ → HeldPlan) (reached : ℕ → ℕ)
@@ -85,8 +87,8 @@ GoalsAreFew =
     → AreRightBy (cells_of facts)
     (positions_in (order_of_plan (cells_of facts) by) (length (edges_in (cells_of facts)))) (tables m)
 
--- if tables are right by an order that grew, and this order is the list of preferences, it is the first order of the
--- next step, and the second order grows by the plan's positions over the tree of the first
+-- if tables are right by an order that grew, and are taken to imply an order where this one is preferred, it is the
+-- first order of the next step, and the second order grows by the plan's positions over its tree
 abbrev pub OrdersStay : Type 0
 OrdersStay =
     (facts : Facts) (tables : HeldPlan) (told by taken : List ℕ)
@@ -97,20 +99,20 @@ OrdersStay =
     (told_positions taken (length (edges_in (cells_of facts))))
     ≡ grown_twice (edges_in (cells_of facts)) told by
 
--- packets for `lid` from switch i reach switch j over n channels
+-- by `tables`, packets for `lid` from switch `i` reach switch `j` over the given number of channels
 abbrev pub ComeTo : Cells → HeldPlan → ℕ → ℕ → ℕ → ℕ → Type 0
 ComeTo cells tables lid zero i j = i ≡ j
 ComeTo cells tables lid (suc n) i j = (x : ℕ) × Leads cells tables lid i x × ComeTo cells tables lid n x j
 
--- for any two switches that wires join, directly or over others, packets for at least one LID from the first switch
--- reach the second
+-- by `tables`, for any two switches that wires join, directly or over others, packets for at least one LID from the
+-- first switch reach the second
 abbrev pub ComeEverywhere : Cells → HeldPlan → Type 0
 ComeEverywhere cells tables =
     (i j k : ℕ) → i < length (switches cells) → j < length (switches cells) → Walk (heads (edges_in cells)) i j k
     → (lid n : ℕ) × (1 ≤ lid) × ComeTo cells tables lid n i j
 
--- if packets get from each switch to all switches that wires join to it, tables that imply an order are right by the
--- order that grows by it
+-- if packets get by the tables from each switch to all switches that wires join to it, tables that imply an order are
+-- right by the order that grows by it
 abbrev pub WholeTablesGrow : Type 0
 WholeTablesGrow =
     (facts : Facts) (tables : HeldPlan) (preferred taken : List ℕ) → ComeEverywhere (cells_of facts) tables

@@ -13,13 +13,14 @@ pub record Goal : Type 0 where
   pub positions : List ℕ
   pub tables : HeldPlan
 
--- the tables between two orders
+-- the goal between two orders: the positions in the first, and the tables between both
 abbrev pub goal_between : Cells → TwoOrders → HeldPlan → HeldPlan → Goal
 goal_between cells orders held plan = record {
   positions = orders.first;
   tables = tables_between cells (edges_in cells) orders held plan;
 }
 
+-- the goal that the code's goal stands for
 abbrev pub goal_of : StepGoal → Goal
 goal_of goal = record { positions = goal.positions.items; tables = goal.tables }
 
@@ -30,7 +31,7 @@ pub record IsGoalBetween (cells : Cells) (held plan : HeldPlan) (by preferred : 
   pub are : AreOrders cells held (edges_in cells) by preferred (Some orders)
   pub is : goal ≡ goal_between cells orders held plan
 
--- the goal of a step; None if the held tables imply no order
+-- the goal of a step from `held`; None exactly if the held tables imply no order
 abbrev pub IsGoal : Cells → HeldPlan → HeldPlan → List ℕ → List ℕ → Option Goal → Type 0
 IsGoal cells held plan by preferred None = AreOrders cells held (edges_in cells) by preferred None
 IsGoal cells held plan by preferred (Some goal) = IsGoalBetween cells held plan by preferred goal

@@ -1,4 +1,4 @@
--- Laws of tables between two orders, and of steps towards them.
+-- Laws of tables between two orders, and of steps towards them: right by both orders, and reached in 2n steps.
 use Rattle.std.specs.Prelude.{◌≡◌, ◌≤◌, ◌<◌, ◌⊎◌, ◌*◌, ℕ, suc, Contains, List, Option, Some, length, map, slice_get}
 use Rattle.fact_store.specs.View.{AreInRange, Facts, cells_of}
 use Rattle.port_graph.specs.Heads.{heads}
@@ -31,19 +31,20 @@ GoalTurnsWell =
     × AreRight (cells_of facts) (position_at orders.second)
     (tables_between (cells_of facts) (edges_in (cells_of facts)) orders held plan) lid
 
--- the label of each switch on the way to the end port of a line
+-- the label of each usable switch on the way to the end port of `line`, by two orders
 abbrev pub labels_of_line : Cells → TwoOrders → HeldPlan → HeldLid → List (Option Sides)
 labels_of_line cells orders plan line =
     labels_towards line.port (edges_in cells) orders (map (switch_step cells plan line.lid) (switches cells))
 
--- the line's end port is the first that has the LID in the plan, and the plan gives no usable switch a top below the
--- LID
+-- the port of `line` is the first that has its LID in the plan, the LID is not 0, and the plan gives no usable switch a
+-- top below it
 pub record IsGoalLine (cells : Cells) (plan : HeldPlan) (line : HeldLid) : Type 0 where
   pub some : 1 ≤ line.lid
   pub first : slice_get (owners_of plan line.lid) 0 ≡ Some line.port
   pub within : (g : ℕ) → Contains (switches cells) g → line.lid ≤ top_of plan g
 
--- the tables between two orders deliver from each switch with a label, if the first is an order of the switches
+-- if facts are in range and the first order is one of the switches, the tables between two orders deliver from each
+-- switch with a label, for the LID of a goal line
 abbrev pub GoalDelivers : Type 0
 GoalDelivers =
     (facts : Facts) → AreInRange facts → (orders : TwoOrders) → IsOrder (cells_of facts) (position_at orders.first)
@@ -51,8 +52,8 @@ GoalDelivers =
     → (i : ℕ) (label : Sides) → label_at (labels_of_line (cells_of facts) orders plan line) i ≡ Some label
     → DeliverFrom (cells_of facts) (tables_between (cells_of facts) (edges_in (cells_of facts)) orders held plan) line i
 
--- if the first order grows and the second grows over its tree, the tables between them deliver from each switch from
--- which wires lead to a switch whose plan entry leads to the end port
+-- if facts are in range, the first order grows and the second grows over its tree, then for the LID of a goal line the
+-- tables between them deliver from each switch from which wires lead to a switch whose plan entry leads to the end port
 abbrev pub GoalReachesAll : Type 0
 GoalReachesAll =
     (facts : Facts) → AreInRange facts → (told by : List ℕ) (held plan : HeldPlan) (line : HeldLid)
@@ -67,8 +68,8 @@ GoalReachesAll =
 abbrev pub next_towards : Facts → HeldPlan → Goal → HeldPlan
 next_towards facts held goal = next_tables (cells_of facts) (by_order goal.positions) held goal.tables
 
--- the next tables towards a goal are a step by the goal's order, and are right by it for every LID; no mixture then
--- makes a credit loop
+-- the next tables towards the goal of a step are a step by the goal's order, and are right by it for every LID; so no
+-- mixture makes a credit loop
 abbrev pub GoalsAreSafe : Type 0
 GoalsAreSafe =
     (facts : Facts) (held plan : HeldPlan) (by preferred : List ℕ) (goal : Goal)
@@ -77,15 +78,15 @@ GoalsAreSafe =
     × ((lid : ℕ) → 1 ≤ lid → AreRight (cells_of facts) (position_at goal.positions) (next_towards facts held goal) lid)
 
 -- for a LID that one end port alone holds in the held tables and in the plan, the next tables towards a goal are a step
--- of a line by the goal's order; no packet that the held tables deliver is then lost
+-- of a line by the goal's order; so no packet that the held tables deliver is lost
 abbrev pub GoalsFollowTheRule : Type 0
 GoalsFollowTheRule =
     (facts : Facts) (held plan : HeldPlan) (by preferred : List ℕ) (goal : Goal) (line : HeldLid)
     → IsGoal (cells_of facts) held plan by preferred (Some goal) → IsKept held plan line → 1 ≤ line.lid
     → IsLineStep (cells_of facts) (position_at goal.positions) held goal.tables line (next_towards facts held goal)
 
--- if each held entry is 255 or delivers, as after a step towards a goal, the goal between the two orders has the same
--- entries for the LID from the next tables as from the held ones
+-- if facts are in range, and each held entry for a goal line is 255 or delivers, the tables between two orders have the
+-- same entries for its LID from the next tables as from the held ones, after a step of a line towards them
 abbrev pub GoalStandsStill : Type 0
 GoalStandsStill =
     (facts : Facts) → AreInRange facts → (orders : TwoOrders) (held plan next : HeldPlan) (line : HeldLid)
@@ -98,8 +99,9 @@ GoalStandsStill =
     → entry_for (tables_between (cells_of facts) (edges_in (cells_of facts)) orders next plan) line.lid g
     ≡ entry_for (tables_between (cells_of facts) (edges_in (cells_of facts)) orders held plan) line.lid g
 
--- steps towards the goal between an order that grows and an order that grows over its tree. Each step goes towards the
--- goal from the tables before it. At first, each entry is 255 or delivers, as after any step
+-- `tables n` are the tables after n steps towards the tables between an order that grows and one that grows over its
+-- tree, each from the tables before it, for the LID of `line`. The first tables are right by the first order, and each
+-- of their entries is 255 or delivers
 pub record AreGoalSteps (facts : Facts) (told by : List ℕ) (plan : HeldPlan) (line : HeldLid) (tables : ℕ → HeldPlan)
     : Type 0 where
   pub is_line : IsGoalLine (cells_of facts) plan line
@@ -113,8 +115,9 @@ pub record AreGoalSteps (facts : Facts) (told by : List ℕ) (plan : HeldPlan) (
       (tables_between (cells_of facts) (edges_in (cells_of facts)) (grown_twice (edges_in (cells_of facts)) told by)
       (tables n) plan) line (tables (suc n))
 
--- after twice as many steps as there are switches, each switch from which the first goal delivers has that goal's
--- entry, and the tables deliver from it
+-- if facts are in range, then in steps towards the tables between two orders that grow (`AreGoalSteps`), from 2n steps
+-- on, for n switches, each switch from which the first goal delivers has that goal's entry, and the tables deliver from
+-- it
 abbrev pub GoalIsReached : Type 0
 GoalIsReached =
     (facts : Facts) → AreInRange facts → (told by : List ℕ) (plan : HeldPlan) (line : HeldLid) (tables : ℕ → HeldPlan)
@@ -129,8 +132,9 @@ GoalIsReached =
     (grown_twice (edges_in (cells_of facts)) told by) (tables 0) plan) line.lid g)
     × DeliverFrom (cells_of facts) (tables m) line i
 
--- if the goal delivers from each switch that sends packets straight to the end port by the first tables, the tables are
--- right for the LID by the second order after twice as many steps as there are switches, as the goal is
+-- if facts are in range, and in steps towards the tables between two orders that grow (`AreGoalSteps`) the first goal
+-- delivers from each switch that sends packets straight to the end port by the first tables, then from 2n steps on, for
+-- n switches, and at least one, the tables are right by the second order for the LID
 abbrev pub GoalEndsRight : Type 0
 GoalEndsRight =
     (facts : Facts) → AreInRange facts → (told by : List ℕ) (plan : HeldPlan) (line : HeldLid) (tables : ℕ → HeldPlan)

@@ -19,28 +19,29 @@ use Rattle.between_orders.specs.Between.{Goal, IsGoal, goal_between}
 use Rattle.between_orders.specs.BetweenLaws.{AreGoalSteps, IsGoalLine, next_towards}
 use Rattle.between_orders.specs.Orders.{edges_in}
 
--- tables that are right by some order of the switches have a goal, whatever the preferred positions are
+-- tables that are right for every LID by some order of the switches have a goal, whatever the preferred positions are
 abbrev pub RightTablesHaveGoals : Type 0
 RightTablesHaveGoals =
     (facts : Facts) (tables plan : HeldPlan) (by preferred : List ℕ) (q : ℕ → ℕ)
     → ((lid : ℕ) → 1 ≤ lid → AreRight (cells_of facts) q tables lid)
     → IsGoal (cells_of facts) tables plan by preferred None → ⊥
 
--- the preferred positions of step n: the positions in the first order of the step before it, and `preferred` at first
+-- the preferred positions of a step: those in the first order of the step before it, and `preferred` at first
 abbrev pub handed : List ℕ → (ℕ → Goal) → ℕ → List ℕ
 handed preferred goals zero = preferred
 handed preferred goals (suc n) = (goals n).positions
 
--- the first `count` steps of a sequence go towards the plan, and each is handed the first order of the step before it
+-- the first `count` steps of a sequence go towards the plan, and each after the first is handed the first order of the
+-- step before it
 pub record AreHandedSteps (facts : Facts) (by preferred : List ℕ) (plan : HeldPlan) (tables : ℕ → HeldPlan)
     (goals : ℕ → Goal) (count : ℕ) : Type 0 where
   pub goal_is : (n : ℕ) → n < count
       → IsGoal (cells_of facts) (tables n) plan by (handed preferred goals n) (Some (goals n))
   pub step_is : (n : ℕ) → n < count → tables (suc n) ≡ next_towards facts (tables n) (goals n)
 
--- if tables are right by the order that grows by the order that they imply, the two orders of the first handed step are
--- the orders of all: the first one grows by the implied order, and the second by the plan's positions over its tree.
--- All tables are right by the first order
+-- if the first of `tables` are right by the order that grows by the order that they imply, then in all handed steps the
+-- first order is that grown order, and the second grows by the plan's positions over its tree; all tables are right by
+-- the first order
 abbrev pub HandedOrdersStay : Type 0
 HandedOrdersStay =
     (facts : Facts) (by preferred : List ℕ) (plan : HeldPlan) (tables : ℕ → HeldPlan) (goals : ℕ → Goal) (count : ℕ)
@@ -52,8 +53,9 @@ HandedOrdersStay =
     × ((n : ℕ) → n ≤ count
     → AreRightBy (cells_of facts) (grown_twice (edges_in (cells_of facts)) told.positions by).first (tables n))
 
--- if tables are right by the order that grows by the order that they imply, handed steps are goal steps for each LID
--- that one end port alone holds, in the tables and in the plan, and whose entries are 255 or deliver at first
+-- if the first of `tables` are right by the order that grows by the order that they imply, handed steps are goal steps
+-- for the LID of each goal line whose end port alone holds it, in these tables and in the plan, and whose entries there
+-- are 255 or deliver
 abbrev pub HandedStepsAreGoalSteps : Type 0
 HandedStepsAreGoalSteps =
     (facts : Facts) (by preferred : List ℕ) (plan : HeldPlan) (tables : ℕ → HeldPlan) (goals : ℕ → Goal) (count : ℕ)
@@ -66,14 +68,14 @@ HandedStepsAreGoalSteps =
     → (all : ℕ → HeldPlan) × AreGoalSteps facts told.positions by plan line all
     × ((n : ℕ) → n ≤ count → tables n ≡ all n)
 
--- a LID of the switch at index i: the switch alone holds it in the plan, and takes its packets by the plan
+-- `lid` is one of the switch at index `i`: this alone holds it in the plan, and takes its packets by the plan
 pub record IsOwnLid (cells : Cells) (plan : HeldPlan) (i lid : ℕ) : Type 0 where
   pub some : 1 ≤ lid
   pub alone : owners_of plan lid ≡ record { node = switch_at cells i; port = 0 } ∷ []
   pub takes : step_at cells plan lid (switch_at cells i) ≡ Ends (Taken (record { node = switch_at cells i; port = 0 }))
 
--- each LID is held by no end port of the plan, or by one alone. The plan delivers at that end port from each switch
--- from which some tables can, and no usable switch has a top below the LID
+-- each LID is held by no end port of the plan, or by one alone; then no usable switch has a top below the LID, and the
+-- plan delivers at that end port from each switch from which any tables that keep the LID there deliver
 pub record IsWholePlan (cells : Cells) (plan : HeldPlan) : Type 0 where
   pub lines : (lid : ℕ) → 1 ≤ lid → (owners_of plan lid ≡ [])
       ⊎ ((port : EndPort) × (owners_of plan lid ≡ port ∷ [])
@@ -85,6 +87,7 @@ pub record IsWholePlan (cells : Cells) (plan : HeldPlan) : Type 0 where
 abbrev pub HaveOwnLids : Cells → HeldPlan → Type 0
 HaveOwnLids cells plan = (i : ℕ) → i < length (switches cells) → (lid : ℕ) × IsOwnLid cells plan i lid
 
+-- if facts are in range, and the first tables are right by the order that grows by the order that they imply, then
 -- after 2n + 2 handed steps towards a whole plan, for n switches, no further one changes the tables
 abbrev pub HandedStepsEnd : Type 0
 HandedStepsEnd =
@@ -95,14 +98,14 @@ HandedStepsEnd =
     → IsRightByGrown (cells_of facts) (tables 0) told.positions → IsWholePlan (cells_of facts) plan
     → (m : ℕ) → 2 * length (switches (cells_of facts)) + 2 ≤ m → m < count → tables (suc m) ≡ tables m
 
--- there are at least 2n + 2 steps, for n switches, or the last step changes nothing
+-- the number of steps `count` is at least 2n + 2, for n switches, or the last step changes nothing
 abbrev pub AreDone : Cells → (ℕ → HeldPlan) → ℕ → Type 0
 AreDone cells tables count =
     (2 * length (switches cells) + 2 ≤ count)
     ⊎ ((last : ℕ) × (count ≡ suc last) × (tables (suc last) ≡ tables last))
 
--- a stage: handed steps towards a plan, until there are 2n + 2 of them or one changes nothing. The first of them takes
--- the order of the tables that is nearest to the plan's order
+-- a stage from `start` to `end`: handed steps towards a plan, until there are 2n + 2 of them or one changes nothing. In
+-- the first of them, of the orders that `start` implies, the one nearest to the plan's is taken
 pub record IsStage (facts : Facts) (by : List ℕ) (plan start end : HeldPlan) : Type 0 where
   pub tables : ℕ → HeldPlan
   pub goals : ℕ → Goal
@@ -112,17 +115,18 @@ pub record IsStage (facts : Facts) (by : List ℕ) (plan start end : HeldPlan) :
   pub begins : tables 0 ≡ start
   pub ends : tables count ≡ end
 
--- by the tables at the end of a stage, packets still get from each switch to all switches that wires join to it, if
--- they did so at its beginning, and the stage goes towards a whole plan in which each usable switch has a LID
+-- if facts are in range, a stage goes towards a whole plan in which each usable switch has a LID, and packets get by
+-- the tables at its beginning from each switch to all switches that wires join to it, they do so by the tables at its
+-- end
 abbrev pub StagesStayWhole : Type 0
 StagesStayWhole =
     (facts : Facts) → AreInRange facts → (by : List ℕ) (plan start end : HeldPlan) → IsWholePlan (cells_of facts) plan
     → HaveOwnLids (cells_of facts) plan → IsStage facts by plan start end → ComeEverywhere (cells_of facts) start
     → ComeEverywhere (cells_of facts) end
 
--- after n - 1 stages towards a whole plan in which each usable switch has a LID, for n switches, the tables are right
--- by the plan's order, if the first tables imply an order and packets get by them from each switch to all switches that
--- wires join to it
+-- if facts are in range, the first tables imply an order, and packets get by them from each switch to all switches that
+-- wires join to it, then after n - 1 or more stages towards a whole plan in which each usable switch has a LID, for n
+-- switches, the tables are right by the plan's order
 abbrev pub StagesAreFew : Type 0
 StagesAreFew =
     (facts : Facts) → AreInRange facts → (by : List ℕ) (plan : HeldPlan) (tables : ℕ → HeldPlan) (count : ℕ)

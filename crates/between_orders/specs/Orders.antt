@@ -18,13 +18,13 @@ use Rattle.two_orders.specs.TwoOrders.{TwoOrders, two_orders}
 abbrev pub edges_in : Cells → List (List Edge)
 edges_in cells = by_index (graph_of cells)
 
--- the positions of n switches; `taken` lists them from the last position to the first
+-- the positions of `n` switches, if `taken` lists them from the last position to the first
 abbrev pub told_positions : List ℕ → ℕ → List ℕ
 told_positions taken n = map (position_in taken) (range_with_len 0 n)
 
--- the two orders, from the positions in the order that the tables imply. If the tables are right by the order that
--- grows by these positions, that order is the first, and the second grows by the plan's positions over its tree.
--- Otherwise the implied order is the first, and the second grows by it
+-- the two orders of a step, from the positions `told` in the order that the tables imply, and the order `grown` that
+-- grows by them. If the tables are right by the grown order, that one is the first, and the second grows by the
+-- positions `plan` over its tree. Otherwise the implied order is the first, and the grown one the second
 abbrev pub orders_by : Cells → HeldPlan → List (List Edge) → List ℕ → List ℕ → List ℕ → TwoOrders
 orders_by cells held edges plan told grown =
     if are_right cells (position_at (positions_in grown (length edges))) held
@@ -32,13 +32,13 @@ orders_by cells held edges plan told grown =
     (grown_by (tree edges (positions_in grown (length edges))) plan) (length edges)
     else two_orders told grown (length edges)
 
--- the two orders, from the positions in the order that the tables imply
+-- the two orders of a step, from the positions `told` in the order that the tables imply, towards the positions `plan`
 abbrev pub orders_from : Cells → HeldPlan → List (List Edge) → List ℕ → List ℕ → TwoOrders
 orders_from cells held edges plan told = orders_by cells held edges plan told (grown_by edges told)
 
--- the orders of a step from `held`, by the order that the tables imply; of several switches that may be last, the one
--- that comes last in the order that grows by the positions `preferred` is taken first. None if the tables imply no
--- order
+-- the two orders of a step from `held`, by the order that it implies; of several switches that may be last, the one
+-- that comes last in the order that grows by the positions `preferred` is taken first. None exactly if `held` implies
+-- no order
 abbrev pub AreOrders : Cells → HeldPlan → List (List Edge) → List ℕ → List ℕ → Option TwoOrders → Type 0
 AreOrders cells held edges plan preferred None = IsTold cells held (grown_by edges preferred) None
 AreOrders cells held edges plan preferred (Some orders) =

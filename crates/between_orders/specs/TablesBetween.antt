@@ -17,65 +17,67 @@ use Rattle.two_orders.specs.declared.labels.Sides.{Sides}
 use Rattle.two_orders.specs.Labels.{both_down, label_at, labels_from, leads_on}
 use Rattle.two_orders.specs.TwoOrders.{TwoOrders}
 
--- the hop leads to the end port
+-- the hop ends at `port`
 abbrev pub arrives : EndPort → NextHop → Bool
 arrives port (To j) = false
 arrives port (Ends e) = is_at port (Some e)
 
--- the first label of a switch: down by both orders if its hop by the plan leads to the end port, otherwise None
+-- the label that a switch has at first: down by both orders, if its hop by the plan ends at `port`, otherwise None
 abbrev pub first_label : EndPort → SwitchStep → Option Sides
 first_label port plan = if arrives port plan.hop then Some both_down else None
 
--- the hop leads on from switch i, which has the label `sides`
+-- the hop leads on from switch `i`, which has the label `sides`, as the labels and the two orders allow; false of an
+-- end
 abbrev pub fits : TwoOrders → List (Option Sides) → Sides → ℕ → NextHop → Bool
 fits orders labels sides i (To j) = leads_on orders labels sides i j
 fits orders labels sides i (Ends e) = false
 
--- the port of the edge; 255 if there is none
+-- the port of the edge; 255 for None
 abbrev pub port_of : Option Edge → ℕ
 port_of None = 255
 port_of (Some e) = e.port
 
--- the entry of a switch with this label: the held entry if it fits; otherwise the plan's entry if that fits; otherwise
--- the least port whose channel leads on
+-- the entry of switch `i` with the label `sides`: the held one if it fits; otherwise the plan's if that fits; otherwise
+-- the port of the first edge that leads on, or 255 if none does
 abbrev pub entry_to : List (List Edge) → TwoOrders → List (Option Sides) → Sides → ℕ → Both → ℕ
 entry_to edges orders labels sides i x =
     if fits orders labels sides i x.0.hop then x.0.entry else
     (if fits orders labels sides i x.1.hop then x.1.entry else
     port_of (find (λ e. leads_on orders labels sides i e.to) (edges_at edges i)))
 
--- the entry of a switch by its label; 255 if it has none
+-- the entry of switch `i` by its label; 255 for None
 abbrev pub entry_with : List (List Edge) → TwoOrders → List (Option Sides) → Option Sides → ℕ → Both → ℕ
 entry_with edges orders labels None i x = 255
 entry_with edges orders labels (Some sides) i x = entry_to edges orders labels sides i x
 
--- the plan's entry if it leads to the end port, otherwise the entry by the switch's label
+-- the entry of a switch towards `port`: the plan's if it leads there, otherwise the one by the switch's label
 abbrev pub entry_between : EndPort → List (List Edge) → TwoOrders → List (Option Sides) → ℕ × Both → ℕ
 entry_between port edges orders labels x =
     if arrives port x.1.1.hop then x.1.1.entry else entry_with edges orders labels (label_at labels x.0) x.0 x.1
 
--- the labels of all switches towards an end port, from what each switch does by the plan
+-- the labels of all switches towards `port`, by two orders, from what each switch does by the plan
 abbrev pub labels_towards : EndPort → List (List Edge) → TwoOrders → List SwitchStep → List (Option Sides)
 labels_towards port edges orders plan = labels_from edges orders (map (first_label port) plan)
 
--- the entries of all switches towards an end port, from their labels and from what each switch does by the held tables
--- and by the plan
+-- the entries of all switches towards `port`, by two orders, from what each switch does by the held tables and by the
+-- plan
 unfoldable pub entries_towards : EndPort → List (List Edge) → TwoOrders → List SwitchStep → List SwitchStep → List ℕ
 entries_towards port edges orders held plan =
     map (entry_between port edges orders (labels_towards port edges orders plan)) (enumerate_from 0 (zip held plan))
 
--- the entries of all switches for a LID, towards its first owner; 255 if it has no owner
+-- the entries of all switches for `lid` by two orders, towards the first of its owners; 255 if it has none
 abbrev pub column_for : Cells → List (List Edge) → TwoOrders → HeldPlan → HeldPlan → ℕ → List EndPort → List ℕ
 column_for cells edges orders held plan lid [] = replicate (length (switches cells)) 255
 column_for cells edges orders held plan lid (port ∷ ports) =
     entries_towards port edges orders (map (switch_step cells held lid) (switches cells))
     (map (switch_step cells plan lid) (switches cells))
 
--- the entries of all switches for `lid`, towards its first owner in the plan
+-- the entries of all switches for `lid` by two orders, towards its first owner in the plan; 255 if it has none
 abbrev pub column_between : Cells → List (List Edge) → TwoOrders → HeldPlan → HeldPlan → ℕ → List ℕ
 column_between cells edges orders held plan lid = column_for cells edges orders held plan lid (owners_of plan lid)
 
--- the tables between the two orders
+-- the tables between two orders, from held tables and a plan: the plan's LIDs, the greater tops, and for each LID
+-- entries that lead up and then down by both orders
 unfoldable pub tables_between : Cells → List (List Edge) → TwoOrders → HeldPlan → HeldPlan → HeldPlan
 tables_between cells edges orders held plan =
     tables_with cells held plan

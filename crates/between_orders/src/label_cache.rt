@@ -9,14 +9,14 @@ use two_orders::{Orders, Sides, label_all};
 /// The labels of switches, and the first labels from which they follow.
 #[derive(Drop)]
 pub(crate) struct Labelled {
-    /// The first labels: only targets have one.
+    /// The first labels, from which the others follow.
     pub firsts: Vec<Option<Sides>>,
-    /// The labels of all switches.
+    /// The labels that follow from the first labels, with these.
     pub labels: Vec<Option<Sides>>,
 }
 
 impl Labelled {
-    /// Returns the labels if no switch has a first label.
+    /// Returns the labels that follow if no switch has a first label.
     pub fn none(alloc: Global, edges: &Adjacency, orders: &Orders) -> Self
         ensures { result.labels.items ≡ labels_from edges.now orders.now result.firsts.items }
     {
@@ -26,8 +26,8 @@ impl Labelled {
         Labelled { firsts, labels }
     }
 
-    /// Replaces the labels by the labels that follow from `firsts`. Takes a step for each switch if the first labels do
-    /// not change, otherwise what `label_all` takes.
+    /// Replaces the labels by those that follow from `firsts`. The old labels must follow from the old first labels.
+    /// Takes time linear in the number of switches if the first labels do not change, otherwise what `label_all` takes.
     pub fn relabel(
         &mut self,
         alloc: Global,
@@ -51,7 +51,8 @@ impl Labelled {
     }
 }
 
-/// Returns whether two lists of labels are equal. Takes a step for each label, up to the first at which they differ.
+/// Returns whether `labels` and `others` are equal. Takes time linear in the number of labels before the first
+/// difference.
 fn are_same(labels: &[Option<Sides>], others: &[Option<Sides>]) -> bool
     ensures { IsTrue result ↔ (labels.now ≡ others.now) }
 {

@@ -30,21 +30,22 @@ pub fn goal_turns_well()
     ensures law { GoalTurnsWell }
 {}
 
-/// The tables between two orders deliver from each switch that has a label, at the first end port that has the LID in
-/// the plan.
+/// The tables between two orders deliver, from each switch that has a label, at the first end port that has the LID in
+/// the plan, if no usable switch has a top below the LID in the plan and the first order is an order of the switches.
 pub fn goal_delivers()
     ensures law { GoalDelivers }
 {}
 
 /// If the first order grows and the second grows over its tree, the tables between them deliver from each switch from
-/// which wires lead, directly or over other switches, to a switch whose plan entry leads to the end port.
+/// which wires lead, directly or over other switches, to a switch whose plan entry leads to the end port, if no usable
+/// switch has a top below the LID in the plan.
 pub fn goal_reaches_all()
     ensures law { GoalReachesAll }
 {}
 
-/// A step towards the goal of `between` is a step by the goal's first order. However entries of both tables are mixed,
-/// no packet goes down and then up by that order, so no channels wait for each other in a credit loop. The next tables
-/// are again right by that order.
+/// A step towards the goal of `between` is a step by the goal's first order. Whatever the mixtures of the held and the
+/// next tables, no packet goes down and then up by that order, so no channels wait for each other in a credit loop. The
+/// next tables are again right by that order.
 pub fn goals_are_safe()
     ensures law { GoalsAreSafe }
 {}
@@ -74,15 +75,15 @@ pub fn goals_are_few()
     ensures law { GoalsAreFew }
 {}
 
-/// If each held entry for a LID is 255 or delivers, a step towards the goal between two orders does not change that
-/// goal's entries for the LID.
+/// If each held entry for a LID is 255 or delivers, the goal between two orders has the same entries for the LID after
+/// a step towards it by the first order.
 pub fn goal_stands_still()
     ensures law { GoalStandsStill }
 {}
 
 /// Each switch from which the first goal delivers has that goal's entry after twice as many steps as there are
-/// switches, if the steps go towards the goal between an order that grows and one that grows over its tree, and each
-/// entry was 255 or delivered at first.
+/// switches, and the tables deliver from it, if the steps go towards the goal between an order that grows and one that
+/// grows over its tree, and each entry was 255 or delivered at first.
 pub fn goal_is_reached()
     ensures law { GoalIsReached }
 {}
@@ -125,21 +126,22 @@ pub fn handed_steps_are_goal_steps()
 {}
 
 /// After 2n + 2 handed steps, for n switches, no further one changes the tables, if they begin as in
-/// `handed_orders_stay`. In the plan, no two end ports hold the same LID.
+/// `handed_orders_stay` and the plan is whole (`IsWholePlan`).
 pub fn handed_steps_end()
     ensures law { HandedStepsEnd }
 {}
 
 /// By the tables after 2n + 2 handed steps, for n switches, or after one that changes nothing, packets still get from
-/// each switch to all switches that wires join to it, if they did so at first. In the plan, no two end ports hold the
-/// same LID, and each usable switch holds one.
+/// each switch to all switches that wires join to it, if they did so at first. The plan is whole (`IsWholePlan`), and
+/// each usable switch has a LID in it. The first step prefers the plan's order.
 pub fn stages_stay_whole()
     ensures law { StagesStayWhole }
 {}
 
 /// After n - 1 stages, for n switches, the tables are right by the plan's order. A stage has 2n + 2 handed steps or
 /// more, or its last one changes nothing. It begins with the order of the tables that is nearest to the plan's. By the
-/// first tables, which imply an order, packets get from each switch to all switches that wires join to it.
+/// first tables, which imply an order, packets get from each switch to all switches that wires join to it. The plan is
+/// whole (`IsWholePlan`), and each usable switch has a LID in it.
 pub fn stages_are_few()
     ensures law { StagesAreFew }
 {}

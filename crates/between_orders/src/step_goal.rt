@@ -13,7 +13,7 @@ use packet_walks::Network;
 use std::alloc::{AllocError, Global};
 use subnet_view::{SwitchGraph, Wires};
 
-/// The goal of a step from tables that imply an order by themselves.
+/// The goal of a step from tables that imply an order.
 #[derive(Drop)]
 pub struct StepGoal {
     /// The position of each usable switch in the first of the goal's two orders, by rising GUID.
@@ -25,9 +25,8 @@ pub struct StepGoal {
 /// Returns the goal of a step from the tables of `held` towards the tables of `plan`: tables that lead packets up and
 /// then down both by the order that the held tables imply and by the next one on the way to the plan's order. Returns
 /// `None` if the held tables imply no order. If they imply several, takes the one nearest to the order that grows by
-/// `preferred`. `positions` has the position of each usable switch in the plan's order, by rising GUID, and `preferred`
-/// its position in the preferred order. Takes what `told_order` and `are_right` take, four steps for each wire and LID,
-/// and one for each pair of switches.
+/// `preferred`. Both tables must have the facts of `store`. `positions` must have the position of each usable switch in
+/// the plan's order, by rising GUID, and `preferred` that in the preferred order.
 pub fn between(
     alloc: Global,
     store: &Store,

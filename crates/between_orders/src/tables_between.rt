@@ -19,9 +19,9 @@ use subnet_view::EndPort;
 use two_orders::{Orders, Sides, label_at, leads_on};
 
 /// Returns the tables between two orders. A switch has the plan's entry if that leads to the end port. Otherwise it has
-/// its held entry if that fits, or the plan's entry if that fits, or else the least port that leads on. It has no entry
-/// if there is no such port. `edges` has the wires of each switch. For each LID, takes some steps for each switch, and
-/// four for each wire if the previous LID has other targets.
+/// its held entry if that leads on by both orders, or else the plan's entry if that does, or else the least port that
+/// does. It has no entry if there is no such port. `edges` has the wires of each switch. `held` and `plan` must have
+/// the same facts.
 pub(crate) fn tables_between(
     alloc: Global,
     edges: &Adjacency,
@@ -37,7 +37,8 @@ pub(crate) fn tables_between(
     tables_with(alloc, held, plan, &columns)
 }
 
-/// Returns the entries of all usable switches for each LID of `count` blocks, from LID 0 on.
+/// Returns the entries of all usable switches for each LID of the first `count` blocks. `held` and `plan` must have the
+/// same facts, and `count` must be at most 1024.
 fn columns(
     alloc: Global,
     edges: &Adjacency,
@@ -76,8 +77,9 @@ fn columns(
     Ok(columns)
 }
 
-/// Returns the entries of all usable switches for `lid`. `labelled` has the labels of the previous LID. If `lid` has an
-/// owner in the plan, they are replaced by the labels of `lid`.
+/// Returns the entries of all usable switches for `lid`. `held` and `plan` must have the same facts, and `held_blocks`
+/// and `plan_blocks` must be those with `lid`. `labelled` has the labels of an earlier LID. If `lid` has an owner in
+/// the plan, they are replaced by the labels of `lid`.
 fn column(
     alloc: Global,
     edges: &Adjacency,
@@ -118,7 +120,7 @@ fn column(
 }
 
 /// Returns the entries of all switches towards `port`, from what each switch does by the held tables and by the plan.
-/// `labelled` has the labels of the previous LID, which are replaced by the labels towards `port`.
+/// The labels in `labelled` are replaced by the labels towards `port`.
 fn entries_towards(
     alloc: Global,
     port: &EndPort,
@@ -139,7 +141,7 @@ fn entries_towards(
     entries_by(alloc, port, edges, orders, &labelled.labels, held, plan)
 }
 
-/// Returns the first labels: a switch has one if its hop by the plan leads to `port`.
+/// Returns the first label of each switch, which it has if its hop by the plan leads to `port`.
 fn first_labels(
     alloc: Global,
     port: &EndPort,
@@ -152,7 +154,7 @@ fn first_labels(
         .collect(alloc)
 }
 
-/// Returns the first label of a switch, from what it does by the plan, or `None` if it has none.
+/// Returns the first label of the switch that does `plan`, or `None` if its hop does not lead to `port`.
 fn first_label(port: &EndPort, plan: &SwitchStep) -> Option<Sides>
     ensures { result ≡ first_label port.now plan.now }
 {
@@ -166,7 +168,7 @@ fn first_label(port: &EndPort, plan: &SwitchStep) -> Option<Sides>
     }
 }
 
-/// Returns whether `hop` leads to `port`.
+/// Returns whether `hop` ends at `port`.
 fn arrives(port: &EndPort, hop: &NextHop) -> bool
     ensures { result ≡ arrives port.now hop.now }
 {
@@ -176,7 +178,7 @@ fn arrives(port: &EndPort, hop: &NextHop) -> bool
     }
 }
 
-/// Returns the entry of each switch towards `port`, by the labels.
+/// Returns the entry of each switch towards `port`, by `labels`.
 fn entries_by(
     alloc: Global,
     port: &EndPort,
@@ -196,8 +198,8 @@ fn entries_by(
         .collect(alloc)
 }
 
-/// Returns the entry of the switch at `index`: the plan's entry if it leads to `port`, otherwise the entry by its
-/// label, or 255 if it has none.
+/// Returns the entry of the switch at `index`: the plan's entry if it leads to `port`, otherwise the entry by the
+/// switch's label, or 255 if it has none.
 fn entry(
     port: &EndPort,
     edges: &Adjacency,

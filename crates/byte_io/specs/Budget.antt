@@ -1,6 +1,6 @@
--- How much one reading may take.
+-- How much one reading may take before it counts as too long.
 use Rattle.std.specs.Prelude.{◌≡◌, ◌⊎◌, ℕ, ◌^◌}
 
--- 2^40 bytes were taken, or 2^40 calls were made
+-- a reading is used up: it took 2^40 bytes, or made 2^40 calls
 abbrev pub IsSpent : ℕ → ℕ → Type 0
 IsSpent bytes calls = (bytes ≡ 2 ^ 40) ⊎ (calls ≡ 2 ^ 40)

@@ -1,16 +1,16 @@
--- What a source is, and what one call of it counts as.
+-- What a source of bytes is, and when a call of it counts as interrupted.
 use Rattle.std.specs.Prelude.{ℕ, Bool, List, Option, Result, Ok, Err}
 use Rattle.byte_io.specs.declared.source.ReadError.{ReadError}
 use Rattle.byte_io.specs.declared.source.ReadError.TheVariants.{Failed, Interrupted}
 
--- the bytes that are left, if they are known; whether a call has failed, so every later one fails too; and the number
--- of interrupted calls
+-- the bytes that a source has left, if they are known; whether a call has failed, after which every later one fails;
+-- and how many calls were interrupted
 pub record SourceState : Type 0 where
   pub left : Option (List ℕ)
   pub has_failed : Bool
   pub interruptions : ℕ
 
--- 1 for a call that was interrupted, and 0 for any other
+-- 1 for a call that was interrupted, else 0
 abbrev pub interruption : Result ℕ ReadError → ℕ
 interruption (Ok n) = 0
 interruption (Err Failed) = 0

@@ -30,8 +30,8 @@ impl Budget {
         self.bytes == READ_LIMIT || self.calls == READ_LIMIT
     }
 
-    /// Returns how many bytes the next call may ask for, at most `wanted`. The last byte of the budget is asked for on
-    /// its own.
+    /// Returns how many bytes the next call may ask for, at least 1 and at most `wanted`, which must not be 0. A byte
+    /// of the budget must be left. The last one is asked for on its own.
     pub(crate) fn share(&self, wanted: usize) -> usize
         requires some { 0 < wanted }
         requires left { self.now.bytes < 2 ^ 40 }

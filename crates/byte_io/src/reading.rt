@@ -5,14 +5,14 @@ ghost use Rattle.byte_io.specs.Source.{interruption};
 use crate::budget::Budget;
 use crate::source::{ReadError, Source};
 
-/// Why a reading gave nothing though the source is not at its end.
+/// Why a reading gave no piece.
 #[derive(Clone, Copy)]
 pub enum PieceFault {
     Read,
     TooLong,
 }
 
-/// A source, and what one reading may still take from it.
+/// A source, with the numbers of bytes and of calls that one reading has taken from it.
 #[derive(Drop)]
 pub struct Reading<'s, S> {
     source: &'s mut S,
@@ -43,7 +43,8 @@ impl<'s, S: Source> Reading<'s, S> {
         self.budget.is_spent()
     }
 
-    /// Reads until a call is not interrupted. Returns the number of bytes put in the front of `room`; 0 means the end.
+    /// Reads until a call is not interrupted. Returns the number of bytes put in the front of `room`, which must not be
+    /// empty; 0 means the end.
     ///
     /// # Errors
     ///
@@ -70,7 +71,8 @@ impl<'s, S: Source> Reading<'s, S> {
     }
 }
 
-/// Makes one call, which reads at most `most` bytes into the front of `room`, and returns their number.
+/// Makes one call, which reads at most `most` bytes into the front of `room`, and returns their number. `room` must be
+/// at least that long.
 fn read_front<S: Source>(source: &mut S, room: &mut [u8], most: usize) -> Result<usize, ReadError>
     requires { most ≤ length room.old }
     ensures within { IfOk result (λ n. n ≤ most) }

@@ -24,7 +24,7 @@ pub trait Sink {
     // Whether nothing was written since the last flush, so nothing is held back.
     ghost is_flushed: { Self → Bool };
 
-    /// Writes all of the bytes, or fails. How many went out before a failure is unspecified.
+    /// Writes all of `bytes`, or fails. How many went out before a failure is unspecified.
     fn write(&mut self, bytes: &[u8]) -> Result<(), WriteFault>
         ensures writes { Writes written has_failed result self.old self.new bytes.now }
         ensures stays { IsTrue (has_failed self.old) → IsTrue (has_failed self.new) }

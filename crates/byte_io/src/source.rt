@@ -4,7 +4,7 @@ ghost use Rattle.byte_io.specs.Source.{SourceState, interruption};
 
 use thiserror::Error;
 
-/// Why one call of a source gave no bytes.
+/// The error of one call of a source.
 #[derive(Clone, Copy, Debug, PartialEq, Eq, Error)]
 pub enum ReadError {
     /// The source failed, and every later call fails too.
@@ -21,7 +21,7 @@ pub trait Source {
     ghost state: { Self → SourceState };
 
     /// Reads into the front of `room` and returns the number of bytes read; it is 0 only at the end, or if `room` is
-    /// empty. The rest of `room` is unspecified, and all of it after an `Err`.
+    /// empty. The rest of `room` is unspecified, and all of it after an error.
     fn read(&mut self, room: &mut [u8]) -> Result<usize, ReadError>
         ensures within { IfOk result (λ n. n ≤ length room.new) }
         ensures bytes { ReadConsumes (state self.old).left (state self.new).left result room.new }

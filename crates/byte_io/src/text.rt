@@ -7,7 +7,7 @@ use crate::{Sink, WriteFault};
 use itoa::Buffer;
 use smp_bytes::{Guid, PortNum};
 
-/// Writes a number in decimal.
+/// Writes `number` in decimal.
 pub fn write_number<W: Sink>(sink: &mut W, number: u64) -> Result<(), WriteFault>
     ensures writes { Writes W.written W.has_failed result sink.old sink.new (decimal number) }
 {
@@ -15,14 +15,14 @@ pub fn write_number<W: Sink>(sink: &mut W, number: u64) -> Result<(), WriteFault
     sink.write(buffer.format(number).as_bytes())
 }
 
-/// Writes a GUID as sixteen hex digits.
+/// Writes `guid` as sixteen hex digits.
 pub fn write_guid<W: Sink>(sink: &mut W, guid: Guid) -> Result<(), WriteFault>
     ensures writes { Writes W.written W.has_failed result sink.old sink.new (guid_text guid) }
 {
     sink.write(&guid.hex_digits())
 }
 
-/// Writes the GUID of a node, a slash, and the number of one of its ports.
+/// Writes `guid`, a slash, and the number of `port`.
 pub fn write_port<W: Sink>(sink: &mut W, guid: Guid, port: PortNum) -> Result<(), WriteFault>
     ensures writes { Writes W.written W.has_failed result sink.old sink.new (port_text guid port) }
 {

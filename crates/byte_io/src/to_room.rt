@@ -35,7 +35,8 @@ impl Model for ToRoom {
 }
 
 impl ToRoom {
-    /// Creates an empty sink with room for `room` bytes.
+    /// Creates an empty sink with room for `room` bytes. Returns an error only if memory runs out, and never if `room`
+    /// is 0.
     pub fn new(alloc: Global, room: usize) -> Result<Self, AllocError>
         ensures written { IfOk result (λ s. s.written ≡ []) }
         ensures room { IfOk result (λ s. s.room ≡ room) }
@@ -67,7 +68,7 @@ impl Sink for ToRoom {
 
     ghost is_flushed = { λ s. s.is_flushed };
 
-    /// Writes all of the bytes or none of them. A failed write does not change whether bytes are held back.
+    /// Writes all of `bytes` or none of them. A failed write does not change whether bytes are held back.
     fn write(&mut self, bytes: &[u8]) -> Result<(), WriteFault>
         ensures ok { IsOk result ↔ HasRoomFor self.old bytes.now }
         ensures refused { OnErr result (self.new.written ≡ self.old.written) }

@@ -39,8 +39,8 @@ impl<W: Write> Sink for ToWrite<W> {
 
     ghost is_flushed = { λ s. s.is_flushed };
 
-    /// Writes all of the bytes. A write that takes no byte counts as failed, and so does the 2^40th interrupted try of
-    /// a call.
+    /// Writes all of `bytes`. A write that takes no byte counts as failed, and so does the 2^40th interrupted try of a
+    /// call.
     fn write(&mut self, bytes: &[u8]) -> Result<(), WriteFault> {
         if self.has_failed {
             return Err(WriteFault::Write);
@@ -63,7 +63,7 @@ impl<W: Write> Sink for ToWrite<W> {
     }
 }
 
-/// Writes all of the bytes, and tries again after an interrupted write.
+/// Writes all of `bytes`. Tries again after an interrupted write, fewer than 2^40 times.
 fn write_all<W: Write>(writer: &mut W, bytes: &[u8]) -> Result<(), WriteFault>
     ensures { OnOk result (Appends (W.contents writer.old) (W.contents writer.new) bytes.now) }
 {
@@ -84,7 +84,7 @@ fn write_all<W: Write>(writer: &mut W, bytes: &[u8]) -> Result<(), WriteFault>
     Ok(())
 }
 
-/// Passes on what the writer holds back, and tries again after an interruption.
+/// Passes on what `writer` holds back. Tries again after an interruption, fewer than 2^40 times.
 fn flush_all<W: Write>(writer: &mut W) -> Result<(), WriteFault>
     ensures { OnOk result (Keeps (W.contents writer.old) (W.contents writer.new)) }
 {

@@ -4,7 +4,8 @@ use Rattle.std.specs.Prelude.{⊤, find, fold, is_some, slice_get, codes, option
 use Rattle.std.specs.List.{list_any}
 use Rattle.std.specs.Option.{option_map_or}
 use Rattle.std.specs.Str.{bytes_eq}
-use Rattle.clap.specs.Faults.{check_fault, defaults_fault, entered_fault, fault_of, level_fault, other_fault, settle_fault, step_fault, turn_fault, values_fault, walk_fault, word_fault}
+use Rattle.clap.specs.Faults.{check_fault, defaults_fault, entered_fault, fault_of, level_fault, other_fault, settle_fault, step_fault, turn_fault}
+use Rattle.clap.specs.Faults.{values_fault, walk_fault, word_fault}
 use Rattle.clap.specs.Facts.{explicit_source, parser_of_value}
 use Rattle.clap.specs.Kinds.{check_kinds, or_else, value_kinds}
 use Rattle.clap.specs.Values.{refused_kind}
@@ -13,9 +14,12 @@ use Rattle.std.proofs.lemmas.Slice.Eq.{bytes_eq-Decides}
 use Rattle.clap.specs.Lexer.{long_of, short_of}
 use Rattle.clap.specs.Simple.{App, Shape, argument_words, built, entered, label_of, names_of, rows_at, subcommand_of}
 use Rattle.clap.specs.Takes.{is_given}
-use Rattle.clap.specs.Walk.{Held, Names, Outcome, Row, Rule, Step, Text, Waiting, Walk, after_flag, after_step, answers_to, arg_by_id, arg_by_index, arg_by_long}
-use Rattle.clap.specs.Walk.{bundle, done, finished, idle, long_met, long_or_other, next, nothing_held, option, plain, plain_word, positional, refused, rows_after}
-use Rattle.clap.specs.Walk.{settled, short_or_plain, stop_after, subcommand, subcommand_met, subcommand_or_other, to_positional, trailing, value, waits, walk, walk_from, walked, walked_from, word_met}
+use Rattle.clap.specs.Walk.{Held, Names, Outcome, Row, Rule, Step, Text, Waiting, Walk, after_flag, after_step, answers_to, arg_by_id, arg_by_index}
+use Rattle.clap.specs.Walk.{arg_by_long}
+use Rattle.clap.specs.Walk.{bundle, done, finished, idle, long_met, long_or_other, next, nothing_held, option, plain, plain_word, positional, refused}
+use Rattle.clap.specs.Walk.{rows_after}
+use Rattle.clap.specs.Walk.{settled, short_or_plain, stop_after, subcommand, subcommand_met, subcommand_or_other, to_positional, trailing, value, waits, walk}
+use Rattle.clap.specs.Walk.{walk_from, walked, walked_from, word_met}
 use Rattle.clap.specs.declared.error.kind.ErrorKind.TheVariants.{DisplayHelp, InvalidSubcommand}
 use Rattle.cli_arguments.specs.Words.{word_behind}
 use Rattle.cli_arguments.proofs.Walked.{AreTaken, has_some, or_none, wants_some}

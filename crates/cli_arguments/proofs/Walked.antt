@@ -1,17 +1,22 @@
 -- Words that have no fault leave rows whose values the parsers of their arguments take.
-use Rattle.std.proofs.Common.{◌≡◌, ◌∙◌, ◌&&◌, ◌||◌, ◌++◌, Bool, true, false, not, ℕ, zero, suc, List, [], ◌∷◌, Option, None, Some, refl, ap, sym, subst, length, arith}
+use Rattle.std.proofs.Common.{◌≡◌, ◌∙◌, ◌&&◌, ◌||◌, ◌++◌, Bool, true, false, not, ℕ, zero, suc, List, [], ◌∷◌, Option, None, Some, refl, ap, sym, subst, length}
+use Rattle.std.proofs.Common.{arith}
 use Rattle.std.specs.Prelude.{⊤, find, fold, is_some, nat_lt, slice_get, drop, encode_utf8, if◌then◌else◌, ◌==◌}
 use Rattle.std.specs.Option.{option_map_or}
 use Rattle.std.specs.Str.{bytes_eq, chars}
 use Rattle.std.proofs.lemmas.Slice.Eq.{bytes_eq-Decides}
 use Rattle.clap.specs.Facts.{parser_of_value, unwrap_or_range}
-use Rattle.clap.specs.Faults.{action_fault, bundle_fault, bundle_step_fault, check_fault, default_fault, defaults_fault, given_default_fault, level_fault, flags_fault, flag_word_fault, long_fault, option_fault, other_fault, positional_fault}
+use Rattle.clap.specs.Faults.{action_fault, bundle_fault, bundle_step_fault, check_fault, default_fault, defaults_fault, given_default_fault, level_fault}
+use Rattle.clap.specs.Faults.{flags_fault, flag_word_fault, long_fault, option_fault, other_fault, positional_fault}
 use Rattle.clap.specs.Faults.{react_fault, settle_fault, short_fault, step_fault, stray_fault, turn_fault, use_fault, values_fault, walk_fault, word_fault}
 use Rattle.clap.specs.Kinds.{Kinds, or_else, range_kinds, request_kinds, value_kinds}
 use Rattle.clap.specs.Lexer.{long_of, short_of}
 use Rattle.clap.specs.Simple.{Shape}
-use Rattle.clap.specs.Walk.{Held, Names, Outcome, Row, Rule, Step, Text, Waiting, Walk, action_of, after_flag, after_step, arg_by_id, arg_by_index, arg_by_long, arg_by_short}
-use Rattle.clap.specs.Walk.{at_row, attached_value, bundle_met, bundle_step, flag_met, used_by_id, done, bundle, default_rows, finished, has_row, is_empty, is_pending, nothing_held, rows_after, walk_from, with_default, subcommand_or_other, to_positional, walked_from, long_met, long_or_other, more_values, next, option, option_met, option_word, idle, plain, plain_word}
+use Rattle.clap.specs.Walk.{Held, Names, Outcome, Row, Rule, Step, Text, Waiting, Walk, action_of, after_flag, after_step, arg_by_id, arg_by_index, arg_by_long}
+use Rattle.clap.specs.Walk.{arg_by_short}
+use Rattle.clap.specs.Walk.{at_row, attached_value, bundle_met, bundle_step, flag_met, used_by_id, done, bundle, default_rows, finished, has_row, is_empty}
+use Rattle.clap.specs.Walk.{is_pending, nothing_held, rows_after, walk_from, with_default, subcommand_or_other, to_positional, walked_from, long_met}
+use Rattle.clap.specs.Walk.{long_or_other, more_values, next, option, option_met, option_word, idle, plain, plain_word}
 use Rattle.clap.specs.Walk.{most_values, positional, reacted, reading_by, refused, settled, settled_rows, short_met, short_or_plain, subcommand, subcommand_met}
 use Rattle.clap.specs.Walk.{takes_several, takes_values, trailing, used, used_as, value, values_or_missing, waits, walk, walked, with_values, without, word_met}
 use Rattle.clap.specs.declared.builder.action.ArgAction.{ArgAction}

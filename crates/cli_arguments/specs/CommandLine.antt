@@ -18,11 +18,11 @@ use Rattle.cli_arguments.specs.Words.{has_conflict_behind}
 
 -- arguments ----------------------------------------------------------------------------------------------
 
--- a required argument of one word
+-- the required argument `name`, of one word
 abbrev pub text_rule : Text → Rule
 text_rule name = record (new_rule name) { required = true; action = Some Set }
 
--- one or more files
+-- the required argument for files, one or more
 abbrev pub files_rule : Rule
 files_rule = record (new_rule (codes "FILE")) {
   required = true;
@@ -30,17 +30,19 @@ files_rule = record (new_rule (codes "FILE")) {
   action = Some Append;
 }
 
--- an option with one word
+-- the option `name`, with one word
 abbrev pub option_rule : Text → Rule
 option_rule name = record (new_rule name) { long = Some name; value_names = 1; action = Some Set }
 
+-- the option for a floor, from 1 to 2^32 - 1
 abbrev pub floor_rule : Rule
 floor_rule = record (option_rule (codes "floor")) { parser = Some (Signed (pos 1) (pos 4294967295)) }
 
--- options with no word after them
+-- the option that all items are listed, with no word after it
 abbrev pub all_rule : Rule
 all_rule = record (new_rule (codes "all")) { long = Some (codes "all"); action = Some SetTrue }
 
+-- the option that a step may go by the order that held tables imply, with no word after it
 abbrev pub told_order_rule : Rule
 told_order_rule = record (new_rule (codes "told-order")) { long = Some (codes "told-order"); action = Some SetTrue }
 
@@ -48,6 +50,7 @@ told_order_rule = record (new_rule (codes "told-order")) { long = Some (codes "t
 abbrev pub of_step : List Rule
 of_step = told_order_rule ∷ option_rule (codes "last-order") ∷ []
 
+-- the option for the greatest load that passes, from 0 to 2^32 - 1
 abbrev pub max_load_rule : Rule
 max_load_rule = record (option_rule (codes "max-load")) { parser = Some (Signed (pos 0) (pos 4294967295)) }
 
@@ -55,6 +58,7 @@ max_load_rule = record (option_rule (codes "max-load")) { parser = Some (Signed 
 abbrev pub of_report : List Rule
 of_report = all_rule ∷ max_load_rule ∷ []
 
+-- the option that answers have the service level of what they answer, with no word after it
 abbrev pub answers_rule : Rule
 answers_rule = record (new_rule (codes "answers-as-asked")) { long = Some (codes "answers-as-asked"); action = Some SetTrue }
 
@@ -62,6 +66,7 @@ answers_rule = record (new_rule (codes "answers-as-asked")) { long = Some (codes
 abbrev pub of_lanes : List Rule
 of_lanes = option_rule (codes "lanes") ∷ answers_rule ∷ []
 
+-- the option for an LMC, from 0 to 7
 abbrev pub lmc_rule : Rule
 lmc_rule = record (option_rule (codes "lmc")) { parser = Some (Signed (pos 0) (pos 7)) }
 
@@ -69,15 +74,15 @@ lmc_rule = record (option_rule (codes "lmc")) { parser = Some (Signed (pos 0) (p
 abbrev pub routing_rule : Bor (List (Bor Text)) → Rule
 routing_rule words = record (option_rule (codes "routing")) { parser = Some (Names words) }
 
--- the files and the option for a floor
+-- the arguments for files and the option for a floor
 abbrev pub of_files : List Rule
 of_files = files_rule ∷ floor_rule ∷ []
 
--- the argument for the number of a port
+-- the argument for the number of a port, from 1 to 254
 abbrev pub port_rule : Rule
 port_rule = record (text_rule (codes "PORT")) { parser = Some (Signed (pos 1) (pos 254)) }
 
--- the argument for the priority of a manager
+-- the argument for the priority of a manager, from 0 to 15
 abbrev pub priority_rule : Rule
 priority_rule = record (text_rule (codes "PRIORITY")) { parser = Some (Signed (pos 0) (pos 15)) }
 
@@ -93,41 +98,51 @@ of_order = option_rule (codes "roots") ∷ option_rule (codes "order") ∷ []
 abbrev pub of_routing : Bor (List (Bor Text)) → List Rule
 of_routing words = routing_rule words ∷ of_order
 
--- the options of a plan
+-- the options of a plan: its LMC, its rule of routing, and the rule's roots or order
 abbrev pub of_planning : Bor (List (Bor Text)) → List Rule
 of_planning words = lmc_rule ∷ of_routing words
 
 -- subcommands --------------------------------------------------------------------------------------------
 
+-- the subcommand `name` with the arguments `rules`
 abbrev pub subcommand_shape : Text → List Rule → Shape
 subcommand_shape name rules = record (new_shape name) { rules = rules }
 
+-- the subcommand that prints facts as text
 abbrev pub facts_shape : Shape
 facts_shape = subcommand_shape (codes "facts") of_files
 
+-- the subcommand that joins files to a store file
 abbrev pub join_shape : Shape
 join_shape = subcommand_shape (codes "join") of_files
 
+-- the subcommand that prints a plan
 abbrev pub plan_shape : Bor (List (Bor Text)) → Shape
 plan_shape words = subcommand_shape (codes "plan") (of_files ++ of_planning words)
 
+-- the subcommand that prints the order of a plan
 abbrev pub order_shape : Bor (List (Bor Text)) → Shape
 order_shape words = subcommand_shape (codes "order") (of_files ++ of_routing words)
 
+-- the subcommand that audits tables
 abbrev pub audit_shape : Shape
 audit_shape = subcommand_shape (codes "audit") (text_rule (codes "TABLES") ∷ of_files ++ of_report ++ of_lanes)
 
+-- the subcommand that prints the order that tables imply
 abbrev pub order_of_shape : Shape
 order_of_shape = subcommand_shape (codes "order-of") (text_rule (codes "TABLES") ∷ of_files)
 
+-- the subcommand that prints the tables to write next
 abbrev pub next_shape : Bor (List (Bor Text)) → Shape
 next_shape words =
     subcommand_shape (codes "next") (text_rule (codes "TABLES") ∷ of_files ++ of_planning words ++ of_step ++ of_lanes)
 
+-- the subcommand that runs a schedule
 abbrev pub run_shape : Bor (List (Bor Text)) → Shape
 run_shape words =
     subcommand_shape (codes "run") (text_rule (codes "TOPOLOGY") ∷ text_rule (codes "SCHEDULE") ∷ of_planning words)
 
+-- the subcommand that serves a manager
 abbrev pub serve_shape : Bor (List (Bor Text)) → Shape
 serve_shape words = subcommand_shape (codes "serve") (of_seat ++ of_planning words)
 
@@ -136,7 +151,7 @@ abbrev pub program_app : App
 program_app =
     record { top = record (new_shape (codes "ibsm")) { has_version = true; subcommand_required = true }; subs = [] }
 
--- the program with its subcommands
+-- the program with its subcommands; `words` are the words for rules of routing
 abbrev pub command_line : Bor (List (Bor Text)) → App
 command_line words = record {
   top = record program_app.top { is_leaf = false };
@@ -145,14 +160,14 @@ command_line words = record {
       ∷ run_shape words ∷ serve_shape words ∷ [];
 }
 
--- `words` are the words for rules of routing
+-- `words` are the words for the three rules of routing
 abbrev pub AreRoutings : Bor (List (Bor Text)) → Type 0
 AreRoutings words =
     map (λ word. word.now) words.now ≡ codes "updown" ∷ codes "spread" ∷ codes "balance" ∷ []
 
 -- commands -----------------------------------------------------------------------------------------------
 
--- the command `c` has this shape, and none of its arguments also applies to its subcommands
+-- the command `c` has the shape `shape`, and none of its arguments also applies to its subcommands
 abbrev pub IsOf : Shape → Command → Type 0
 IsOf shape c = (shape_of c ≡ shape) × ((fields_of c).has_globals ≡ false)
 
@@ -168,7 +183,8 @@ AddsRules rules old new =
 
 -- words --------------------------------------------------------------------------------------------------
 
--- options of the subcommand that `words` name contradict each other, or its GUID or SM_Key is not hex digits
+-- options of the subcommand that `words` name contradict each other, or it is `serve` and its GUID or SM_Key is not 1
+-- to 16 hex digits; false if they name none
 abbrev pub conflict_of : App → List Text → Bool
 conflict_of app words = has_conflict_behind (subcommand_of app words)
 

@@ -17,7 +17,7 @@ abbrev pub IsRouting : Option Text → Type 0
 IsRouting None = ⊤
 IsRouting (Some word) = (word ≡ codes "updown") ⊎ ((word ≡ codes "spread") ⊎ (word ≡ codes "balance"))
 
--- an argument has a word
+-- an argument has a word: `word` is not None
 abbrev pub IsGiven : Option Text → Type 0
 IsGiven word = is_some word ≡ true
 
@@ -65,7 +65,7 @@ pub data HasItsWords (word : Text → Option Text) (files : Option (List Text)) 
       → HasItsWords word files name
   serve : name ≡ codes "serve" → NamesSeat word → NamesPlanning word → HasItsWords word files name
 
--- the words name a subcommand, and it has the words that it takes
+-- the words name a subcommand, which has the words that it takes
 pub record IsWellFormed (matches : ArgMatches) : Type 0 where
   pub name : Text
   pub named : subcommand_name_of matches ≡ Some name

@@ -1,5 +1,6 @@
 -- The words of the command line by the names of their arguments, and which of them contradict each other.
-use Rattle.std.specs.Prelude.{ℕ, Bool, true, false, List, Option, None, Some, codes, find, is_some, length, nat_le, not, option_and_then, option_map, slice_get, ◌&&◌, ◌||◌, if◌then◌else◌}
+use Rattle.std.specs.Prelude.{ℕ, Bool, true, false, List, Option, None, Some, codes, find, is_some, length, nat_le, not, option_and_then, option_map, slice_get}
+use Rattle.std.specs.Prelude.{◌&&◌, ◌||◌, if◌then◌else◌}
 use Rattle.std.specs.Char.{is_ascii_hexdigit}
 use Rattle.std.specs.List.{list_all}
 use Rattle.std.specs.Str.{bytes_eq}
@@ -7,20 +8,20 @@ use Rattle.clap.specs.Simple.{subcommand_rows_of}
 use Rattle.clap.specs.Walk.{Row}
 use Rattle.clap.specs.declared.parser.matches.ArgMatches.{ArgMatches}
 
--- the values of the argument `name`
+-- the values of the argument `name` among `rows`; None if it is not there
 abbrev pub values_in : List ℕ → List Row → Option (List (List ℕ))
 values_in name rows = option_map (λ r. r.values) (find (λ r. bytes_eq r.id name) rows)
 
--- the names of files after the subcommand
+-- the names of files after the subcommand; None if there is no subcommand, or it has no such argument
 abbrev pub files_named : ArgMatches → Option (List (List ℕ))
 files_named matches = option_and_then (λ s. values_in (codes "FILE") s.1) (subcommand_rows_of matches)
 
--- the first word of the argument `name` after a subcommand
+-- the first word of the argument `name` of a subcommand; None if there is no subcommand, or no such word
 abbrev pub word_behind : Option (List ℕ × List Row) → List ℕ → Option (List ℕ)
 word_behind subcommand name =
     option_and_then (λ s. option_and_then (λ values. slice_get values 0) (values_in name s.1)) subcommand
 
--- the first word of the argument `name` after the subcommand
+-- the first word of the argument `name` of the subcommand that was parsed; None if there is none
 abbrev pub word_named : ArgMatches → List ℕ → Option (List ℕ)
 word_named matches = word_behind (subcommand_rows_of matches)
 
@@ -40,7 +41,7 @@ abbrev pub order_rule : Option (List ℕ) → Option (List ℕ)
 order_rule None = Some (codes "spread")
 order_rule (Some word) = Some word
 
--- 1 to 16 hex digits
+-- `word` is 1 to 16 hex digits
 abbrev pub is_guid_word : List ℕ → Bool
 is_guid_word word = nat_le 1 (length word) && nat_le (length word) 16 && list_all is_ascii_hexdigit word
 
@@ -64,7 +65,7 @@ planning_conflict name word =
     has_conflict_of (if bytes_eq name (codes "order") then order_rule (word (codes "routing")) else word (codes "routing"))
     (is_some (word (codes "roots"))) (is_some (word (codes "order")))
 
--- whether a flag is set: its word is `true`, which the parser of words sets
+-- a flag is set: its word is `true`, which the parser of words sets
 abbrev pub is_set : Option (List ℕ) → Bool
 is_set None = false
 is_set (Some word) = bytes_eq word (codes "true")
@@ -81,7 +82,8 @@ has_conflict name word =
     else (if bytes_eq name (codes "next") then planning_conflict name word || lacks_lanes word
     else planning_conflict name word))
 
--- options contradict each other in the subcommand, or its GUID or SM_Key is not hex digits, if a subcommand was named
+-- the subcommand has options that contradict each other, or is `serve` with a GUID or an SM_Key that is not hex digits;
+-- false if no subcommand was named
 abbrev pub has_conflict_behind : Option (List ℕ × List Row) → Bool
 has_conflict_behind None = false
 has_conflict_behind (Some s) = has_conflict s.0 (word_behind (Some s))

@@ -48,10 +48,10 @@ pub const FLOOR: &str = "floor";
 /// The flag by which an audit prints all lines of each kind.
 pub const ALL: &str = "all";
 
-/// The option for the maximum number of pairs of adapter ports that a channel may carry.
+/// The option for the maximum load of a channel.
 pub const MAX_LOAD: &str = "max-load";
 
-/// The option for the file of lanes, by which an audit or a step judges credit loops lane by lane.
+/// The option that names a file of lanes. If it is given, `audit` and `next` judge credit loops lane by lane.
 pub const LANES: &str = "lanes";
 
 /// The flag by which answers may also have the service level of what they answer.
@@ -60,7 +60,7 @@ pub const ANSWERS_AS_ASKED: &str = "answers-as-asked";
 /// The flag by which a step may go by the order that held tables imply.
 pub const TOLD_ORDER: &str = "told-order";
 
-/// The option for the file of the order that the last step went by.
+/// The option for the file of the order by which the step before went.
 pub const LAST_ORDER: &str = "last-order";
 
 /// The option for the LMC of a plan.

@@ -1,10 +1,9 @@
 //! The arguments and options of subcommands.
 ghost use Rattle.std.specs.Prelude.{◌≡◌, codes, false};
 ghost use Rattle.clap.specs.Walk.{rule_of};
-ghost use Rattle.cli_arguments.specs.CommandLine.{port_rule, priority_rule};
-ghost use Rattle.cli_arguments.specs.CommandLine.{all_rule, answers_rule, files_rule, floor_rule, lmc_rule, max_load_rule};
-ghost use Rattle.cli_arguments.specs.CommandLine.{option_rule, routing_rule, told_order_rule};
-ghost use Rattle.cli_arguments.specs.CommandLine.{text_rule};
+ghost use Rattle.cli_arguments.specs.CommandLine.{all_rule, answers_rule, files_rule, floor_rule, lmc_rule};
+ghost use Rattle.cli_arguments.specs.CommandLine.{max_load_rule, option_rule, port_rule, priority_rule, routing_rule};
+ghost use Rattle.cli_arguments.specs.CommandLine.{text_rule, told_order_rule};
 
 use crate::argument_names::{
     ALL, ANSWERS_AS_ASKED, FILE, FLOOR, GUID, LANES, LAST_ORDER, LMC, MAX_LOAD, ORDER, PORT,
@@ -122,8 +121,8 @@ pub(crate) fn max_load<'a>(alloc: Global) -> Arg<'a>
         .long(MAX_LOAD)
         .value_name("N")
         .help(
-            "Lets no tables pass by which a channel carries more than N pairs of adapter ports, N from 0 to \
-             4294967295",
+            "Lets no tables pass by which a channel carries more than N pairs of an adapter port and another one's \
+             LID, N from 0 to 4294967295",
         )
         .value_parser(value_parser!(u32).range(0..))
         .action(ArgAction::Set)

@@ -67,7 +67,7 @@ const ORDER_OF_END: &str = "Exit status:\n  0  done\n  \
 
 const NEXT_END: &str =
     "Exit status:\n  0  done, and no mixture of both tables can make a credit loop\n  \
-     1  done, and the credit loop on standard error can come about while they are written\n  \
+     1  done, and what standard error names can come about while they are written\n  \
      2  the command line is wrong\n  3  a file is refused, a LID moves, or there is no room for the LIDs\n  \
      4  a file cannot be opened or read, or the output takes no more\n  \
      5  out of memory\n\nExample:\n  ibsm next held.tables fabric.reports > next.tables";
@@ -87,8 +87,9 @@ const SERVE_END: &str =
 ///
 /// # Errors
 ///
-/// Returns `Ok(Err(..))` if `command_line` refuses the words, if options contradict each other, if a manager's GUID or
-/// SM_Key is not hex digits, or if memory ran out. Returns an outer `Err` if memory ran out.
+/// Returns `Ok(Err(..))` if `command_line` refuses the words or they ask for help or the version, if options contradict
+/// each other, if a manager's GUID or SM_Key is not 1 to 16 hex digits, or if memory was refused. Returns an outer
+/// `Err` only if memory was refused.
 pub fn matches_of<'a>(
     alloc: Global,
     words: &'a [String],
@@ -124,7 +125,7 @@ fn command_line<'a>(alloc: Global, routings: &'a [&'a str]) -> Result<Command<'a
     with(command, serve(alloc, routings))
 }
 
-/// Adds `subcommand` to `command`.
+/// Adds `subcommand` to `command`. Returns an error if either is one, or if memory is refused.
 fn with<'a>(
     command: Result<Command<'a>, AllocError>,
     subcommand: Result<Command<'a>, AllocError>,
@@ -136,7 +137,7 @@ fn with<'a>(
     command?.subcommand(subcommand)
 }
 
-/// Builds the program without its subcommands. It requires one.
+/// Builds the program, which requires a subcommand, without its subcommands.
 fn program<'a>(alloc: Global) -> Command<'a>
     ensures { IsApp program_app result }
 {
@@ -339,9 +340,9 @@ fn with_order<'a>(alloc: Global, command: Command<'a>) -> Result<Command<'a>, Al
     command.arg(roots(alloc))?.arg(order_file(alloc))
 }
 
-/// Returns whether options contradict each other: roots and an order are both named, or one of them is named without a
-/// rule of routing that takes it, or a flag about lanes is set without a file of lanes. Also returns true if a
-/// manager's GUID or SM_Key is not hex digits.
+/// Returns whether options contradict each other: roots and an order are both named, either is named without a rule of
+/// routing that takes it (but `order` takes it without a rule), or a flag about lanes is set without a file of lanes.
+/// Also returns true if `serve` has no GUID of 1 to 16 hex digits, or an SM_Key that is not 1 to 16 hex digits.
 fn has_conflict(matches: &ArgMatches<'_>) -> bool
     ensures { result ≡ has_conflict_behind (subcommand_rows_of matches.now) }
 {
@@ -351,8 +352,8 @@ fn has_conflict(matches: &ArgMatches<'_>) -> bool
     }
 }
 
-/// Returns whether the options of the subcommand `name` contradict each other, or it serves a manager and its GUID or
-/// SM_Key is not hex digits.
+/// Returns whether the options of the subcommand `name` contradict each other, or it is `serve` and its GUID or SM_Key
+/// is not 1 to 16 hex digits.
 fn has_conflict_in(name: &str, words: &ArgMatches<'_>) -> bool
     ensures { result ≡ has_conflict name.now (first_value (found_of words.now)) }
 {
@@ -364,7 +365,8 @@ fn has_conflict_in(name: &str, words: &ArgMatches<'_>) -> bool
     }
 }
 
-/// Returns whether options of a plan or an order contradict each other.
+/// Returns whether options of a plan or an order contradict each other: roots and an order are both named, or one of
+/// them without a rule that takes it.
 fn planning_conflict(name: &str, words: &ArgMatches<'_>) -> bool
     ensures { result ≡ planning_conflict name.now (first_value (found_of words.now)) }
 {
@@ -390,14 +392,14 @@ pub fn is_set(words: &ArgMatches<'_>, name: &str) -> bool
     }
 }
 
-/// Returns whether the GUID of a manager's port or its SM_Key is not 1 to 16 hex digits.
+/// Returns whether there is no GUID of 1 to 16 hex digits, or there is an SM_Key that is not 1 to 16 hex digits.
 fn has_wrong_seat(words: &ArgMatches<'_>) -> bool
     ensures { result ≡ is_wrong_seat (first_value (found_of words.now)) }
 {
     !has_guid(words) || !has_key(words)
 }
 
-/// Returns whether an SM_Key, if a word names one, is 1 to 16 hex digits.
+/// Returns whether the SM_Key is 1 to 16 hex digits. Returns true if no word names one.
 fn has_key(words: &ArgMatches<'_>) -> bool
     ensures { result ≡ is_key (first_value (found_of words.now) (codes "sm-key")) }
 {
@@ -432,7 +434,7 @@ fn are_hex_digits(bytes: &[u8]) -> bool
 }
 
 /// Returns whether roots are named (`rooted`) without the rule that takes them, or an order is named (`ordered`)
-/// without a rule that takes it. For the subcommand that prints an order, `spread` need not be named.
+/// without a rule that takes it. For the subcommand `order`, `spread` need not be named.
 fn lacks_rule(name: &str, words: &ArgMatches<'_>, rooted: bool, ordered: bool) -> bool
     ensures { result ≡ lacks_rule (if bytes_eq name.now (codes "order")
         then order_rule (first_value (found_of words.now) (codes "routing"))
@@ -445,7 +447,7 @@ fn lacks_rule(name: &str, words: &ArgMatches<'_>, rooted: bool, ordered: bool) -
     }
 }
 
-/// Returns whether the option `name` has a word.
+/// Returns whether `words` have a word for the option `name`.
 fn is_named(words: &ArgMatches<'_>, name: &str) -> bool
     ensures { result ≡ is_some (first_value (found_of words.now) name.now) }
 {
@@ -461,8 +463,8 @@ fn conflict(alloc: Global, matches: &ArgMatches<'_>) -> Result<Error, AllocError
     command.error(ErrorKind::ArgumentConflict, conflict_text(matches))
 }
 
-/// Returns the text of the error for options that contradict each other, or for a GUID or an SM_Key that is not hex
-/// digits.
+/// Returns the text of the error for options that contradict each other, or for a GUID or an SM_Key that is not 1 to 16
+/// hex digits. Returns an empty text without a subcommand.
 fn conflict_text(matches: &ArgMatches<'_>) -> &'static str {
     let Some((_, words)) = matches.subcommand() else {
         return "";

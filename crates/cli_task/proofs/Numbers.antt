@@ -1,5 +1,6 @@
 -- A word is parsed as the number that it writes.
-use Rattle.std.proofs.Common.{◌≡◌, ℕ, zero, suc, ◌<◌, ◌≤◌, ◌&&◌, true, false, cond, leb, leb-false, List, length, drop, Option, None, Some, Result, Ok, Err, refl, arith, ap, ◌∙◌, subst, sym}
+use Rattle.std.proofs.Common.{◌≡◌, ℕ, zero, suc, ◌<◌, ◌≤◌, ◌&&◌, true, false, cond, leb, leb-false, List, length, drop, Option, None, Some, Result, Ok, Err}
+use Rattle.std.proofs.Common.{refl, arith, ap, ◌∙◌, subst, sym}
 use Rattle.std.proofs.Common.{ℤ, pos, negsuc, FitsSigned, w64}
 use Rattle.std.specs.Prelude.{option_and_then, if◌then◌else◌, neg_ℤ, unsigned_abs}
 use Rattle.std.specs.Result.{OkIff, result_ok}

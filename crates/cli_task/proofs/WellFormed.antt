@@ -3,7 +3,8 @@ use Rattle.std.proofs.Common.{◌≡◌, ◌&&◌, ℕ, Bool, not, true, false, 
 use Rattle.std.specs.Prelude.{codes, is_some, option_and_then, option_map}
 use Rattle.clap.specs.Matches.{subcommand_name_of}
 use Rattle.clap.specs.declared.parser.matches.ArgMatches.{ArgMatches}
-use Rattle.cli_arguments.specs.WellFormed.{HasItsWords, IsGiven, IsNumberWithin, IsRouting, IsWellFormed, NamesFiles, NamesOrder, NamesPlanning, NamesSeat, facts, join, plan, order, audit, order_of, next, run, serve}
+use Rattle.cli_arguments.specs.WellFormed.{HasItsWords, IsGiven, IsNumberWithin, IsRouting, IsWellFormed, NamesFiles, NamesOrder, NamesPlanning, NamesSeat}
+use Rattle.cli_arguments.specs.WellFormed.{facts, join, plan, order, audit, order_of, next, run, serve}
 use Rattle.cli_arguments.specs.Words.{files_named, has_conflict_of, is_guid, is_key, is_set, lacks_lanes, order_rule, word_named}
 use Rattle.audit_report.specs.declared.audit_run.AuditAsked.{AuditAsked}
 use Rattle.sm_cli.specs.declared.asked.RuleAsked.{RuleAsked}
@@ -11,7 +12,8 @@ use Rattle.sm_cli.specs.declared.asked.RuleAsked.TheVariants.{UpDown, Spread, Sp
 use Rattle.next_run.specs.Asked.{has_lanes, is_named}
 use Rattle.next_run.specs.declared.asked.StepLanes.{StepLanes}
 use Rattle.next_run.specs.declared.asked.StepLanes.TheVariants.{ByText, One}
-use Rattle.cli_task.specs.Asked.{audit_by, floor_asked, followed_by, guid_asked, held_order_asked, lanes_asked, lmc_asked, max_load_asked, number_in, port_asked, priority_asked, sm_key_asked, within, names_in, planning_asked, rule_asked, task_behind, text_if, texts_of_rule}
+use Rattle.cli_task.specs.Asked.{audit_by, floor_asked, followed_by, guid_asked, held_order_asked, lanes_asked, lmc_asked, max_load_asked, number_in}
+use Rattle.cli_task.specs.Asked.{port_asked, priority_asked, sm_key_asked, within, names_in, planning_asked, rule_asked, task_behind, text_if, texts_of_rule}
 use Rattle.cli_task.proofs.Guids.{guid_is_read}
 use Rattle.cli_task.proofs.Within.{number_within}
 
@@ -164,7 +166,8 @@ module _ (word : List ℕ → Option (List ℕ)) (files : Option (List (List ℕ
       let floor = known (floor_asked (word (codes "floor"))) (floor_there (word (codes "floor")) h.floor) in
       let rule = rule_there (order_rule (word (codes "routing"))) (word (codes "roots")) (word (codes "order"))
       (order_routing (word (codes "routing")) p.routing) p.apart in
-      rw (rule.1, floor.1) (both_there (texts_of_rule word rule.0) (followed_by (Some []) files) (rule.2 word refl refl) (both_there (Some []) files refl h.named))
+      rw (rule.1, floor.1) (both_there (texts_of_rule word rule.0) (followed_by (Some []) files) (rule.2 word refl refl)
+      (both_there (Some []) files refl h.named))
 
   -- an audit, by lane if a file of lanes is named, names its texts and its files
   asks_by : (asked : AuditAsked) (lanes : Option (List ℕ)) (answers : Bool) → word (codes "lanes") ≡ lanes → (answers && not (is_some lanes)) ≡ false

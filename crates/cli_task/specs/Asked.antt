@@ -63,8 +63,8 @@ spread_asked true true = None
 abbrev pub balance_asked : Bool → RuleAsked
 balance_asked ordered = if ordered then BalanceInOrder else Balance
 
--- the rule that the word names; up and down if there is no word; None if roots or an order are named with a rule that
--- does not take them
+-- the rule that the word names; up and down if there is no word; None if it names none, or roots or an order are named
+-- with a rule that does not take them
 abbrev pub rule_asked : Option (List ℕ) → Bool → Bool → Option RuleAsked
 rule_asked None rooted ordered = if rooted || ordered then None else Some UpDown
 rule_asked (Some word) rooted ordered =
@@ -74,7 +74,7 @@ rule_asked (Some word) rooted ordered =
 
 -- tasks -----------------------------------------------------------------------------------------
 
--- the LMC and the rule of a plan; None if one of them is wrong
+-- the LMC and the rule of a plan, as words name them; None if one of these words is wrong
 abbrev pub planning_asked : (List ℕ → Option (List ℕ)) → Option (ℕ × RuleAsked)
 planning_asked word = option_and_then (λ lmc. option_map (λ rule. (lmc, rule))
     (rule_asked (word (codes "routing")) (is_some (word (codes "roots"))) (is_some (word (codes "order")))))
@@ -107,14 +107,14 @@ abbrev pub audit_task : (List ℕ → Option (List ℕ)) → Option Task
 audit_task word = option_and_then
     (audit_by (is_some (word (codes "lanes"))) (is_set (word (codes "answers-as-asked")))) (audit_asked word)
 
--- the order that a step may go by: an order that the held tables imply if `told` is set, and the one nearest to an order
--- that a text names if there is one (`named`)
+-- the order that a step may go by, of those that the held tables imply: if `named`, the one nearest to the order that a
+-- text names; otherwise, if `told`, the one nearest to the plan's; otherwise none
 abbrev pub held_order_asked : Bool → Bool → HeldOrder
 held_order_asked told true = NearNamed
 held_order_asked true false = NearPlan
 held_order_asked false false = Ignored
 
--- the order that the words let a step go by
+-- the order that the words let a step go by, of those that the held tables imply, or none
 abbrev pub held_order_of : (List ℕ → Option (List ℕ)) → HeldOrder
 held_order_of word = held_order_asked (is_set (word (codes "told-order"))) (is_some (word (codes "last-order")))
 
@@ -152,7 +152,7 @@ abbrev pub sm_key_asked : Option (List ℕ) → Option ℕ
 sm_key_asked None = Some 1
 sm_key_asked (Some word) = hex_number word
 
--- a manager at a port, which plans by the LMC and the rule of `by`; None if one of its parts is missing
+-- the manager at a port that plans by the LMC and the rule of `by`; None if its GUID, port, priority or SM_Key is
 abbrev pub serving_by : ℕ × RuleAsked → Option ℕ → Option ℕ → Option ℕ → Option ℕ → Option Serving
 serving_by by guid port priority sm_key =
     option_and_then (λ g. option_and_then (λ p. option_and_then (λ q. option_map
@@ -164,7 +164,7 @@ serving_asked word = option_and_then (λ by. serving_by by (guid_asked (word (co
     (port_asked (word (codes "PORT"))) (priority_asked (word (codes "PRIORITY"))) (sm_key_asked (word (codes "sm-key"))))
     (planning_asked word)
 
--- what the subcommand `command` writes about files; None if it writes nothing or a word is wrong
+-- what the subcommand `command` writes from facts; None if it writes nothing of the kind, or a word is wrong
 abbrev pub output_asked : (List ℕ → Option (List ℕ)) → List ℕ → Option Output
 output_asked word command =
     if bytes_eq command (codes "facts") then Some Facts
@@ -183,13 +183,13 @@ task_behind word command =
     else option_and_then (λ output. option_map (λ floor. Answer (record { output = output; floor = floor }))
     (floor_asked (word (codes "floor")))) (output_asked word command)))))
 
--- the task that the words ask for; None if one of them is wrong
+-- the task that the words of the command line ask for; None if they name no subcommand, or one of them is wrong
 abbrev pub task_asked : ArgMatches → Option Task
 task_asked matches = option_and_then (task_behind (word_named matches)) (subcommand_name_of matches)
 
 -- inputs ----------------------------------------------------------------------------------------
 
--- the names of the texts that a rule takes; None if one is missing
+-- the names of the texts that a rule takes, from the words for roots and order; None if one is missing
 abbrev pub texts_of_rule : (List ℕ → Option (List ℕ)) → RuleAsked → Option (List (List ℕ))
 texts_of_rule word UpDown = Some []
 texts_of_rule word Spread = Some []
@@ -208,11 +208,11 @@ rule_of_task (Next asked) = asked.rule
 rule_of_task (Run lmc rule) = rule
 rule_of_task (Serve asked) = asked.rule
 
--- `first` and then `later`; None if one of them is None
+-- the names `first` and then `later`; None if one of the lists is None
 abbrev pub followed_by : Option (List (List ℕ)) → Option (List (List ℕ)) → Option (List (List ℕ))
 followed_by first later = option_and_then (λ names. option_map (λ others. names ++ others) later) first
 
--- the name of a text if there is one; None if it is missing
+-- the name of a text, if it is to be there (true); None if it is missing then
 abbrev pub text_if : Bool → Option (List ℕ) → Option (List (List ℕ))
 text_if false name = Some []
 text_if true name = option_map (λ text. text ∷ []) name
@@ -224,7 +224,7 @@ step_texts word by_lane ordered =
     followed_by (text_if by_lane (word (codes "lanes"))) (followed_by (text_if ordered (word (codes "last-order")))
     (option_map (λ tables. tables ∷ []) (word (codes "TABLES"))))
 
--- the names of the other texts that a task takes; None if one is missing
+-- the names of the texts that a task takes after that of its rule; None if one is missing; for `serve`, standard input
 abbrev pub texts_asked : (List ℕ → Option (List ℕ)) → Task → Option (List (List ℕ))
 texts_asked word (Answer request) = Some []
 texts_asked word (Audit asked) = option_map (λ tables. tables ∷ []) (word (codes "TABLES"))
@@ -237,7 +237,7 @@ texts_asked word (Run lmc rule) =
     (word (codes "TOPOLOGY"))
 texts_asked word (Serve asked) = option_map (λ guid. codes "/dev/stdin" ∷ []) (word (codes "GUID"))
 
--- whether a task takes files
+-- a task takes files
 abbrev pub takes_files : Task → Bool
 takes_files (Answer request) = true
 takes_files (Audit asked) = true
@@ -247,11 +247,12 @@ takes_files (Next asked) = true
 takes_files (Run lmc rule) = false
 takes_files (Serve asked) = false
 
--- the names of the files that a task takes; empty if it takes no files
+-- the names of the files that a task takes, None if they are missing; empty if it takes no files
 abbrev pub files_asked : Option (List (List ℕ)) → Task → Option (List (List ℕ))
 files_asked files task = if takes_files task then files else Some []
 
--- the names of the inputs of a task, in the order in which they are read; None if one is missing
+-- the names of the inputs of a task, in the order in which they are read: the rule's text, other texts, and files; None
+-- if one is missing
 abbrev pub names_in : (List ℕ → Option (List ℕ)) → Option (List (List ℕ)) → Task → Option (List (List ℕ))
 names_in word files task =
     followed_by (texts_of_rule word (rule_of_task task)) (followed_by (texts_asked word task) (files_asked files task))

@@ -1,4 +1,4 @@
--- The law of accepted command lines.
+-- The law of accepted command lines: well-formed words ask for a task.
 use Rattle.std.specs.Prelude.{◌≡◌, true, is_some}
 use Rattle.clap.specs.declared.parser.matches.ArgMatches.{ArgMatches}
 use Rattle.cli_arguments.specs.WellFormed.{IsWellFormed}

@@ -3,8 +3,10 @@ ghost use Rattle.std.specs.Prelude.{◌≡◌, IfOk, codes, is_some, map, option
 ghost use Rattle.clap.specs.Matches.{first_value, found_of, matched_of, raw_values};
 ghost use Rattle.cli_task.specs.Asked.{audit_asked, audit_task, floor_asked, lmc_asked, max_load_asked, number_in};
 ghost use Rattle.cli_task.specs.Asked.{number_or, planning_asked, rule_asked};
-ghost use Rattle.cli_task.specs.Asked.{held_order_of, lanes_of, order_asked, output_asked, step_asked, step_texts, task_asked, task_behind, within};
-ghost use Rattle.cli_task.specs.Asked.{balance_asked, names_asked, names_in, rule_of_task, spread_asked, takes_files, texts_asked};
+ghost use Rattle.cli_task.specs.Asked.{held_order_of, lanes_of, order_asked, output_asked, step_asked, step_texts};
+ghost use Rattle.cli_task.specs.Asked.{task_asked, task_behind, within};
+ghost use Rattle.cli_task.specs.Asked.{balance_asked, names_asked, names_in, rule_of_task, spread_asked, takes_files};
+ghost use Rattle.cli_task.specs.Asked.{texts_asked};
 ghost use Rattle.cli_task.specs.Asked.{guid_asked, port_asked, priority_asked, serving_asked, sm_key_asked};
 ghost use Rattle.cli_task.specs.Asked.{texts_of_rule};
 
@@ -29,29 +31,29 @@ use std::alloc::{AllocError, Global};
 /// A task that the program is asked to do.
 #[derive(Clone, Copy, Debug, PartialEq, Eq)]
 pub enum Task {
-    /// Writing what files contain.
+    /// Writing what files say together: facts, a store file, a plan or an order.
     Answer(Invocation),
     /// Auditing tables in the subnet that files describe.
     Audit(AuditAsked),
     /// Auditing tables in the subnet that files describe, with credit loops judged lane by lane.
     AuditByLane(LaneAuditAsked),
-    /// Writing the order of switches that tables give in the subnet that files describe. Facts of generations before
-    /// this one are ignored.
+    /// Writing the order of switches that tables imply in the subnet that files describe. Facts of generations before
+    /// the given one are ignored.
     OrderOf(Generation),
     /// Writing the tables that are to be written next.
     Next(StepAsked),
     /// Running a schedule in the fabric of a topology, with managers that plan 2^LMC LIDs for each adapter port by the
-    /// rule.
+    /// given rule.
     Run(Lmc, RuleAsked),
     /// Serving a manager by lines.
     Serve(Serving),
 }
 
-/// The name of the file that lines are read from.
+/// The name of the file from which lines are read.
 const LINES: &str = "/dev/stdin";
 
 impl Task {
-    /// Returns the rule that the task plans by. If it does not plan, returns `UpDown`, which takes no text.
+    /// Returns the rule by which the task plans. If it does not plan, returns `UpDown`, which takes no text.
     fn rule(&self) -> RuleAsked
         ensures { result ≡ rule_of_task self.now }
     {
@@ -64,7 +66,7 @@ impl Task {
         }
     }
 
-    /// Returns whether the task takes files.
+    /// Returns whether the task takes report and store files.
     fn takes_files(&self) -> bool
         ensures { result ≡ takes_files self.now }
     {
@@ -79,7 +81,8 @@ impl Task {
     }
 }
 
-/// Returns the task that the subcommand and the words after it ask for, or `None` if one of the words is wrong.
+/// Returns the task that the subcommand and the words after it ask for, or `None` if there is no subcommand, or one of
+/// the words is missing or wrong.
 pub fn task_of(matches: &ArgMatches<'_>) -> Option<Task>
     ensures { result ≡ task_asked matches.now }
 {
@@ -87,7 +90,8 @@ pub fn task_of(matches: &ArgMatches<'_>) -> Option<Task>
     task_behind(command, words)
 }
 
-/// Returns the task that the subcommand `command` asks for with `words`, or `None` if one of the words is wrong.
+/// Returns the task that the subcommand `command` asks for with `words`, or `None` if there is no such subcommand, or
+/// one of the words is missing or wrong.
 fn task_behind(command: &str, words: &ArgMatches<'_>) -> Option<Task>
     ensures { result ≡ task_behind (first_value (found_of words.now)) command.now }
 {
@@ -135,8 +139,8 @@ fn audit_of(words: &ArgMatches<'_>) -> Option<AuditAsked>
     })
 }
 
-/// Returns the greatest load that passes. The inner value is `None` if `words`, after a subcommand, name none. Returns
-/// `None` if the word is not a number of 32 bits.
+/// Returns the maximum load that `words`, after a subcommand, name. The inner value is `None` if they name none.
+/// Returns `None` if the word is not a number of 32 bits.
 fn max_load_of(words: &ArgMatches<'_>) -> Option<Option<u64>>
     ensures { result ≡ max_load_asked (first_value (found_of words.now) (codes "max-load")) }
 {
@@ -175,7 +179,7 @@ fn lanes_of(words: &ArgMatches<'_>) -> Option<StepLanes>
     }
 }
 
-/// Returns the order that `words`, after a subcommand, let a step go by.
+/// Returns by which order `words`, after a subcommand, let a step go.
 fn held_order_of(words: &ArgMatches<'_>) -> HeldOrder
     ensures { result ≡ held_order_of (first_value (found_of words.now)) }
 {
@@ -205,14 +209,14 @@ fn serving_of(words: &ArgMatches<'_>) -> Option<Serving>
     })
 }
 
-/// Returns the GUID that `words` name, or `None` if it is not written as 1 to 16 hex digits.
+/// Returns the GUID that `words` name, or `None` if they name none or it is not written as 1 to 16 hex digits.
 fn guid_of(words: &ArgMatches<'_>) -> Option<Guid>
     ensures { result ≡ guid_asked (first_value (found_of words.now) (codes "GUID")) }
 {
     Some(Guid::new(hex_number(words.get_str(GUID)?.as_bytes())?))
 }
 
-/// Returns the port number that `words` name, or `None` if it is not from 1 to 254.
+/// Returns the port number that `words` name, or `None` if they name none or it is not from 1 to 254.
 fn port_of(words: &ArgMatches<'_>) -> Option<PortNum>
     ensures { result ≡ port_asked (first_value (found_of words.now) (codes "PORT")) }
 {
@@ -223,7 +227,7 @@ fn port_of(words: &ArgMatches<'_>) -> Option<PortNum>
     Some(PortNum::new(port as u8))
 }
 
-/// Returns the priority that `words` name, or `None` if it is not from 0 to 15.
+/// Returns the priority that `words` name, or `None` if they name none or it is not from 0 to 15.
 fn priority_of(words: &ArgMatches<'_>) -> Option<Priority>
     ensures { result ≡ priority_asked (first_value (found_of words.now) (codes "PRIORITY")) }
 {
@@ -248,8 +252,8 @@ fn sm_key_of(words: &ArgMatches<'_>) -> Option<u64>
     }
 }
 
-/// Returns what the subcommand `command` writes about files. Returns `None` if it writes nothing, or one of `words` is
-/// wrong.
+/// Returns what the subcommand `command` writes about files. Returns `None` if it is not `facts`, `join`, `plan` or
+/// `order`, or one of `words` is wrong.
 fn output_of(command: &str, words: &ArgMatches<'_>) -> Option<Output>
     ensures { result ≡ output_asked (first_value (found_of words.now)) command.now }
 {
@@ -275,7 +279,7 @@ fn planning_of(words: &ArgMatches<'_>) -> Option<(Lmc, RuleAsked)>
 }
 
 /// Returns the rule of the order that `words` ask for, or the rule that spreads if they name none. Returns `None` if
-/// roots or an order are named with a rule that does not take them.
+/// the rule is unknown, if roots and an order are both named, or if either is named with a rule that does not take it.
 fn order_of(words: &ArgMatches<'_>) -> Option<RuleAsked>
     ensures { result ≡ order_asked (first_value (found_of words.now)) }
 {
@@ -321,8 +325,9 @@ fn number_in(text: &str) -> Option<u32>
     u32::try_from(text.parse::<i64>().ok()?).ok()
 }
 
-/// Returns the rule of routing that `words` ask for, or `UpDown` if they name none. Returns `None` if roots or an order
-/// are named with a rule that does not take them.
+/// Returns the rule of routing that `words` ask for, which is `UpDown` if they name no rule, no roots and no order.
+/// Returns `None` if the rule is unknown, if roots and an order are both named, or if either is named without a rule
+/// that takes it.
 fn rule_of(words: &ArgMatches<'_>) -> Option<RuleAsked>
     ensures { result ≡ rule_asked (first_value (found_of words.now) (codes "routing"))
         (is_some (first_value (found_of words.now) (codes "roots")))
@@ -362,8 +367,8 @@ fn balance_by(ordered: bool) -> RuleAsked
     }
 }
 
-/// Returns the names of the task's inputs in the order in which they are read: the texts of its rule, its own texts,
-/// and its files. Returns `None` if one of them is not named.
+/// Returns the names of the task's inputs in the order in which they are read: the text of its rule, its own texts, and
+/// its files. Returns `None` if there is no subcommand, or an input is not named.
 pub fn names_of<'a>(
     alloc: Global,
     matches: &ArgMatches<'a>,
@@ -378,8 +383,7 @@ pub fn names_of<'a>(
     }
 }
 
-/// Returns the names of the task's inputs, by the words after the subcommand. Returns `None` if one of them is not
-/// named.
+/// Returns the names of the task's inputs, by the words after the subcommand. Returns `None` if an input is not named.
 fn names_behind<'a>(
     alloc: Global,
     words: &ArgMatches<'a>,
@@ -406,7 +410,8 @@ fn names_behind<'a>(
     Ok(Some(names))
 }
 
-/// Returns the name of the text of roots or of the order, if `rule` takes one. Returns `None` if it is not named.
+/// Returns the name of the text of roots or of an order that `rule` takes, or no name if it takes none. Returns `None`
+/// if the text is not named.
 fn texts_of_rule<'a>(words: &ArgMatches<'a>, rule: RuleAsked) -> Option<ArrayVec<&'a str, 1>>
     ensures { option_map (λ found. map (λ name. name.now) found.items) result
         ≡ texts_of_rule (first_value (found_of words.now)) rule }
@@ -420,8 +425,8 @@ fn texts_of_rule<'a>(words: &ArgMatches<'a>, rule: RuleAsked) -> Option<ArrayVec
     Some(texts)
 }
 
-/// Returns the names of a step's texts: the text of lanes if `has_lanes` is set, the text of the last step's order if
-/// `has_order` is set, and the tables. Returns `None` if one is not named.
+/// Returns the names of a step's texts: the text of lanes if `has_lanes` is true, the text of the last step's order if
+/// `has_order` is true, and the tables. Returns `None` if one is not named.
 fn texts_of_step<'a>(
     words: &ArgMatches<'a>,
     has_lanes: bool,
@@ -441,7 +446,8 @@ fn texts_of_step<'a>(
     Some(texts)
 }
 
-/// Returns the names of the task's own texts, or `None` if one is not named.
+/// Returns the names of the task's own texts. Returns `None` if one is not named, or if the task serves a manager and
+/// no GUID is named.
 fn texts_of<'a>(words: &ArgMatches<'a>, task: &Task) -> Option<ArrayVec<&'a str, 3>>
     ensures { option_map (λ found. map (λ name. name.now) found.items) result
         ≡ texts_asked (first_value (found_of words.now)) task.now }

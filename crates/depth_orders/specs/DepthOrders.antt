@@ -1,4 +1,4 @@
--- Orders by depth: the next vertex is a neighbor of the last placed vertex that has a neighbor left.
+-- Orders by depth: next comes a neighbor of the last placed vertex that has a neighbor left.
 use Rattle.std.specs.Prelude.{ℕ, zero, suc, Bool, false, not, ◌&&◌, ◌||◌, ◌==◌, nat_lt}
 use Rattle.std.specs.Prelude.{List, [], ◌∷◌, ◌++◌, filter, length, count_by, Option, None, Some, slice_index_or}
 use Rattle.std.specs.List.{list_any}
@@ -9,62 +9,62 @@ use Rattle.spread_labels.specs.Stages.{earliest_of, first_of}
 use Rattle.depth_orders.specs.declared.direction.Direction.{Direction}
 use Rattle.depth_orders.specs.declared.direction.Direction.TheVariants.{Forwards, Backwards}
 
--- the test `before` if the direction is forwards, and its reverse if it is backwards
+-- the test `before`, or its reverse if the direction is backwards
 abbrev pub turned : Direction → (ℕ → ℕ → Bool) → ℕ → ℕ → Bool
 turned Forwards before a b = before a b
 turned Backwards before a b = before b a
 
--- whether vertex s is in the list
+-- whether vertex `s` is in `vertices`
 abbrev pub is_among : List ℕ → ℕ → Bool
 is_among vertices s = list_any (λ p. p == s) vertices
 
--- the flag of vertex s; false past the end
+-- the flag of vertex `s`; false past the end
 abbrev pub flag_at : List Bool → ℕ → Bool
 flag_at flags s = slice_index_or flags s false
 
--- the number of edges of vertex s that lead to placed vertices
+-- how many edges of vertex `s` lead to placed vertices
 abbrev pub edges_to : List (List Edge) → (ℕ → Bool) → ℕ → ℕ
 edges_to edges placed s = count_by (λ e. placed e.to) (edges_at edges s)
 
--- whether vertex a goes before b: more of its edges lead to placed vertices, or as many do and it is earlier by
--- `before`
+-- whether vertex `a` goes before vertex `b`: more of its edges lead to placed vertices, or as many and `before` says so
 abbrev pub goes_before : List (List Edge) → (ℕ → ℕ → Bool) → (ℕ → Bool) → ℕ → ℕ → Bool
 goes_before edges before placed a b = nat_lt (edges_to edges placed b) (edges_to edges placed a)
     || ((edges_to edges placed a == edges_to edges placed b) && before a b)
 
--- the best neighbor of vertex s that is left; None if none is left
+-- of the neighbors of vertex `s` that are not placed, the first by `goes_before`; None if all are placed
 abbrev pub best_beside : List (List Edge) → (ℕ → ℕ → Bool) → (ℕ → Bool) → ℕ → Option ℕ
 best_beside edges before placed s =
     earliest_of (goes_before edges before placed) (filter (λ b. not (placed b)) (heads edges s))
 
--- the best neighbor that is left of the last vertex that has such a neighbor, among the first n of `vertices`; None if
--- there is none
+-- the neighbor that comes next, the first by `goes_before` that is not placed, of the last vertex that has such a
+-- neighbor among a number of first ones of `vertices`; None if none has one
 abbrev pub deepest : List (List Edge) → (ℕ → ℕ → Bool) → (ℕ → Bool) → List ℕ → ℕ → Option ℕ
 deepest edges before placed vertices zero = None
 deepest edges before placed vertices (suc i) =
     first_of (best_beside edges before placed (at_position vertices i)) (deepest edges before placed vertices i)
 
--- the first of n vertices that is left; None if none is left
+-- the first by `before` of `n` vertices that is not placed; None if all are
 abbrev pub first_left : (ℕ → ℕ → Bool) → (ℕ → Bool) → ℕ → Option ℕ
 first_left before placed n = earliest_of before (filter (λ b. not (placed b)) (numbers_from 0 n))
 
--- the vertex that comes after `vertices`; the test `placed` says which vertices are placed; None if none is left
+-- the vertex that comes after `vertices`, if `placed` says which are placed: beside the last of them that has a
+-- neighbor left; else the first by `before` that is left; None if none is left
 abbrev pub next_by_depth : List (List Edge) → (ℕ → ℕ → Bool) → (ℕ → Bool) → List ℕ → Option ℕ
 next_by_depth edges before placed vertices =
     first_of (deepest edges before placed vertices (length vertices)) (first_left before placed (length edges))
 
--- the vertices, with the next one appended if there is one
+-- `vertices`, with the next one appended if there is one
 abbrev pub with_next : List ℕ → Option ℕ → List ℕ
 with_next vertices None = vertices
 with_next vertices (Some s) = vertices ++ s ∷ []
 
--- the first n + 1 vertices of the order from `root`, or as many as there are
+-- the order by depth from `root`, after a number of further vertices or until none is left
 abbrev pub depth_after : List (List Edge) → (ℕ → ℕ → Bool) → ℕ → ℕ → List ℕ
 depth_after edges before root zero = root ∷ []
 depth_after edges before root (suc n) =
     with_next (depth_after edges before root n)
     (next_by_depth edges before (is_among (depth_after edges before root n)) (depth_after edges before root n))
 
--- the whole order from `root`
+-- the order by depth of all vertices, from `root`
 abbrev pub order_by_depth : List (List Edge) → (ℕ → ℕ → Bool) → ℕ → List ℕ
 order_by_depth edges before root = depth_after edges before root (length edges)

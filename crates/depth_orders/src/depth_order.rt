@@ -11,10 +11,10 @@ use port_graph::{Adjacency, Edge};
 use spread_labels::VertexKey;
 use std::alloc::{AllocError, Global};
 
-/// Returns the vertices in their order by depth from `root`. The next vertex is a neighbor of the last placed vertex
-/// that has a neighbor left. Of its neighbors that are left, the one with most edges to placed vertices is taken, and
-/// `direction` decides between equals. If no placed vertex has a neighbor left, the first of all vertices that are left
-/// comes next. For each vertex, takes one step for each edge that is looked at before a neighbor is found.
+/// Returns the vertices in their order by depth from `root`. The next vertex is an unplaced neighbor of the latest
+/// vertex that has one. Of its unplaced neighbors, the one with most edges to placed vertices is taken, and `direction`
+/// decides between equals. If no placed vertex has an unplaced neighbor, the first unplaced vertex by `direction` comes
+/// next. There must be a key for each vertex.
 pub fn order_by_depth(
     alloc: Global,
     edges: &Adjacency,
@@ -41,7 +41,7 @@ pub fn order_by_depth(
     Ok(vertices)
 }
 
-/// Returns the vertex that is placed next, or `None` if none is left.
+/// Returns the vertex that is placed next, or `None` if all are placed.
 fn next_by_depth(
     edges: &Adjacency,
     keys: &[VertexKey],
@@ -61,8 +61,8 @@ fn next_by_depth(
     }
 }
 
-/// Returns the best neighbor that is left of the last vertex in `vertices` that has such a neighbor, or `None` if there
-/// is none.
+/// Returns the best unplaced neighbor of the latest vertex in `vertices` that has such a neighbor, or `None` if none
+/// has.
 fn deepest(
     edges: &Adjacency,
     keys: &[VertexKey],
@@ -87,8 +87,7 @@ fn deepest(
     None
 }
 
-/// Returns the neighbor of a vertex with most edges to placed vertices, among those that are left. Returns `None` if
-/// none is left.
+/// Returns the unplaced neighbor of `vertex` that goes before its other ones, or `None` if none is unplaced.
 fn best_beside(
     edges: &Adjacency,
     keys: &[VertexKey],
@@ -111,7 +110,7 @@ fn best_beside(
     found
 }
 
-/// Returns the better of `vertex` and `found`, or `vertex` if `found` is `None`.
+/// Returns `vertex` if it goes before `found` or `found` is `None`, and otherwise `found`.
 fn better(
     edges: &Adjacency,
     keys: &[VertexKey],
@@ -132,8 +131,8 @@ fn better(
     }
 }
 
-/// Returns whether one vertex goes before another: more of its edges lead to placed vertices, or as many do and
-/// `direction` takes it.
+/// Returns whether `one` goes before `other`: more of its edges lead to placed vertices, or as many do and `direction`
+/// takes it.
 fn goes_before(
     edges: &Adjacency,
     keys: &[VertexKey],
@@ -153,7 +152,7 @@ fn goes_before(
     others < to_placed || (to_placed == others && direction.takes(keys, one, other))
 }
 
-/// Counts the edges that lead to placed vertices.
+/// Returns the number of `edges` that lead to placed vertices.
 fn count_placed(edges: &[Edge], placed: &[bool]) -> usize
     ensures { result ≡ count_by (λ edge. flag_at placed.now edge.to) edges.now }
 {
@@ -163,7 +162,7 @@ fn count_placed(edges: &[Edge], placed: &[bool]) -> usize
         .count()
 }
 
-/// Returns the first vertex, by `direction`, of all that are left, or `None` if none is left.
+/// Returns the first unplaced vertex by `direction`, or `None` if all are placed.
 fn first_left(keys: &[VertexKey], direction: Direction, placed: &[bool]) -> Option<usize>
     ensures first { result ≡ first_left (turned direction (before_by keys.now)) (flag_at placed.now)
         (length keys.now) }
@@ -178,7 +177,7 @@ fn first_left(keys: &[VertexKey], direction: Direction, placed: &[bool]) -> Opti
     found
 }
 
-/// Returns the vertex that `direction` takes of `vertex` and `found`, or `vertex` if `found` is `None`.
+/// Returns `vertex` if `direction` takes it rather than `found` or `found` is `None`, and otherwise `found`.
 fn earlier(keys: &[VertexKey], direction: Direction, found: Option<usize>, vertex: usize) -> usize
     requires vertex { vertex < length keys.now }
     requires found { MatchOption found (Unit {0}) (λ other. other < length keys.now) }

@@ -14,7 +14,7 @@ pub enum Direction {
 }
 
 impl Direction {
-    /// Returns whether `one` is taken rather than `other`.
+    /// Returns whether `one` is taken rather than `other`, by their `keys`.
     pub(crate) fn takes(self, keys: &[VertexKey], one: usize, other: usize) -> bool
         requires one { one < length keys.now }
         requires other { other < length keys.now }

@@ -16,11 +16,11 @@ pub record Stepped : Type 0 where
   pub packet : List ℕ
   pub verdict : Verdict
 
--- the packet goes no further, and is unchanged
+-- the packet goes no further for `reason`, and is unchanged
 abbrev pub discarded : List ℕ → DiscardReason → Stepped
 discarded packet reason = record { packet = packet; verdict = Discard reason }
 
--- the packet with its hop pointer moved
+-- the packet with its hop pointer at `pointer`
 abbrev pub pointed : ℕ → List ℕ → List ℕ
 pointed pointer packet = with_number hop_pointer pointer packet
 
@@ -28,11 +28,11 @@ pointed pointer packet = with_number hop_pointer pointer packet
 abbrev pub noted : ℕ → Here → List ℕ → List ℕ
 noted at here packet = with_number (return_path at) here.arrival packet
 
--- the port is from 1 to the node's port count
+-- `port` is from 1 to the node's port count
 abbrev pub is_port : Here → ℕ → Bool
 is_port here port = is_within port here.ports
 
--- the packet leaves by the port as `after`, and is discarded if the node does not have the port
+-- the packet leaves by `port` as `after`; if the node does not have this port, `packet` is discarded
 abbrev pub leaves_by : Here → ℕ → List ℕ → List ℕ → Stepped
 leaves_by here port packet after =
     if is_port here port then record { packet = after; verdict = Out port } else discarded packet OutPort
@@ -52,7 +52,8 @@ goes_on here packet =
     (moved_on here packet)
     else discarded packet Transit
 
--- a step on the way out
+-- a step on the way out: before the end of its path the packet goes on, at the end it is the agent's, and past it it is
+-- discarded
 abbrev pub outgoing : Here → List ℕ → Stepped
 outgoing here packet =
     let at = number_in hop_pointer packet in
@@ -61,7 +62,7 @@ outgoing here packet =
     else if at == hops then record { packet = moved_on here packet; verdict = ToAgent }
     else discarded packet Course
 
--- a step on the way back, by the recorded port
+-- a step on the way back: the packet leaves by the port that was recorded at the index before its hop pointer
 abbrev pub goes_back : Here → List ℕ → Stepped
 goes_back here packet =
     let before = number_in hop_pointer packet - 1 in
@@ -77,6 +78,6 @@ returning here packet =
     else if nat_lt hops at || here.is_switch then goes_back here packet
     else discarded packet Transit
 
--- one step of a packet
+-- one step of a packet: on its way back if its D bit is set, otherwise on its way out
 abbrev pub step : Here → List ℕ → Stepped
 step here packet = if is_returning packet then returning here packet else outgoing here packet

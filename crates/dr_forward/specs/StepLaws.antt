@@ -12,7 +12,7 @@ abbrev pub DiscardedIsUnchanged : Type 0
 DiscardedIsUnchanged = (here : Here) (packet : List ℕ) (reason : DiscardReason) → (step here packet).verdict
     ≡ Discard reason → (step here packet).packet ≡ packet
 
--- a packet leaves by a port that the node has
+-- a packet that leaves does so by a port from 1 to the node's port count
 abbrev pub LeavesByAPort : Type 0
 LeavesByAPort = (here : Here) (packet : List ℕ) (port : ℕ) → (step here packet).verdict ≡ Out port → (1 ≤ port)
     × (port ≤ here.ports)

@@ -7,9 +7,10 @@ use crate::here::Here;
 use crate::verdict::{DiscardReason, Verdict};
 use smp_bytes::{PortNum, Smp};
 
-/// Performs one step of a packet on a directed route at a node. On its way out the packet leaves by the next port of
-/// its path, and the port by which it came is recorded; at the end of the path the node's agent takes it. On its way
-/// back it leaves by the recorded port, until it is where it was sent. (Subnet management chapter, directed route.)
+/// Performs one step of a packet on a directed route at a node (subnet management, directed route). `smp` must be on a
+/// directed route. On its way out the packet leaves by the next port of its path, and the port by which it came is
+/// recorded; at the end of the path the node's agent takes it. On its way back it leaves by the recorded port, until it
+/// is where it was sent. A packet that is discarded stays unchanged.
 #[tactic(auto, unfolding(crate::specs::Step::step))]
 pub fn step(smp: &mut Smp, here: &Here) -> Verdict
     requires { is_directed smp.old ≡ true }
@@ -23,7 +24,7 @@ pub fn step(smp: &mut Smp, here: &Here) -> Verdict
     }
 }
 
-/// Performs a step on the way out.
+/// Performs a step on the way out. `smp` must be on a directed route.
 fn outgoing(smp: &mut Smp, here: &Here) -> Verdict
     requires { is_directed smp.old ≡ true }
     ensures packet { smp.new ≡ (outgoing here.now smp.old).packet }
@@ -41,7 +42,8 @@ fn outgoing(smp: &mut Smp, here: &Here) -> Verdict
     }
 }
 
-/// Sends the packet on by the next port of its path, if it was sent here or the node is a switch.
+/// Sends the packet on by the next port of its path, if it was sent here or the node is a switch. Discards it if
+/// neither holds, or the node does not have that port. `at` must be its hop pointer, and be below its hop count.
 fn go_on(smp: &mut Smp, here: &Here, at: u8) -> Verdict
     requires at { at ≡ number_in hop_pointer smp.old }
     requires before_end { at < number_in hop_count smp.old }
@@ -60,7 +62,8 @@ fn go_on(smp: &mut Smp, here: &Here, at: u8) -> Verdict
     Verdict::Out(port)
 }
 
-/// Advances the hop pointer, and records the port by which the packet came, if it came by one.
+/// Advances the hop pointer, and records the port by which the packet came, if it came by one. `at` must be the hop
+/// pointer, and be at most the hop count.
 fn move_on(smp: &mut Smp, here: &Here, at: u8)
     requires at { at ≡ number_in hop_pointer smp.old }
     requires on_path { at ≤ number_in hop_count smp.old }
@@ -73,7 +76,7 @@ fn move_on(smp: &mut Smp, here: &Here, at: u8)
     }
 }
 
-/// Performs a step on the way back.
+/// Performs a step on the way back. `smp` must be on a directed route.
 fn returning(smp: &mut Smp, here: &Here) -> Verdict
     requires { is_directed smp.old ≡ true }
     ensures packet { smp.new ≡ (returning here.now smp.old).packet }
@@ -93,7 +96,8 @@ fn returning(smp: &mut Smp, here: &Here) -> Verdict
     }
 }
 
-/// Sends the packet back by the recorded port.
+/// Sends the packet back by the recorded port, or discards it if the node does not have that port. `before` must be one
+/// less than the hop pointer, and at most the hop count.
 fn go_back(smp: &mut Smp, here: &Here, before: u8) -> Verdict
     requires before { number_in hop_pointer smp.old ≡ before + 1 }
     requires on_path { before ≤ number_in hop_count smp.old }
@@ -109,7 +113,7 @@ fn go_back(smp: &mut Smp, here: &Here, before: u8) -> Verdict
     Verdict::Out(port)
 }
 
-/// Returns whether the node has the port.
+/// Returns whether `port` is from 1 to the node's port count.
 fn is_port(here: &Here, port: PortNum) -> bool
     ensures { result ≡ is_port here.now port }
 {

@@ -7,7 +7,7 @@ pub enum Verdict {
     Out(PortNum),
     /// To the node's subnet management agent.
     ToAgent,
-    /// Back to the subnet manager that sent it.
+    /// Up to the subnet manager: the packet is back where its request was sent.
     ToManager,
     /// Nowhere. The packet is unchanged.
     Discard(DiscardReason),
@@ -20,6 +20,6 @@ pub enum DiscardReason {
     Course,
     /// Its path goes on, and the node is not a switch.
     Transit,
-    /// The port by which its path goes on is 0 or above the node's port count.
+    /// The port by which the packet is to leave is 0 or above the node's port count.
     OutPort,
 }

@@ -6,9 +6,8 @@ use Rattle.fabric_model.specs.declared.cable.NodePort.{NodePort}
 use Rattle.smp_bytes.specs.NodeType.{is_switch}
 use Rattle.smp_bytes.specs.LidRange.{has_lid}
 
--- a node as built: its GUID, its type, its number of ports without port 0, the number of entries that its linear
--- forwarding table has room for, and its ports' GUIDs; only the GUIDs of end ports are read (subnet management chapter,
--- NodeInfo and SwitchInfo)
+-- a node as built: its GUID, type, number of ports without port 0, table room, and the GUID of each port, of which only
+-- those of end ports are read (subnet management chapter, NodeInfo and SwitchInfo)
 pub record Node : Type 0 where
   pub guid : ℕ
   pub kind : NodeType
@@ -16,8 +15,8 @@ pub record Node : Type 0 where
   pub cap : ℕ
   pub port_guid : ℕ → ℕ
 
--- the nodes by number, the other end of the cable in a port, each end port's LID and LMC, and each switch's forwarding
--- table and top
+-- the nodes by number; the other end of the cable in each port; the LID and the LMC of each end port; and the
+-- forwarding table and the top of each switch
 pub record Fabric : Type 0 where
   pub nodes : List Node
   pub across : NodePort → Option NodePort
@@ -26,36 +25,41 @@ pub record Fabric : Type 0 where
   pub entry : ℕ → ℕ → ℕ
   pub top : ℕ → ℕ
 
--- the LID and the LMC of an end port
+-- the LID and the LMC of the end port `p`
 abbrev pub range_at : Fabric → NodePort → ℕ × ℕ
 range_at f p = (f.base_lid p, f.lmc p)
 
--- the LID is one of the end port's own (addressing chapter)
+-- whether `lid` is one of the LIDs of the end port `p` (addressing chapter)
 abbrev pub owns : Fabric → NodePort → ℕ → Bool
 owns f p lid = has_lid (f.base_lid p) (f.lmc p) lid
 
+-- `node` is the node with the number `number`
 abbrev pub IsNodeAt : Fabric → ℕ → Node → Type 0
 IsNodeAt f number node = slice_get f.nodes number ≡ Some node
 
+-- whether the node with the number `number` is there and is a switch
 abbrev pub is_switch_at : Fabric → ℕ → Bool
 is_switch_at f number = option_map_or (λ node. is_switch node.kind) (slice_get f.nodes number) false
 
--- a port that a cable may go into: 1 to the node's count
+-- a cable may go into port `p`: it is from 1 to the number of ports of a node
 abbrev pub IsCablePort : Fabric → NodePort → Type 0
 IsCablePort f p = (node : Node) × IsNodeAt f p.node node × (1 ≤ p.port) × (p.port ≤ node.ports)
 
--- port 0 of a switch, or any port of another node
+-- `port` is 0 if `node` is a switch, or from 1 to its number of ports if not
 abbrev pub IsEndPortNumber : Node → ℕ → Type 0
 IsEndPortNumber node port = MatchBool (is_switch node.kind) (port ≡ 0) ((1 ≤ port) × (port ≤ node.ports))
 
+-- `p` is an end port: port 0 of a switch, or a port of another node
 abbrev pub IsEndPort : Fabric → NodePort → Type 0
 IsEndPort f p = (node : Node) × IsNodeAt f p.node node × IsEndPortNumber node p.port
 
--- each node has 1 to 254 ports, and each cable joins two ports in both directions, or loops one
+-- each node has 1 to 254 ports; each cable is in ports of nodes, and leads back from where it leads, so joins two ports
+-- or loops one
 pub record IsFabric (f : Fabric) : Type 0 where
   pub counts : (number : ℕ) (node : Node) → IsNodeAt f number node → (1 ≤ node.ports) × (node.ports ≤ 254)
   pub cabled : (p q : NodePort) → f.across p ≡ Some q → IsCablePort f p
   pub both_ways : (p q : NodePort) → f.across p ≡ Some q → f.across q ≡ Some p
 
+-- the number of switches of a fabric
 abbrev pub switch_count : Fabric → ℕ
 switch_count f = count_by (λ node. is_switch node.kind) f.nodes

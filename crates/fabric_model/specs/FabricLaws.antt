@@ -1,4 +1,4 @@
--- The laws of packets in a fabric: a packet for a LID is delivered or lost, and a directed walk goes on port by port.
+-- Laws of packets in a fabric: a packet for a LID is delivered or lost, and a directed walk goes on port by port.
 use Rattle.std.specs.Prelude.{◌≡◌, ℕ, List, [], ◌∷◌, ◌++◌, option_and_then, ◌⊎◌}
 use Rattle.fabric_model.specs.declared.cable.NodePort.{NodePort}
 use Rattle.fabric_model.specs.Fabric.{Fabric}
@@ -13,8 +13,8 @@ PacketsEndOnce = (f : Fabric) (lid : ℕ) (source : NodePort)
     × ((hops others : List Hop) (target : NodePort) (node : ℕ) → IsDelivered f lid source hops target
     → IsLost f lid source others node → ⊥)
 
--- a directed path of at least one port, with a port appended, leads where this port leads from the path's end, if that
--- is at a switch, and nowhere otherwise
+-- a directed path of at least one port with the port `out` appended leads where the cable in `out` leads from the
+-- path's end, if that is at a switch; else nowhere
 abbrev pub WalksGoOn : Type 0
 WalksGoOn = (f : Fabric) (origin : NodePort) (first : ℕ) (path : List ℕ) (out : ℕ)
     → directed_end f origin ((first ∷ path) ++ out ∷ [])

@@ -1,5 +1,5 @@
--- What happens to a packet that is sent to a LID, wire by wire.
--- InfiniBand Architecture Specification, Volume 1: switches, unicast forwarding by the linear forwarding table.
+-- What happens to a packet for a LID, wire by wire: it is delivered, leaves by a port, or is dropped. InfiniBand
+-- Architecture Specification, Volume 1: switches, unicast forwarding by the linear forwarding table.
 use Rattle.std.specs.Prelude.{◌≡◌, ℕ, ◌+◌, ◌*◌, Bool, true, false, ◌||◌, List, [], ◌∷◌, length, None, Some, ◌==◌, nat_lt, slice_get, if◌then◌else◌, ◌⊎◌}
 use Rattle.std.specs.Option.{option_map_or}
 use Rattle.fabric_model.specs.declared.cable.NodePort.{NodePort}
@@ -8,33 +8,37 @@ use Rattle.fabric_model.specs.declared.course.Course.TheVariants.{Delivers, Leav
 use Rattle.smp_bytes.specs.NodeType.{is_switch}
 use Rattle.fabric_model.specs.Fabric.{Fabric, owns, switch_count}
 
--- a packet at a port, and whether it came there by a wire
+-- the port at which a packet is, and whether it came there by a wire
 pub record Standing : Type 0 where
   pub at : NodePort
   pub by_wire : Bool
 
+-- a packet that port `p` sends
 abbrev pub sent_from : NodePort → Standing
 sent_from p = record { at = p; by_wire = false }
 
+-- a packet that arrived at port `p` by a wire
 abbrev pub arrived_at : NodePort → Standing
 arrived_at p = record { at = p; by_wire = true }
 
--- an adapter port takes packets for its own LIDs; it sends out others if it is their sender, and drops them otherwise
+-- what an adapter port does with a packet: it takes one for its own LIDs, sends out another if it is its sender, and
+-- drops it if not
 abbrev pub adapter_course : Bool → Standing → Course
 adapter_course is_own s = if is_own then Delivers s.at else if s.by_wire then Drops else LeavesBy s.at
 
--- what a switch does by its entry: it drops for 255 and for ports that it lacks; 0 is the switch itself
+-- what a switch with `ports` ports does by an entry: it drops for 255 and for a port that it lacks, takes the packet
+-- for 0, and else sends it out by that port
 abbrev pub entry_course : ℕ → ℕ → ℕ → Course
 entry_course ports number entry =
     if entry == 255 || nat_lt ports entry then Drops
     else if entry == 0 then Delivers (record { node = number; port = 0 })
     else LeavesBy (record { node = number; port = entry })
 
--- what a switch does with a packet: it uses its table for LIDs from 1 to its top, and drops others
+-- what a switch does with a packet for `lid`: by its entry if the LID is from 1 to its top; else it drops it
 abbrev pub switch_course : ℕ → ℕ → ℕ → ℕ → ℕ → Course
 switch_course ports number top lid entry = if lid == 0 || nat_lt top lid then Drops else entry_course ports number entry
 
--- what the node does with a packet for the LID at standing s
+-- what the node does with a packet for `lid` that is at `s`; a node that is not there drops it
 abbrev pub course : Fabric → ℕ → Standing → Course
 course f lid s =
     let number = s.at.node in
@@ -44,32 +48,32 @@ course f lid s =
     (slice_get f.nodes number)
     Drops
 
--- a wire that was taken
+-- a wire that a packet takes, from port `out` to port `into`
 pub record Hop : Type 0 where
   pub out : NodePort
   pub into : NodePort
 
--- a packet for the LID goes from s to `end` over the wires `hops` in turn
+-- a packet for `lid` goes from `s` to `end` over the wires `hops`, one after the other
 abbrev pub Goes : Fabric → ℕ → Standing → List Hop → Standing → Type 0
 Goes f lid s [] end = s ≡ end
 Goes f lid s (h ∷ hops) end =
     (course f lid s ≡ LeavesBy h.out) × (f.across h.out ≡ Some h.into) × Goes f lid (arrived_at h.into) hops end
 
--- a packet for the LID, sent from port `source`, is delivered at port `target` over the wires `hops`
+-- a packet for `lid` that port `source` sends goes over the wires `hops`, and is delivered at port `target`
 abbrev pub IsDelivered : Fabric → ℕ → NodePort → List Hop → NodePort → Type 0
 IsDelivered f lid source hops target =
     (end : Standing) × Goes f lid (sent_from source) hops end × (course f lid end ≡ Delivers target)
 
--- the packet is dropped, or leaves by a port without a cable
+-- a packet for `lid` that is at `s` is dropped, or leaves by a port without a cable
 abbrev pub IsStuck : Fabric → ℕ → Standing → Type 0
 IsStuck f lid s = (course f lid s ≡ Drops) ⊎ ((p : NodePort) × (course f lid s ≡ LeavesBy p) × (f.across p ≡ None))
 
--- a packet that takes this many wires is in a loop
+-- a number of wires; a packet that takes as many loops forever
 abbrev pub wire_bound : Fabric → ℕ
 wire_bound f = 2 * switch_count f + 2
 
--- a packet for the LID, sent from port `source`, is lost at the node: it is dropped there, leaves by a port without a
--- cable, or is in a loop and there after `wire_bound` wires
+-- a packet for `lid` that port `source` sends goes over the wires `hops` to the node with the number `node`, and is
+-- lost: it is dropped there, leaves by a port without a cable, or took `wire_bound` wires, so loops forever
 abbrev pub IsLost : Fabric → ℕ → NodePort → List Hop → ℕ → Type 0
 IsLost f lid source hops node =
     (end : Standing) × Goes f lid (sent_from source) hops end × (end.at.node ≡ node)

@@ -10,7 +10,7 @@ use Rattle.fabric_sim.specs.Traps.{no_traps}
 use Rattle.fabric_sim.specs.Simulation.{Simulation}
 use Rattle.fabric_sim.specs.Changes.{cabled_at}
 
--- the agent's node for a node of a topology; its description is the node's name, with zeros after it
+-- the agent's node for a node of a topology; its description is the node's name, with zeros after it up to 64 bytes
 abbrev pub agent_node : Node → AgentNode
 agent_node node = record {
   guid = node.guid;
@@ -21,19 +21,19 @@ agent_node node = record {
       node.name ++ replicate (64 - length node.name) 0;
 }
 
--- the agent of a node, to which nothing was written
+-- the agent of `node` of a topology, to which nothing was written
 abbrev pub new_agent : Node → Agent
 new_agent node = fresh_agent (agent_node node)
 
--- the other ends of the cables at a node without cables
+-- the other ends of the cables at `node` of a topology, if it has no cables
 abbrev pub no_peers : Node → List (Option NodePort)
 no_peers node = replicate (node.ports + 1) None
 
--- the nodes, with no cable and nothing in flight; switches send no traps
+-- the fabric of `nodes` of a topology, with no cable and nothing in flight, in which switches send no traps
 abbrev pub uncabled : List Node → ℕ → Simulation
 uncabled nodes first = record { agents = map new_agent nodes; peers = map no_peers nodes; flights = []; next = first; traps = no_traps }
 
--- the fabric with a cable for each link
+-- the fabric `s` with a cable for each link of a list
 abbrev pub cabled : List Cable → Simulation → Simulation
 cabled [] s = s
 cabled (link ∷ links) s = cabled links (cabled_at s link.one link.other)

@@ -15,6 +15,6 @@ abbrev pub ComesTo : {R : Type 0} → Result R FabricFault → Simulation → Si
 ComesTo (Err Memory) old new called = (new ≡ old) × IsOk called.result
 ComesTo result old new called = (new ≡ called.fabric) × (result ≡ called.result)
 
--- a refusal leaves the fabric unchanged
+-- a call that is refused for `fault`, which leaves the fabric unchanged
 abbrev pub refused : {R : Type 0} → Simulation → FabricFault → Called R
 refused s fault = record { fabric = s; result = Err fault }

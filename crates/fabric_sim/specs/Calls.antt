@@ -6,6 +6,7 @@ use Rattle.fabric_sim.specs.Simulation.{Simulation}
 use Rattle.fabric_sim.specs.Delivery.{after_deliver}
 use Rattle.fabric_sim.specs.Changes.{after_inject, after_repeat, after_lose, after_seat}
 
+-- a call of a fabric that changes no cable
 pub data Call : Type 0 where
   Inject : (from : NodePort) (packet : Packet) → Call
   Deliver : (serial : ℕ) → Call
@@ -13,7 +14,7 @@ pub data Call : Type 0 where
   Repeat : (serial : ℕ) → Call
   Seat : (at : NodePort) → Call
 
--- the fabric after a call
+-- the fabric after the call, whether or not it is refused
 abbrev pub after_call : Simulation → Call → Simulation
 after_call s (Inject from packet) = (after_inject s from packet).fabric
 after_call s (Deliver serial) = (after_deliver s serial).fabric
@@ -21,12 +22,12 @@ after_call s (Lose serial) = (after_lose s serial).fabric
 after_call s (Repeat serial) = (after_repeat s serial).fabric
 after_call s (Seat at) = (after_seat s at).fabric
 
--- the fabric after calls in order
+-- the fabric after calls, one after the other
 abbrev pub after_calls : List Call → Simulation → Simulation
 after_calls [] s = s
 after_calls (call ∷ calls) s = after_calls calls (after_call s call)
 
--- the call delivers the packet with this serial number
+-- the call delivers the packet with the serial number `serial`
 abbrev pub is_delivery_of : ℕ → Call → Bool
 is_delivery_of serial (Deliver other) = other == serial
 is_delivery_of serial (Inject from packet) = false

@@ -1,4 +1,5 @@
--- The other calls that change a fabric: managers are seated, packets sent, copied and lost, cables plugged in and cut.
+-- The calls that change a fabric, other than deliveries: managers are seated, packets sent, copied and lost, cables
+-- plugged in and cut.
 use Rattle.std.specs.Prelude.{ℕ, ◌&&◌, ◌||◌, not, List, [], slice_index_or, slice_set, if◌then◌else◌, Option, Some, None, is_none, is_some, Ok}
 use Rattle.fabric_model.specs.declared.cable.NodePort.{NodePort}
 use Rattle.fabric_model.specs.Fabric.{is_switch_at}
@@ -18,21 +19,23 @@ use Rattle.fabric_sim.specs.Delivery.{with_changed, after_enqueue, without}
 abbrev pub addressed : Simulation → NodePort → Packet → Packet
 addressed s p packet = if is_lid_routed packet.bytes then record packet { slid = (fabric_of s).base_lid p } else packet
 
--- the fabric after a packet is sent from the seat `p`, and the packet's serial number
+-- the fabric after a packet is sent from the seat `p`, and the packet's serial number; refused if `p` is no seat
 unfoldable pub after_inject : Simulation → NodePort → Packet → Called ℕ
 after_inject s p packet =
     if not (is_seat_at s p) then refused s NoSuchPort else after_enqueue s (Seat p) (addressed s p packet)
 
--- the fabric after a copy of the packet is added at the same whereabouts; refused if there is no packet
+-- the fabric after a copy of the packet is added at the same whereabouts, and the copy's serial number; refused if
+-- there is no packet (None)
 abbrev pub copied : Simulation → Option Flight → Called ℕ
 copied s None = refused s NoSuchPacket
 copied s (Some flight) = after_enqueue s flight.whereabouts flight.packet
 
--- the fabric after a packet in flight is copied, and the copy's serial number; the copy waits at the same whereabouts
+-- the fabric after the packet with the number `serial` is copied, and the copy's serial number; the copy waits at the
+-- same whereabouts; refused if there is no such packet
 unfoldable pub after_repeat : Simulation → ℕ → Called ℕ
 after_repeat s serial = copied s (flight_with s.flights serial)
 
--- the fabric after a packet in flight is lost
+-- the fabric after the packet with the number `serial` is lost; refused if there is no such packet
 unfoldable pub after_lose : Simulation → ℕ → Called (Unit {0})
 after_lose s serial =
     if is_none (flight_with s.flights serial) then refused s NoSuchPacket
@@ -40,46 +43,48 @@ after_lose s serial =
 
 -- ports -------------------------------------------------------------------------------
 
--- the agent of a port's node, with that port changed
+-- the fabric `s` where `change` has changed the agent of the node of `p`, at its port
 abbrev pub changed_at : Simulation → NodePort → (Agent → ℕ → Agent) → Simulation
 changed_at s p change = record s { agents = with_changed s.agents p.node (λ a. change a p.port) }
 
--- the fabric after a manager is seated at a port of an adapter
+-- the fabric after a manager is seated at the port `p`; refused if `p` is no adapter port, or a manager sits there
 unfoldable pub after_seat : Simulation → NodePort → Called (Unit {0})
 after_seat s p =
     if is_switch_at (fabric_of s) p.node || not (is_cable_port s p) then refused s NoSuchPort
     else if is_seat_at s p then refused s PortTaken
     else record { fabric = changed_at s p after_set_seat; result = Ok tt }
 
--- the other ends of the cables, with `other` as the other end at the port `p`
+-- `peers`, the other ends of the cables, with `other` as the other end at the port `p`
 abbrev pub with_peer : List (List (Option NodePort)) → NodePort → Option NodePort → List (List (Option NodePort))
 with_peer peers p other = slice_set peers p.node (slice_set (slice_index_or peers p.node []) p.port other)
 
--- the fabric after a cable is plugged into the port `p`, or taken out of it
+-- the fabric after the end of a cable is plugged into the port `p`, whose other end is `other`, or taken out of it
+-- (None)
 abbrev pub with_end : Simulation → NodePort → Option NodePort → Simulation
 with_end s p other =
     record (changed_at s p (λ a port. after_set_wired a port (is_some other))) { peers = with_peer s.peers p other }
 
--- the fabric after a cable is plugged into two ports, or into one as a loop
+-- the fabric after a cable is plugged into the ports `p` and `q`, or as a loop if they are one
 unfoldable pub cabled_at : Simulation → NodePort → NodePort → Simulation
 cabled_at s p q = with_end (with_end s p (Some q)) q (Some p)
 
--- the fabric after the cable between two ports is taken out
+-- the fabric after the cable between the ports `p` and `q` is taken out
 unfoldable pub uncabled_at : Simulation → NodePort → NodePort → Simulation
 uncabled_at s p q = with_end (with_end s p None) q None
 
--- the fabric after a cable is plugged into two free ports, or as a loop into one
+-- the fabric after a cable is plugged into the ports `p` and `q`, or as a loop if they are one; refused if one is no
+-- cable port, or not free
 unfoldable pub after_plug : Simulation → NodePort → NodePort → Called (Unit {0})
 after_plug s p q =
     if not (is_cable_port s p && is_cable_port s q) then refused s NoSuchPort
     else if not (is_none (across s.peers p) && is_none (across s.peers q)) then refused s PortTaken
     else record { fabric = cabled_at s p q; result = Ok tt }
 
--- the fabric after the cable from `p` to this other end is taken out; refused if there is none
+-- the fabric after the cable from `p` to the other end is taken out; refused for None
 abbrev pub cut_apart : Simulation → NodePort → Option NodePort → Called (Unit {0})
 cut_apart s p None = refused s NoSuchPort
 cut_apart s p (Some q) = record { fabric = uncabled_at s p q; result = Ok tt }
 
--- the fabric after the cable in a port is cut
+-- the fabric after the cable in the port `p` is taken out; refused if there is none
 unfoldable pub after_cut : Simulation → NodePort → Called (Unit {0})
 after_cut s p = cut_apart s p (across s.peers p)

@@ -38,12 +38,12 @@ use Rattle.fabric_sim.specs.Simulation.{Simulation, agent_at, port_count, is_sea
 
 -- where the packet goes ---------------------------------------------------------------------
 
--- the packet with other bytes
+-- the packet with the bytes `bytes` in place of its own
 abbrev pub carrying : Packet → List ℕ → Packet
 carrying packet bytes = record packet { bytes = bytes }
 
--- what becomes of a packet that leaves by a port: it moves to the other end of the port's cable, or is dropped if there
--- is none
+-- what becomes of a packet that leaves by the port `out`: it moves to the other end of the port's cable, or is dropped
+-- if there is none
 abbrev pub leaving : Simulation → NodePort → Packet → Outcome
 leaving s out packet = option_map_or (λ into. Moves (Arrived into) packet) (across s.peers out) (Drops Down)
 
@@ -51,17 +51,17 @@ leaving s out packet = option_map_or (λ into. Moves (Arrived into) packet) (acr
 abbrev pub is_trap : List ℕ → Bool
 is_trap bytes = number_in method bytes == trap && not (is_directed bytes)
 
--- a manager sits at the port, and the packet is for it: its attribute is SMInfo, or it is a trap
+-- a manager sits at the port `p`, and the packet is for it: its attribute is SMInfo, or it is a trap
 abbrev pub is_for_manager : Simulation → NodePort → List ℕ → Bool
 is_for_manager s p bytes = (number_in attribute_id bytes == sm_info || is_trap bytes) && is_seat_at s p
 
 -- a packet on a directed route
 
--- the node of a port where a packet waits, as a step sees it
+-- the node of the port `p` where a packet waits, as a step of a directed packet sees it
 abbrev pub here_at : Simulation → NodePort → Here
 here_at s p = record { is_switch = is_switch_at (fabric_of s) p.node; ports = port_count s p.node; arrival = p.port }
 
--- why a step discards a packet, as a reason of a delivery
+-- why a step discards a directed packet, as a reason of a delivery
 abbrev pub reason_of : DiscardReason → Reason
 reason_of off.Course = OffCourse
 reason_of off.Transit = Transit
@@ -75,14 +75,14 @@ at_agent s p packet =
     else if is_for_manager s p packet.bytes then HandsUp packet
     else Asks packet.bytes packet.slid packet.dlid
 
--- what becomes of a directed packet, by the verdict of its step
+-- what becomes of a directed packet at the port `p`, by the verdict of its step
 abbrev pub by_verdict : Simulation → NodePort → Packet → Verdict → Outcome
 by_verdict s p packet (Out port) = leaving s (record { node = p.node; port = port }) packet
 by_verdict s p packet ToAgent = at_agent s p packet
 by_verdict s p packet ToManager = HandsUp packet
 by_verdict s p packet (Discard reason) = Drops (reason_of reason)
 
--- one step of a packet on its directed route
+-- what becomes of a directed packet at the port `p`: one step on its route
 abbrev pub directed_outcome : Simulation → NodePort → Packet → Outcome
 directed_outcome s p packet =
     let stepped = step (here_at s p) packet.bytes in
@@ -90,27 +90,28 @@ directed_outcome s p packet =
 
 -- a packet that is forwarded by its DLID
 
--- what becomes of a packet at the port that it is for: it is handed up, represses a trap, or is answered; the answer
--- has the request's SLID and DLID exchanged
+-- what becomes of a packet at the port that it is for: an answer or a packet for the manager is handed up, a
+-- TrapRepress represses a trap, and any other is answered; the answer has the request's SLID and DLID exchanged
 abbrev pub arrived : Simulation → NodePort → Packet → Outcome
 arrived s p packet =
     if is_response packet.bytes || is_for_manager s p packet.bytes then HandsUp packet
     else if number_in method packet.bytes == trap_repress then Represses (number_in transaction_id packet.bytes)
     else Asks packet.bytes packet.dlid packet.slid
 
--- what becomes of a LID-routed packet, by its course at the node
+-- what becomes of a LID-routed packet at the port `p`, by its course at the node
 abbrev pub by_course : Simulation → NodePort → Packet → Course → Outcome
 by_course s p packet (course_is.Delivers q) = arrived s p packet
 by_course s p packet (course_is.LeavesBy out) = leaving s out packet
 by_course s p packet course_is.Drops = Drops NoRoute
 
--- what becomes of a LID-routed packet where it waits
+-- what becomes of a LID-routed packet where it waits, by its course at the node
 abbrev pub lid_routed_outcome : Simulation → Whereabouts → Packet → Outcome
 lid_routed_outcome s whereabouts packet =
     by_course s (port_of whereabouts) packet
     (course (fabric_of s) packet.dlid (record { at = port_of whereabouts; by_wire = is_by_wire whereabouts }))
 
--- what becomes of any packet: its bytes have to parse and, unless it waits at a seat, a cable has to be in its port
+-- what becomes of any packet where it waits: it is dropped unless its bytes parse and, if it waits at no seat, a cable
+-- is in its port
 unfoldable pub outcome_of : Simulation → Whereabouts → Packet → Outcome
 outcome_of s whereabouts packet =
     if is_some (fault_of packet.bytes) then Drops Unreadable
@@ -130,11 +131,11 @@ envelope_of flight =
       dlid = flight.packet.dlid;
     }
 
--- the packet with these bytes
+-- the packet with the LIDs of `envelope` and these bytes
 abbrev pub packet_in : Envelope → List ℕ → Packet
 packet_in envelope bytes = record { bytes = bytes; slid = envelope.slid; dlid = envelope.dlid }
 
--- the packet in flight with this envelope and these bytes
+-- the packet in flight with the envelope `envelope` and the bytes `bytes`
 abbrev pub flight_in : Envelope → List ℕ → Flight
 flight_in envelope bytes =
     record {
@@ -143,11 +144,11 @@ flight_in envelope bytes =
       packet = packet_in envelope bytes;
     }
 
--- the packet at index `i` has this envelope
+-- the packet at index `i` of `flights` has the envelope `envelope`
 abbrev pub IsEnvelopeAt : List Flight → ℕ → Envelope → Type 0
 IsEnvelopeAt flights i envelope = option_map envelope_of (slice_get flights i) ≡ Some envelope
 
--- the outcome of the action for the packet
+-- the outcome of an action of a delivery for `packet`
 abbrev pub outcome_by : Packet → Action → Outcome
 outcome_by packet (action_is.Moves whereabouts) = Moves whereabouts packet
 outcome_by packet (action_is.Asks slid dlid) = Asks packet.bytes slid dlid
@@ -155,7 +156,7 @@ outcome_by packet action_is.HandsUp = HandsUp packet
 outcome_by packet action_is.Represses = Represses (number_in transaction_id packet.bytes)
 outcome_by packet (action_is.Drops reason) = Drops reason
 
--- a packet that moves can wait where it moves to
+-- if the outcome is that a packet moves, it can wait where it moves to; true of any other outcome
 abbrev pub CanFare : Simulation → Outcome → Type 0
 CanFare s (Moves whereabouts packet) = CanWait s whereabouts
 CanFare s (Asks request slid dlid) = Unit {0}
@@ -165,11 +166,11 @@ CanFare s (Drops reason) = Unit {0}
 
 -- what a delivery leaves ----------------------------------------------------------------------
 
--- the agents, with the agent at `id` changed
+-- `agents`, with the agent at `id` changed; unchanged if there is none
 abbrev pub with_changed : List Agent → ℕ → (Agent → Agent) → List Agent
 with_changed agents id change = option_map_or (λ a. slice_set agents id (change a)) (slice_get agents id) agents
 
--- the fabric with the packet added, with the next serial number
+-- the fabric with the packet added in flight, with the next serial number
 abbrev pub with_flight : Simulation → Whereabouts → Packet → Simulation
 with_flight s whereabouts packet =
     record s {
@@ -178,7 +179,7 @@ with_flight s whereabouts packet =
       next = s.next + 1;
     }
 
--- the fabric with the packet added, and its serial number; refused if no serial number is left
+-- the fabric with the packet added in flight, and its serial number; refused if no serial number is left
 abbrev pub after_enqueue : Simulation → Whereabouts → Packet → Called ℕ
 after_enqueue s whereabouts packet =
     if s.next == 2 ^ 64 then refused s SerialsSpent else record {
@@ -187,24 +188,25 @@ after_enqueue s whereabouts packet =
           Ok s.next;
     }
 
--- the fabric without the packet with this serial number
+-- the fabric without the packet with the number `serial`
 abbrev pub without : Simulation → ℕ → Simulation
 without s serial = record s { flights = without_flight s.flights serial }
 
--- the fabric in which the trap with this TransactionID no longer waits at the node
+-- the fabric in which the trap with the TransactionID `number` no longer waits at the node `id`
 abbrev pub repressed_at : Simulation → ℕ → ℕ → Simulation
 repressed_at s id number = record s { traps = without_trap s.traps id number }
 
--- the fabric with the packet at other whereabouts
+-- the fabric with the packet with the number `serial` at other whereabouts, and possibly changed
 abbrev pub moved_to : Simulation → ℕ → Whereabouts → Packet → Simulation
 moved_to s serial whereabouts packet =
     record s { flights = with_moved s.flights (record { serial = serial; whereabouts = whereabouts; packet = packet }) }
 
--- the answer of the agent at a port to a request
+-- the answer of the agent at the port `p` to the request `bytes`; the request itself if there is no such node
 abbrev pub answer_at : Simulation → NodePort → List ℕ → List ℕ
 answer_at s p bytes = option_map_or (λ a. (after_answer a bytes p.port).packet) (agent_at s p.node) bytes
 
--- the fabric after the agent answered the request that waited at its port; the answer replaces the request
+-- the fabric after the agent answered `request`, which waited at its port; the answer, from `slid` to `dlid`, replaces
+-- it
 abbrev pub asked : Simulation → Flight → List ℕ → ℕ → ℕ → Simulation
 asked s flight request slid dlid =
     let p = port_of flight.whereabouts in
@@ -219,7 +221,8 @@ asked s flight request slid dlid =
       dlid = dlid;
     })
 
--- what a call leaves and returns if the packet has this outcome; an answer needs a serial number of its own
+-- what a call leaves and returns if the packet `flight` has the outcome; an answer needs a serial number of its own,
+-- and is refused if none is left
 abbrev pub after_outcome : Simulation → Flight → Outcome → Called Delivered
 after_outcome s flight (Moves whereabouts packet) =
     record { fabric = moved_to s flight.serial whereabouts packet; result = Ok (delivered_is.Moved flight.serial) }
@@ -240,11 +243,11 @@ after_outcome s flight (Represses number) =
 after_outcome s flight (Drops reason) =
     record { fabric = without s flight.serial; result = Ok (delivered_is.Discarded reason) }
 
--- the fabric after the step of this packet; refused if there is no packet
+-- the fabric after one step of the packet, and what the step did; refused if there is no packet (None)
 abbrev pub delivered_flight : Simulation → Option Flight → Called Delivered
 delivered_flight s None = refused s NoSuchPacket
 delivered_flight s (Some flight) = after_outcome s flight (outcome_of s flight.whereabouts flight.packet)
 
--- the fabric after one step of the packet with this serial number, and what the step did
+-- the fabric after one step of the packet with the number `serial`, and what the step did; refused if there is none
 unfoldable pub after_deliver : Simulation → ℕ → Called Delivered
 after_deliver s serial = delivered_flight s (flight_with s.flights serial)

@@ -1,8 +1,9 @@
--- The names of faults.
+-- The names of faults of a simulated fabric.
 use Rattle.std.specs.Prelude.{ℕ, List, codes}
 use Rattle.fabric_sim.specs.declared.fault.FabricFault.{FabricFault}
 use Rattle.fabric_sim.specs.declared.fault.FabricFault.TheVariants.{NoSuchPacket, NoSuchPort, PortTaken, Memory, SerialsSpent}
 
+-- the name of a fault of a call
 abbrev pub fabric_fault_name : FabricFault → List ℕ
 fabric_fault_name NoSuchPacket = codes "NoSuchPacket"
 fabric_fault_name NoSuchPort = codes "NoSuchPort"

@@ -5,14 +5,15 @@ use Rattle.std.specs.Prelude.{ℕ, List, [], ◌∷◌, replicate}
 use Rattle.smp_bytes.specs.Field.{Entry, with_numbers}
 use Rattle.smp_bytes.specs.Requests.{lid_routed}
 
--- methods
+-- the method Trap
 abbrev pub trap : ℕ
 trap = 0x05
 
+-- the method TrapRepress
 abbrev pub trap_repress : ℕ
 trap_repress = 0x07
 
--- the attribute of a trap
+-- the attribute of a trap, Notice
 abbrev pub notice : ℕ
 notice = 0x0002
 
@@ -20,7 +21,7 @@ notice = 0x0002
 abbrev pub link_state_change : ℕ
 link_state_change = 128
 
--- what the notice of a switch with this LID says: it is generic and urgent; its producer is a switch; the trap's
+-- what the notice of a switch with the LID `lid` says: it is generic and urgent; its producer is a switch; the trap's
 -- number; the LID of the issuer; and, in the details, that LID again
 abbrev pub link_entries : ℕ → List Entry
 link_entries lid =
@@ -30,10 +31,10 @@ link_entries lid =
     ∷ record { field = record { at = 6; len = 2 }; number = lid }
     ∷ record { field = record { at = 10; len = 2 }; number = lid } ∷ []
 
--- the 64 bytes of the notice of a switch with this LID; all other bytes are 0
+-- the 64 bytes of the notice of a switch with the LID `lid`; all bytes that no entry names are 0
 abbrev pub link_notice : ℕ → List ℕ
 link_notice lid = with_numbers (link_entries lid) (replicate 64 0)
 
--- the trap of a switch with this LID, with this TransactionID
+-- the trap of a switch with the LID `lid`, with the TransactionID `number`
 abbrev pub link_trap : ℕ → ℕ → List ℕ
 link_trap lid number = lid_routed trap notice 0 number (link_notice lid)

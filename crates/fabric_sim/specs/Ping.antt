@@ -13,19 +13,21 @@ use Rattle.fabric_sim.specs.Simulation.{Simulation, is_port}
 use Rattle.fabric_sim.specs.declared.ping.Ping.{Ping}
 use Rattle.fabric_sim.specs.declared.ping.Ping.TheVariants.{Reached, Lost}
 
--- where a packet ends after `hops` wires, given its course; `on` says where it ends from the other end of a wire
+-- where a packet that has taken `hops` wires to `s` ends, by its course there; `on` says where it ends from the other
+-- end of a wire
 abbrev pub ping_by : Fabric → Standing → ℕ → (NodePort → Ping) → Course → Ping
 ping_by f s hops on (Delivers p) = Reached p hops
 ping_by f s hops on (LeavesBy out) = option_map_or on (f.across out) (Lost s.at.node)
 ping_by f s hops on Drops = Lost s.at.node
 
--- where a packet ends after `hops` wires, if it may take `left` more; with none left, it is lost where it is
+-- where a packet for `lid` that has taken `hops` wires to `s` ends, if it may visit so many nodes more; with none left,
+-- it is lost where it is
 abbrev pub ping_on : Fabric → ℕ → ℕ → ℕ → Standing → Ping
 ping_on f lid zero hops s = Lost s.at.node
 ping_on f lid (suc left) hops s =
     ping_by f s hops (λ into. ping_on f lid left (hops + 1) (arrived_at into)) (course f lid s)
 
--- where a packet for a LID ends if it is sent from the port `source`
+-- where a packet for `lid` ends if it is sent from the port `source`; a packet that loops is lost
 abbrev pub ping : Fabric → ℕ → NodePort → Ping
 ping f lid source = ping_on f lid (wire_bound f) 0 (sent_from source)
 
@@ -33,7 +35,7 @@ ping f lid source = ping_on f lid (wire_bound f) 0 (sent_from source)
 abbrev pub ping_fault : Simulation → NodePort → Option FabricFault
 ping_fault s source = if is_port s source then None else Some NoSuchPort
 
--- a walk of `count` wires delivers the packet
+-- a walk of `count` wires delivers a packet for `lid` from `source` at `target`
 pub record DeliversOver (f : Fabric) (lid : ℕ) (source target : NodePort) (count : ℕ) : Type 0 where
   pub hops : List Hop
   pub length : length hops ≡ count
@@ -47,7 +49,7 @@ PingsTell = (f : Fabric) (lid : ℕ) (source : NodePort)
     → DeliversOver f lid source target count)
     × ((id : ℕ) → ping f lid source ≡ Lost id → (hops : List Hop) × IsLost f lid source hops id)
 
--- a ping finds what is true: a packet that is delivered reaches that port in a ping, over as many wires
+-- a packet that is delivered reaches that port in a ping, over as many wires as it takes
 abbrev pub PingsFind : Type 0
 PingsFind = (f : Fabric) (lid : ℕ) (source target : NodePort) (hops : List Hop) → IsDelivered f lid source hops target
     → ping f lid source ≡ Reached target (length hops)

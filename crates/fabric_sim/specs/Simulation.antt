@@ -21,32 +21,34 @@ pub record Simulation : Type 0 where
   pub next : ℕ
   pub traps : Traps
 
--- the next serial number; none is left after 2 ^ 64 - 1
+-- the next serial number, if there is one; 2 ^ 64 for None, if none is left after 2 ^ 64 - 1
 abbrev pub next_serial : Option ℕ → ℕ
 next_serial None = 2 ^ 64
 next_serial (Some serial) = serial
 
 -- nodes and ports ----------------------------------------------------------------------
 
+-- the agent of the node `id`; None if there is no such node
 abbrev pub agent_at : Simulation → ℕ → Option Agent
 agent_at s id = slice_get s.agents id
 
--- the number of a node's ports from 1 on
+-- the number of ports of the node `id`, from 1 on; 0 if there is no such node
 abbrev pub port_count : Simulation → ℕ → ℕ
 port_count s id = option_map_or (λ a. a.node.ports) (agent_at s id) 0
 
--- the port is from 1 to its node's port count, so that a cable can be plugged in
+-- the port `p` is from 1 to its node's port count, so that a cable can be plugged in
 abbrev pub has_cable_port : List Agent → NodePort → Bool
 has_cable_port agents p = is_within p.port (option_map_or (λ a. a.node.ports) (slice_get agents p.node) 0)
 
+-- the port `p` of the fabric is from 1 to its node's port count, so that a cable can be plugged in
 abbrev pub is_cable_port : Simulation → NodePort → Bool
 is_cable_port s p = has_cable_port s.agents p
 
--- a subnet manager sits at the port
+-- a subnet manager sits at the port `p`
 abbrev pub is_seat_at : Simulation → NodePort → Bool
 is_seat_at s p = option_map_or (λ a. has_seat a p.port) (agent_at s p.node) false
 
--- the port at the other end of the cable in a port; for a loop, it is the port itself
+-- the port at the other end of the cable in the port `p`, by `peers`; for a loop, `p` itself; None if there is no cable
 abbrev pub across : List (List (Option NodePort)) → NodePort → Option NodePort
 across peers p = slice_index_or (slice_index_or peers p.node []) p.port None
 
@@ -62,7 +64,7 @@ fabric_of s =
       top = λ id. option_map_or (λ a. a.top) (agent_at s id) 0;
     }
 
--- the port is one of the fabric: a cable port, or port 0 of a switch
+-- the port `p` is one of the fabric: a cable port, or port 0 of a switch
 abbrev pub is_port : Simulation → NodePort → Bool
 is_port s p = nat_le p.port (port_count s p.node) && (nat_le 1 p.port || is_switch_at (fabric_of s) p.node)
 
@@ -74,19 +76,19 @@ port_of (Seat p) = p
 port_of (Arrived p) = p
 port_of (Made p) = p
 
--- the packet waits at a seat
+-- a packet that waits there waits at a seat
 abbrev pub is_at_seat : Whereabouts → Bool
 is_at_seat (Seat p) = true
 is_at_seat (Arrived p) = false
 is_at_seat (Made p) = false
 
--- the packet came to its port by a wire
+-- a packet that waits there came to its port by a wire
 abbrev pub is_by_wire : Whereabouts → Bool
 is_by_wire (Seat p) = false
 is_by_wire (Arrived p) = true
 is_by_wire (Made p) = false
 
--- where the answer waits if its request waited here: at the seat, or where it is made
+-- where an answer waits if its request waited there: at the seat, or where the answer is made
 abbrev pub answer_whereabouts : Whereabouts → Whereabouts
 answer_whereabouts (Seat p) = Seat p
 answer_whereabouts (Arrived p) = Made p
@@ -94,23 +96,24 @@ answer_whereabouts (Made p) = Made p
 
 -- packets in flight -----------------------------------------------------------------------
 
+-- the packet in flight has the serial number `serial`
 abbrev pub is_numbered : ℕ → Flight → Bool
 is_numbered serial flight = flight.serial == serial
 
--- the packet in flight with this serial number; None if there is none
+-- the packet in flight with the number `serial`; None if there is none
 abbrev pub flight_with : List Flight → ℕ → Option Flight
 flight_with flights serial = find (is_numbered serial) flights
 
--- the packet at index `i` has this serial number
+-- the packet at index `i` of `flights` has the number `serial`
 abbrev pub IsFlightAt : List Flight → ℕ → ℕ → Type 0
 IsFlightAt flights i serial = option_map (λ flight. flight.serial) (slice_get flights i) ≡ Some serial
 
--- the index of the packet with this serial number, or none if no packet has it
+-- the index of the packet with the number `serial` is found; for None, no packet has this number
 abbrev pub Finds : List Flight → ℕ → Option ℕ → Type 0
 Finds flights serial None = flight_with flights serial ≡ None
 Finds flights serial (Some i) = IsFlightAt flights i serial × (slice_get flights i ≡ flight_with flights serial)
 
--- the packets in flight without the packet that has this serial number
+-- the packets in flight without the one that has the number `serial`
 abbrev pub without_flight : List Flight → ℕ → List Flight
 without_flight flights serial = filter (λ flight. not (is_numbered serial flight)) flights
 
@@ -120,21 +123,22 @@ with_moved flights moved = map (λ flight. if is_numbered moved.serial flight th
 
 -- what holds of each simulation ---------------------------------------------------------
 
--- there is a slot for the other end of the cable in the port
+-- `peers` has a slot for the other end of the cable in the port `p`
 abbrev pub HasPeerSlot : List (List (Option NodePort)) → NodePort → Type 0
 HasPeerSlot peers p = p.port < length (slice_index_or peers p.node [])
 
--- each node has a list of the other ends, with a slot for each of its ports and for port 0
+-- each node of the fabric has a list of the other ends of its cables, with a slot for each of its ports and for port 0
 abbrev pub FitsPorts : Simulation → Type 0
 FitsPorts s = (id : ℕ) (a : Agent) → agent_at s id ≡ Some a → length (slice_index_or s.peers id []) ≡ a.node.ports + 1
 
--- a port from 1 on is down exactly if no cable is in it
+-- a port from 1 on is Down exactly if no cable is in it
 abbrev pub AreUncabledDown : Simulation → Type 0
 AreUncabledDown s =
     (p : NodePort) (a : Agent) → agent_at s p.node ≡ Some a → is_cable_port s p ≡ true → (state_at a p.port ≡ Down)
     ↔ (across s.peers p ≡ None)
 
--- the cables fit the nodes and their agents
+-- the cables fit the nodes and their agents: each leads from a cable port to another and back, or loops, and ports
+-- without one are Down
 pub record AreCables (s : Simulation) : Type 0 where
   pub lists : length s.peers ≡ length s.agents
   pub fit : FitsPorts s
@@ -142,7 +146,7 @@ pub record AreCables (s : Simulation) : Type 0 where
   pub lead_back : (p q : NodePort) → across s.peers p ≡ Some q → across s.peers q ≡ Some p
   pub down : AreUncabledDown s
 
--- a packet can wait there: the port is one for a cable, and a seat if the whereabouts are a seat
+-- a packet can wait at `whereabouts`: the port there is one for a cable, and a seat if the whereabouts are a seat
 pub record CanWait (s : Simulation) (whereabouts : Whereabouts) : Type 0 where
   pub port : is_cable_port s (port_of whereabouts) ≡ true
   pub seat : is_at_seat whereabouts ≡ true → is_seat_at s (port_of whereabouts) ≡ true
@@ -152,11 +156,12 @@ pub record IsWaiting (s : Simulation) (flight : Flight) : Type 0 where
   pub whereabouts : CanWait s flight.whereabouts
   pub given : flight.serial < s.next
 
--- the serial numbers rise
+-- the serial numbers of packets in flight rise
 abbrev pub AreRising : List Flight → Type 0
 AreRising flights = AllPairs (λ before after. before.serial < after.serial) flights
 
--- at most 1024 nodes with their agents, cables between them, and packets in flight that wait where they can
+-- at most 1024 nodes with their agents, managers only at cable ports, cables that fit them, and packets in flight that
+-- wait where they can, by rising serial numbers below the next one
 pub record IsSimulation (s : Simulation) : Type 0 where
   pub few : length s.agents ≤ 1024
   pub agents : All IsAgent s.agents

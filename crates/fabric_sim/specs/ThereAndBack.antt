@@ -22,12 +22,13 @@ use Rattle.fabric_sim.specs.Calls.{Call, Lose, after_calls, is_delivery_of}
 abbrev pub directed_packet : List ℕ → Packet
 directed_packet bytes = record { bytes = bytes; slid = permissive_lid; dlid = permissive_lid }
 
--- a path leaves by the port of its sender
+-- a path leaves by the port `port` of its sender, if it leaves at all
 abbrev pub BeginsWith : ℕ → List ℕ → Type 0
 BeginsWith port [] = Unit {0}
 BeginsWith port (first ∷ path) = first ≡ port
 
--- the answer to a request over a path, with the request's numbers and with what the agent answered
+-- `answer` is the answer to `request` over `path`: it has the request's numbers, and the status and the attribute of
+-- `told`, which the agent answered
 pub record IsAnswerOver (path : List ℕ) (request told answer : List ℕ) : Type 0 where
   pub method : number_in field.method answer ≡ get_resp
   pub returning : is_returning answer ≡ true
@@ -40,29 +41,30 @@ pub record IsAnswerOver (path : List ℕ) (request told answer : List ℕ) : Typ
   pub status : status answer ≡ status told
   pub attribute_data : bytes_in field.attribute_data answer ≡ bytes_in field.attribute_data told
 
--- the call does not lose the packet
+-- the call does not lose the packet with the number `serial`
 abbrev pub KeepsPacket : ℕ → Call → Type 0
 KeepsPacket serial call = call ≢ Lose serial
 
--- `count` of the calls deliver the packet, and none loses it
+-- `count` of the calls deliver the packet with the number `serial`, and none loses it
 abbrev pub Deliver : List Call → ℕ → ℕ → Type 0
 Deliver calls serial count = All (KeepsPacket serial) calls × (count_by (is_delivery_of serial) calls ≡ count)
 
--- the delivery of a request is answered by the agent at the port `at`
+-- the delivery of `request`, with the number `serial`, is answered by the agent at the port `at`
 pub record IsAnsweredAt (s : Simulation) (serial : ℕ) (request : List ℕ) (at : NodePort) (agent : Agent) : Type 0 where
   pub there : agent_at s at.node ≡ Some agent
   pub result : (after_deliver s serial).result ≡ Ok (delivered_is.Answered s.next)
   pub after : agent_at (after_deliver s serial).fabric at.node ≡ Some (after_answer agent request at.port).agent
 
--- the delivery of an answer hands it up to the manager at a port
+-- the delivery of the packet with the number `serial` hands it up to the manager at the port `at`, as an answer over
+-- `path` to `request`, with what the agent answered, `told`
 pub record ComesHome (s : Simulation) (serial : ℕ) (at : NodePort) (path request told : List ℕ) : Type 0 where
   pub packet : Packet
   pub result : (after_deliver s serial).result ≡ Ok (delivered_is.ToManager at packet)
   pub answer : IsAnswerOver path request told packet.bytes
 
--- Whatever else is called, as long as no cable changes and the packet is not lost: on a path of n ports, the agent at
--- the path's end answers the request's delivery n + 1; and the answer's delivery n + 1, if it is not lost, hands the
--- answer up at the port that the request was sent from.
+-- Whatever else is called, as long as no cable changes, serial numbers are left, and the packet is not lost: on a path
+-- of n ports, the agent at the path's end answers the request's delivery n + 1, if the attribute is not SMInfo; and the
+-- answer's delivery n + 1, if it is not lost, hands the answer up at the port that the request was sent from.
 abbrev pub ThereAndBack : Type 0
 ThereAndBack =
     (s : Simulation) (origin end : NodePort) (method attribute modifier tid : ℕ) (path payload : List ℕ)

@@ -14,7 +14,7 @@ use Rattle.attr_codec.specs.NodeTypeNumber.{number_of_type}
 use Rattle.attr_codec.specs.PortInfo.{port_state}
 use Rattle.attr_codec.specs.SwitchInfo.{linear_fdb_cap}
 
--- the ports of a directed packet's path
+-- the ports of the path of a directed packet
 abbrev pub path_of : List ℕ → List ℕ
 path_of packet = bytes_in (record { at = 129; len = number_in hop_count packet }) packet
 
@@ -26,12 +26,12 @@ pub record SaysNode (node : Node) (port : ℕ) (info : NodeInfo) : Type 0 where
   pub port_guid : info.port_guid ≡ node.port_guid port
   pub local_port : info.local_port_num ≡ port
 
--- a port is up if a cable is in it; a switch's port 0 always is
+-- the port is up: a cable is in it, or it is port 0 of a switch
 abbrev pub IsUp : Fabric → ℕ → Node → ℕ → Type 0
 IsUp f id node port = ((is_switch node.kind ≡ true) × (port ≡ 0))
     ⊎ ((far : NodePort) × (f.across (record { node = id; port = port }) ≡ Some far))
 
--- the number of a port state that is up: Initialize, Armed or Active
+-- `state` is the number of a port state that is up: Initialize, Armed or Active
 abbrev pub IsUpState : ℕ → Type 0
 IsUpState state = (2 ≤ state) × (state ≤ 4)
 
@@ -40,7 +40,7 @@ IsUpState state = (2 ≤ state) × (state ≤ 4)
 abbrev pub port_asked : Node → ℕ → ℕ → ℕ
 port_asked node modifier arrival = if is_switch node.kind then modifier else arrival
 
--- PortInfo is about a port of the node, and its state is up exactly if the port is
+-- PortInfo is about `port`, which the node has, and says as its `state` one that is up exactly if the port is
 pub record SaysPort (f : Fabric) (id : ℕ) (node : Node) (port state : ℕ) : Type 0 where
   pub within : port ≤ node.ports
   pub up : IsUpState state ↔ IsUp f id node port
@@ -50,7 +50,8 @@ pub record SaysSwitch (node : Node) (entries : ℕ) : Type 0 where
   pub kind : is_switch node.kind ≡ true
   pub cap : entries ≡ node.cap
 
--- what an answer says, by its attribute, is true of the node that its request reached
+-- what an answer says with status 0, by its attribute, is true of the node at the port `at` that its request reached:
+-- of its NodeInfo, a port's state, or a switch's table room
 pub record SaysOf (f : Fabric) (at : NodePort) (packet : List ℕ) : Type 0 where
   pub node : Node
   pub there : IsNodeAt f at.node node
@@ -62,8 +63,8 @@ pub record SaysOf (f : Fabric) (at : NodePort) (packet : List ℕ) : Type 0 wher
   pub switch_info : number_in attribute_id packet ≡ switch_info
       → SaysSwitch node (number_in linear_fdb_cap (bytes_in attribute_data packet))
 
--- a packet handed up at the port `at` has a path that ends somewhere; if its status is 0, what it says is true of that
--- end
+-- a packet handed up at the port `at` has a path that ends somewhere; if its status is 0, what it says is true of the
+-- node there
 pub record TellsOfEnd (f : Fabric) (at : NodePort) (packet : List ℕ) : Type 0 where
   pub end : NodePort
   pub leads : directed_end f at (path_of packet) ≡ Some end

@@ -16,7 +16,7 @@ use Rattle.fabric_sim.specs.Notices.{link_trap}
 use Rattle.fabric_sim.specs.Simulation.{Simulation, across, agent_at, fabric_of}
 use Rattle.fabric_sim.specs.Delivery.{after_enqueue}
 
--- the fabric with these traps
+-- the fabric with `traps` in place of its traps
 abbrev pub with_traps : Simulation → Traps → Simulation
 with_traps s traps = record s { traps = traps }
 
@@ -24,7 +24,7 @@ with_traps s traps = record s { traps = traps }
 abbrev pub leaving_just : Simulation → Called (Unit {0})
 leaving_just s = record { fabric = s; result = Ok tt }
 
--- the fabric after switches begin to send traps
+-- the fabric after switches begin to send traps; unchanged if they send traps already
 abbrev pub after_begin_traps : Simulation → Called (Unit {0})
 after_begin_traps s = leaving_just (with_traps s (begun s.traps (length s.agents)))
 
@@ -34,7 +34,7 @@ after_begin_traps s = leaving_just (with_traps s (begun s.traps (length s.agents
 abbrev pub port_zero : ℕ → NodePort
 port_zero id = record { node = id; port = 0 }
 
--- the LID of the subnet manager that was set at a node's port 0; 0 if none was set
+-- the LID of the subnet manager that was set at port 0 of the node `id`; 0 if none was set
 abbrev pub master_lid : Simulation → ℕ → ℕ
 master_lid s id = option_map_or (λ a. master_sm_lid_at a 0) (agent_at s id) 0
 
@@ -44,40 +44,42 @@ cabled_out s (course_is.LeavesBy out) = if is_some (across s.peers out) then Som
 cabled_out s (course_is.Delivers p) = None
 cabled_out s course_is.Drops = None
 
--- the port by which a node forwards its trap to the subnet manager; None if the node has no LID or the port no cable
+-- the port by which the node `id` forwards its trap to the subnet manager; None if the node has no LID, or the packet
+-- leaves by no port with a cable
 abbrev pub trap_out : Simulation → ℕ → Option NodePort
 trap_out s id =
     if (fabric_of s).base_lid (port_zero id) == 0 then None
     else cabled_out s (course (fabric_of s) (master_lid s id) (sent_from (port_zero id)))
 
--- the trap of a node, from the node's LID to the LID of the subnet manager
+-- the trap of the node `id` with the TransactionID `number`, from the node's LID to the LID of the subnet manager
 abbrev pub trap_packet : Simulation → ℕ → ℕ → Packet
 trap_packet s id number =
     let lid = (fabric_of s).base_lid (port_zero id) in
     record { bytes = link_trap lid number; slid = lid; dlid = master_lid s id }
 
--- the fabric with the trap waiting at the port by which it leaves; unchanged if it cannot leave, or no serial number is
--- left
+-- the fabric with the trap waiting at the port by which it leaves; unchanged if it cannot leave (None), or no serial
+-- number is left
 abbrev pub with_trap_sent : Simulation → ℕ → ℕ → Option NodePort → Simulation
 with_trap_sent s id number None = s
 with_trap_sent s id number (Some out) = (after_enqueue s (Made out) (trap_packet s id number)).fabric
 
--- the fabric after the trap with this TransactionID is sent from a node, if it can leave
+-- the fabric after the trap with the TransactionID `number` is sent from the node `id`; unchanged if it cannot leave,
+-- or no serial number is left
 abbrev pub trap_sent : Simulation → ℕ → ℕ → Simulation
 trap_sent s id number = with_trap_sent s id number (trap_out s id)
 
 -- calls ------------------------------------------------------------------------------------------
 
--- the fabric after the trap that waits at a node, if one does, is sent
+-- the fabric after the trap that waits at the node `id`, if one does, is sent
 unfoldable pub after_send_trap : Simulation → ℕ → Called (Unit {0})
 after_send_trap s id = leaving_just (option_map_or (trap_sent s id) (trap_at s.traps id) s)
 
--- the node is a switch, and switches send traps
+-- the node `id` is a switch, and switches send traps
 abbrev pub sends_traps : Simulation → ℕ → Bool
 sends_traps s id = nat_lt id (length s.traps.waiting) && is_switch_at (fabric_of s) id
 
--- the fabric after the state of a port of a node has changed: at a switch that sends traps, a new trap waits, and is
--- sent if it can leave
+-- the fabric after the state of a port of the node `id` has changed: at a switch that sends traps, a new trap waits,
+-- and is sent if it can leave
 unfoldable pub after_port_change : Simulation → ℕ → Called (Unit {0})
 after_port_change s id =
     leaving_just (if sends_traps s id then with_traps (trap_sent s id (next_trap s.traps)) (with_new_trap s.traps id) else s)

@@ -1,4 +1,4 @@
--- What ends a trap that waits at a switch.
+-- That a TrapRepress which arrives at a switch ends the trap that waits there.
 use Rattle.std.specs.Prelude.{◌≡◌, ◌≢◌, ℕ, true, false, is_some, Some, None, Ok}
 use Rattle.fabric_model.specs.declared.cable.NodePort.{NodePort}
 use Rattle.fabric_model.specs.declared.course.Course.TheVariants.{Delivers}
@@ -16,8 +16,8 @@ use Rattle.fabric_sim.specs.Notices.{trap_repress}
 use Rattle.fabric_sim.specs.Simulation.{Simulation, IsSimulation, across, fabric_of, flight_with, is_by_wire, port_of}
 use Rattle.fabric_sim.specs.Traps.{trap_at}
 
--- a LID-routed packet with the method TrapRepress and this TransactionID waits at a port with a cable of the switch
--- `id`, which delivers it to itself
+-- the packet is LID-routed, with the method TrapRepress and the TransactionID `number`, and waits at a port with a
+-- cable of the switch `id`, which delivers it to itself
 pub record IsRepress (s : Simulation) (flight : Flight) (id number : ℕ) : Type 0 where
   pub parses : fault_of flight.packet.bytes ≡ None
   pub by_lids : is_directed flight.packet.bytes ≡ false
@@ -33,15 +33,15 @@ pub record IsRepress (s : Simulation) (flight : Flight) (id number : ℕ) : Type
         is_by_wire flight.whereabouts;
   }) ≡ Delivers end
 
--- a delivery discards the packet, with no answer; the trap with this TransactionID no longer waits at the node, and any
--- other trap waits as before
+-- a delivery discards its packet, with no answer; the trap with the TransactionID `number` no longer waits at the node
+-- `id`, and any other trap waits as before
 pub record EndsTrap (s : Simulation) (done : Called Delivered) (id number : ℕ) : Type 0 where
   pub discarded : done.result ≡ Ok (Discarded Repress)
   pub ended : trap_at s.traps id ≡ Some number → trap_at done.fabric.traps id ≡ None
   pub newer : trap_at s.traps id ≢ Some number → trap_at done.fabric.traps id ≡ trap_at s.traps id
   pub others : (other : ℕ) → other ≢ id → trap_at done.fabric.traps other ≡ trap_at s.traps other
 
--- a TrapRepress that has arrived at its switch ends the trap
+-- the delivery of a TrapRepress that has arrived at its switch ends the trap with its TransactionID, if it waits there
 abbrev pub RepressesEndTraps : Type 0
 RepressesEndTraps = (s : Simulation) (serial id number : ℕ) (flight : Flight) → IsSimulation s
     → flight_with s.flights serial ≡ Some flight → IsRepress s flight id number

@@ -5,14 +5,14 @@ use smp_bytes::Lid;
 /// What to do with a packet where it waits.
 #[derive(Clone, Copy)]
 pub(crate) enum Action {
-    /// It moves to other whereabouts.
+    /// The packet moves to other whereabouts.
     Moves(Whereabouts),
-    /// The agent answers it, with this SLID and this DLID.
+    /// The agent answers the packet. The answer has the first LID as its SLID and the second as its DLID.
     Asks(Lid, Lid),
-    /// It is handed to the subnet manager.
+    /// The packet is handed up, for the subnet manager at its port.
     HandsUp,
-    /// It represses a trap of the node, and is discarded.
+    /// The packet is discarded, and the trap with its TransactionID ends, if that waits at the node.
     Represses,
-    /// It is discarded.
+    /// The packet is discarded.
     Drops(Reason),
 }

@@ -19,8 +19,7 @@ use topo_file::{Node, Topology};
 impl Fabric {
     /// Builds the fabric of a topology: an agent for each of its nodes, to which nothing was written, and a cable for
     /// each of its links. Nothing is in flight, serial numbers count from `first_serial`, and switches send no traps.
-    /// Takes a step for each port and each table entry of each node, and for each link. Returns an error only for lack
-    /// of memory.
+    /// Takes time linear in the ports and table entries of all nodes, and in the links.
     pub fn of(alloc: Global, topology: &Topology, first_serial: u64) -> Result<Fabric, AllocError>
         ensures fabric { IfOk result (λ fabric.
             fabric ≡ simulation_of topology.now first_serial) }
@@ -55,7 +54,7 @@ fn uncabled(alloc: Global, topology: &Topology, first_serial: u64) -> Result<Fab
     })
 }
 
-/// Returns the agent's node for a node of a topology. Its description is the node's name.
+/// Returns the agent's node for `node`, whose name must have at most 64 bytes. Its description is the name.
 fn agent_node(node: &Node) -> AgentNode
     requires { length node.now.name ≤ 64 }
     ensures { result ≡ agent_node node.now }
@@ -69,7 +68,7 @@ fn agent_node(node: &Node) -> AgentNode
     }
 }
 
-/// Returns a name as a description, with zeros after it.
+/// Returns `name` as a description, with zeros after it. `name` must have at most 64 bytes.
 fn description(name: &[u8]) -> NodeDescription
     requires { length name.now ≤ 64 }
     ensures { result ≡ name.now ++ replicate (64 - length name.now) 0 }
@@ -77,7 +76,7 @@ fn description(name: &[u8]) -> NodeDescription
     NodeDescription::decode(&padded(name))
 }
 
-/// Returns a name as 64 bytes, with zeros after it.
+/// Returns `name` as 64 bytes, with zeros after it. `name` must have at most 64 bytes.
 fn padded(name: &[u8]) -> [u8; 64]
     requires { length name.now ≤ 64 }
     ensures { result ≡ name.now ++ replicate (64 - length name.now) 0 }

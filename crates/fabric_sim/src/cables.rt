@@ -11,8 +11,8 @@ use fabric_model::NodePort;
 use node_agents::Agent;
 
 impl Fabric {
-    /// Plugs a cable into two ports, or a loop into one port that is given twice. Both become Initialize. Takes no
-    /// memory.
+    /// Plugs a cable into two ports, or a loop into one port that is given twice. Both become Initialize. Does not
+    /// allocate.
     ///
     /// # Errors
     ///
@@ -33,7 +33,8 @@ impl Fabric {
         Ok(())
     }
 
-    /// Plugs a cable into two free ports, or a loop into one.
+    /// Plugs a cable into the ports `one` and `other`, or a loop into one that is given twice. Each must be from 1 to
+    /// its node's port count, and free.
     #[tactic(auto, unfolding(crate::specs::Changes::cabled_at))]
     pub(crate) fn join(&mut self, one: &NodePort, other: &NodePort)
         requires one { is_cable_port self.old one.now ≡ true }
@@ -48,11 +49,11 @@ impl Fabric {
         set_peer(&mut self.peers, other, Some(*one));
     }
 
-    /// Cuts the cable in a port. Its two ports become Down. Takes no memory.
+    /// Cuts the cable in a port. The ports at its two ends become Down. Does not allocate.
     ///
     /// # Errors
     ///
-    /// Returns `NoSuchPort` if no cable is in the port.
+    /// Returns `NoSuchPort` if no cable is in `at`.
     #[tactic(auto, unfolding(crate::specs::Changes::after_cut))]
     pub fn cut(&mut self, at: NodePort) -> Result<(), FabricFault>
         ensures fabric { self.new ≡ (after_cut self.old at).fabric }
@@ -65,7 +66,7 @@ impl Fabric {
         Ok(())
     }
 
-    /// Takes a cable out of its two ports.
+    /// Takes the cable out of its two ports. It must lead from `one` to `other`.
     #[tactic(auto, unfolding(crate::specs::Changes::uncabled_at))]
     fn part(&mut self, one: &NodePort, other: &NodePort)
         requires { across self.old.peers one.now ≡ Some other.now }
@@ -78,7 +79,8 @@ impl Fabric {
     }
 }
 
-/// Wires a port of one of the agents, or removes its wire.
+/// Wires a port of one of the agents if `is_wired`, and otherwise removes its wire. The port must be from 1 to its
+/// node's port count.
 fn set_wired(agents: &mut [Agent], port: &NodePort, is_wired: bool)
     requires { has_cable_port agents.old port.now ≡ true }
     ensures { agents.new
@@ -88,7 +90,8 @@ fn set_wired(agents: &mut [Agent], port: &NodePort, is_wired: bool)
     agent.set_wired(port.port, is_wired);
 }
 
-/// Sets the other end of the cable at a port, or clears it.
+/// Sets `other` as the port at the other end of the cable in `port`, or none if `other` is `None`. `peers` must have a
+/// slot for `port`.
 fn set_peer(peers: &mut [Peers], port: &NodePort, other: Option<NodePort>)
     requires { HasPeerSlot peers.old port.now }
     ensures { peers.new ≡ with_peer peers.old port.now other }

@@ -11,7 +11,7 @@ use smp_bytes::{Lid, NO_ENTRY};
 
 impl Fabric {
     /// Returns what the node at the port `at` does with a packet for `lid`. `is_by_wire` says whether the packet came
-    /// to the port by a wire.
+    /// to the port by a wire. The node must exist.
     pub(crate) fn course(&self, lid: Lid, at: &NodePort, is_by_wire: bool) -> Course
         requires { at.now.node < length self.now.agents }
         ensures { result ≡ course (fabric_of self.now) lid
@@ -29,7 +29,7 @@ impl Fabric {
         }
     }
 
-    /// Returns whether a port exists: it is from 1 to its node's port count, or port 0 of a switch.
+    /// Returns whether `port` exists: it is from 1 to its node's port count, or port 0 of a switch.
     pub(crate) fn is_port(&self, port: &NodePort) -> bool
         ensures { result ≡ is_port self.now port.now }
     {
@@ -51,7 +51,7 @@ impl Fabric {
     }
 }
 
-/// Returns what a switch does with a packet for `lid`.
+/// Returns what the switch `node` with the agent `agent` does with a packet for `lid`.
 fn switch_course(agent: &Agent, node: NodeId, lid: Lid) -> Course
     ensures { result ≡ switch_course agent.now.node.ports node agent.now.top lid
         (entry_at agent.now lid) }

@@ -22,15 +22,14 @@ use fabric_model::{Course, NodeId, NodePort};
 use smp_bytes::{AttributeId, Lid, Smp, SmpClass};
 
 impl Fabric {
-    /// Performs one step of the packet in flight with this serial number: it moves over a wire, is answered, is handed
-    /// to a subnet manager, or is discarded. A packet that represses a trap ends the trap. Takes no memory. Takes one
-    /// step to find the first packet in flight, and a binary search to find any other. If the packet is removed, later
-    /// packets move up.
+    /// Performs one step of the packet in flight with the serial number `serial`: it moves over a wire, is answered, is
+    /// handed up, or is discarded. A TrapRepress that reaches its port ends its trap. Takes constant time to find the
+    /// first packet in flight, and a binary search to find any other. Does not allocate.
     ///
     /// # Errors
     ///
-    /// Returns `NoSuchPacket` if no packet in flight has the serial number, and `SerialsSpent` if an agent is to answer
-    /// and no serial number is left.
+    /// Returns `NoSuchPacket` if no packet in flight has the serial number `serial`, and `SerialsSpent` if an agent is
+    /// to answer and no serial number is left.
     #[tactic(auto, unfolding(crate::specs::Delivery::after_deliver))]
     pub fn deliver(&mut self, serial: u64) -> Result<Delivered, FabricFault>
         ensures fabric { self.new ≡ (after_deliver self.old serial).fabric }
@@ -50,8 +49,8 @@ impl Fabric {
         }
     }
 
-    /// Moves, answers, hands up or discards the packet at index `i` among the packets in flight. `smp` has its bytes
-    /// after its step.
+    /// Moves, answers, hands up or discards the packet at index `i` among the packets in flight, by `action`. The
+    /// packet must have the envelope `envelope`. `smp` has its bytes after its step.
     fn act(
         &mut self,
         i: usize,
@@ -88,14 +87,14 @@ impl Fabric {
         }
     }
 
-    /// Ends the trap with this TransactionID, if it waits at the node.
+    /// Ends the trap with the TransactionID `number`, if it waits at `node`.
     fn repress(&mut self, node: NodeId, number: u64)
         ensures { self.new ≡ repressed_at self.old node number }
     {
         self.traps.repress(node, number);
     }
 
-    /// Discards the packet at index `i` among the packets in flight.
+    /// Discards the packet at index `i` among the packets in flight, which must have the serial number `serial`.
     fn discard(&mut self, i: usize, serial: u64, reason: Reason) -> Delivered
         requires { IsFlightAt self.old.flights i serial }
         ensures fabric { self.new ≡ without self.old serial }
@@ -105,7 +104,9 @@ impl Fabric {
         Delivered::Discarded(reason)
     }
 
-    /// Lets the agent answer a request that waits at its port. The answer replaces the request.
+    /// Lets the agent answer the request at index `i` among the packets in flight, which must have the envelope
+    /// `envelope`. The answer replaces the request, under a serial number of its own. Returns `SerialsSpent` if none is
+    /// left.
     fn ask(
         &mut self,
         i: usize,
@@ -140,7 +141,7 @@ impl Fabric {
         Ok(Delivered::Answered(serial))
     }
 
-    /// Returns what to do with a packet where it waits. A packet on a directed route takes its step.
+    /// Returns what to do with the packet `smp` where it waits. A packet on a directed route takes its step in `smp`.
     #[tactic(auto, using(crate::proofs::AgentLists::within_agents), unfolding(crate::specs::Delivery::outcome_of))]
     fn action(&self, envelope: &Envelope, smp: &mut Smp) -> Action
         requires parses { fault_of smp.old ≡ None }
@@ -158,7 +159,8 @@ impl Fabric {
         }
     }
 
-    /// Performs a step of a packet on a directed route, and returns what to do with it.
+    /// Performs a step of `smp`, which must be on a directed route, and returns what to do with it. The node of `at`
+    /// must exist.
     fn directed_action(&self, at: &NodePort, envelope: &Envelope, smp: &mut Smp) -> Action
         requires directed { is_directed smp.old ≡ true }
         requires port { at.now.node < length self.now.agents }
@@ -176,7 +178,7 @@ impl Fabric {
         }
     }
 
-    /// Returns the node of the port `at`, as a step sees it.
+    /// Returns the node of the port `at`, as a step sees it. The node must exist.
     fn here(&self, at: &NodePort) -> Here
         requires { at.now.node < length self.now.agents }
         ensures { result ≡ here_at self.now at.now }
@@ -189,7 +191,8 @@ impl Fabric {
         }
     }
 
-    /// Returns what to do with a packet that has reached the end of its path.
+    /// Returns what to do with a packet that has reached the end of its path: an answer is dropped, a packet for the
+    /// manager is handed up, and the agent answers any other.
     fn at_agent(&self, at: &NodePort, envelope: &Envelope, smp: &Smp) -> Action
         ensures { outcome_by (packet_in envelope.now smp.now) result
             ≡ at_agent self.now at.now (packet_in envelope.now smp.now) }
@@ -217,7 +220,8 @@ impl Fabric {
         }
     }
 
-    /// Returns what to do with a packet that has reached the port of its DLID.
+    /// Returns what to do with a packet that has reached the port of its DLID: an answer or a packet for the manager is
+    /// handed up, a TrapRepress ends its trap, and the agent answers any other.
     fn arrival(&self, at: &NodePort, envelope: &Envelope, smp: &Smp) -> Action
         ensures { outcome_by (packet_in envelope.now smp.now) result
             ≡ arrived self.now at.now (packet_in envelope.now smp.now) }
@@ -242,7 +246,7 @@ impl Fabric {
         }
     }
 
-    /// Returns whether a manager sits at the port and the packet is for it.
+    /// Returns whether a manager sits at `at`, and `smp` is for it: its attribute is SMInfo, or it is a trap by LIDs.
     fn is_for_manager(&self, at: &NodePort, smp: &Smp) -> bool
         ensures { result ≡ is_for_manager self.now at.now smp.now }
     {
@@ -251,7 +255,7 @@ impl Fabric {
     }
 }
 
-/// Returns whether a packet is a trap that is forwarded by LIDs.
+/// Returns whether `smp` is a trap that is forwarded by LIDs.
 fn is_trap(smp: &Smp) -> bool
     ensures { result ≡ is_trap smp.now }
 {

@@ -11,13 +11,14 @@ pub enum Reason {
     Transit,
     /// The port by which the path of a directed packet goes on is 0 or above the node's port count.
     OutPort,
-    /// No cable is in the port by which it leaves, or in the port where it waits.
+    /// No cable is in the port by which the packet leaves or, unless the packet waits at a seat, in the port where it
+    /// waits.
     Down,
-    /// Its bytes are not a packet.
+    /// The bytes are not a packet.
     Unreadable,
     /// The node neither takes nor forwards packets for its DLID.
     NoRoute,
-    /// It represses a trap, and asks for no answer.
+    /// The packet is a TrapRepress, which asks for no answer.
     Repress,
 }
 
@@ -43,7 +44,7 @@ pub enum Delivered {
     Moved(u64),
     /// The agent answered the request, and its answer waits with this serial number.
     Answered(u64),
-    /// The packet was handed to the subnet manager at this port.
+    /// The packet was handed up at this port. An answer is handed up even if no manager sits there.
     ToManager(NodePort, Packet),
     /// The packet was discarded.
     Discarded(Reason),

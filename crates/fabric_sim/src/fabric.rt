@@ -58,7 +58,7 @@ impl Fabric {
         self.agents.len()
     }
 
-    /// Returns the agent of a node, or `None` if there is no such node. Takes one step.
+    /// Returns the agent of `node`, or `None` if there is no such node. Takes constant time.
     pub fn agent(&self, node: NodeId) -> Option<&Agent>
         ensures { option_copied result ≡ agent_at self.now node }
     {
@@ -73,7 +73,7 @@ impl Fabric {
     }
 
     /// Returns the packet at index `i` among the packets in flight, by rising serial number, or `None` if there are
-    /// fewer. Takes one step.
+    /// fewer. Takes constant time.
     pub fn in_flight(&self, i: usize) -> Option<&Flight>
         ensures { option_copied result ≡ slice_get self.now.flights i }
     {
@@ -89,7 +89,7 @@ impl Fabric {
         self.peers.get(port.node.number())?.across(port.port)
     }
 
-    /// Returns whether a cable is in a port.
+    /// Returns whether a cable is in `port`.
     pub(crate) fn has_cable(&self, port: &NodePort) -> bool
         ensures cable { result ≡ is_some (across self.now.peers port.now) }
         ensures port { result ≡ true → is_cable_port self.now port.now ≡ true }
@@ -100,7 +100,7 @@ impl Fabric {
         }
     }
 
-    /// Returns whether a subnet manager sits at a port.
+    /// Returns whether a subnet manager sits at `port`.
     pub fn is_seat(&self, port: &NodePort) -> bool
         ensures seat { result ≡ is_seat_at self.now port.now }
         ensures port { result ≡ true → is_cable_port self.now port.now ≡ true }
@@ -111,7 +111,7 @@ impl Fabric {
         }
     }
 
-    /// Returns the agent of a node, which must exist.
+    /// Returns the agent of `node`, which must exist.
     pub(crate) fn agent_in(&self, node: NodeId) -> &Agent
         requires { node < length self.now.agents }
         ensures { agent_at self.now node ≡ Some result.now }
@@ -119,7 +119,7 @@ impl Fabric {
         &self.agents[node.number()]
     }
 
-    /// Returns whether a node is a switch.
+    /// Returns whether `node` exists and is a switch.
     pub(crate) fn is_switch_at(&self, node: NodeId) -> bool
         ensures { result ≡ is_switch_at (fabric_of self.now) node }
     {
@@ -129,7 +129,7 @@ impl Fabric {
         }
     }
 
-    /// Returns whether a port is from 1 to its node's port count.
+    /// Returns whether `port` is from 1 to its node's port count.
     pub(crate) fn is_cable_port(&self, port: &NodePort) -> bool
         ensures { result ≡ is_cable_port self.now port.now }
     {
@@ -139,7 +139,7 @@ impl Fabric {
         }
     }
 
-    /// Returns the LID of a port, or 0 if it has none.
+    /// Returns the base LID of `port`, or 0 if it has none or does not exist.
     pub(crate) fn base_lid(&self, port: &NodePort) -> Lid
         ensures { result ≡ (fabric_of self.now).base_lid port.now }
     {

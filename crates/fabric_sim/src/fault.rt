@@ -9,7 +9,8 @@ pub enum FabricFault {
     /// No packet in flight has the serial number.
     #[error("NoSuchPacket")]
     NoSuchPacket,
-    /// The port does not exist, or is not of the kind that the call needs.
+    /// The port does not exist, or is not one that the call can use: one to plug into, one with a cable to cut, one of
+    /// an adapter, a seat, or one to send a ping from.
     #[error("NoSuchPort")]
     NoSuchPort,
     /// A subnet manager sits at the port, or a cable is in it.

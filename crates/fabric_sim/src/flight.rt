@@ -40,7 +40,7 @@ impl Whereabouts {
         matches!(*self, Whereabouts::Arrived(_))
     }
 
-    /// Returns where the answer waits, if its request waited here.
+    /// Returns where an answer waits if its request waited here.
     pub(crate) fn answer_whereabouts(&self) -> Whereabouts
         ensures { result ≡ answer_whereabouts self.now }
     {
@@ -56,7 +56,7 @@ impl Whereabouts {
 pub struct Flight {
     /// The serial number, which no other packet has or had.
     pub serial: u64,
-    /// Where it waits.
+    /// Where the packet waits.
     pub whereabouts: Whereabouts,
     /// The packet.
     pub packet: Packet,

@@ -10,8 +10,8 @@ use crate::flight::{Flight, Whereabouts};
 use crate::packet::Packet;
 
 impl Fabric {
-    /// Returns the index of the packet with this serial number among the packets in flight, or `None` if there is none.
-    /// Takes one step for the first packet, and a binary search for any other.
+    /// Returns the index of the packet with the serial number `serial` among the packets in flight, or `None` if there
+    /// is none. Takes constant time for the first packet, and a binary search for any other.
     pub(crate) fn find(&self, serial: u64) -> Option<usize>
         ensures { Finds self.now.flights serial result }
     {
@@ -22,7 +22,8 @@ impl Fabric {
         self.search(serial)
     }
 
-    /// Searches for the packet with this serial number. Returns its index, or `None` if there is none.
+    /// Returns the index of the packet with the serial number `serial`, or `None` if there is none. Takes a binary
+    /// search.
     fn search(&self, serial: u64) -> Option<usize>
         ensures { Finds self.now.flights serial result }
     {
@@ -31,7 +32,8 @@ impl Fabric {
             .ok()
     }
 
-    /// Adds a packet in flight, and returns its serial number.
+    /// Adds a packet in flight, and returns its serial number. A packet must be able to wait at `whereabouts`. Returns
+    /// `SerialsSpent` if no serial number is left, and `Memory` if memory runs out.
     pub(crate) fn enqueue(
         &mut self,
         whereabouts: Whereabouts,
@@ -55,7 +57,8 @@ impl Fabric {
         Ok(serial)
     }
 
-    /// Replaces the packet at index `i` among the packets in flight by `packet`, which waits at `whereabouts`.
+    /// Replaces the packet at index `i` among the packets in flight by `packet`, which waits at `whereabouts`. Both
+    /// must have the serial number `serial`, and a packet must be able to wait there.
     pub(crate) fn move_to(
         &mut self,
         i: usize,
@@ -74,7 +77,7 @@ impl Fabric {
         };
     }
 
-    /// Removes the packet at index `i` among the packets in flight.
+    /// Removes the packet at index `i` among the packets in flight, which must have the serial number `serial`.
     pub(crate) fn remove(&mut self, i: usize, serial: u64)
         requires { IsFlightAt self.old.flights i serial }
         ensures { self.new ≡ without self.old serial }
@@ -82,11 +85,11 @@ impl Fabric {
         self.flights.remove(i);
     }
 
-    /// Loses the packet in flight with this serial number. Takes no memory.
+    /// Loses the packet in flight with the serial number `serial`. Does not allocate.
     ///
     /// # Errors
     ///
-    /// Returns `NoSuchPacket` if there is none.
+    /// Returns `NoSuchPacket` if no packet in flight has the serial number `serial`.
     #[tactic(auto, unfolding(crate::specs::Changes::after_lose))]
     pub fn lose(&mut self, serial: u64) -> Result<(), FabricFault>
         ensures fabric { self.new ≡ (after_lose self.old serial).fabric }
@@ -99,13 +102,13 @@ impl Fabric {
         Ok(())
     }
 
-    /// Copies the packet in flight with this serial number, and returns the copy's serial number. The copy waits at the
-    /// same whereabouts.
+    /// Copies the packet in flight with the serial number `serial`, and returns the copy's serial number. The copy
+    /// waits where the packet waits.
     ///
     /// # Errors
     ///
-    /// Returns `NoSuchPacket` if no packet in flight has the serial number, `SerialsSpent` if no serial number is left,
-    /// and `Memory` if memory runs out.
+    /// Returns `NoSuchPacket` if no packet in flight has the serial number `serial`, `SerialsSpent` if no serial number
+    /// is left, and `Memory` if memory runs out.
     #[tactic(auto, unfolding(crate::specs::Changes::after_repeat))]
     pub fn repeat(&mut self, serial: u64) -> Result<u64, FabricFault>
         ensures { ComesTo result self.old self.new (after_repeat self.old serial) }

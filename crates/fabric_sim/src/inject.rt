@@ -8,14 +8,15 @@ use crate::flight::Whereabouts;
 use crate::packet::Packet;
 use fabric_model::NodePort;
 
-/// The offset of MgmtClass in a packet, and its value if switches forward the packet by LIDs.
+/// The offset of MgmtClass in a packet.
 const MGMT_CLASS: usize = 1;
 
+/// The MgmtClass of a packet that switches forward by LIDs.
 const LID_ROUTED: u8 = 0x01;
 
 impl Fabric {
-    /// Sends a packet from the seat `from`, and returns its serial number. If switches forward the packet by LIDs, its
-    /// SLID becomes the LID of the port.
+    /// Sends `packet` from the seat `from`, and returns its serial number. If switches forward the packet by LIDs, its
+    /// SLID becomes the LID of `from`, or 0 if `from` has none.
     ///
     /// # Errors
     ///

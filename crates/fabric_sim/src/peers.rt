@@ -39,7 +39,8 @@ impl Peers {
             .flatten()
     }
 
-    /// Sets the other end of the cable in a port, or clears it.
+    /// Sets `other` as the port at the other end of the cable in `port`, or none if `other` is `None`. `port` must be
+    /// at most the node's port count.
     pub(crate) fn set(&mut self, port: PortNum, other: Option<NodePort>)
         requires { port < length self.old }
         ensures { self.new ≡ slice_set self.old port other }

@@ -13,20 +13,20 @@ use smp_bytes::Lid;
 /// Where a packet for a LID ends.
 #[derive(Clone, Copy, Debug, PartialEq, Eq)]
 pub enum Ping {
-    /// It reached this port, over this many wires.
+    /// The packet reached this port, over this many wires.
     Reached(NodePort, usize),
-    /// It reached no port: it is lost at this node.
+    /// The packet reached no port: it is lost at this node.
     Lost(NodeId),
 }
 
 impl Fabric {
     /// Returns where a packet for `lid` ends if it is sent from the port `from` and switches forward it by their
     /// tables. From a port of a switch it begins at the switch. After two wires for each switch and two more it counts
-    /// as lost, since it then loops. Takes a step for each node, and one for each wire. Takes no memory.
+    /// as lost, since it then loops. Takes time linear in the number of nodes and of wires taken. Does not allocate.
     ///
     /// # Errors
     ///
-    /// Returns `NoSuchPort` if the port does not exist. Port 0 of a switch exists.
+    /// Returns `NoSuchPort` if `from` does not exist. Port 0 of a switch exists.
     pub fn ping(&self, from: NodePort, lid: Lid) -> Result<Ping, FabricFault>
         ensures judged { Judges result (ping_fault self.now from) }
         ensures ping { IfOk result (λ comes. comes ≡ ping (fabric_of self.now) lid from) }

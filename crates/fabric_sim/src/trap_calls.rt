@@ -17,7 +17,7 @@ use smp_bytes::{Lid, PortNum};
 use std::alloc::Global;
 
 impl Fabric {
-    /// Lets the agents of switches send traps from now on. Takes memory for each node.
+    /// Lets the agents of switches send traps from now on. Does nothing if they do already.
     ///
     /// # Errors
     ///
@@ -32,8 +32,9 @@ impl Fabric {
         }
     }
 
-    /// Tells the agent of a node that the state of one of its ports has changed. If the node is a switch and switches
-    /// send traps, a new trap waits there. It is sent if it can leave.
+    /// Tells the agent of `node` that the state of one of its ports has changed. If the node is a switch and switches
+    /// send traps, a new trap waits there, in place of any other. It is sent if it can leave and a serial number is
+    /// left.
     ///
     /// # Errors
     ///
@@ -51,7 +52,7 @@ impl Fabric {
         Ok(())
     }
 
-    /// Sends the trap that waits at a node, if there is one. It is not sent if the node has no LID, the table leads to
+    /// Sends the trap that waits at `node`, if there is one. It is not sent if the node has no LID, its table leads to
     /// no port with a cable, or no serial number is left.
     ///
     /// # Errors
@@ -67,7 +68,8 @@ impl Fabric {
         }
     }
 
-    /// Sends the trap with the TransactionID `number` from a node, if it can leave.
+    /// Sends the trap with the TransactionID `number` from `node`, if it can leave and a serial number is left. Returns
+    /// `Memory` if memory runs out.
     fn send_numbered(&mut self, node: NodeId, number: u64) -> Result<(), FabricFault>
         ensures { ComesTo result self.old self.new (leaving_just (trap_sent self.old node number)) }
     {
@@ -81,7 +83,7 @@ impl Fabric {
         }
     }
 
-    /// Makes a new trap wait at a node.
+    /// Makes a new trap wait at `node`, in place of any other. There must be room for it.
     fn add_trap(&mut self, node: NodeId)
         requires { node < length self.old.traps.waiting }
         ensures { self.new ≡ with_traps self.old (with_new_trap self.old.traps node) }
@@ -89,14 +91,15 @@ impl Fabric {
         self.traps.add(node);
     }
 
-    /// Returns whether a node is a switch that sends traps.
+    /// Returns whether `node` is a switch, and switches send traps.
     fn sends_traps(&self, node: NodeId) -> bool
         ensures { result ≡ sends_traps self.now node }
     {
         self.traps.has_room(node) && self.is_switch_at(node)
     }
 
-    /// Returns the port by which a node's trap leaves, or `None` if the node has no LID or the port no cable.
+    /// Returns the port by which the trap of `node` leaves. Returns `None` if the node has no LID, its table leads to
+    /// no port for the manager's LID, or no cable is in the port.
     fn trap_out(&self, node: NodeId) -> Option<NodePort>
         ensures out { result ≡ trap_out self.now node }
         ensures port { IfSome result (λ out. is_cable_port self.now out ≡ true) }
@@ -111,7 +114,7 @@ impl Fabric {
         }
     }
 
-    /// Returns the packet of a node's trap.
+    /// Returns the packet of the trap of `node` with the TransactionID `number`, from the node's LID to the manager's.
     fn trap_packet(&self, node: NodeId, number: u64) -> Packet
         ensures { result ≡ trap_packet self.now node number }
     {
@@ -123,7 +126,7 @@ impl Fabric {
         }
     }
 
-    /// Returns the LID of the subnet manager that was set at a node's port 0, or 0 if none was set.
+    /// Returns the LID of the subnet manager that was set at port 0 of `node`, or 0 if none was set.
     fn master_lid(&self, node: NodeId) -> Lid
         ensures { result ≡ master_lid self.now node }
     {
@@ -134,7 +137,7 @@ impl Fabric {
     }
 }
 
-/// Returns port 0 of a node.
+/// Returns port 0 of `node`.
 fn port_zero(node: NodeId) -> NodePort
     ensures { result ≡ port_zero node }
 {

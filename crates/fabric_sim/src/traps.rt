@@ -11,7 +11,7 @@ use std::marker::Model;
 pub(crate) struct Traps {
     /// The TransactionIDs by node. The list is empty while switches send no traps.
     waiting: Vec<Option<u64>>,
-    /// The TransactionID of the last trap that began.
+    /// The TransactionID of the last trap that began, or 0 if none began.
     last: u64,
 }
 
@@ -34,7 +34,7 @@ impl Traps {
         }
     }
 
-    /// Makes room for a trap at each of `nodes` nodes, so that switches send traps. Changes nothing if they do already.
+    /// Makes room for a trap at each of `nodes` nodes, so that switches send traps. Does nothing if they do already.
     pub(crate) fn begin(&mut self, alloc: Global, nodes: usize) -> Result<(), AllocError>
         ensures ok { OnOk result (self.new ≡ begun self.old nodes) }
         ensures err { OnErr result (self.new ≡ self.old) }
@@ -45,28 +45,28 @@ impl Traps {
         Ok(())
     }
 
-    /// Returns whether there is room for a trap at a node. There is if the node exists and switches send traps.
+    /// Returns whether there is room for a trap at `node`: switches send traps, and the node exists.
     pub(crate) fn has_room(&self, node: NodeId) -> bool
         ensures { result ≡ nat_lt node (length self.now.waiting) }
     {
         node.number() < self.waiting.len()
     }
 
-    /// Returns the TransactionID of the trap that waits at a node, or `None` if none waits.
+    /// Returns the TransactionID of the trap that waits at `node`, or `None` if none waits.
     pub(crate) fn at(&self, node: NodeId) -> Option<u64>
         ensures { result ≡ trap_at self.now node }
     {
         self.waiting.get(node.number()).copied().flatten()
     }
 
-    /// Returns the TransactionID of the next trap.
+    /// Returns the TransactionID of the next trap, which is 0 after the greatest.
     pub(crate) fn next(&self) -> u64
         ensures { result ≡ next_trap self.now }
     {
         self.last.wrapping_add(1)
     }
 
-    /// Makes a new trap wait at a node, in place of the one before, if any.
+    /// Makes a new trap wait at `node`, in place of any other. There must be room for it.
     pub(crate) fn add(&mut self, node: NodeId)
         requires { node < length self.old.waiting }
         ensures { self.new ≡ with_new_trap self.old node }
@@ -76,7 +76,7 @@ impl Traps {
         self.last = number;
     }
 
-    /// Ends the trap with this TransactionID, if it waits at the node.
+    /// Ends the trap with the TransactionID `number`, if it waits at `node`.
     pub(crate) fn repress(&mut self, node: NodeId, number: u64)
         ensures { self.new ≡ without_trap self.old node number }
     {

@@ -14,7 +14,7 @@ use Rattle.subnet_view.specs.Wires.{IsWire, across}
 use Rattle.fact_gaps.specs.InOrder.{each_once, port_cmp}
 use Rattle.fact_gaps.specs.Named.{IsNamedNode, IsNamedPort, named_nodes, named_ports}
 
--- the type of a node is known and, if it is a switch, its table room
+-- a node whose type, if known, is `node` is known: its type is and, if it is a switch, its table room (`room`)
 abbrev pub is_known_type : Option (NodeType × ℕ) → Bool → Bool
 is_known_type node room = option_map_or (λ n. not (is_switch n.0) || room) node false
 
@@ -26,17 +26,17 @@ is_known_node cells g = is_known_type (node_of cells g) (is_some (cap_of cells g
 abbrev pub unusable_nodes : Cells → List ℕ
 unusable_nodes cells = each_once nat_cmp (filter (λ g. not (is_known_node cells g)) (named_nodes cells))
 
--- the port is reported as down
+-- `up` says that a port is known to be down
 abbrev pub is_said_down : Option Bool → Bool
 is_said_down up = option_map_or not up false
 
--- the port is known to be down or has a wire; port 0 is known if it is a switch's end port
+-- it is known where the port `e` leads: it has a wire, or is known to be down; of port 0, it is an end port
 abbrev pub is_known_port : Cells → ℕ × ℕ → Bool
 is_known_port cells e =
     if e.1 == 0 then is_end_port cells e.0 e.1
     else is_some (across cells e.0 e.1) || is_said_down (up_of cells e.0 e.1)
 
--- the port with these numbers of node and port
+-- the end port of the node `e.0` with the number `e.1`
 abbrev pub port_at : ℕ × ℕ → EndPort
 port_at e = record { node = e.0; port = e.1 }
 
@@ -45,11 +45,11 @@ abbrev pub unjoined_ports : Cells → List EndPort
 unjoined_ports cells =
     map port_at (each_once port_cmp (filter (λ e. not (is_known_port cells e)) (named_ports cells)))
 
--- each of `guids` is a known node
+-- each of `guids` is the GUID of a node whose type is known and, if it is a switch, its table room
 abbrev pub AreKnownNodes : Cells → List ℕ → Type 0
 AreKnownNodes cells guids = (g : ℕ) → Contains guids g → is_known_node cells g ≡ true
 
--- each of `ports` is a known port
+-- of each of `ports` it is known where it leads
 abbrev pub AreKnownPorts : Cells → List (ℕ × ℕ) → Type 0
 AreKnownPorts cells ports = (e : ℕ × ℕ) → Contains ports e → is_known_port cells e ≡ true
 
@@ -68,12 +68,12 @@ IsManagementPort cells g p = (p ≡ 0) × IsEndPort cells g p
 abbrev pub IsDown : Cells → ℕ → ℕ → Type 0
 IsDown cells g p = (1 ≤ p) × (up_of cells g p ≡ Some false)
 
--- port p of node g has a wire: both ends are known to be up, and each is a port of a switch or an end port with a known
--- GUID
+-- port p of node g has a wire: the links of both ends name each other, both ends are known to be up, and each is a port
+-- of a usable switch or an end port
 abbrev pub IsWired : Cells → ℕ → ℕ → Type 0
 IsWired cells g p = (h q : ℕ) × IsWire cells g p h q
 
--- it is known where port p of node g leads
+-- it is known where port p of node g leads: it is a switch's end port, is known to be down, or has a wire
 abbrev pub IsKnownPort : Cells → ℕ → ℕ → Type 0
 IsKnownPort cells g p = IsManagementPort cells g p ⊎ IsDown cells g p ⊎ IsWired cells g p
 
@@ -91,10 +91,10 @@ pub record ListsPorts (cells : Cells) (ports : List EndPort) : Type 0 where
       → IsNamedPort cells (e.node, e.port) × ¬ (IsKnownPort cells e.node e.port)
   pub rises : AllPairs (λ a b. port_cmp (a.node, a.port) (b.node, b.port) ≡ Less) ports
 
--- the list has the named nodes that are not known
+-- `unusable_nodes` lists exactly the named nodes that are not known, each once, by rising GUID
 abbrev pub NodesLaw : Type 0
 NodesLaw = (cells : Cells) → ListsNodes cells (unusable_nodes cells)
 
--- the list has the named ports that are not known
+-- `unjoined_ports` lists exactly the named ports of which it is unknown where they lead, each once, by node and port
 abbrev pub PortsLaw : Type 0
 PortsLaw = (cells : Cells) → ListsPorts cells (unjoined_ports cells)

@@ -10,16 +10,16 @@ put_beside Less x y ys later = x ∷ y ∷ ys
 put_beside Equal x y ys later = y ∷ ys
 put_beside Greater x y ys later = y ∷ later
 
--- the ordered list with x inserted in order, unless it is there already
+-- the ordered list with `x` inserted in order, unless an equal element is there already
 abbrev pub put_once : {X : Type 0} → (X → X → Ordering) → X → List X → List X
 put_once cmp x [] = x ∷ []
 put_once cmp x (y ∷ ys) = put_beside (cmp x y) x y ys (put_once cmp x ys)
 
--- the elements in order, each once
+-- the elements of a list in order by `cmp`, each once
 abbrev pub each_once : {X : Type 0} → (X → X → Ordering) → List X → List X
 each_once cmp [] = []
 each_once cmp (x ∷ xs) = put_once cmp x (each_once cmp xs)
 
--- by node, then by port
+-- the order of ports by node, then by port
 abbrev pub port_cmp : ℕ × ℕ → ℕ × ℕ → Ordering
 port_cmp a b = ordering_then (nat_cmp a.0 b.0) (nat_cmp a.1 b.1)

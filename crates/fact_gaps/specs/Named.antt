@@ -9,11 +9,11 @@ use Rattle.reply_facts.specs.Key.{key_guid}
 use Rattle.reply_facts.specs.Known.{kind_in, peer_in, value_in}
 use Rattle.subnet_view.specs.Reading.{Cells, is_switch_in}
 
--- the node that a cell is about
+-- the GUID of the node that a cell is about; there always is one
 abbrev pub own_node : Key × Cell Value → Option ℕ
 own_node s = Some (key_guid s.0)
 
--- the port that a cell is about; of a node's cell, port 0 if it says that the node is a switch; None if there is none
+-- the port that a cell is about; of the cell of a node that is known as a switch, port 0; None if there is none
 abbrev pub own_port : Key × Cell Value → Option (ℕ × ℕ)
 own_port ((Node g), c) = if is_switch_in (kind_in (value_in (Some c))) then Some (g, 0) else None
 own_port ((PortGuid g p), c) = Some (g, p)
@@ -32,28 +32,28 @@ abbrev pub link_key : Key × Cell Value → Option (ℕ × ℕ)
 link_key ((Link g p), c) = Some (g, p)
 link_key (_, c) = None
 
--- the port to which a link leads, by its cell; None if it is not known
+-- the port to which a link leads, by its cell; None if that is not known, or for a cell of another kind
 abbrev pub far_port : Key × Cell Value → Option (ℕ × ℕ)
 far_port ((Link g p), c) = peer_in (value_in (Some c))
 far_port (_, c) = None
 
--- the node to which a link leads, by its cell; None if it is not known
+-- the node to which a link leads, by its cell; None if that is not known, or for a cell of another kind
 abbrev pub far_node : Key × Cell Value → Option ℕ
 far_node s = option_map (λ q. q.0) (far_port s)
 
--- the cell names node g: it is about g or a port of g, or says that a link leads to g
+-- the cell `s` names node `g`: it is about g or a port of g, or says that a link leads to g
 abbrev pub NamesNode : Key × Cell Value → ℕ → Type 0
 NamesNode s g = (key_guid s.0 ≡ g) ⊎ (far_node s ≡ Some g)
 
--- the cell names the port e: it is about e, or says that a link leads to e
+-- the cell `s` names the port `e`: it is about e, or says that a link leads to e
 abbrev pub NamesPort : Key × Cell Value → ℕ × ℕ → Type 0
 NamesPort s e = (own_port s ≡ Some e) ⊎ (far_port s ≡ Some e)
 
--- some cell names node g
+-- some cell of the facts names node `g`
 abbrev pub IsNamedNode : Cells → ℕ → Type 0
 IsNamedNode cells g = (s : Key × Cell Value) × Contains cells s × NamesNode s g
 
--- some cell names the port e
+-- some cell of the facts names the port `e`
 abbrev pub IsNamedPort : Cells → ℕ × ℕ → Type 0
 IsNamedPort cells e = (s : Key × Cell Value) × Contains cells s × NamesPort s e
 
@@ -65,6 +65,6 @@ named_nodes cells = filter_map own_node cells ++ filter_map far_node cells
 abbrev pub named_ports : Cells → List (ℕ × ℕ)
 named_ports cells = filter_map own_port cells ++ filter_map far_port cells
 
--- what the cell names by `name`; None if it names nothing or does not pass `test`
+-- what the cell names by `name`; None if it names nothing, or this does not pass `test`
 abbrev pub kept : {X : Type 0} → (X → Bool) → (Key × Cell Value → Option X) → Key × Cell Value → Option X
 kept test name s = option_and_then (λ x. if test x then Some x else None) (name s)

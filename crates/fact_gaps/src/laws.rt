@@ -8,7 +8,7 @@ pub fn unusable_nodes_are_listed()
 {}
 
 /// Each port that facts name is listed once, by node and port, unless it is known to be down, has a wire, or is port 0
-/// of a switch with a known GUID. No other port is listed.
+/// of a switch, with a known port GUID. No other port is listed.
 pub fn unjoined_ports_are_listed()
     ensures { PortsLaw }
 {}

@@ -13,8 +13,7 @@ use std::alloc::{AllocError, Global};
 
 /// Returns the unusable nodes that facts name, each once, by rising GUID. A cell names the node of its key and, if it
 /// is a link's, the node at the far end. A node is unusable if its type is unknown or, if it is a switch, its table
-/// room. Walks the cells three times. Takes two searches for each node that has a cell, and one among the known nodes
-/// for each node that a cell names.
+/// room.
 pub fn unusable_nodes(alloc: Global, store: &Store) -> Result<Vec<Guid>, AllocError>
     ensures { IfOk result (λ guids. guids.items ≡ unusable_nodes (cells_of store.now)) }
 {
@@ -26,7 +25,7 @@ pub fn unusable_nodes(alloc: Global, store: &Store) -> Result<Vec<Guid>, AllocEr
     Ok(guids)
 }
 
-/// Returns the known nodes, by rising GUID.
+/// Returns the known nodes that have a node's cell, by rising GUID.
 fn known_nodes(alloc: Global, store: &Store) -> Result<Vec<Guid>, AllocError>
     ensures { IfOk result (λ known. known.items
         ≡ filter_map (kept (is_known_node (cells_of store.now)) node_key) (cells_of store.now)) }
@@ -40,7 +39,7 @@ fn known_nodes(alloc: Global, store: &Store) -> Result<Vec<Guid>, AllocError>
     Ok(known)
 }
 
-/// Returns the node of a node's cell if it is known. Returns `None` if it is not known, or for a cell of another kind.
+/// Returns the node of `sighting` if that is a node's cell and the node is known, otherwise `None`.
 fn known_node(store: &Store, sighting: &Sighting) -> Option<Guid>
     ensures { result ≡ kept (is_known_node (cells_of store.now)) node_key sighting.now }
 {
@@ -50,7 +49,7 @@ fn known_node(store: &Store, sighting: &Sighting) -> Option<Guid>
     }
 }
 
-/// Appends to `guids` the unusable nodes that cells are about. Skips the nodes in `known`.
+/// Appends to `guids` the unusable nodes that cells are about. Each node in `known` must be known.
 fn add_own_nodes(guids: &mut Vec<Guid>, store: &Store, known: &[Guid]) -> Result<(), AllocError>
     requires { AreKnownNodes (cells_of store.now) known.now }
     ensures { OnOk result (guids.new.items ≡ guids.old.items
@@ -64,7 +63,7 @@ fn add_own_nodes(guids: &mut Vec<Guid>, store: &Store, known: &[Guid]) -> Result
     Ok(())
 }
 
-/// Appends to `guids` the unusable nodes at the far ends of links. Skips the nodes in `known`.
+/// Appends to `guids` the unusable nodes at the far ends of links. Each node in `known` must be known.
 fn add_far_nodes(guids: &mut Vec<Guid>, store: &Store, known: &[Guid]) -> Result<(), AllocError>
     requires { AreKnownNodes (cells_of store.now) known.now }
     ensures { OnOk result (guids.new.items ≡ guids.old.items
@@ -78,7 +77,8 @@ fn add_far_nodes(guids: &mut Vec<Guid>, store: &Store, known: &[Guid]) -> Result
     Ok(())
 }
 
-/// Returns the far node of a link's cell if it is unusable, otherwise `None`. The nodes in `known` are not unusable.
+/// Returns the far node of `sighting` if that is a link's cell and the node is unusable, otherwise `None`. Each node in
+/// `known` must be known.
 fn unusable_far_node(store: &Store, known: &[Guid], sighting: &Sighting) -> Option<Guid>
     requires { AreKnownNodes (cells_of store.now) known.now }
     ensures { result ≡ kept (λ g. not (is_known_node (cells_of store.now) g)) far_node sighting.now }
@@ -87,7 +87,7 @@ fn unusable_far_node(store: &Store, known: &[Guid], sighting: &Sighting) -> Opti
     if_unusable(store, known, node)
 }
 
-/// Returns `node` if it is unusable, otherwise `None`. The nodes in `known` are not unusable.
+/// Returns `node` if it is unusable, otherwise `None`. Each node in `known` must be known.
 fn if_unusable(store: &Store, known: &[Guid], node: Guid) -> Option<Guid>
     requires { AreKnownNodes (cells_of store.now) known.now }
     ensures { result ≡ (if not (is_known_node (cells_of store.now) node) then Some node else None) }
@@ -99,8 +99,8 @@ fn if_unusable(store: &Store, known: &[Guid], node: Guid) -> Option<Guid>
     }
 }
 
-/// Returns whether `node` is known. All nodes in `known` are. Takes one binary search of `known`, and two of the store
-/// if it lacks the node.
+/// Returns whether `node` is known. Each node in `known` must be. Takes a binary search among `known`, and at most two
+/// searches of `store` if `known` lacks the node.
 fn is_known_by(store: &Store, known: &[Guid], node: Guid) -> bool
     requires { AreKnownNodes (cells_of store.now) known.now }
     ensures { result ≡ is_known_node (cells_of store.now) node }
@@ -108,7 +108,8 @@ fn is_known_by(store: &Store, known: &[Guid], node: Guid) -> bool
     known.binary_search(&node).is_ok() || is_known_node(store, node)
 }
 
-/// Returns whether the type of `node` is known and, if it is a switch, its table room. Takes two searches.
+/// Returns whether the type of `node` is known and, if it is a switch, its table room. Takes at most two searches of
+/// `store`.
 fn is_known_node(store: &Store, node: Guid) -> bool
     ensures { result ≡ is_known_node (cells_of store.now) node }
 {
@@ -119,8 +120,8 @@ fn is_known_node(store: &Store, node: Guid) -> bool
     }
 }
 
-/// Returns the far port that `sighting` reports. Returns `None` if it is not the cell of a link, or if the far port is
-/// not known.
+/// Returns the far port that `sighting` reports. Returns `None` if `sighting` is not the cell of a link, or if the far
+/// port is not known.
 pub(crate) fn far_port(sighting: &Sighting) -> Option<(Guid, PortNum)>
     ensures { result ≡ far_port sighting.now }
 {
@@ -130,7 +131,7 @@ pub(crate) fn far_port(sighting: &Sighting) -> Option<(Guid, PortNum)>
     }
 }
 
-/// Returns the port that is the value of a cell, or `None` if its value is no port.
+/// Returns the port that is the value of `sighting`, or `None` if its value is no port or is disputed.
 fn peer_said(sighting: &Sighting) -> Option<(Guid, PortNum)>
     ensures { result ≡ peer_in (value_in (Some sighting.now.1)) }
 {

@@ -15,9 +15,8 @@ use std::alloc::{AllocError, Global};
 use subnet_view::{EndPort, Wires, is_end_port};
 
 /// Returns the unjoined ports that facts name, each once, by node and port. A cell names the port of its key, the
-/// management port if it says that its node is a switch, and the far end if it is a link's. A port is unjoined if it is
-/// not known to be down and has no wire. Port 0 is unjoined if it is not the end port of a switch. Walks the cells
-/// three times. Takes two searches for each link, and one for each port that a cell names, or three if it has no wire.
+/// management port if it says that its node is a switch, and the far end if it is a link's. A port other than port 0 is
+/// unjoined if it is not known to be down and has no wire. Port 0 is unjoined if it is not the end port of a switch.
 pub fn unjoined_ports(alloc: Global, store: &Store) -> Result<Vec<EndPort>, Refused>
     ensures { IfOk result (λ ports. ports.items ≡ unjoined_ports (cells_of store.now)) }
 {
@@ -25,7 +24,7 @@ pub fn unjoined_ports(alloc: Global, store: &Store) -> Result<Vec<EndPort>, Refu
     Ok(unjoined_by(alloc, &wires)?)
 }
 
-/// Returns the unjoined ports of the facts in `wires`.
+/// Returns the unjoined ports that the facts in `wires` name, each once, by node and port.
 fn unjoined_by(alloc: Global, wires: &Wires) -> Result<Vec<EndPort>, AllocError>
     ensures { IfOk result (λ ports. ports.items ≡ unjoined_ports (cells_of wires.now)) }
 {
@@ -37,7 +36,7 @@ fn unjoined_by(alloc: Global, wires: &Wires) -> Result<Vec<EndPort>, AllocError>
     end_ports_at(alloc, &ports)
 }
 
-/// Returns the ports with a link's cell of which it is known where they lead, by node and port.
+/// Returns the ports that have a link's cell and are not unjoined, by node and port.
 fn known_ports(alloc: Global, wires: &Wires) -> Result<Vec<(Guid, PortNum)>, AllocError>
     ensures { IfOk result (λ known. known.items
         ≡ filter_map (kept (is_known_port (cells_of wires.now)) link_key) (cells_of wires.now)) }
@@ -51,8 +50,7 @@ fn known_ports(alloc: Global, wires: &Wires) -> Result<Vec<(Guid, PortNum)>, All
     Ok(known)
 }
 
-/// Returns the port of a link's cell if it is known where the port leads. Returns `None` if it is unknown, or for a
-/// cell of another kind.
+/// Returns the port of `sighting` if that is a link's cell and the port is not unjoined, otherwise `None`.
 fn known_port(wires: &Wires, sighting: &Sighting) -> Option<(Guid, PortNum)>
     ensures { result ≡ kept (is_known_port (cells_of wires.now)) link_key sighting.now }
 {
@@ -62,14 +60,14 @@ fn known_port(wires: &Wires, sighting: &Sighting) -> Option<(Guid, PortNum)>
     }
 }
 
-/// Returns the ports as end ports.
+/// Returns each of `ports`, a node and a port of it, as an end port.
 fn end_ports_at(alloc: Global, ports: &[(Guid, PortNum)]) -> Result<Vec<EndPort>, AllocError>
     ensures { IfOk result (λ named. named.items ≡ map port_at ports.now) }
 {
     ports.iter().map(end_port_at).collect(alloc)
 }
 
-/// Returns a port as an end port.
+/// Returns `port`, a node and a port of it, as an end port.
 fn end_port_at(port: &(Guid, PortNum)) -> EndPort
     ensures { result ≡ port_at port.now }
 {
@@ -79,7 +77,8 @@ fn end_port_at(port: &(Guid, PortNum)) -> EndPort
     }
 }
 
-/// Appends to `ports` the unjoined ports that cells are about, management ports included. Skips the ports in `known`.
+/// Appends to `ports` the unjoined ports that cells are about, management ports included. No port in `known` may be
+/// unjoined.
 fn add_own_ports(
     ports: &mut Vec<(Guid, PortNum)>,
     wires: &Wires,
@@ -97,7 +96,7 @@ fn add_own_ports(
     Ok(())
 }
 
-/// Appends to `ports` the unjoined ports at the far ends of links. Skips the ports in `known`.
+/// Appends to `ports` the unjoined ports at the far ends of links. No port in `known` may be unjoined.
 fn add_far_ports(
     ports: &mut Vec<(Guid, PortNum)>,
     wires: &Wires,
@@ -115,7 +114,8 @@ fn add_far_ports(
     Ok(())
 }
 
-/// Returns the port that a cell is about, or a switch's management port, if it is unjoined, otherwise `None`.
+/// Returns the port that `sighting` is about, or a switch's management port, if it is unjoined, otherwise `None`. No
+/// port in `known` may be unjoined.
 fn unjoined_own_port(
     wires: &Wires,
     known: &[(Guid, PortNum)],
@@ -128,7 +128,8 @@ fn unjoined_own_port(
     if_unjoined(wires, known, node, port)
 }
 
-/// Returns the far port of a link's cell if it is unjoined, otherwise `None`.
+/// Returns the far port of `sighting` if that is a link's cell and the port is unjoined, otherwise `None`. No port in
+/// `known` may be unjoined.
 fn unjoined_far_port(
     wires: &Wires,
     known: &[(Guid, PortNum)],
@@ -141,7 +142,7 @@ fn unjoined_far_port(
     if_unjoined(wires, known, node, port)
 }
 
-/// Returns the port if it is unjoined, otherwise `None`.
+/// Returns `port` of `node` if it is unjoined, otherwise `None`. No port in `known` may be unjoined.
 fn if_unjoined(
     wires: &Wires,
     known: &[(Guid, PortNum)],
@@ -158,8 +159,8 @@ fn if_unjoined(
     }
 }
 
-/// Returns whether it is known where a port leads. All ports in `known` are. Takes one binary search of `known`, and
-/// three of the store if it lacks the port.
+/// Returns whether `port` of `node` is not unjoined. No port in `known` may be unjoined. Takes a binary search among
+/// `known`, and what `is_known_port` takes if `known` lacks the port.
 fn is_known_by(wires: &Wires, known: &[(Guid, PortNum)], node: Guid, port: PortNum) -> bool
     requires { AreKnownPorts (cells_of wires.now) known.now }
     ensures { result ≡ is_known_port (cells_of wires.now) (node, port) }
@@ -167,8 +168,8 @@ fn is_known_by(wires: &Wires, known: &[(Guid, PortNum)], node: Guid, port: PortN
     known.binary_search(&(node, port)).is_ok() || is_known_port(wires, node, port)
 }
 
-/// Returns the port that a cell is about, or `None` if it is about no port. If a node's cell says that the node is a
-/// switch, the port is its management port.
+/// Returns the port that `sighting` is about, or `None` if it is about no port. If a node's cell says that the node is
+/// a switch, the port is its management port.
 fn own_port(sighting: &Sighting) -> Option<(Guid, PortNum)>
     ensures { result ≡ own_port sighting.now }
 {
@@ -188,15 +189,15 @@ fn own_port(sighting: &Sighting) -> Option<(Guid, PortNum)>
     }
 }
 
-/// Returns whether a cell says that its node is a switch.
+/// Returns whether `sighting` says that its node is a switch.
 fn is_switch_said(sighting: &Sighting) -> bool
     ensures { result ≡ is_switch_in (kind_in (value_in (Some sighting.now.1))) }
 {
     matches!(sighting.value(), Some(Value::Kind(NodeType::Switch, _)))
 }
 
-/// Returns whether a port is known to be down or has a wire. For port 0, returns whether it is a switch's end port.
-/// Takes at most three searches.
+/// Returns whether `port` of `node` is known to be down or has a wire. For port 0, returns whether it is a switch's end
+/// port.
 fn is_known_port(wires: &Wires, node: Guid, port: PortNum) -> bool
     ensures { result ≡ is_known_port (cells_of wires.now) (node, port) }
 {
@@ -207,7 +208,7 @@ fn is_known_port(wires: &Wires, node: Guid, port: PortNum) -> bool
     }
 }
 
-/// Returns whether a port is known to be down. Takes a search.
+/// Returns whether `port` of `node` is known to be down.
 fn is_down(store: &Store, node: Guid, port: PortNum) -> bool
     ensures { result ≡ is_said_down (up_of (cells_of store.now) node port) }
 {

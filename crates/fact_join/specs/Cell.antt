@@ -1,29 +1,31 @@
--- The order of cells, and their join.
+-- The order of cells, by which newer ones are above older ones and disputed ones above known ones of their generation;
+-- and the join of two cells.
 use Rattle.std.specs.Prelude.{◌≡◌, ℕ, ◌<◌, Bool, ◌⊎◌, nat_lt, if◌then◌else◌}
 use Rattle.fact_join.specs.declared.cell.Cell.{Cell}
 use Rattle.fact_join.specs.declared.cell.Cell.TheVariants.{Known, Disputed}
 
--- the generation of a cell
+-- the generation of a cell, known or disputed
 abbrev pub generation_of : {V : Type 0} → Cell V → ℕ
 generation_of (Known generation value) = generation
 generation_of (Disputed generation) = generation
 
--- the cell has no value
+-- the cell is disputed: it has a generation, but no value
 abbrev pub IsDisputed : {V : Type 0} → Cell V → Type 0
 IsDisputed (Known generation value) = ⊥
 IsDisputed (Disputed generation) = Unit {0}
 
--- b is newer than a, or equal to it, or of a's generation and disputed
+-- `a` is below `b` if `b` is newer, is equal to `a`, or is disputed in the generation of `a`
 abbrev pub IsBelow : {V : Type 0} → Cell V → Cell V → Type 0
 IsBelow a b = (generation_of a < generation_of b) ⊎ (a ≡ b) ⊎ ((generation_of a ≡ generation_of b) × IsDisputed b)
 
--- the join of two cells of one generation: known if both are known with equal values, otherwise disputed
+-- the join of two cells of one generation: the first if both are known with values that `same` calls equal, else
+-- disputed
 abbrev pub joined_alike : {V : Type 0} → (V → V → Bool) → Cell V → Cell V → Cell V
 joined_alike same (Known generation x) (Known other y) = if same x y then Known generation x else Disputed generation
 joined_alike same (Known generation x) (Disputed other) = Disputed generation
 joined_alike same (Disputed generation) b = Disputed generation
 
--- the newer cell; within a generation, what both say together
+-- the join of two cells: the newer one; if they have one generation, `joined_alike`
 abbrev pub joined_by : {V : Type 0} → (V → V → Bool) → Cell V → Cell V → Cell V
 joined_by same a b =
     if nat_lt (generation_of b) (generation_of a) then a else

@@ -1,4 +1,5 @@
--- The join of two cells is their least upper bound, if the test of values is exact.
+-- Laws of the order of cells and of their join: `joined_by` gives the least cell above two, if `same` answers true
+-- exactly for equal values.
 use Rattle.std.proofs.Common.{◌≡◌, ◌<◌, ◌≤◌, Bool, true, false, inl, inr, refl, sym, ap, ◌∙◌, subst, arith, cond}
 use Rattle.std.specs.Prelude.{nat_lt}
 use Rattle.std.specs.Cmp.{IsEquivalence}
@@ -13,7 +14,7 @@ use Rattle.fact_join.specs.Cell.{generation_of, IsDisputed, IsBelow, joined_alik
 pub below_itself : {V : Type 0} (a : Cell V) → IsBelow a a
 below_itself a = inr (inl refl)
 
--- a cell below another one is not newer
+-- if `a` is below `b`, its generation is at most that of `b`
 pub below-le : {V : Type 0} (a b : Cell V) → IsBelow a b → generation_of a ≤ generation_of b
 below-le a b (inl h) = omega arith
 below-le a b (inr (inl e)) = omega (arith, ap generation_of e)
@@ -28,7 +29,7 @@ disputed_is (Disputed g) h = refl
 both_disputed : {V : Type 0} (a b : Cell V) → generation_of a ≡ generation_of b → IsDisputed a → IsDisputed b → a ≡ b
 both_disputed a b e p q = disputed_is a p ∙ ap Disputed e ∙ sym (disputed_is b q)
 
--- two cells below each other are equal
+-- two cells, each below the other, are equal
 pub below_antisymm : {V : Type 0} (a b : Cell V) → IsBelow a b → IsBelow b a → a ≡ b
 below_antisymm a b (inl h) k = absurd (omega (arith, below-le b a k))
 below_antisymm a b (inr (inl e)) k = e
@@ -36,7 +37,7 @@ below_antisymm a b (inr (inr h)) (inl k) = absurd (omega arith)
 below_antisymm a b (inr (inr h)) (inr (inl e)) = sym e
 below_antisymm a b (inr (inr h)) (inr (inr k)) = both_disputed a b h.0 k.1 h.1
 
--- a cell below b is below every cell above b
+-- if `a` is below `b`, and `b` below `c`, then `a` is below `c`
 pub below_trans : {V : Type 0} (a b c : Cell V) → IsBelow a b → IsBelow b c → IsBelow a c
 below_trans a b c (inl h) k = inl (omega (arith, below-le b c k))
 below_trans a b c (inr (inl e)) k = let P : Cell _ → Type 0 = λ x. IsBelow x c in subst P (sym e) k
@@ -46,13 +47,14 @@ below_trans a b c (inr (inr h)) (inr (inr k)) = inr (inr (h.0 ∙ k.0, k.1))
 
 -- the join ---------------------------------------------------------------------
 
--- the three cases of a join
+-- the three cases of a join: one of the two cells is newer, and the join is that cell; or both have one generation, and
+-- the join is `joined_alike`
 pub data JoinCase {V : Type 0} (same : V → V → Bool) (a b : Cell V) : Type 0 where
   first_newer : generation_of b < generation_of a → joined_by same a b ≡ a → JoinCase same a b
   second_newer : generation_of a < generation_of b → joined_by same a b ≡ b → JoinCase same a b
   alike : generation_of a ≡ generation_of b → joined_by same a b ≡ joined_alike same a b → JoinCase same a b
 
--- one of the three cases holds
+-- each two cells are in one of the cases of `JoinCase`
 pub join_case : {V : Type 0} (same : V → V → Bool) (a b : Cell V) → JoinCase same a b
 join_case same a b =
     elim (nat_lt (generation_of b) (generation_of a)) as (λ t. nat_lt (generation_of b) (generation_of a) ≡ t
@@ -72,7 +74,7 @@ join_case same a b =
 
 module _ {V : Type 0} (same : V → V → Bool) (exact : (x y : V) → same x y ≡ true → x ≡ y) (itself : (x : V) → same x x
     ≡ true) where
-  -- within one generation the join is above the first cell
+  -- `joined_alike` of two cells is above the first, whatever their generations
   alike_above_first : (a b : Cell V) → IsBelow a (joined_alike same a b)
   alike_above_first (Known g x) (Known h y) =
       elim (same x y) as (λ t. IsBelow (Known g x) (cond t (Known g x) (Disputed g)))
@@ -80,7 +82,7 @@ module _ {V : Type 0} (same : V → V → Bool) (exact : (x y : V) → same x y 
   alike_above_first (Known g x) (Disputed h) = inr (inr (refl, tt))
   alike_above_first (Disputed g) b = inr (inl refl)
 
-  -- within one generation the join is above the second cell
+  -- `joined_alike` of two cells of one generation is above the second
   alike_above_second : (a b : Cell V) → generation_of a ≡ generation_of b → IsBelow b (joined_alike same a b)
   alike_above_second (Known g x) (Known h y) e =
       elim (same x y) as (λ t. same x y ≡ t → IsBelow (Known h y) (cond t (Known g x) (Disputed g))) [
@@ -90,19 +92,19 @@ module _ {V : Type 0} (same : V → V → Bool) (exact : (x y : V) → same x y 
   alike_above_second (Known g x) (Disputed h) e = inr (inr (sym e, tt))
   alike_above_second (Disputed g) b e = inr (inr (sym e, tt))
 
-  -- the join of a cell with itself is the cell
+  -- `joined_alike` of a cell and itself is the cell
   alike_itself : (a : Cell V) → joined_alike same a a ≡ a
   alike_itself (Known g x) = ap (λ t. cond t (Known g x) (Disputed g)) (itself x)
   alike_itself (Disputed g) = refl
 
-  -- within one generation the join keeps the generation
+  -- `joined_alike` of two cells has the generation of the first
   generation-alike : (a b : Cell V) → generation_of (joined_alike same a b) ≡ generation_of a
   generation-alike (Known g x) (Known h y) =
       elim (same x y) as (λ t. generation_of (cond t (Known g x) (Disputed g)) ≡ g) [ true ↦ refl | false ↦ refl ]
   generation-alike (Known g x) (Disputed h) = refl
   generation-alike (Disputed g) b = refl
 
-  -- within one generation the join is below all that is above both cells
+  -- `joined_alike` of two cells of one generation is below each cell `z` that is above both
   alike_least : (a b z : Cell V) → generation_of a ≡ generation_of b → IsBelow a z → IsBelow b z
       → IsBelow (joined_alike same a b) z
   alike_least a b z e (inl h) k = inl (omega (arith, generation-alike a b))
@@ -112,7 +114,7 @@ module _ {V : Type 0} (same : V → V → Bool) (exact : (x y : V) → same x y 
   alike_least a b z e (inr (inl p)) (inr (inl q)) =
       inr (inl (ap (λ x. joined_alike same x b) p ∙ ap (joined_alike same z) q ∙ alike_itself z))
 
-  -- the join is above the first
+  -- the join of two cells is above the first
   pub joined_above_first : (a b : Cell V) → IsBelow a (joined_by same a b)
   joined_above_first a b = let P : Cell V → Type 0 = λ x. IsBelow a x in
       elim (join_case same a b) [
@@ -121,7 +123,7 @@ module _ {V : Type 0} (same : V → V → Bool) (exact : (x y : V) → same x y 
         | alike h e ↦ subst P (sym e) (alike_above_first a b)
       ]
 
-  -- the join is above the second
+  -- the join of two cells is above the second
   pub joined_above_second : (a b : Cell V) → IsBelow b (joined_by same a b)
   joined_above_second a b = let P : Cell V → Type 0 = λ x. IsBelow b x in
       elim (join_case same a b) [
@@ -130,7 +132,7 @@ module _ {V : Type 0} (same : V → V → Bool) (exact : (x y : V) → same x y 
         | alike h e ↦ subst P (sym e) (alike_above_second a b h)
       ]
 
-  -- the join is below all that is above both
+  -- the join of two cells is below each cell `z` that is above both
   pub joined_least : (a b z : Cell V) → IsBelow a z → IsBelow b z → IsBelow (joined_by same a b) z
   joined_least a b z p q = let P : Cell V → Type 0 = λ x. IsBelow x z in
       elim (join_case same a b) [
@@ -139,6 +141,6 @@ module _ {V : Type 0} (same : V → V → Bool) (exact : (x y : V) → same x y 
         | alike h e ↦ subst P (sym e) (alike_least a b z h p q)
       ]
 
--- an equivalence relates each value to itself
+-- an equivalence `same` answers true for each value and itself
 pub equal_itself : {V : Type 0} {same : V → V → Bool} → IsEquivalence same → (x : V) → same x x ≡ true
 equal_itself laws x = laws.refl x

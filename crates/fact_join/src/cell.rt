@@ -6,9 +6,9 @@ use smp_bytes::Generation;
 /// What is known of one fact: its value at its newest generation, or that different values were told there.
 #[derive(Clone, Copy, Debug, PartialEq, Eq)]
 pub enum Cell<V> {
-    /// The one value that was told at its newest generation.
+    /// The newest generation at which the fact was told, and the one value that was told then.
     Known(Generation, V),
-    /// Different values were told at its newest generation.
+    /// The newest generation at which the fact was told. Different values were told then.
     Disputed(Generation),
 }
 

@@ -20,7 +20,7 @@ pub trait Join: Sized {
     fn below(&self, other: &Self) -> bool
         ensures { IsTrue result ↔ below self.now other.now };
 
-    /// Returns what this value and `other` say together.
+    /// Returns the join of this value and `other`.
     fn join(&self, other: &Self) -> Self
         ensures { result ≡ joined self.now other.now };
 

@@ -1,4 +1,4 @@
--- The number of keys that a search and a walk of two lists compare.
+-- How many keys a binary search in a store compares, and how many a walk of two stores in step.
 use Rattle.std.specs.Prelude.{◌≡◌, ℕ, zero, suc, ◌+◌, ◌<◌, ◌≤◌, ◌^◌, List, [], ◌∷◌, length, slice_get, Some}
 use Rattle.std.specs.declared.cmp.Ordering.{Ordering}
 use Rattle.std.specs.declared.cmp.Ordering.TheVariants.{Less, Equal, Greater}
@@ -9,8 +9,8 @@ use Rattle.reply_facts.specs.Key.{key_cmp}
 
 -- a search: -----------------------------------------------------------------------
 
--- the keys that were compared so far, latest first, leave the indices from `low` up to, but not including, `high`: each
--- was at an index that the earlier keys left, and leaves the indices on its side of `key`
+-- after comparing the keys `compared`, latest first, a search for `key` has the indices from `low` up to, but not
+-- including, `high` left: each key was at an index that was left then, and only the indices on its side of `key` stayed
 pub data Leaves (key : Key) (cells : List (Key × Cell Value)) : List Key → ℕ → ℕ → Type 0 where
   all : Leaves key cells [] 0 (length cells)
   later : (compared : List Key) (low high index : ℕ) (e : Key × Cell Value) → Leaves key cells compared low high → low
@@ -20,7 +20,8 @@ pub data Leaves (key : Key) (cells : List (Key × Cell Value)) : List Key → �
       ≤ index → index < high
       → slice_get cells index ≡ Some e → key_cmp e.0 key ≡ Greater → Leaves key cells (e.0 ∷ compared) low index
 
--- a search ends if no index is left, or if it meets the key at an index that is left
+-- `compared` are the keys that a search for `key` compares, latest first: it ends if no index is left, or if it meets
+-- `key` at an index that is left
 pub data IsSearch (key : Key) (cells : List (Key × Cell Value)) : List Key → Type 0 where
   without : (compared : List Key) (low high : ℕ) → Leaves key cells compared low high → high ≤ low
       → IsSearch key cells compared
@@ -28,19 +29,19 @@ pub data IsSearch (key : Key) (cells : List (Key × Cell Value)) : List Key → 
       → low ≤ index → index < high
       → slice_get cells index ≡ Some e → key_cmp e.0 key ≡ Equal → IsSearch key cells (e.0 ∷ compared)
 
--- a search compares `steps` keys
+-- a search for `key` in `cells` compares `steps` keys
 pub record CountsSearch (key : Key) (cells : List (Key × Cell Value)) (steps : ℕ) : Type 0 where
   pub compared : List Key
   pub is_search : IsSearch key cells compared
   pub counted : steps ≡ length compared
 
--- n has at least this many binary digits; 0 has none
+-- `n` has at least `digits` binary digits; 0 has none
 abbrev pub HasDigits : ℕ → ℕ → Type 0
 HasDigits n zero = Unit {0}
 HasDigits n (suc digits) = 2 ^ digits ≤ n
 
--- a search of n indices that has made `steps` comparisons may make `left` more, which in all is at most one for each
--- binary digit of n; they suffice for `most` indices, which is 2^left - 1
+-- a search of `n` indices that has made `steps` comparisons may make `left` more, in all at most one for each binary
+-- digit of `n`; they suffice for `most` indices, which is 2^left - 1
 pub record IsBudget (n steps most : ℕ) : Type 0 where
   pub left : ℕ
   pub digits : HasDigits n (steps + left)
@@ -48,19 +49,20 @@ pub record IsBudget (n steps most : ℕ) : Type 0 where
 
 -- a walk of two lists in step: -----------------------------------------------------
 
--- the number for this ordering: `less`, `equal` or `greater`
+-- the number that belongs to an ordering: `less`, `equal` or `greater`
 abbrev pub by_order : Ordering → ℕ → ℕ → ℕ → ℕ
 by_order Less less equal greater = less
 by_order Equal less equal greater = equal
 by_order Greater less equal greater = greater
 
--- the comparisons from here on if the first list is at cell x: the key of x is compared with the next key of the second
--- list, and the lesser key is passed, or both if they are equal; `after` counts the comparisons after x is passed
+-- how many comparisons a walk makes from cell `x` of the first list on: the key of `x` is compared with the next key of
+-- the second list, and the lesser key is passed, or both if they are equal; `after` counts those after `x` is passed; 0
+-- if the second list is empty
 abbrev pub compared_at : Key × Cell Value → (List (Key × Cell Value) → ℕ) → List (Key × Cell Value) → ℕ
 compared_at x after [] = 0
 compared_at x after (y ∷ t) = 1 + by_order (key_cmp x.0 y.0) (after (y ∷ t)) (after t) (compared_at x after t)
 
--- the comparisons of a walk: the next keys of both lists are compared until one list ends
+-- how many comparisons a walk of two lists in step makes: the next keys of both are compared until one list ends
 abbrev pub compared_by_walk : List (Key × Cell Value) → List (Key × Cell Value) → ℕ
 compared_by_walk [] t = 0
 compared_by_walk (x ∷ s) t = compared_at x (compared_by_walk s) t

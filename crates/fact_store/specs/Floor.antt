@@ -1,4 +1,4 @@
--- A floor of the generations: cells below it do not count.
+-- The floor of facts: the least generation that counts. Cells of lower generations are dropped.
 use Rattle.std.proofs.Common.{◌≡◌, ℕ, Bool, true, false, List, [], ◌∷◌, ◌&&◌, cond, refl, sym, subst, arith}
 use Rattle.std.proofs.lemmas.Bool.{le-leb}
 use Rattle.std.specs.Prelude.{T, nat_le, max, filter, Option, None, Some, if◌then◌else◌}
@@ -12,24 +12,24 @@ use Rattle.reply_facts.specs.declared.value.Value.{Value}
 use Rattle.reply_facts.specs.Key.{key_cmp}
 use Rattle.fact_store.specs.Seen.{CellMap}
 
--- whether a cell is at the floor or above it; generations begin at 1, and 0 counts as 1
+-- whether the cell `c` is at `floor` or above it; generations begin at 1, and 0 counts as 1
 abbrev pub is_kept : ℕ → Cell Value → Bool
 is_kept floor c = nat_le floor (max 1 (generation_of c))
 
--- the sightings at the floor or above it
+-- the sightings whose cells are at `floor` or above it, in their order
 abbrev pub kept : ℕ → List (Key × Cell Value) → List (Key × Cell Value)
 kept floor sightings = filter (λ s. is_kept floor s.1) sightings
 
--- the cell if it is at the floor or above it, and otherwise None
+-- the cell if there is one and it is at `floor` or above it, else None
 abbrev pub kept_there : ℕ → Option (Cell Value) → Option (Cell Value)
 kept_there floor None = None
 kept_there floor (Some c) = if is_kept floor c then Some c else None
 
--- the floor is at least 1, and no cell is below it
+-- whether `floor` is at least 1, and no cell of `found` is below it
 abbrev pub has_floor : ℕ → CellMap → Bool
 has_floor floor found = nat_le 1 floor && list_all (λ e. is_kept floor e.1) (entries found)
 
--- the cells at the floor or above it
+-- the map `found` without its cells below `floor`
 abbrev pub dropped : ℕ → CellMap → CellMap
 dropped floor found = from_sorted (kept floor (entries found))
 
@@ -40,17 +40,17 @@ both_true : (a b : Bool) → T a → T b → T (a && b)
 both_true true b g h = h
 both_true false b g h = absurd g
 
--- the first test of a conjunction holds
+-- if a conjunction holds, its first test holds
 first_true : (a b : Bool) → T (a && b) → T a
 first_true true b h = tt
 first_true false b h = absurd h
 
--- the second test of a conjunction holds
+-- if a conjunction holds, its second test holds
 second_true : (a b : Bool) → T (a && b) → T b
 second_true true b h = h
 second_true false b h = absurd h
 
--- a key below all keys is below all keys that are kept
+-- if the key `k` comes before all keys of `es`, it comes before all that are kept at `floor`
 below_kept : (floor : ℕ) (k : Key) (es : List (Key × Cell Value)) → T (below_all key_cmp k es)
     → T (below_all key_cmp k (kept floor es))
 below_kept floor k [] h = tt
@@ -59,7 +59,7 @@ below_kept floor k (e ∷ es) h =
     elim (is_kept floor e.1) as (λ b. T (below_all key_cmp k (cond b (e ∷ kept floor es) (kept floor es))))
     [ true ↦ both_true _ _ (first_true _ _ h) rest | false ↦ rest ]
 
--- if keys rise, the keys that are kept rise
+-- if the keys of `es` rise, the keys that are kept at `floor` rise
 pub rising_kept : (floor : ℕ) (es : List (Key × Cell Value)) → T (is_sorted key_cmp es)
     → T (is_sorted key_cmp (kept floor es))
 rising_kept floor [] h = tt
@@ -70,12 +70,12 @@ rising_kept floor (e ∷ es) h =
       | false ↦ rest
     ]
 
--- the entries of a dropped map are the entries that are kept
+-- the entries of a map dropped to `floor` are those of its entries that are kept at `floor`
 pub entries-dropped : (floor : ℕ) (found : CellMap) → entries (dropped floor found) ≡ kept floor (entries found)
 entries-dropped floor found =
     entries-from_sorted key_cmp (kept floor (entries found)) (rising_kept floor (entries found) (entries_sorted found))
 
--- each entry that is kept passes the test
+-- each entry that is kept at `floor` passes `is_kept`
 pub all_kept : (floor : ℕ) (es : List (Key × Cell Value)) → T (list_all (λ e. is_kept floor e.1) (kept floor es))
 all_kept floor [] = tt
 all_kept floor (e ∷ es) =
@@ -90,7 +90,7 @@ all_kept floor (e ∷ es) =
 at_least_one : (floor : ℕ) → T (nat_le 1 (max 1 floor))
 at_least_one floor = subst T (sym (le-leb 1 (max 1 floor) (omega arith))) tt
 
--- the map that is dropped to a floor has that floor
+-- a map dropped to the greater of `floor` and 1 has that floor
 pub dropped_has_floor : (floor : ℕ) (found : CellMap) → T (has_floor (max 1 floor) (dropped (max 1 floor) found))
 dropped_has_floor floor found =
     both_true _ _ (at_least_one floor)

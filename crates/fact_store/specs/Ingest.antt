@@ -5,11 +5,11 @@ use Rattle.fact_store.specs.declared.ingest.IngestFault.{IngestFault}
 use Rattle.fact_store.specs.declared.ingest.IngestFault.TheVariants as refuses
 use Rattle.reply_facts.specs.Report.{report_fault}
 
--- the first fault of the report; None if it has none
+-- the first fault of `report`, as a reason not to add it; None if it has none
 abbrev pub ingest_fault : Report → Option IngestFault
 ingest_fault report = option_map refuses.Report (report_fault report)
 
--- whether the fault is lack of memory
+-- whether a report was not added for lack of memory
 abbrev pub is_memory : IngestFault → Bool
 is_memory refuses.Memory = true
 is_memory _ = false

@@ -12,48 +12,49 @@ use Rattle.fact_store.specs.Seen.{CellMap}
 use Rattle.reply_facts.specs.Value.{is_same_value}
 use Rattle.fact_store.specs.View.{Facts, at_floor, cell_for, no_facts, raised, view_at}
 
--- the newer of two cells; if they have one generation, what they give together
+-- the join of two cells: the newer one; of one generation, known if both say one value, else disputed
 abbrev pub join : Cell Value → Cell Value → Cell Value
 join = joined_by is_same_value
 
--- each cell of the first map, joined with the second map's cell of its key if there is one, and the other cells of the
--- second map
+-- the cells of two maps: for a key that both have, the join of its cells; for any other key, its only cell
 abbrev pub merge_maps : CellMap → CellMap → CellMap
 merge_maps x y = from_entries (map (λ e. (e.0, option_map_or (join e.1) (get y e.0) e.1)) (entries x) ++ entries y)
 
--- the merged cells that are not below the greater of the floors, with this floor
+-- the merge of two facts: their floor is the greater of both floors, and their cells are those of `merge_maps` that are
+-- not below it
 abbrev pub merge : Facts → Facts → Facts
 merge x y = at_floor (max x.floor y.floor) (merge_maps x.found y.found)
 
--- y's floor is not less than x's, and each cell of x that is not below y's floor is below y's cell of its key
+-- `x` is below `y`: the floor of `y` is not less, and for each cell of `x` that is not below this floor, `y` has a cell
+-- of its key that is above it
 pub record IsBelowView (x y : Facts) : Type 0 where
   pub floors : x.floor ≤ y.floor
   pub cells : (key : Key) (c : Cell Value) → cell_for x key ≡ Some c → is_kept y.floor c ≡ true → (d : Cell Value)
       × (cell_for y key ≡ Some d) × IsBelow c d
 
--- z is above x and y, and below all facts that are above both
+-- `z` is above `x` and `y`, and below all facts that are above both
 pub record IsMerge (x y z : Facts) : Type 0 where
   pub above_first : IsBelowView x z
   pub above_second : IsBelowView y z
   pub least : (w : Facts) → IsBelowView x w → IsBelowView y w → IsBelowView z w
 
--- the merge is the least facts above both
+-- `merge` gives the least facts above two
 abbrev pub MergeLaw : Type 0
 MergeLaw = (x y : Facts) → IsMerge x y (merge x y)
 
--- any two merges of x and y are equal
+-- any two facts that are merges (`IsMerge`) of `x` and `y` are equal
 abbrev pub MergeIsUnique : Type 0
 MergeIsUnique = (x y z w : Facts) → IsMerge x y z → IsMerge x y w → z ≡ w
 
--- the view of two lists together at the greater floor is the merge of their views, each at its own floor
+-- the view of two lists together, at the greater of two floors, is the merge of their views, each at its own floor
 abbrev pub ViewOfBoth : Type 0
 ViewOfBoth = (f h : ℕ) (s t : List (Key × Cell Value)) → view_at (max f h) (s ++ t) ≡ merge (view_at f s) (view_at h t)
 
--- the merge of two does not depend on their order
+-- the merge of two facts does not depend on which come first
 abbrev pub MergeIsCommutative : Type 0
 MergeIsCommutative = (x y : Facts) → merge x y ≡ merge y x
 
--- the merge of three does not depend on which two are merged first
+-- the merge of three facts does not depend on which two are merged first
 abbrev pub MergeIsAssociative : Type 0
 MergeIsAssociative = (x y z : Facts) → merge (merge x y) z ≡ merge x (merge y z)
 
@@ -61,35 +62,36 @@ MergeIsAssociative = (x y z : Facts) → merge (merge x y) z ≡ merge x (merge 
 abbrev pub MergeIsIdempotent : Type 0
 MergeIsIdempotent = (x : Facts) → merge x x ≡ x
 
--- stores merged in any grouping, with floors raised at any moment
+-- how facts came about: from a list of sightings, from other facts by a raised floor, or by a merge of two
 pub data Merging : Type 0 where
   of_sightings : List (Key × Cell Value) → Merging
   of_raised : Merging → ℕ → Merging
   of_two : Merging → Merging → Merging
 
--- the sightings of all stores of a grouping
+-- all sightings that went into a `Merging`
 abbrev pub all_of : Merging → List (Key × Cell Value)
 all_of (of_sightings s) = s
 all_of (of_raised m floor) = all_of m
 all_of (of_two a b) = all_of a ++ all_of b
 
--- the greatest floor that was raised, or 1
+-- the greatest floor that was raised in a `Merging`; 1 if none was greater
 abbrev pub floor_of : Merging → ℕ
 floor_of (of_sightings s) = 1
 floor_of (of_raised m floor) = max (floor_of m) floor
 floor_of (of_two a b) = max (floor_of a) (floor_of b)
 
--- the facts that the merges and raises of a grouping give
+-- the facts that a `Merging` leads to
 abbrev pub merged : Merging → Facts
 merged (of_sightings s) = view_at 1 s
 merged (of_raised m floor) = raised (merged m) floor
 merged (of_two a b) = merge (merged a) (merged b)
 
--- every grouping gives the view of all its sightings at its greatest floor
+-- however sightings were merged and floors raised, the facts are the view of all sightings at the greatest floor
 abbrev pub GroupingIsFree : Type 0
 GroupingIsFree = (m : Merging) → merged m ≡ view_at (floor_of m) (all_of m)
 
--- any number of views, merged into an empty one in turn, give the view of all their sightings at the greatest floor
+-- views that are merged into empty facts, one after the other, give the view of all their sightings at the greatest
+-- floor; at 1 if there is no view
 abbrev pub MergingInTurn : Type 0
 MergingInTurn = (views : List (ℕ × List (Key × Cell Value))) → fold merge no_facts (map (λ v. view_at v.0 v.1) views)
     ≡ view_at (fold max 1 (map (λ v. v.0) views)) (flat_map (λ v. v.1) views)

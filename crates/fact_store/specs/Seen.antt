@@ -16,11 +16,11 @@ use Rattle.reply_facts.specs.Value.{is_same_cell}
 abbrev pub CellMap : Type 0
 CellMap = FinMap key_cmp (Cell Value)
 
--- whether the sighting has this key
+-- whether the sighting `s` is of `key`
 abbrev pub is_of : Key → Key × Cell Value → Bool
 is_of key s = eq_by_cmp key_cmp key s.0
 
--- the cells of all sightings of the key
+-- the cells of all sightings of `key`, in their order
 abbrev pub cells_sighted : Key → List (Key × Cell Value) → List (Cell Value)
 cells_sighted key sightings = map (λ s. s.1) (filter (is_of key) sightings)
 
@@ -29,55 +29,56 @@ abbrev pub newest_of : List (Cell Value) → ℕ
 newest_of [] = 0
 newest_of (c ∷ cells) = max (generation_of c) (newest_of cells)
 
--- the greatest generation of the sightings of the key; 0 if there are none
+-- the greatest generation of the sightings of `key`; 0 if it was not sighted
 abbrev pub newest : Key → List (Key × Cell Value) → ℕ
 newest key sightings = newest_of (cells_sighted key sightings)
 
--- what cells of one generation give together: the cell if all are equal, and otherwise a dispute
+-- what cells of `generation` say together: the first of them if all are equal, and else `Disputed generation`, also if
+-- there are none
 abbrev pub agreement : ℕ → List (Cell Value) → Cell Value
 agreement generation [] = Disputed generation
 agreement generation (c ∷ cells) = if list_all (is_same_cell c) cells then c else Disputed generation
 
--- what the newest sightings of the key give together
+-- what the sightings of `key` in its newest generation say together; disputed in generation 0 if `key` was not sighted
 abbrev pub cell_at : Key → List (Key × Cell Value) → Cell Value
 cell_at key sightings =
     agreement (newest key sightings)
     (filter (λ c. generation_of c == newest key sightings) (cells_sighted key sightings))
 
--- each key that was sighted, with what its newest sightings give together
+-- each key that was sighted, with what the sightings in its newest generation say together
 abbrev pub seen : List (Key × Cell Value) → CellMap
 seen sightings = from_entries (map (λ s. (s.0, cell_at s.0 sightings)) sightings)
 
 -- the law of `seen`, by membership alone: ----------------------------------------------
 
--- the key was sighted with this cell
+-- `key` was sighted with the cell `c`
 abbrev pub WasSighted : Key → List (Key × Cell Value) → Cell Value → Type 0
 WasSighted key sightings c = Contains sightings (key, c)
 
--- some sighting of the key has this generation, and none is newer
+-- some sighting of `key` has `generation`, and none has a greater one
 pub record IsNewest (key : Key) (sightings : List (Key × Cell Value)) (generation : ℕ) : Type 0 where
   pub sighted : (c : Cell Value) × WasSighted key sightings c × (generation_of c ≡ generation)
   pub greatest : (c : Cell Value) → WasSighted key sightings c → generation_of c ≤ generation
 
--- every sighting of the key in this generation has the value
+-- every sighting of `key` in `generation` is known with `value`; true if there is none
 abbrev pub AllSay : Key → List (Key × Cell Value) → ℕ → Value → Type 0
 AllSay key sightings generation value =
     (c : Cell Value) → WasSighted key sightings c → generation_of c ≡ generation → c ≡ Known generation value
 
--- the cell has the newest generation of the key, with the value that every sighting of that generation has, or disputed
--- if there is no such value
+-- the cell has the newest generation of `key`; it is known with the value that every sighting of `key` in that
+-- generation says, or disputed if they do not all say one value
 abbrev pub IsCellIn : Key → List (Key × Cell Value) → Cell Value → Type 0
 IsCellIn key sightings (Known generation value) =
     IsNewest key sightings generation × AllSay key sightings generation value
 IsCellIn key sightings (Disputed generation) =
     IsNewest key sightings generation × ((value : Value) → AllSay key sightings generation value → ⊥)
 
--- a key has a cell exactly if it was sighted, and the cell is what its sightings give together
+-- `found` has a cell for a key exactly if the key was sighted; the cell is what the key's newest sightings say together
 pub record IsSeen (sightings : List (Key × Cell Value)) (found : CellMap) : Type 0 where
   pub cells : (key : Key)
       → MatchOption (get found key) ((c : Cell Value) → WasSighted key sightings c → ⊥) (IsCellIn key sightings)
 
--- the lists have equal members, in any order and with any repetition
+-- each member of `s` is one of `t`, and each member of `t` is one of `s`; order and repetition do not matter
 abbrev pub HaveSameMembers : List (Key × Cell Value) → List (Key × Cell Value) → Type 0
 HaveSameMembers s t =
     ((x : Key × Cell Value) → Contains s x → Contains t x) × ((x : Key × Cell Value) → Contains t x → Contains s x)

@@ -9,62 +9,63 @@ use Rattle.reply_facts.specs.Sighting.{IsSighting}
 use Rattle.fact_store.specs.Floor.{dropped, dropped_has_floor, has_floor, kept}
 use Rattle.fact_store.specs.Seen.{CellMap, HaveSameMembers, IsSeen, seen}
 
--- a floor, and a cell for each key that something is known of; no cell is below the floor
+-- a floor, 1 or more, and a map from keys to cells, none of them below the floor
 pub record Facts : Type 0 where
   pub floor : ℕ
   pub found : CellMap
   pub above : T (has_floor floor found)
 
--- the cells with their keys, in the order of keys
+-- the cells of `facts` with their keys, in the order of keys
 abbrev pub cells_of : Facts → List (Key × Cell Value)
 cells_of facts = entries facts.found
 
--- the cell of a key; None if it has none
+-- the cell that `facts` have for `key`; None if they have none
 abbrev pub cell_for : Facts → Key → Option (Cell Value)
 cell_for facts key = get facts.found key
 
--- the cells at the floor or above it, with the floor; a floor of 0 counts as 1
+-- facts with the floor `floor`, or 1 if it is 0, and the cells of `found` that are not below it
 abbrev pub at_floor : ℕ → CellMap → Facts
 at_floor floor found =
     record { floor = max 1 floor; found = dropped (max 1 floor) found; above = dropped_has_floor floor found }
 
--- the facts at the greater of their floor and `floor`
+-- `facts` with their floor raised to `floor` if that is greater, and without the cells below it
 abbrev pub raised : Facts → ℕ → Facts
 raised facts floor = at_floor (max facts.floor floor) facts.found
 
--- what the sightings at the floor or above it give together
+-- the view at `floor`: what the sightings that are at the floor or above it say together
 abbrev pub view_at : ℕ → List (Key × Cell Value) → Facts
 view_at floor sightings = at_floor floor (seen sightings)
 
--- what all sightings give together, at floor 1
+-- the view of all sightings, at floor 1
 abbrev pub view : List (Key × Cell Value) → Facts
 view sightings = view_at 1 sightings
 
--- the facts of no sightings, at floor 1
+-- the view of no sightings: no cell, and floor 1
 abbrev pub no_facts : Facts
 no_facts = view []
 
--- every cell of the facts is in range for its key
+-- every cell of `facts`, with its key, is a sighting (`IsSighting`)
 abbrev pub AreInRange : Facts → Type 0
 AreInRange facts = (key : Key) (c : Cell Value) → cell_for facts key ≡ Some c → IsSighting (key, c)
 
--- the generation is the greatest of all cells of the facts
+-- some cell of `facts` has `generation`, and none has a greater one
 pub record IsNewestGeneration (facts : Facts) (generation : ℕ) : Type 0 where
   pub held : (key : Key) × (c : Cell Value) × (cell_for facts key ≡ Some c) × (generation_of c ≡ generation)
   pub greatest : (key : Key) (c : Cell Value) → cell_for facts key ≡ Some c → generation_of c ≤ generation
 
 -- the law of a view: -------------------------------------------------------------
 
--- the facts have this floor, and a cell for each key that was sighted at the floor or above it, and for no other key
+-- `facts` are the view of the sightings at `floor`: they have that floor, or 1 if it is 0, and the cells that the
+-- sightings at the floor or above it give (`IsSeen`)
 pub record IsView (floor : ℕ) (sightings : List (Key × Cell Value)) (facts : Facts) : Type 0 where
   pub at : facts.floor ≡ max 1 floor
   pub cells : IsSeen (kept floor sightings) facts.found
 
--- each view satisfies the law of a view
+-- `view_at` gives the view (`IsView`) of any sightings at any floor
 abbrev pub ViewLaw : Type 0
 ViewLaw = (floor : ℕ) (sightings : List (Key × Cell Value)) → IsView floor sightings (view_at floor sightings)
 
--- two facts that satisfy the law of one view are equal
+-- two facts that are the view (`IsView`) of equal sightings at one floor are equal
 abbrev pub ViewIsUnique : Type 0
 ViewIsUnique = (floor : ℕ) (sightings : List (Key × Cell Value)) (x y : Facts) → IsView floor sightings x
     → IsView floor sightings y → x ≡ y
@@ -78,7 +79,7 @@ MembersDecideView =
 abbrev pub ViewOfItsCells : Type 0
 ViewOfItsCells = (x : Facts) → view_at x.floor (cells_of x) ≡ x
 
--- raising a floor gives the view of the sightings at the greater floor
+-- a view at `floor`, raised to `greater`, is the view of its sightings at the greater of the two
 abbrev pub RaisingForgets : Type 0
 RaisingForgets = (floor greater : ℕ) (sightings : List (Key × Cell Value)) → raised (view_at floor sightings) greater
     ≡ view_at (max floor greater) sightings

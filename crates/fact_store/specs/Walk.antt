@@ -6,6 +6,6 @@ use Rattle.reply_facts.specs.declared.key.Key.{Key}
 use Rattle.reply_facts.specs.declared.value.Value.{Value}
 use Rattle.fact_store.specs.declared.cells.Cells.{Cells}
 
--- the cells that are left, with their keys
+-- the cells that the iterator `it` has not passed, with their keys
 abbrev pub cells_left : Cells → List (Key × Cell Value)
 cells_left it = rest_of it.cells

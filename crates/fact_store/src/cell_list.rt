@@ -18,7 +18,7 @@ use smp_bytes::Generation;
 use std::alloc::AllocError;
 use std::cmp::Ordering;
 
-/// Returns the cell that two cells of one key give together.
+/// Returns the cell that `first` and `second` give together. Both must be of one key.
 fn join_cells(first: &Sighting, second: &Sighting) -> Sighting
     requires { first.now.0 ≡ second.now.0 }
     ensures value { result ≡ (first.now.0, join first.now.1 second.now.1) }
@@ -27,8 +27,8 @@ fn join_cells(first: &Sighting, second: &Sighting) -> Sighting
     Sighting::new(first.key(), first.cell().join(&second.cell())).unwrap()
 }
 
-/// Adds a cell: joins it with the cell of its key, or inserts it if the key has none. Moves the fingers of its kind and
-/// of its GUID to it.
+/// Adds a cell: joins it with the cell of its key, or inserts it if the key has none. There must be room for a cell.
+/// Notes its slot in `fingers`.
 pub(crate) fn put(cells: &mut PageList<Sighting>, fingers: &mut Fingers, sighting: Sighting)
     requires cells { AreCells cells.old.items }
     requires room { 0 < cells.old.room }
@@ -42,7 +42,8 @@ pub(crate) fn put(cells: &mut PageList<Sighting>, fingers: &mut Fingers, sightin
     fingers.put(&key, slot);
 }
 
-/// Adds a cell at the index found for its key: joins it with the key's cell, or inserts it. Returns its slot.
+/// Adds a cell where `found` says: joins it with its key's cell, or inserts it. `found` must be the result for its key,
+/// and there must be room for a cell. Returns its slot.
 fn put_found(cells: &mut PageList<Sighting>, found: Found, sighting: Sighting) -> Slot
     requires cells { AreCells cells.old.items }
     requires in_range { IsSighting sighting }
@@ -61,7 +62,7 @@ fn put_found(cells: &mut PageList<Sighting>, found: Found, sighting: Sighting) -
     }
 }
 
-/// Adds a cell if it is at `floor` or above it. Otherwise changes nothing.
+/// Adds a cell if it is at `floor` or above it. Otherwise changes nothing. There must be room for a cell.
 pub(crate) fn put_kept(
     cells: &mut PageList<Sighting>,
     fingers: &mut Fingers,
@@ -80,8 +81,8 @@ pub(crate) fn put_kept(
     }
 }
 
-/// Merges the cells of two lists, which are walked in step. Each step passes a key of one list or of both. Adds the
-/// number of comparisons to `steps`.
+/// Merges the cells of `first` and `second`, which are walked in step. Each step passes a key of one list or of both.
+/// Counts the comparisons of keys in `steps`, which must be 0 before.
 pub(crate) fn merge_cells(
     first: &PageList<Sighting>,
     second: &PageList<Sighting>,
@@ -124,7 +125,7 @@ pub(crate) fn merge_cells(
     Ok(cells)
 }
 
-/// Appends `first`, if there is one, and then the others.
+/// Appends `first`, if there is one, and then `others`.
 fn append(
     cells: &mut PageList<Sighting>,
     first: Option<Sighting>,
@@ -141,14 +142,14 @@ fn append(
     Ok(())
 }
 
-/// Returns whether a cell is at `floor` or above it.
+/// Returns whether the cell of `sighting` is at `floor` or above it.
 pub(crate) fn is_at_least(sighting: &Sighting, floor: Generation) -> bool
     ensures { result ≡ is_kept floor sighting.now.1 }
 {
     floor <= sighting.cell().generation()
 }
 
-/// Removes the cells below `floor`. Takes one walk over the cells.
+/// Removes the cells below `floor`. Takes time linear in the number of cells.
 pub(crate) fn drop_below(cells: &mut PageList<Sighting>, floor: Generation)
     ensures { cells.new.items ≡ kept floor cells.old.items }
 {

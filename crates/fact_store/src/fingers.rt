@@ -20,16 +20,16 @@ pub(crate) struct Fingers {
     port: Slot,
     claim: Slot,
     cap: Slot,
-    /// The slot for nodes, by the hash of the GUID.
+    /// The slot where a node was put last, by the hash of its GUID.
     nodes: [Slot; GUIDS],
-    /// The slot for port GUIDs, by the hash of the node's GUID.
+    /// The slot where a port GUID was put last, by the hash of its node's GUID.
     port_guids: [Slot; GUIDS],
-    /// The slot for links, by the hash of the node's GUID.
+    /// The slot where a link was put last, by the hash of its node's GUID.
     link_ends: [Slot; GUIDS],
 }
 
 impl Fingers {
-    /// Creates fingers that all point to the first cell.
+    /// Creates fingers that all point to the first slot.
     pub(crate) fn new() -> Self {
         let first = Slot::first();
         Fingers {
@@ -89,7 +89,7 @@ impl Fingers {
     }
 }
 
-/// Returns a hash of `guid`. Different GUIDs mostly have different hashes.
+/// Returns a hash of `guid`, less than 256.
 fn hash(guid: Guid) -> usize
     ensures { result < 256 }
 {

@@ -21,7 +21,7 @@ impl Store {
     ghost use Rattle.smp_bytes.specs.Judges.{JudgesButFor};
     ghost use Rattle.fact_store.specs.Ingest.{ingest_fault, is_memory};
 
-    /// Adds the facts of a report.
+    /// Adds the facts of `report`, except those below the floor.
     ///
     /// # Errors
     ///

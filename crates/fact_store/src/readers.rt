@@ -9,7 +9,7 @@ use smp_bytes::{Guid, Lid, NodeType, PortNum};
 
 // Each reader takes a search.
 impl Store {
-    /// Returns the value of `key`, or `None` if it has none or it is disputed.
+    /// Returns the value of `key`, or `None` if `key` has no cell or a disputed one.
     pub fn known(&self, key: Key) -> Option<Value>
         ensures { result ≡ known_in (cells_of self.now) key }
     {
@@ -19,7 +19,7 @@ impl Store {
         }
     }
 
-    /// Returns the type of `node` and its number of ports, if they are known.
+    /// Returns the type of `node` and its number of ports, or `None` if they are not known.
     pub fn node(&self, node: Guid) -> Option<(NodeType, u8)>
         ensures { result ≡ node_of (cells_of self.now) node }
     {
@@ -29,7 +29,7 @@ impl Store {
         }
     }
 
-    /// Returns the GUID of `port` of `node`, if it is known.
+    /// Returns the GUID of `port` of `node`, or `None` if it is not known.
     pub fn port_guid(&self, node: Guid, port: PortNum) -> Option<Guid>
         ensures { result ≡ port_guid_of (cells_of self.now) node port }
     {
@@ -39,7 +39,7 @@ impl Store {
         }
     }
 
-    /// Returns the node and the port at the other end of the link of `port` of `node`, if they are known.
+    /// Returns the node and the port at the other end of the link of `port` of `node`, or `None` if they are not known.
     pub fn link(&self, node: Guid, port: PortNum) -> Option<(Guid, PortNum)>
         ensures { result ≡ link_of (cells_of self.now) node port }
     {
@@ -49,7 +49,7 @@ impl Store {
         }
     }
 
-    /// Returns whether `port` of `node` is up, if that is known.
+    /// Returns whether `port` of `node` is up, or `None` if that is not known.
     pub fn is_up(&self, node: Guid, port: PortNum) -> Option<bool>
         ensures { result ≡ up_of (cells_of self.now) node port }
     {
@@ -59,7 +59,7 @@ impl Store {
         }
     }
 
-    /// Returns the LID that `port` of `node` claims, if it is known.
+    /// Returns the LID that `port` of `node` claims, or `None` if it is not known.
     pub fn claim(&self, node: Guid, port: PortNum) -> Option<Lid>
         ensures { result ≡ claim_of (cells_of self.now) node port }
     {
@@ -69,7 +69,8 @@ impl Store {
         }
     }
 
-    /// Returns the number of LIDs that the linear forwarding table of the switch `node` has room for, if it is known.
+    /// Returns the number of LIDs that the linear forwarding table of the switch `node` has room for, or `None` if it
+    /// is not known.
     pub fn cap(&self, node: Guid) -> Option<u16>
         ensures { result ≡ cap_of (cells_of self.now) node }
     {

@@ -10,7 +10,8 @@ use page_list::{PageList, Slot};
 use reply_facts::{Key, Sighting};
 use std::cmp::Ordering;
 
-/// Compares the key of a cell with `key`, and counts one step. A store compares keys only by this function.
+/// Compares the key of `held` with `key`, and adds 1 to `steps`, which must be less than 2^127. A store compares keys
+/// only by this function.
 pub(crate) fn compare(held: &Sighting, key: &Key, steps: &mut u128) -> Ordering
     requires { steps.old < 2 ^ 127 }
     ensures order { result ≡ key_cmp held.now.0 key.now }
@@ -25,12 +26,12 @@ pub(crate) fn compare(held: &Sighting, key: &Key, steps: &mut u128) -> Ordering
 #[derive(Clone, Copy)]
 pub(crate) struct Found {
     pub index: Result<usize, usize>,
-    /// The slot where the cell may be, or the slot next to it.
+    /// The slot to look at first for the index. It is only a hint.
     pub near: Slot,
 }
 
-/// Finds the index of a key's cell, or the index at which it would be inserted. Tries the fingers, then the end of the
-/// list, and then searches.
+/// Returns the index of the cell of `key`, or the index at which it would be inserted. Tries the fingers, then the end
+/// of the list, and then searches.
 pub(crate) fn index_of(cells: &PageList<Sighting>, key: &Key, fingers: &Fingers) -> Found
     requires { AreCells cells.now.items }
     ensures { IsSearched key.now cells.now.items result.index }
@@ -51,8 +52,8 @@ pub(crate) fn index_of(cells: &PageList<Sighting>, key: &Key, fingers: &Fingers)
     find(cells, key).found
 }
 
-/// Finds the index of a key's cell, or the index at which it would be inserted, if that is at the finger of the key's
-/// kind or of its GUID. Returns `None` otherwise.
+/// Looks for `key` at the finger of its kind, and then at that of its GUID's hash, if its kind has such fingers.
+/// Returns `None` if neither tells its index.
 fn found_by_fingers(cells: &PageList<Sighting>, key: &Key, fingers: &Fingers) -> Option<Found>
     requires { AreCells cells.now.items }
     ensures { IfSome result (λ found. IsSearched key.now cells.now.items found.index) }
@@ -63,8 +64,7 @@ fn found_by_fingers(cells: &PageList<Sighting>, key: &Key, fingers: &Fingers) ->
     }
 }
 
-/// Finds the index of a key's cell, or the index at which it would be inserted, if that is at `finger`. Returns `None`
-/// otherwise.
+/// Looks for `key` at `finger` as `index_at_finger` does.
 fn found_at_finger(cells: &PageList<Sighting>, key: &Key, finger: Slot) -> Option<Found>
     requires { AreCells cells.now.items }
     ensures { IfSome result (λ found. IsSearched key.now cells.now.items found.index) }
@@ -76,8 +76,9 @@ fn found_at_finger(cells: &PageList<Sighting>, key: &Key, finger: Slot) -> Optio
     })
 }
 
-/// Returns the index of a key's cell, or the index at which it would be inserted, if `key` is the key of the cell at
-/// `finger` or of the next cell, or lies between the two. Returns `None` otherwise. Takes at most two comparisons.
+/// Returns the index of the cell of `key` if that is the cell at `finger` or the next one. Returns the index after
+/// `finger` if `key` is greater than the key at `finger` and less than the next one, or if there is no next one.
+/// Returns `None` otherwise. Takes at most two comparisons.
 fn index_at_finger(
     cells: &PageList<Sighting>,
     key: &Key,
@@ -100,7 +101,7 @@ fn index_at_finger(
     }
 }
 
-/// Compares the key of the cell at index `i` with `key`. Returns `Greater` past the end.
+/// Compares the key of the cell at index `i` with `key`. Returns `Greater` if there is no such cell.
 fn order_at(cells: &PageList<Sighting>, i: usize, near: Slot, key: &Key) -> Ordering
     ensures { result ≡ option_map_or (λ s. key_cmp s.0 key.now) (slice_get cells.now.items i) Greater }
 {
@@ -110,16 +111,16 @@ fn order_at(cells: &PageList<Sighting>, i: usize, near: Slot, key: &Key) -> Orde
     }
 }
 
-/// The result of a search.
+/// The result of a binary search.
 #[derive(Clone, Copy)]
 pub(crate) struct SearchResult {
     pub found: Found,
-    /// The number of cells whose keys were compared with the key.
+    /// The number of cells whose keys were compared with the key that was looked for.
     pub steps: u32,
 }
 
-/// Searches for the index of a key's cell, or the index at which it would be inserted. Compares at most as many keys as
-/// the number of cells has binary digits.
+/// Searches for the index of the cell of `key`, or the index at which it would be inserted. Compares at most as many
+/// keys as the number of cells has binary digits.
 pub(crate) fn find(cells: &PageList<Sighting>, key: &Key) -> SearchResult
     requires { AreCells cells.now.items }
     ensures index { IsSearched key.now cells.now.items result.found.index }

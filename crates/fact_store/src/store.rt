@@ -18,10 +18,10 @@ use std::alloc::{AllocError, Global};
 use std::marker::Model;
 use thiserror::Error;
 
-/// Why a store did not grow.
+/// Why an operation on a store, or on what it holds, failed.
 #[derive(Clone, Copy, Debug, PartialEq, Eq, Error)]
 pub enum Refused {
-    /// Memory for the growth was refused.
+    /// Memory was refused.
     #[error("out of memory")]
     Memory,
 }
@@ -32,18 +32,18 @@ impl From<AllocError> for Refused {
     }
 }
 
-/// The greatest number of sightings that are added one by one. A report has no more.
+/// The greatest number of sightings that `add_all` adds one by one. A report has no more.
 const SIGHTINGS_PER_REPORT: usize = 4;
 
-/// What is known of a subnet: one cell for each key. Together the cells are the view of all sightings that were put in.
-/// Cells below the floor are forgotten for good.
+/// What is known of a subnet: one cell for each key. Together the cells are the view, at the store's floor, of all
+/// sightings that were put in. What is below the floor is forgotten for good.
 #[derive(Drop)]
 pub struct Store {
     /// The least generation that counts.
     floor: Generation,
-    /// One cell for each key, in the order of keys.
+    /// The cells with their keys, in the order of keys.
     cells: PageList<Sighting>,
-    /// The slots where cells were put last.
+    /// Where the next key is looked for first.
     fingers: Fingers,
 }
 
@@ -62,7 +62,7 @@ impl Model for Store {
 }
 
 impl Store {
-    /// Creates an empty store at floor 1. It takes memory from `alloc` only later.
+    /// Creates an empty store at floor 1, which allocates from `alloc` once it grows. Does not allocate.
     pub fn new(alloc: Global) -> Self
         ensures { result ≡ no_facts }
     {
@@ -80,9 +80,9 @@ impl Store {
         self.floor
     }
 
-    /// Forgets all cells below `floor`, and ignores sightings below it from then on. Takes no memory, and frees pages
-    /// that are no longer needed. If `floor` is greater than the store's floor, walks the cells. Otherwise does
-    /// nothing.
+    /// Raises the floor to `floor`: forgets all cells below it, and ignores sightings below it from then on. If the
+    /// store's floor is not less than `floor`, nothing changes. Otherwise takes time linear in the number of cells.
+    /// Does not allocate.
     pub fn raise_floor(&mut self, floor: Generation)
         ensures { self.new ≡ raised self.old floor }
     {
@@ -92,11 +92,9 @@ impl Store {
         }
     }
 
-    /// Adds a sighting, unless it is below the floor. Takes at most two comparisons if its key is the last key put in
-    /// of its kind (for links, the last but one), the next key held, or between the two. Takes at most four comparisons
-    /// if this holds only for the last key put in of its kind and its GUID's hash (nodes, port GUIDs and links).
-    /// Otherwise takes a search. Moves at most a page of cells and the list of pages. If memory runs out, nothing
-    /// changes.
+    /// Adds `sighting`, unless it is below the floor. Looks for its key first at the slots where cells of its kind were
+    /// put last, and then at the end, which takes at most five comparisons. Otherwise takes a binary search. If memory
+    /// runs out, returns an error, and nothing changes.
     pub fn add(&mut self, sighting: Sighting) -> Result<(), Refused>
         ensures ok { OnOk result (self.new ≡ merge self.old (view (sighting ∷ []))) }
         ensures err { OnErr result (self.new ≡ self.old) }
@@ -106,8 +104,8 @@ impl Store {
         Ok(())
     }
 
-    /// Adds all sightings, or none if memory runs out. Adds four or fewer one by one. Sorts a greater number first, and
-    /// then merges them.
+    /// Adds all `sightings` that are not below the floor. If memory runs out, returns an error, and nothing changes.
+    /// More than four are first put into a store of their own, which is then merged.
     pub fn add_all(&mut self, sightings: &[Sighting]) -> Result<(), Refused>
         ensures ok { OnOk result (self.new ≡ merge self.old (view sightings.now)) }
         ensures err { OnErr result (self.new ≡ self.old) }
@@ -119,7 +117,7 @@ impl Store {
         }
     }
 
-    /// Builds a store of the sightings and merges it. This is a function of its own because a `Store` is large on the
+    /// Builds a store of `sightings`, and merges it. This is a function of its own because a `Store` is large on the
     /// stack and a report has few sightings.
     fn add_many(&mut self, sightings: &[Sighting]) -> Result<(), Refused>
         ensures ok { OnOk result (self.new ≡ merge self.old (view sightings.now)) }
@@ -130,7 +128,7 @@ impl Store {
         Ok(())
     }
 
-    /// Reserves room for all sightings, and then adds them one by one.
+    /// Reserves room for all `sightings`, and then adds, one by one, those that are not below the floor.
     fn add_few(&mut self, sightings: &[Sighting]) -> Result<(), Refused>
         ensures ok { OnOk result (self.new ≡ merge self.old (view sightings.now)) }
         ensures err { OnErr result (self.new ≡ self.old) }
@@ -142,8 +140,8 @@ impl Store {
         Ok(())
     }
 
-    /// Adds all that `other` holds, and takes the greater of the two floors. Walks both stores. If memory runs out,
-    /// nothing changes.
+    /// Adds all that `other` holds, raises the floor to the greater of the two, and forgets what is below it. Takes
+    /// time linear in the number of cells of both. If memory runs out, returns an error, and nothing changes.
     pub fn merge(&mut self, other: &Store) -> Result<(), Refused>
         ensures ok { OnOk result (self.new ≡ merge self.old other.now) }
         ensures least { OnOk result (IsMerge self.old other.now self.new) }
@@ -153,7 +151,7 @@ impl Store {
         Ok(())
     }
 
-    /// Merges `other` as `merge` does, and returns the number of times that two keys were compared.
+    /// Merges `other` as `merge` does, and returns the number of comparisons of two keys.
     pub fn merge_steps(&mut self, other: &Store) -> Result<u128, Refused>
         ensures ok { OnOk result (self.new ≡ merge self.old other.now) }
         ensures least { OnOk result (IsMerge self.old other.now self.new) }
@@ -178,7 +176,7 @@ impl Store {
     }
 
     /// Merges `other` as `merge` does. If this store is empty, it takes over the contents of `other`, and walks them
-    /// only if its own floor is greater.
+    /// only if its own floor is greater. Then it does not allocate.
     pub fn merge_owned(&mut self, other: Store) -> Result<(), Refused>
         ensures ok { OnOk result (self.new ≡ merge self.old other) }
         ensures err { OnErr result (self.new ≡ self.old) }
@@ -192,7 +190,7 @@ impl Store {
         self.merge(&other)
     }
 
-    /// Creates a store with equal contents and the same allocator.
+    /// Creates an equal store with the same allocator. Takes time linear in the number of cells.
     pub fn try_clone(&self) -> Result<Store, Refused>
         ensures ok { IfOk result (λ store. store ≡ self.now) }
     {
@@ -209,7 +207,7 @@ impl Store {
         self.get_steps(key).0
     }
 
-    /// Returns the cell of `key`, or `None` if there is none, and the number of times that two keys were compared.
+    /// Returns the cell of `key`, or `None` if there is none, and the number of comparisons of two keys.
     pub fn get_steps(&self, key: Key) -> (Option<Cell<Value>>, u32)
         ensures found { result.0 ≡ cell_for self.now key }
         ensures counted { CountsSearch key (cells_of self.now) result.1 }
@@ -229,7 +227,7 @@ impl Store {
         (cell, search.steps)
     }
 
-    /// Returns the number of keys with a cell. Takes one step.
+    /// Returns the number of keys with a cell. Takes constant time.
     pub fn count(&self) -> usize
         ensures exact { result ≡ length (cells_of self.now) }
         ensures in_range { AreInRange self.now }
@@ -237,8 +235,8 @@ impl Store {
         self.cells.len()
     }
 
-    /// Returns the cell at index `i` with its key, in the order of keys and counted from 0. Returns `None` if there are
-    /// not as many. Takes a binary search among the pages.
+    /// Returns the cell at index `i` with its key, in the order of keys and counted from 0, or `None` if there are at
+    /// most `i` cells. Takes a binary search among the pages.
     pub fn cell(&self, i: usize) -> Option<Sighting>
         ensures exact { result ≡ slice_get (cells_of self.now) i }
         ensures in_range { AreInRange self.now }
@@ -246,7 +244,7 @@ impl Store {
         self.cells.get(i)
     }
 
-    /// Iterates over the cells with their keys, in the order of keys. Each cell takes one step.
+    /// Returns an iterator over the cells with their keys, in the order of keys.
     pub fn cells(&self) -> Cells<'_>
         ensures cells { cells_left result ≡ cells_of self.now }
         ensures in_range { AreInRange self.now }
@@ -256,7 +254,8 @@ impl Store {
         }
     }
 
-    /// Returns the greatest generation of a cell, or `None` if there is no cell. Walks the cells.
+    /// Returns the greatest generation of a cell, or `None` if there is no cell. Takes time linear in the number of
+    /// cells.
     pub fn newest(&self) -> Option<Generation>
         ensures none { IsNone result ↔ (cells_of self.now ≡ []) }
         ensures newest { IfSome result (IsNewestGeneration self.now) }
@@ -269,7 +268,7 @@ impl Store {
     }
 }
 
-/// Returns the newer of two generations, or `other` if `held` is `None`.
+/// Returns the newer of `held` and `other`, or `other` if `held` is `None`.
 fn newer(held: Option<Generation>, other: Generation) -> Generation
     ensures { result ≡ max (unwrap_or held 0) other }
 {
@@ -279,7 +278,7 @@ fn newer(held: Option<Generation>, other: Generation) -> Generation
     }
 }
 
-/// Creates a store with the floor `floor` of the sightings at this floor or above it.
+/// Creates a store at `floor` of those `sightings` that are not below it.
 fn store_of(alloc: Global, floor: Generation, sightings: &[Sighting]) -> Result<Store, Refused>
     ensures { IfOk result (λ store. store ≡ view_at floor sightings.now) }
 {

@@ -17,10 +17,10 @@ pub record AreBlocks (held : HeldPlan) (number : ℕ) (rows : List (List ℕ)) :
   pub entry : (index i : ℕ) → index < length rows → slice_index_or (slice_index_or rows index []) i 255
       ≡ entry_in (block_at held index number) i
 
--- `rows` with `block` in the row of its switch
+-- `rows` with the entries of `block` as the row of its switch
 abbrev pub with_row : List (List ℕ) → HeldBlock → List (List ℕ)
 with_row rows block = slice_set rows block.switch block.entries
 
--- `rows` with `block`, if there is one, in the row of its switch
+-- `rows` with the entries of `block`, if there is one, as the row of its switch
 abbrev pub with_block : List (List ℕ) → Option HeldBlock → List (List ℕ)
 with_block rows block = option_map_or (with_row rows) block rows

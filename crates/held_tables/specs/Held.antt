@@ -11,6 +11,7 @@ pub record HeldPlan : Type 0 where
   pub switches : List HeldSwitch
   pub blocks : List HeldBlock
 
+-- no LIDs, no switches and no blocks
 abbrev pub nothing_held : HeldPlan
 nothing_held = record { lids = []; switches = []; blocks = [] }
 
@@ -23,5 +24,6 @@ pub record LidRange : Type 0 where
 abbrev pub lid_at : HeldLid → ℕ → HeldLid
 lid_at first step = record { lid = first.lid + step; port = first.port }
 
+-- the LIDs of a range, by rising number, each with its end port
 abbrev pub lids_of : LidRange → List HeldLid
 lids_of range = map (lid_at range.first) (range_with_len 0 (2 ^ range.lmc))

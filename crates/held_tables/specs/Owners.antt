@@ -14,13 +14,13 @@ owner_among [] = Nobody
 owner_among (e ∷ []) = Sole e
 owner_among (e ∷ x ∷ es) = Several
 
--- the only end port that holds the LID; None if none or several do
+-- the only end port that holds a LID; None if none or several do
 abbrev pub sole_among : Owner → Option EndPort
 sole_among Nobody = None
 sole_among (Sole e) = Some e
 sole_among Several = None
 
--- more than one end port holds the LID
+-- more than one end port holds a LID
 abbrev pub is_several : Owner → Bool
 is_several Nobody = false
 is_several (Sole e) = false
@@ -32,7 +32,7 @@ owner_more Nobody e = Sole e
 owner_more (Sole x) e = Several
 owner_more Several e = Several
 
--- all owners are `port`
+-- each of `owners` is `port`; true if there are none
 abbrev pub is_sole : EndPort → List EndPort → Bool
 is_sole port owners = list_all (is_same_end port) owners
 
@@ -46,6 +46,6 @@ SoleOwnersAreAlone =
 abbrev pub is_told_twice : List HeldLid → ℕ → Bool
 is_told_twice lines lid = nat_lt 1 (count_by (λ (line : HeldLid). line.lid == lid) lines)
 
--- `owners` says who holds each LID by `lines`
+-- each entry of `owners` says who holds its LID by `lines`
 pub record AreOwners (lines : List HeldLid) (owners : List Owner) : Type 0 where
   pub each : (lid : ℕ) → lid < length owners → slice_index_or owners lid Several ≡ owner_among (holders lines lid)

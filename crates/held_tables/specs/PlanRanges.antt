@@ -1,4 +1,4 @@
--- The numbers of a plan fit their types.
+-- When the numbers of a plan are in range: LIDs, tops, GUIDs and entries of blocks.
 use Rattle.std.specs.Prelude.{◌≡◌, ℕ, ◌+◌, ◌<◌, ◌≤◌, ◌^◌, List, map, length, Some}
 use Rattle.std.specs.List.{AllByRecursion}
 use Rattle.std.specs.List.Sorted.{IsStrictlyIncreasing}
@@ -20,13 +20,13 @@ pub record IsBlock (entries : List ℕ) : Type 0 where
   pub whole : length entries ≡ 64
   pub bytes : IsBytes entries
 
--- the GUID has 64 bits, and there are at most 768 blocks
+-- the GUID of `table` has at most 64 bits, and it has at most 768 blocks, each of 64 bytes
 pub record IsTableInRange (table : SwitchTable) : Type 0 where
   pub guid : table.guid < 2 ^ 64
   pub blocks : AllByRecursion IsBlock table.blocks
   pub few : length table.blocks ≤ 768
 
--- the numbers of a plan are in range, and the GUIDs of its switches rise
+-- the LMC, the LIDs, the top and the tables of `plan` are in range, and the GUIDs of its switches rise
 pub record IsPlanInRange (plan : PlanValue) : Type 0 where
   pub lmc : plan.given.lmc ≤ 7
   pub lids : AllByRecursion (IsLidInRange plan.given) (rising_lids plan.given)

@@ -1,4 +1,4 @@
--- What the tables of a plan hold.
+-- What a plan holds, as the lines of its text say it: LIDs, switches and blocks.
 use Rattle.std.specs.Prelude.{ℕ, suc, ◌+◌, List, [], ◌∷◌, ◌++◌, map, Option}
 use Rattle.std.specs.Option.{option_map_or}
 use Rattle.std.specs.List.{enumerate_from, filter_map, flat_map}
@@ -11,7 +11,7 @@ use Rattle.held_tables.specs.declared.held.HeldSwitch.{HeldSwitch}
 use Rattle.held_tables.specs.declared.held.HeldBlock.{HeldBlock}
 use Rattle.held_tables.specs.Held.{HeldPlan, LidRange, lids_of, nothing_held}
 
--- the LIDs of the end port whose first LID is `lid`, with its LMC
+-- the range of the LIDs of `port`, from `lid` on, under its LMC
 abbrev pub range_from : Given → ℕ → EndPort → LidRange
 range_from given lid port = record { first = record { lid = lid; port = port }; lmc = lmc_of given port }
 
@@ -19,7 +19,7 @@ range_from given lid port = record { first = record { lid = lid; port = port }; 
 abbrev pub owned_range : Given → ℕ → Option LidRange
 owned_range given lid = option_map (range_from given lid) (owner_of given lid)
 
--- the LIDs of all end ports
+-- each LID of each end port with a LID, by rising first LID, with its end port
 abbrev pub owned_lids : Given → List HeldLid
 owned_lids given = flat_map lids_of (filter_map (owned_range given) (rising_lids given))
 
@@ -33,12 +33,12 @@ abbrev pub blocks_of : ℕ → List SwitchTable → List HeldBlock
 blocks_of index [] = []
 blocks_of index (table ∷ tables) = blocks_from index 0 table.blocks ++ blocks_of (suc index) tables
 
--- the switch of a table, with the greatest LID as its top
+-- the switch of `table`, with the top `top`
 abbrev pub with_top : ℕ → SwitchTable → HeldSwitch
 with_top top table = record { guid = table.guid; top = top }
 
--- the LIDs with their owners, and the switches with their blocks and the greatest LID as their top; nothing if there is
--- no LID
+-- what `plan` holds: the LIDs with their owners, and the switches with their blocks and the greatest LID as their top;
+-- nothing if there is no LID
 abbrev pub held_plan : PlanValue → HeldPlan
 held_plan plan =
     option_map_or (λ top. record {

@@ -16,12 +16,14 @@ use Rattle.held_tables.specs.declared.senders.Sender.{Sender}
 abbrev pub index_in : List ℕ → ℕ → Option ℕ
 index_in guids guid = position (λ g. g == guid) guids
 
--- where a wire to the port `q` leads, if the port's node is the usable switch at this index, or none
+-- where a wire to the port `q` leads: to the usable switch at the given index, or to `q` itself, if its node is no
+-- usable switch (None)
 abbrev pub far_at : ℕ × ℕ → Option ℕ → Far
 far_at q None = Port (record { node = q.0; port = q.1 })
 far_at q (Some index) = Switch index
 
--- where a wire to the port `q` leads; nowhere if there is no wire
+-- where a wire to the port `q` leads, if `guids` are those of the usable switches; nowhere for None, if there is no
+-- wire
 abbrev pub far_to : List ℕ → Option (ℕ × ℕ) → Far
 far_to guids None = Nothing
 far_to guids (Some q) = far_at q (index_in guids q.0)
@@ -34,7 +36,8 @@ far_of cells g p = far_to (switches cells) (across cells g p)
 abbrev pub row_of : Cells → ℕ → List Far
 row_of cells g = map (far_of cells g) (range_with_len 0 255)
 
--- where the wire in port n % 256 of the usable switch at index n / 256 leads
+-- where the wire in port n % 256 of the usable switch at index n / 256 leads; nowhere if there is no wire or no such
+-- switch
 abbrev pub far_by : Cells → ℕ → Far
 far_by cells n =
     option_map_or (λ g. slice_index_or (row_of cells g) (n % 256) Nothing) (slice_get (switches cells) (n / 256))
@@ -69,7 +72,7 @@ is_among count (Some index) = nat_lt index count
 abbrev pub all_begin : ℕ → List (Option ℕ) → Bool
 all_begin count firsts = list_all (is_among count) firsts
 
--- a usable switch, with the wires in its ports, its index among the held switches, its top and its number of ports
+-- usable switch `g`, with the wires in its ports, its index among the held switches, its top and its number of ports
 abbrev pub node_of : Cells → HeldPlan → ℕ → AuditedSwitch
 node_of cells held g = record {
   guid = g;

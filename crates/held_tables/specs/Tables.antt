@@ -7,23 +7,24 @@ use Rattle.held_tables.specs.declared.held.HeldBlock.{HeldBlock}
 use Rattle.held_tables.specs.declared.held.HeldLid.{HeldLid}
 use Rattle.held_tables.specs.Held.{HeldPlan}
 
+-- `e` and `x` are the same end port: node and port are equal
 abbrev pub is_same_end : EndPort → EndPort → Bool
 is_same_end e x = x.node == e.node && x.port == e.port
 
--- two lines agree on the LID and the end port
+-- `x` and `y` have the same LID and the same end port
 abbrev pub is_same_line : HeldLid → HeldLid → Bool
 is_same_line x y = y.lid == x.lid && is_same_end x.port y.port
 
--- the lines without repetitions; the first of equal lines stays
+-- the lines of a list without repetitions; the first of equal lines stays
 abbrev pub told_once : List HeldLid → List HeldLid
 told_once [] = []
 told_once (x ∷ xs) = x ∷ filter (λ y. not (is_same_line x y)) (told_once xs)
 
--- the held LIDs in the order of the lines; each pair of a LID and an end port that holds it occurs once
+-- the held LIDs with their end ports, in the order of the lines; each pair of a LID and an end port occurs once
 abbrev pub lines_of : HeldPlan → List HeldLid
 lines_of held = told_once held.lids
 
--- the end ports of the lines for `lid`
+-- the end ports of the `lines` for `lid`, in the order of the lines
 abbrev pub holders : List HeldLid → ℕ → List EndPort
 holders lines lid = map (λ x. x.port) (filter (λ x. x.lid == lid) lines)
 
@@ -39,26 +40,27 @@ is_owner owners e = list_any (is_same_end e) owners
 abbrev pub index_of : HeldPlan → ℕ → Option ℕ
 index_of held g = position (λ s. s.guid == g) held.switches
 
--- the top of the switch at `index`, 0 if there is none
+-- the top of the held switch at `index`, 0 if there is none
 abbrev pub top_at : HeldPlan → Option ℕ → ℕ
 top_at held index = option_map_or (λ s. s.top) (option_and_then (slice_get held.switches) index) 0
 
+-- the number of the block `x`
 abbrev pub number_of : HeldBlock → ℕ
 number_of x = x.number
 
--- x is the block `number` of the switch at `index`
+-- `x` is the block `number` of the switch at `index`
 abbrev pub is_block_of : ℕ → ℕ → HeldBlock → Bool
 is_block_of index number x = x.switch == index && x.number == number
 
--- the last block `number` of the switch at `index`; an accepted text has at most one
+-- the last block `number` of the switch at `index`, None if there is none; an accepted text has at most one
 abbrev pub block_at : HeldPlan → ℕ → ℕ → Option HeldBlock
 block_at held index number = find (is_block_of index number) (reverse held.blocks)
 
--- the entry at i in a block, 255 if the block is not held
+-- the entry at `i` in `block`, 255 if there is no block or no such entry in it
 abbrev pub entry_in : Option HeldBlock → ℕ → ℕ
 entry_in block i = option_map_or (λ x. slice_index_or x.entries i 255) block 255
 
--- the entry for `lid` of the switch at `index`, 255 if it is not held
+-- the entry for `lid` of the held switch at `index`, 255 if it is not held
 abbrev pub entry_at : HeldPlan → Option ℕ → ℕ → ℕ
 entry_at held index lid = option_map_or (λ k. entry_in (block_at held k (lid / 64)) (lid % 64)) index 255
 
@@ -70,10 +72,11 @@ top_of held g = top_at held (index_of held g)
 abbrev pub entry_of : HeldPlan → ℕ → ℕ → ℕ
 entry_of held g lid = entry_at held (index_of held g) lid
 
--- the effective entry: 255 for LID 0 and for LIDs above the top, otherwise `entry`
+-- the effective entry of a switch with the top `top` for `lid`: 255 for LID 0 and for LIDs above the top, otherwise
+-- `entry`
 abbrev pub counted : ℕ → ℕ → ℕ → ℕ
 counted lid top entry = if lid == 0 || nat_lt top lid then 255 else entry
 
--- the effective entry of switch g for `lid`
+-- the effective entry of switch g for `lid` by the held tables: 255 for LID 0, above its top, or if it is not held
 abbrev pub entry_for : HeldPlan → ℕ → ℕ → ℕ
 entry_for held lid g = counted lid (top_of held g) (entry_of held g lid)

@@ -10,22 +10,23 @@ use smp_bytes::{Guid, Lid};
 use std::alloc::{AllocError, Global};
 use subnet_view::{Wires, port_count};
 
-/// A usable switch.
+/// A usable switch, with where its wires lead and what the held tables say of it.
 #[derive(Drop)]
 pub struct AuditedSwitch {
     /// Its node GUID.
     pub guid: Guid,
     /// Where the wires in its ports lead.
     pub row: FarEnds,
-    /// Its index among the held switches.
+    /// Its index among the held switches, or `None` if it is not held.
     pub index: Option<usize>,
-    /// The greatest LID that it forwards, 0 if none is held.
+    /// Its held top, the greatest LID that it forwards, or 0 if it is not held.
     pub top: Lid,
     /// The number of its ports.
     pub ports: u8,
 }
 
-/// Returns the switches `guids`, the usable ones of the view, with where their wires lead and what `held` says of them.
+/// Returns the switches `guids`, with where their wires lead and what `held` says of them. `guids` must be the usable
+/// switches of the view, by rising GUID.
 pub fn nodes(
     alloc: Global,
     wires: &Wires,
@@ -42,7 +43,8 @@ pub fn nodes(
     Ok(nodes)
 }
 
-/// Returns the usable switch with this GUID.
+/// Returns the switch `guid`, with where its wires lead and what `held` says of it. `guids` must be the usable switches
+/// of the view, by rising GUID.
 fn node_at(
     alloc: Global,
     wires: &Wires,
@@ -66,8 +68,8 @@ fn node_at(
     })
 }
 
-/// Returns the index of the switch `guid` among the held switches, or `None` if it is not held. Takes a step for each
-/// held switch.
+/// Returns the index of the switch `guid` among the held switches, or `None` if it is not held. Takes time linear in
+/// the number of held switches.
 pub fn index_of(held: &Held, guid: Guid) -> Option<usize>
     ensures { result ≡ index_of held.now guid }
 {
@@ -76,7 +78,7 @@ pub fn index_of(held: &Held, guid: Guid) -> Option<usize>
         .position(|switch| switch.guid == guid)
 }
 
-/// Returns the top of the held switch at `index`, or 0 if there is none.
+/// Returns the top of the held switch at `index`, or 0 if there is no such switch.
 pub fn top_at(held: &Held, index: Option<usize>) -> Lid
     ensures { result ≡ top_at held.now index }
 {

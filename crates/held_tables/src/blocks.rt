@@ -8,8 +8,9 @@ use crate::held::{Held, HeldBlock};
 use smp_bytes::NO_ENTRY;
 use std::alloc::{AllocError, Global};
 
-/// Returns, for each held switch in order, the 64 entries of its block `number`; 255 for entries that are not held.
-/// Takes a step for each held switch and each held block with this number.
+/// Returns, for each held switch in order, the 64 entries of its block `number`, or 255 for entries that are not held.
+/// `chains` must be those of the held blocks' numbers. Takes time linear in the number of held switches, and of held
+/// blocks with the number `number`.
 pub fn block_rows(
     alloc: Global,
     held: &Held,
@@ -28,7 +29,7 @@ pub fn block_rows(
     Ok(rows)
 }
 
-/// Puts the block at `index` into the row of its switch, if there is such a block.
+/// Puts the block at `index`, if there is one, into the row of its switch.
 fn put_block(rows: &mut Vec<[u8; 64]>, blocks: &[HeldBlock], index: usize)
     ensures { rows.new.items ≡ with_block rows.old.items (slice_get blocks.now index) }
 {
@@ -38,7 +39,7 @@ fn put_block(rows: &mut Vec<[u8; 64]>, blocks: &[HeldBlock], index: usize)
     }
 }
 
-/// Puts `block` into the row of its switch, if there is such a row.
+/// Puts `block` into the row of its switch, if there is one.
 fn put_row(rows: &mut Vec<[u8; 64]>, block: &HeldBlock)
     ensures { rows.new.items ≡ with_row rows.old.items block.now }
 {
@@ -55,7 +56,7 @@ pub fn block_chains(alloc: Global, held: &Held) -> Result<Chains, AllocError>
     chains_of(alloc, &numbers)
 }
 
-/// Returns the numbers of the held blocks.
+/// Returns the number of each held block, in the order of the blocks.
 fn numbers(alloc: Global, held: &Held) -> Result<Vec<u16>, AllocError>
     ensures { IfOk result (λ numbers. numbers.items ≡ map number_of held.now.blocks) }
 {

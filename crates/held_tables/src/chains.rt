@@ -16,7 +16,7 @@ pub struct Chains {
 /// The number of values of a `u16`.
 const NUMBERS: usize = 0x1_0000;
 
-/// Returns the chains of `numbers`. Takes a step for each of `numbers`, and 65,536 more.
+/// Returns the chains of `numbers`. Takes time linear in their number, and in that of the values of a `u16`.
 pub(crate) fn chains_of(alloc: Global, numbers: &[u16]) -> Result<Chains, AllocError>
     ensures { IfOk result (λ chains. AreChains numbers.now chains) }
 {
@@ -40,7 +40,7 @@ fn so_many(alloc: Global, count: usize, index: usize) -> Result<Vec<usize>, Allo
 }
 
 impl Chains {
-    /// Returns the index of the first occurrence of `number`, or the list's length if it does not occur.
+    /// Returns the item of `firsts` for `number`, the index of its first occurrence, or 0 if `firsts` has no such item.
     pub(crate) fn first(&self, number: u16) -> usize
         ensures { result ≡ slice_index_or self.now.firsts.items number 0 }
     {
@@ -50,7 +50,8 @@ impl Chains {
         }
     }
 
-    /// Returns the index of the next occurrence of the number at `index`, or the list's length if there is none.
+    /// Returns the item of `nexts` at `index`, the index of the next occurrence of the same number, or 0 if `nexts` has
+    /// no such item.
     pub(crate) fn next(&self, index: usize) -> usize
         ensures { result ≡ slice_index_or self.now.nexts.items index 0 }
     {

@@ -18,8 +18,8 @@ pub enum Far {
     Port(EndPort),
 }
 
-/// Returns where the wire in `port` of `node` leads. The node has `ports` ports, and `guids` has the usable switches.
-/// Takes one step if the node has no such port, otherwise what `far_of` takes.
+/// Returns where the wire in `port` of `node` leads. `guids` must be the usable switches, by rising GUID, and `ports`
+/// the port count of `node`. Takes constant time if `port` is above `ports`.
 pub(crate) fn far_within(wires: &Wires, guids: &[Guid], node: Guid, ports: u8, port: PortNum) -> Far
     requires guids { guids.now ≡ switches (cells_of wires.now) }
     requires ports { ports ≡ port_count_of (cells_of wires.now) node }
@@ -32,8 +32,7 @@ pub(crate) fn far_within(wires: &Wires, guids: &[Guid], node: Guid, ports: u8, p
     }
 }
 
-/// Returns where the wire in `port` of `node` leads. `guids` has the usable switches. Takes two searches among the
-/// wires, and one among `guids` if there is a wire.
+/// Returns where the wire in `port` of `node` leads. `guids` must be the usable switches, by rising GUID.
 pub(crate) fn far_of(wires: &Wires, guids: &[Guid], node: Guid, port: PortNum) -> Far
     requires { guids.now ≡ switches (cells_of wires.now) }
     ensures { result ≡ far_of (cells_of wires.now) node port }
@@ -47,7 +46,8 @@ pub(crate) fn far_of(wires: &Wires, guids: &[Guid], node: Guid, port: PortNum) -
     }
 }
 
-/// Returns the index of `guid` in `guids`, which rise, or `None` if it is not there. Takes a binary search.
+/// Returns the index of `guid` in `guids`, which must rise strictly, or `None` if it is not there. Takes a binary
+/// search.
 pub(crate) fn index(guids: &[Guid], guid: Guid) -> Option<usize>
     requires { IsStrictlyIncreasing guids.now }
     ensures { result ≡ index_in guids.now guid }
@@ -55,7 +55,7 @@ pub(crate) fn index(guids: &[Guid], guid: Guid) -> Option<usize>
     guids.binary_search(&guid).ok()
 }
 
-/// Returns the index of the usable switch to which a wire leads, or `None` if it leads to none.
+/// Returns the index of the usable switch to which the wire of `far` leads, or `None` if it leads to none.
 pub(crate) fn switch_over(far: Far) -> Option<usize>
     ensures { result ≡ switch_over far }
 {

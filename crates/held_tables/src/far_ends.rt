@@ -13,7 +13,7 @@ use subnet_view::{Wires, port_count};
 /// Where the wires in a switch's ports lead.
 #[derive(Drop)]
 pub struct FarEnds {
-    /// The far ends up to the last port that has a wire.
+    /// The far ends from port 0 up to the last port that has a wire.
     fars: Vec<Far>,
 }
 
@@ -28,7 +28,7 @@ impl Model for FarEnds {
 }
 
 impl FarEnds {
-    /// Returns where the wire in `port` leads. Takes one step.
+    /// Returns where the wire in `port` leads. Takes constant time.
     pub fn far(&self, port: u8) -> Far
         ensures { result ≡ slice_index_or self.now port Far.Nothing }
     {
@@ -36,7 +36,7 @@ impl FarEnds {
     }
 
     /// Returns the index of the usable switch to which the wire in `port` leads, or `None` if it leads to none. Takes
-    /// one step.
+    /// constant time.
     pub fn switch(&self, port: u8) -> Option<usize>
         ensures { result ≡ switch_over (slice_index_or self.now port Far.Nothing) }
     {
@@ -44,7 +44,7 @@ impl FarEnds {
     }
 }
 
-/// Returns where the wire in `port` leads.
+/// Returns the item of `fars` at `port`, or `Nothing` if there is no such item.
 fn far_at(fars: &[Far], port: u8) -> Far
     ensures { result ≡ slice_index_or fars.now port Far.Nothing }
 {
@@ -54,7 +54,8 @@ fn far_at(fars: &[Far], port: u8) -> Far
     }
 }
 
-/// Returns the index of the usable switch to which the wire in `port` leads, or `None` if it leads to none.
+/// Returns the index of the usable switch that the item of `fars` at `port` leads to, or `None` if it leads to none, or
+/// there is no such item.
 fn switch_at(fars: &[Far], port: u8) -> Option<usize>
     ensures { result ≡ switch_over (slice_index_or fars.now port Far.Nothing) }
 {
@@ -64,7 +65,7 @@ fn switch_at(fars: &[Far], port: u8) -> Option<usize>
     }
 }
 
-/// Returns where the wires in the ports of `node` lead.
+/// Returns where the wires in the ports of `node` lead. `guids` must be the usable switches, by rising GUID.
 pub(crate) fn row_of(
     alloc: Global,
     wires: &Wires,
@@ -79,7 +80,7 @@ pub(crate) fn row_of(
     Ok(FarEnds { fars })
 }
 
-/// Returns where the wires in ports 0 to 254 of `node` lead.
+/// Returns where the wires in ports 0 to 254 of `node` lead. `guids` must be the usable switches, by rising GUID.
 fn all_fars(
     alloc: Global,
     wires: &Wires,
@@ -118,7 +119,7 @@ fn wired(fars: &[Far]) -> usize
 }
 
 /// Returns the number of ports up to the last wired one of ports 0 to `port`. `count` is this number for the ports
-/// before `port`, and `far` is where the wire in `port` leads.
+/// before `port`, and `far` is where the wire in `port` leads. `port` must be below 2^64 - 1.
 fn wired_more(far: &Far, port: usize, count: usize) -> usize
     requires { port < 2 ^ 64 - 1 }
     ensures { result ≡ wired_more far.now port count }

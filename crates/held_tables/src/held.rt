@@ -15,9 +15,9 @@ use subnet_view::EndPort;
 /// A LID and an end port that holds it.
 #[derive(Clone, Copy, Debug, PartialEq, Eq)]
 pub struct HeldLid {
-    /// From 1 to 49,151.
+    /// From 1 to 49,151 in the tables of a text or a plan.
     pub lid: Lid,
-    /// Its port number is at most 254.
+    /// Its port number is at most 254 in the tables of a text or a plan.
     pub port: EndPort,
 }
 
@@ -25,7 +25,7 @@ pub struct HeldLid {
 #[derive(Clone, Copy, Debug, PartialEq, Eq)]
 pub struct HeldSwitch {
     pub guid: Guid,
-    /// Up to 49,151.
+    /// Up to 49,151 in the tables of a text or a plan.
     pub top: Lid,
 }
 
@@ -34,13 +34,13 @@ pub struct HeldSwitch {
 pub struct HeldBlock {
     /// The index of its switch, from 0, among the held switches.
     pub switch: usize,
-    /// Up to 767: the block has the entries from LID 64 times this number on.
+    /// The block has the entries from LID 64 times this number on. Up to 767 in the tables of a text or a plan.
     pub number: u16,
     /// For each LID, the port by which packets leave.
     pub entries: [u8; 64],
 }
 
-/// What a plan's text says: the LIDs that end ports hold, and the forwarding tables of switches.
+/// What a text of tables says: the LIDs that end ports hold, and the forwarding tables of switches.
 #[derive(Drop)]
 pub struct Held {
     lids: Vec<HeldLid>,
@@ -61,7 +61,7 @@ impl Model for Held {
 }
 
 impl Held {
-    /// Returns an empty plan.
+    /// Returns tables without a line.
     pub fn new(alloc: Global) -> Self
         ensures { result ≡ nothing_held }
     {
@@ -73,8 +73,7 @@ impl Held {
     }
 
     /// Returns the tables of `plan`: the LIDs of its end ports, and its switches, each with the greatest LID as its
-    /// top. If there is no LID, they are empty. Reading the plan's text gives the same tables. Takes a step for each
-    /// LID and each block.
+    /// top. If `plan` has no LID, the tables are empty. The plan's text is read as the same tables.
     pub fn of_plan(alloc: Global, plan: &Plan) -> Result<Self, AllocError>
         ensures { IfOk result (λ held. held ≡ held_plan plan.now) }
     {
@@ -84,7 +83,7 @@ impl Held {
         }
     }
 
-    /// Returns the tables of a plan whose greatest LID is `top`.
+    /// Returns the tables of `plan`, with `top` as the top of each switch.
     fn under_top(alloc: Global, plan: &Plan, top: Lid) -> Result<Self, AllocError>
         ensures { IfOk result (λ held. held ≡ record {
           lids = owned_lids plan.now.given;
@@ -98,7 +97,7 @@ impl Held {
         Ok(Held::of(lids, switches, blocks))
     }
 
-    /// Builds a plan's tables from LIDs with their end ports, switches and blocks.
+    /// Builds tables from LIDs with the end ports that hold them, switches and blocks.
     pub fn of(lids: Vec<HeldLid>, switches: Vec<HeldSwitch>, blocks: Vec<HeldBlock>) -> Self
         ensures { result ≡ record { lids = lids.items; switches = switches.items; blocks = blocks.items } }
     {
@@ -116,21 +115,22 @@ impl Held {
         &self.lids
     }
 
-    /// Returns the switches, by rising GUID.
+    /// Returns the switches in the order of their lines, which is by rising GUID in the tables of a text or a plan.
     pub fn switches(&self) -> &[HeldSwitch]
         ensures { result.now ≡ self.now.switches }
     {
         &self.switches
     }
 
-    /// Returns the blocks, by the indices of their switches and then by their numbers.
+    /// Returns the blocks in the order of their lines.
     pub fn blocks(&self) -> &[HeldBlock]
         ensures { result.now ≡ self.now.blocks }
     {
         &self.blocks
     }
 
-    /// Returns the tables after another line, which says `item`. A block belongs to the last switch.
+    /// Returns the tables after another line, which says `item`. A block belongs to the last switch above it, or has
+    /// index 0 if there is none.
     pub fn with(self, item: HeldItem) -> Result<Self, AllocError>
         ensures { IfOk result (λ held. held ≡ held_with self item) }
     {
@@ -160,7 +160,7 @@ impl Held {
     }
 }
 
-/// Appends the LIDs of an end port.
+/// Appends the LIDs of `range`, each with the end port that holds it.
 fn push_range(lids: &mut Vec<HeldLid>, range: HeldRange) -> Result<(), AllocError>
     ensures { OnOk result (lids.new.items ≡ lids.old.items ++ lids_of range) }
 {
@@ -168,7 +168,7 @@ fn push_range(lids: &mut Vec<HeldLid>, range: HeldRange) -> Result<(), AllocErro
     push_lids(lids, &first, lmc)
 }
 
-/// Appends the 2^LMC LIDs of an end port, from `first` on.
+/// Appends the 2^LMC LIDs of an end port, from `first` on, whose LID must be below 49,152.
 pub(crate) fn push_lids(
     lids: &mut Vec<HeldLid>,
     first: &HeldLid,

@@ -9,7 +9,7 @@ use smp_bytes::Lid;
 use std::alloc::{AllocError, Global};
 use subnet_view::EndPort;
 
-/// Who holds a LID.
+/// Who holds a LID, by lines of which none occurs twice.
 #[derive(Clone, Copy, Debug, PartialEq, Eq)]
 pub enum Owner {
     /// No end port.
@@ -23,7 +23,8 @@ pub enum Owner {
 /// One more than the greatest LID that an end port can hold.
 const LIDS: usize = Lid::UNICAST_END as usize;
 
-/// Returns who holds each LID by `lines`. Takes a step for each LID and each line.
+/// Returns who holds each LID below 49,152 by `lines`. A line that occurs twice counts as two end ports. Takes time
+/// linear in the number of `lines` and of LIDs.
 pub fn lid_owners(alloc: Global, lines: &[HeldLid]) -> Result<Vec<Owner>, AllocError>
     ensures { IfOk result (λ owners. AreOwners lines.now owners.items) }
 {
@@ -34,7 +35,8 @@ pub fn lid_owners(alloc: Global, lines: &[HeldLid]) -> Result<Vec<Owner>, AllocE
     Ok(owners)
 }
 
-/// Records that the end port of `line` holds its LID. Changes nothing if the LID is beyond the end of `owners`.
+/// Records in `owners` that the end port of `line` holds its LID. Does nothing if the LID is beyond the end of
+/// `owners`.
 fn add_owner(owners: &mut Vec<Owner>, line: &HeldLid)
     ensures { owners.new.items ≡ slice_set owners.old.items line.now.lid
         (owner_more (slice_index_or owners.old.items line.now.lid Several) line.now.port) }
@@ -45,7 +47,7 @@ fn add_owner(owners: &mut Vec<Owner>, line: &HeldLid)
     }
 }
 
-/// Returns who holds a LID if `port` holds it in addition to `owner`.
+/// Returns who holds a LID if `port` holds it besides those of `owner`.
 fn owner_more(owner: Owner, port: EndPort) -> Owner
     ensures { result ≡ owner_more owner port }
 {
@@ -55,8 +57,8 @@ fn owner_more(owner: Owner, port: EndPort) -> Owner
     }
 }
 
-/// Returns the end ports that hold `lid` by `lines`. Takes a step or two if at most one end port does; otherwise walks
-/// all lines.
+/// Returns the end ports that hold `lid` by `lines`. `owners` must say who holds each LID by `lines`. Takes constant
+/// time if at most one line is for `lid`, and otherwise time linear in the number of `lines`.
 pub fn owners_of(
     alloc: Global,
     lines: &[HeldLid],
@@ -83,7 +85,8 @@ fn owner_at(owners: &[Owner], lid: Lid) -> Owner
     }
 }
 
-/// Returns the only end port that holds `lid`, or `None` if none or several do. Takes one step.
+/// Returns the only end port that holds `lid`, or `None` if none or several do, or `lid` is beyond the end of `owners`.
+/// Takes constant time.
 pub fn sole_owner(owners: &[Owner], lid: Lid) -> Option<EndPort>
     ensures { result ≡ sole_among (slice_index_or owners.now lid Several) }
 {
@@ -102,7 +105,7 @@ fn one(alloc: Global, port: EndPort) -> Result<Vec<EndPort>, AllocError>
     Ok(ports)
 }
 
-/// Returns the end ports that hold `lid` by `lines`. Walks all lines.
+/// Returns the end ports that hold `lid` by `lines`. Takes time linear in the number of `lines`.
 fn all_owners_of(alloc: Global, lines: &[HeldLid], lid: Lid) -> Result<Vec<EndPort>, AllocError>
     ensures { IfOk result (λ owners. owners.items ≡ holders lines.now lid) }
 {
@@ -113,8 +116,8 @@ fn all_owners_of(alloc: Global, lines: &[HeldLid], lid: Lid) -> Result<Vec<EndPo
         .collect(alloc)
 }
 
-/// Returns whether more than one of `lines` is for `lid`. Takes a step or two if the LID is below 49152; otherwise
-/// walks all lines.
+/// Returns whether more than one of `lines` is for `lid`. `owners` must say who holds each LID by `lines`. Takes
+/// constant time if `owners` has an item for `lid`, and otherwise time linear in the number of `lines`.
 pub fn is_told_twice(lines: &[HeldLid], owners: &[Owner], lid: Lid) -> bool
     requires { AreOwners lines.now owners.now }
     ensures { result ≡ is_told_twice lines.now lid }
@@ -125,7 +128,7 @@ pub fn is_told_twice(lines: &[HeldLid], owners: &[Owner], lid: Lid) -> bool
     }
 }
 
-/// Returns whether `owner` stands for more than one end port.
+/// Returns whether `owner` is `Several`.
 fn is_several(owner: &Owner) -> bool
     ensures { result ≡ is_several owner.now }
 {
@@ -135,15 +138,16 @@ fn is_several(owner: &Owner) -> bool
     }
 }
 
-/// Returns whether more than one of `lines` is for `lid`. Walks all lines.
+/// Returns whether more than one of `lines` is for `lid`. Takes time linear in the number of `lines`.
 fn is_told_twice_by(lines: &[HeldLid], lid: Lid) -> bool
     ensures { result ≡ is_told_twice lines.now lid }
 {
     1 < lines.iter().filter(|line| line.lid == lid).count()
 }
 
-/// Returns whether no end port other than the line's holds the LID of `line`, by `lines`. Takes a step or two if at
-/// most one end port holds it; otherwise walks all lines.
+/// Returns whether no end port other than the line's holds the LID of `line`, by `lines`. `owners` must say who holds
+/// each LID by `lines`. Takes constant time if at most one line is for the LID, and otherwise time linear in the number
+/// of `lines`.
 pub fn is_sole_owner(lines: &[HeldLid], owners: &[Owner], line: &HeldLid) -> bool
     requires { AreOwners lines.now owners.now }
     ensures { result ≡ is_sole line.now.port (holders lines.now line.now.lid) }
@@ -155,7 +159,8 @@ pub fn is_sole_owner(lines: &[HeldLid], owners: &[Owner], line: &HeldLid) -> boo
     }
 }
 
-/// Returns whether no end port other than the line's holds the LID of `line`, by `lines`. Walks all lines.
+/// Returns whether no end port other than the line's holds the LID of `line`, by `lines`. Takes time linear in the
+/// number of `lines`.
 fn is_sole_of_all(lines: &[HeldLid], line: &HeldLid) -> bool
     ensures { result ≡ is_sole line.now.port (holders lines.now line.now.lid) }
 {
@@ -166,7 +171,7 @@ fn is_sole_of_all(lines: &[HeldLid], line: &HeldLid) -> bool
         .all(|owner| is_same_end(&line.port, &owner))
 }
 
-/// Returns whether two end ports are the same. Takes one step.
+/// Returns whether `port` and `other` are the same end port.
 pub fn is_same_end(port: &EndPort, other: &EndPort) -> bool
     ensures { result ≡ is_same_end port.now other.now }
 {

@@ -10,7 +10,7 @@ use lid_assign::LidMap;
 use smp_bytes::Lid;
 use std::alloc::{AllocError, Global};
 
-/// Returns the LIDs of all end ports, by the first LID of each.
+/// Returns the LIDs of all end ports, with those of one end port together, by rising first LIDs.
 pub(crate) fn owned_lids(alloc: Global, map: &LidMap) -> Result<Vec<HeldLid>, AllocError>
     ensures { IfOk result (λ lids. lids.items ≡ owned_lids map.now) }
 {
@@ -21,7 +21,7 @@ pub(crate) fn owned_lids(alloc: Global, map: &LidMap) -> Result<Vec<HeldLid>, Al
     Ok(lids)
 }
 
-/// Appends the LIDs of the end port whose first LID is `lid`.
+/// Appends the LIDs of the end port that owns `lid`, from `lid` on. Appends none if no end port owns `lid`.
 fn push_owned(lids: &mut Vec<HeldLid>, map: &LidMap, lid: Lid) -> Result<(), AllocError>
     ensures { OnOk result (lids.new.items
         ≡ lids.old.items ++ option_map_or lids_of (owned_range map.now lid) []) }
@@ -59,7 +59,7 @@ pub(crate) fn blocks_of(alloc: Global, tables: &[Table]) -> Result<Vec<HeldBlock
     Ok(blocks)
 }
 
-/// Appends the blocks of the switch at index `switch`. The first block has number 0.
+/// Appends the blocks in `table`, at most 1024, of the switch at index `switch`. The first block has number 0.
 fn push_blocks(
     blocks: &mut Vec<HeldBlock>,
     switch: usize,

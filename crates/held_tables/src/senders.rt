@@ -13,13 +13,13 @@ use subnet_view::{EndPort, Wires};
 pub struct Sender {
     /// The end port.
     pub port: EndPort,
-    /// The index of its switch, if it is the end port of a usable switch.
+    /// The index of its node among the usable switches, or `None` if its node is not one.
     pub switch: Option<usize>,
     /// Where its wire leads.
     pub far: Far,
 }
 
-/// Returns `ports` as senders.
+/// Returns `ports` as senders. `guids` must be the usable switches, by rising GUID.
 pub fn sources(
     alloc: Global,
     wires: &Wires,
@@ -42,7 +42,7 @@ pub fn sources(
     Ok(sources)
 }
 
-/// Returns, for each sender, the index of the first switch that its packets reach, or `None` if they reach none.
+/// Returns, for each of `sources`, the index of the first switch that its packets reach, or `None` if they reach none.
 pub fn firsts(alloc: Global, sources: &[Sender]) -> Result<Vec<Option<usize>>, AllocError>
     ensures { IfOk result (λ firsts. firsts.items ≡ map first_switch sources.now) }
 {

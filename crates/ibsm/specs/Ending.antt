@@ -37,7 +37,7 @@ HasEnoughNames (Run lmc rule) count = count ≡ texts_for rule + 2
 HasEnoughNames (Serve asked) count = count ≡ texts_for asked.rule + 1
 
 -- the task was done with open inputs; `prints` holds of what it prints, and `says` of what it writes to standard error;
--- a task that judges nothing passes
+-- `passed` says whether what it judges passes, and is true if it judges nothing
 abbrev pub Does : {S : Type 0} → (S → SourceState) → Task → List S → List S → (List ℕ → Type 0)
     → (List ℕ → Type 0) → Bool → Type 0
 Does state (Answer request) olds news prints says passed =
@@ -55,12 +55,12 @@ Does state (Run lmc rule) olds news prints says passed =
 Does state (Serve asked) olds news prints says passed =
     (passed ≡ true) × HasServedLines state asked olds news prints
 
--- a task that is done leaves standard error unchanged, except for the task of a step
+-- standard error is as it was before the task; for a step (`Next`), which may write to it, this says nothing
 abbrev pub StaysSilent : {E : Type 0} → Task → E → E → Type 0
 StaysSilent (Next asked) errors errors' = Unit {0}
 StaysSilent task errors errors' = errors' ≡ errors
 
--- the files `names` were opened, and the task was done with them
+-- the files `names` were opened, and the task was done with them (`Does`)
 pub record Performs {S : Type 0} (answers : List ℕ → Result S OpenFault → Type 0) (state : S → SourceState)
     (task : Task) (names : List (Bor (List ℕ))) (prints says : List ℕ → Type 0) (passed : Bool) : Type 0 where
   pub olds : List S
@@ -75,7 +75,7 @@ pub record AsksWhole (matches : ArgMatches) : Type 0 where
   pub names : List (Bor (List ℕ))
   pub named : names_asked matches task ≡ Some (map (λ name. name.now) names)
 
--- the words ask for a task and name its inputs, and the task was done with them
+-- the words ask for a task and name its inputs, and the task was done with these (`Performs`)
 pub record PerformsWords {S : Type 0} (answers : List ℕ → Result S OpenFault → Type 0) (state : S → SourceState)
     (matches : ArgMatches) (prints says : List ℕ → Type 0) (passed : Bool) : Type 0 where
   pub asked : AsksWhole matches
@@ -92,8 +92,8 @@ IsDone status = (passed : Bool) × (status ≡ status_after passed)
 
 -- faults ----------------------------------------------------------------------------------------
 
--- why a task over open inputs ends early; if memory ran out, `prints` holds of what it would have printed; if no more
--- lines could be read, `whole` holds of what was printed
+-- a task over open inputs ends early for `fault`; if memory ran out, `prints` holds of what it would have printed; if
+-- no more lines could be read, `whole` holds of what was printed
 abbrev pub IsFaultOver : {S : Type 0} → (S → SourceState) → Task → List S → List S
     → (List ℕ → Type 0) → (List ℕ → Type 0) → Bool → Fault → Type 0
 IsFaultOver state (Answer request) olds news prints whole output_failed fault =
@@ -111,7 +111,7 @@ IsFaultOver state (Run lmc rule) olds news prints whole output_failed fault =
 IsFaultOver state (Serve asked) olds news prints whole output_failed fault =
     IsServeFault state asked olds news prints whole output_failed fault
 
--- the files were opened, and the task over them ends with the fault
+-- the files `names` were opened, and the task over them ends for `fault`
 pub record FailsOverFiles {S : Type 0} (answers : List ℕ → Result S OpenFault → Type 0) (state : S → SourceState)
     (task : Task) (names : List (Bor (List ℕ))) (prints whole : List ℕ → Type 0) (output_failed : Bool)
     (fault : Fault) : Type 0 where
@@ -120,25 +120,25 @@ pub record FailsOverFiles {S : Type 0} (answers : List ℕ → Result S OpenFaul
   pub opened : AreOpened answers names olds
   pub fails : IsFaultOver state task olds news prints whole output_failed fault
 
--- why a task fails: a file does not open, or the task over the files ends early
+-- a task fails for `fault`: a file does not open, or the task over the files ends early
 abbrev pub IsTaskFault : {S : Type 0} → (List ℕ → Result S OpenFault → Type 0) → (S → SourceState) → Task
     → List (Bor (List ℕ)) → (List ℕ → Type 0) → (List ℕ → Type 0) → Bool → Fault → Type 0
 IsTaskFault answers state task names prints whole output_failed fault =
     IsOpenFault answers names fault
     ⊎ FailsOverFiles answers state task names prints whole output_failed fault
 
--- the fault may come after a part was printed: a run prints as it goes on, and may then lack memory, and so does a
+-- `fault` may come after a part was printed: a run prints as it goes on, and may then lack memory, and so does a
 -- manager, whose lines may also fail to be read; each other task prints once it is done
 abbrev pub StopsAsItGoes : Task → Fault → Type 0
 StopsAsItGoes (Run lmc rule) fault = fault ≡ Memory
 StopsAsItGoes (Serve asked) fault = (fault ≡ Memory) ⊎ (fault ≡ File (texts_for asked.rule) Read)
 StopsAsItGoes task fault = ⊥
 
--- if a task ends with a fault, the output is unchanged, unless a write failed or a part was already printed
+-- if a task ends for `fault`, the output is unchanged (`stays`), unless a write failed or a part was already printed
 abbrev pub KeepsOutput : Task → Type 0 → Fault → Type 0
 KeepsOutput task stays fault = (fault ≡ Write) ⊎ (StopsAsItGoes task fault ⊎ stays)
 
--- the name of a file; empty if there is none
+-- the name of a file; empty for None
 abbrev pub name_at : Option (Bor (List ℕ)) → List ℕ
 name_at None = []
 name_at (Some name) = name.now
@@ -166,7 +166,8 @@ pub record SaysWhy (task : Task) (names : List (Bor (List ℕ))) (IsFault : Faul
   pub ends : status ≡ status_of fault
   pub said : says (fault_line names fault)
 
--- the task that the words ask for has a fault, over the files that they name
+-- the words ask for a task and name its inputs, and the task over them has a fault: it ends with the fault's status,
+-- `says` holds of the fault's line, and the output stays if it is kept
 pub record SaysWhyOfWords {S : Type 0} (answers : List ℕ → Result S OpenFault → Type 0) (state : S → SourceState)
     (matches : ArgMatches) (prints whole : List ℕ → Type 0) (output_failed : Bool) (stays : Type 0)
     (status : ExitStatus) (says : List ℕ → Type 0) : Type 0 where

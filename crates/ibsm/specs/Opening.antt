@@ -6,13 +6,13 @@ use Rattle.sm_cli.specs.declared.fault.Fault.TheVariants as faults
 use Rattle.ibsm.specs.declared.opener.OpenFault.{OpenFault}
 use Rattle.ibsm.specs.declared.opener.OpenFault.TheVariants.{Missing, Memory}
 
--- if a file was opened, it is appended to the others; otherwise they are unchanged
+-- if a file was opened, `new` is `old` with it appended; if not, `new` is `old`
 abbrev pub OpensBehind : {S : Type 0} → (Result S OpenFault → Type 0) → Result (Unit {0}) OpenFault → List S → List S
     → Type 0
 OpensBehind {S} answers (Ok u) old new = (file : S) × answers (Ok file) × (new ≡ old ++ file ∷ [])
 OpensBehind answers (Err fault) old new = answers (Err fault) × (new ≡ old)
 
--- the files were opened by these names, one for each name, in their order
+-- `files` were opened by `names`, one for each name, in their order
 pub record AreOpened {S : Type 0} (answers : List ℕ → Result S OpenFault
     → Type 0) (names : List (Bor (List ℕ))) (files : List S) : Type 0 where
   pub one_each : length files ≡ length names
@@ -20,7 +20,7 @@ pub record AreOpened {S : Type 0} (answers : List ℕ → Result S OpenFault
       ≡ Some file
       → answers name.now (Ok file)
 
--- a name was tried and is not missing: its file was opened, or memory ran out for it
+-- a name that was tried is not missing: its file was opened, or memory ran out for it
 abbrev pub IsThere : {S : Type 0} → (Result S OpenFault → Type 0) → Type 0
 IsThere {S} answers = ((file : S) × answers (Ok file)) ⊎ answers (Err Memory)
 
@@ -51,7 +51,8 @@ pub record LacksMemory {S : Type 0} (answers : List ℕ → Result S OpenFault
   pub refused : WasRefusedMemory answers names
   pub there : AreThere answers names (length names)
 
--- why the files `names` are not open
+-- the files `names` are not open for a fault: a name is the first that is missing, or none is missing and memory ran
+-- out
 abbrev pub IsOpenFault : {S : Type 0} → (List ℕ → Result S OpenFault → Type 0) → List (Bor (List ℕ)) → Fault → Type 0
 IsOpenFault answers names (faults.Open input) = IsFirstMissing answers names input
 IsOpenFault answers names faults.Memory = LacksMemory answers names

@@ -7,7 +7,7 @@ use std::io::BufReader;
 use std::rt::Files;
 use std::{fs, io};
 
-/// The reason why a file was not opened.
+/// Why a file was not opened.
 #[derive(Clone, Copy, Debug, PartialEq, Eq)]
 pub(crate) enum OpenFault {
     /// No file of this name can be opened.
@@ -27,7 +27,7 @@ pub(crate) trait Opener {
     // `answers` relates a name and an answer that a call gave for it.
     ghost answers: { Self → List ℕ → Result Self.Opened OpenFault → Type 0 };
 
-    /// Opens the file `name`, and appends it to `files`. Appends nothing if it cannot be opened.
+    /// Opens the file `name`, and appends it to `files`. If it returns an error, `files` are unchanged.
     fn open_behind(&self, name: &str, files: &mut Vec<Self::Opened>) -> Result<(), OpenFault>
         ensures { OpensBehind (answers self.now name.now) result files.old.items files.new.items };
 }

@@ -22,8 +22,9 @@ use sm_cli::{ExitStatus, Fault, run_files, write_fault};
 use std::alloc::Global;
 use std::io::Write;
 
-/// Performs `task` over the files `names`, which are its inputs in the order in which they are read. All files are
-/// opened before the first is read. If the task cannot be done, writes the reason to `errors`.
+/// Performs `task` over the files `names`, which are its inputs in the order in which they are read. There must be
+/// enough names for the task. All files are opened before the first is read. If the task cannot be done, writes the
+/// reason to `errors`.
 pub(crate) fn perform_or_explain<R, O, E>(
     rt: &R,
     task: Task,
@@ -67,7 +68,8 @@ fn status_after(passed: bool) -> ExitStatus
     }
 }
 
-/// Performs `task` over the files `names`. Returns whether what it judges passes. A task that judges nothing passes.
+/// Opens the files `names` and performs `task` over them. There must be enough names for the task. Returns whether what
+/// it judges passes. A task that judges nothing passes.
 fn perform<R, O, E>(
     rt: &R,
     task: Task,
@@ -100,7 +102,8 @@ where
     }
 }
 
-/// Performs `task` over its open inputs. Returns whether what it judges passes. A task that judges nothing passes.
+/// Performs `task` over its open inputs, of which there must be enough. Returns whether what it judges passes. A task
+/// that judges nothing passes.
 fn do_task<S: Source, W: Sink, E: Sink>(
     alloc: Global,
     task: Task,
@@ -140,7 +143,8 @@ fn do_task<S: Source, W: Sink, E: Sink>(
     }
 }
 
-/// Writes the line of `fault` to `errors`, and returns the exit status. `names` are the files of the run.
+/// Writes the line of `fault` to `errors`, and returns the exit status of `fault`, whether or not the write fails.
+/// `names` are the files of the run.
 pub(crate) fn say<E: Write>(errors: &mut ToWrite<E>, names: &[&str], fault: &Fault) -> ExitStatus
     ensures status { result ≡ status_of fault.now }
     ensures said { IsSaid ⟦<ToWrite<E> as Sink>⟧.written ⟦<ToWrite<E> as Sink>⟧.has_failed errors.old errors.new
@@ -150,8 +154,8 @@ pub(crate) fn say<E: Write>(errors: &mut ToWrite<E>, names: &[&str], fault: &Fau
     fault.status()
 }
 
-/// Opens the files `names` in their order. If memory runs out, still tries the remaining names, since a missing file is
-/// reported first.
+/// Opens the files `names` in their order. Returns `Open` with the first that cannot be opened. If there is none, but
+/// memory was refused for one, returns `Memory`.
 fn open_all<R>(rt: &R, names: &[&str]) -> Result<Vec<R::Opened>, Fault>
 where
     R: Opener + AllocGlobal,
@@ -174,7 +178,7 @@ where
     }
 }
 
-/// Returns the name of the file that `fault` concerns, or an empty name if it concerns none.
+/// Returns the name of the file that `fault` concerns, or an empty name if it concerns none of `names`.
 fn name_of<'a>(names: &[&'a str], fault: &Fault) -> &'a str
     ensures { result.now ≡ name_of names.now fault.now }
 {

@@ -33,7 +33,8 @@ where
     }
 }
 
-/// Performs what the command line asks for. Returns `Err` if memory ran out before anything was written about it.
+/// Performs what the command line asks for. Returns an error if memory was refused before anything was written about
+/// it.
 fn try_run<R, O, E>(rt: &R, output: O, errors: &mut ToWrite<E>) -> Result<ExitStatus, AllocError>
 where
     R: Env + Opener + Print + Eprint + AllocGlobal,
@@ -50,7 +51,8 @@ where
     }
 }
 
-/// Returns the words of the command line. If one of them is not UTF-8, prints that and returns `None`.
+/// Returns the words of the command line. If one of them is not UTF-8, prints that and returns `None`. Returns an error
+/// if memory was refused.
 fn words<R: Env + Eprint + AllocGlobal>(rt: &R) -> Result<Option<Vec<String>>, AllocError> {
     match env::args(rt) {
         Ok(words) => Ok(Some(words.collect(rt.alloc())?)),
@@ -62,11 +64,11 @@ fn words<R: Env + Eprint + AllocGlobal>(rt: &R) -> Result<Option<Vec<String>>, A
     }
 }
 
-/// Performs what the well-formed words `matches` ask for. If it cannot, writes the reason to `errors`.
+/// Performs what the words `matches`, which must be well-formed, ask for. If it cannot, writes the reason to `errors`.
 ///
 /// # Errors
 ///
-/// Returns an error if memory ran out before the task began.
+/// Returns an error if memory was refused before the task began.
 fn dispatch<R, O, E>(
     rt: &R,
     matches: &ArgMatches<'_>,
@@ -96,7 +98,8 @@ where
     Ok(perform_or_explain(rt, task, &names, output, errors))
 }
 
-/// Prints help to standard output, or the fault of the command line to standard error.
+/// Prints help or the version to standard output, or the fault of the command line to standard error. Returns an error
+/// if `error` is a lack of memory.
 pub(crate) fn explain<R: Print + Eprint, E: Write>(
     rt: &R,
     error: &Error,

@@ -15,7 +15,7 @@ use Rattle.audit_channels.specs.Fabrics.{TakeInTurn, Travels}
 use Rattle.next_tables.specs.ChangingFabric.{IsInChange, entry_now}
 use Rattle.next_tables.specs.NextTables.{IsKept, next_tables, settled_first}
 
--- facts describe all that is joined to an end port, and this part holds tables
+-- an example: facts describe all that is joined to an end port, and this part holds tables
 pub record PartSeen : Type 0 where
   pub facts : Facts
   pub held : HeldPlan
@@ -24,11 +24,11 @@ pub record PartSeen : Type 0 where
   pub is_end : IsEndPort fabric origin
   pub seen : IsSeenIn (IsJoinedTo fabric origin) (cells_of facts) held fabric
 
--- in some example facts also describe the whole fabric exactly, and it holds the tables
+-- in some example, facts describe the whole fabric exactly, and it holds the tables
 abbrev pub SomeFabricIsSeen : Type 0
 SomeFabricIsSeen = (part : PartSeen) × IsSeen (cells_of part.facts) part.held part.fabric
 
--- a packet takes two channels in the part, one after the other
+-- in the part, a packet takes two channels one after the other
 pub record TravelsThere (part : PartSeen) : Type 0 where
   pub hops : List Hop
   pub travels : Travels (IsJoinedTo part.fabric part.origin) part.fabric hops
@@ -40,15 +40,15 @@ pub record TravelsThere (part : PartSeen) : Type 0 where
 abbrev pub SomePacketTravels : Type 0
 SomePacketTravels = (part : PartSeen) × TravelsThere part
 
--- a switch in the part
+-- the part of the example has a switch
 pub record SwitchThere (part : PartSeen) : Type 0 where
   pub port : NodePort
   pub node : Node
   pub there : IsEndPortIn (IsJoinedTo part.fabric part.origin) part.fabric port node
   pub kind : IsTrue (is_switch node.kind)
 
--- in a change towards a plan, one switch of the part already has a new entry for a LID that one end port keeps, and one
--- does not have its next entry yet
+-- in a change towards a plan by settled entries, one switch of the part has another entry than before for a LID that
+-- one end port keeps, and one does not have its next entry yet
 pub record ChangesThere (part : PartSeen) : Type 0 where
   pub plan : HeldPlan
   pub line : HeldLid
@@ -62,6 +62,6 @@ pub record ChangesThere (part : PartSeen) : Type 0 where
   pub behind : entry_now now line.lid waiting.port.node
       ≢ entry_for (next_tables (cells_of part.facts) settled_first part.held plan) line.lid waiting.node.guid
 
--- in some part, tables change
+-- in some part, tables change, and some entries are new and some are not yet
 abbrev pub SomeTablesChange : Type 0
 SomeTablesChange = (part : PartSeen) × ChangesThere part

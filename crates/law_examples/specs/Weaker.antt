@@ -14,10 +14,11 @@ use Rattle.fact_store.specs.View.{cells_of}
 use Rattle.subnet_view.specs.Routing.{Routing}
 use Rattle.lft_blocks.specs.Arrival.{IsRoutedWay, switches_met}
 
--- a port was up in generation 1, and another port is down in generation 3
+-- a port was up in generation 1
 abbrev pub up_before : Key × Cell Value
 up_before = (key.Port 16 1, Known 1 (Up true))
 
+-- another port is down in generation 3
 abbrev pub down_now : Key × Cell Value
 down_now = (key.Port 16 2, Known 3 (Up false))
 
@@ -30,7 +31,7 @@ FloorsStayInGroupings =
     × (cells_of (merged (of_raised (of_two (of_sightings (up_before ∷ [])) (of_sightings (down_now ∷ []))) 2))
     ≡ down_now ∷ [])
 
--- a route that passes two switches and then the first one again is no route of a rule
+-- a route that passes two switches and then the first one again is no route of a rule of routing
 abbrev pub NoSwitchTwice : Type 0
 NoSwitchTwice =
     (rule : Routing) (f : Fabric) (source : NodePort) (hops : List Hop) (s t : ℕ) → switches_met f source hops

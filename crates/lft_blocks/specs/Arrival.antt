@@ -19,72 +19,73 @@ use Rattle.subnet_view.specs.Routing.{Routing, IsRouting}
 use Rattle.lft_blocks.specs.Rules.{RuleValue, routing_by}
 use Rattle.lft_blocks.specs.Plan.{PlanValue, plan_by, plan_of, block_at}
 
--- the block has the entries of the node's table from the LID 64 b on
+-- the table of the node at index `node` has the entries of `block` from the LID 64 `b` on
 abbrev pub HoldsBlock : Fabric → ℕ → ℕ → List ℕ → Type 0
 HoldsBlock f node b block = (i : ℕ) → i < 64 → slice_get block i ≡ Some (f.entry node (64 * b + i))
 
--- the end port has the LID and the LMC that the plan gives it; if its node is a switch, the switch's top is at least
+-- the end port `port` has the LID and the LMC that the plan gives it; if it is a switch's, the switch's top is at least
 -- the plan's greatest LID, and its table has the plan's blocks
 pub record HoldsPlanAt (plan : PlanValue) (f : Fabric) (port : NodePort) (node : Node) : Type 0 where
   pub lids : range_of plan.given (record { node = node.guid; port = port.port }) ≡ Some (range_at f port)
   pub top : IsTrue (is_switch node.kind) → (top : ℕ) → top_of plan.given ≡ Some top → top ≤ f.top port.node
   pub blocks : (b : ℕ) (block : List ℕ) → block_at plan node.guid b ≡ Some block → HoldsBlock f port.node b block
 
--- each end port of the part holds the plan
+-- the part holds the plan: each end port of it has the LID, and each switch of it the top and the blocks, as in
+-- `HoldsPlanAt`
 abbrev pub HoldsPlan : Part → PlanValue → Fabric → Type 0
 HoldsPlan part plan f = (port : NodePort) (node : Node) → IsEndPortIn part f port node → HoldsPlanAt plan f port node
 
--- the facts describe the part exactly, and the part holds the plan
+-- the plan is in force in the part: the facts describe the part exactly, and the part holds the plan
 pub record IsInForce (part : Part) (cells : Cells) (plan : PlanValue) (f : Fabric) : Type 0 where
   pub is_fabric : IsFabric f
   pub agrees : AgreesOn part cells f
   pub holds : HoldsPlan part plan f
 
--- the facts describe the part, and the part holds the plan
+-- the facts describe the part, perhaps with more, and the part holds the plan
 pub record IsInForceWithin (part : Part) (cells : Cells) (plan : PlanValue) (f : Fabric) : Type 0 where
   pub is_fabric : IsFabric f
   pub covers : Covers part cells f
   pub holds : HoldsPlan part plan f
 
--- the GUID of a port's node
+-- the GUID of the node of port `p`; 0 if there is no node
 abbrev pub guid_at : Fabric → NodePort → ℕ
 guid_at f p = option_map_or (λ node. node.guid) (slice_get f.nodes p.node) 0
 
--- the wire leads from a switch to a switch
+-- whether the wire of the hop `h` leads from a switch to a switch
 abbrev pub is_between_switches : Fabric → Hop → Bool
 is_between_switches f h = is_switch_at f h.out.node && is_switch_at f h.into.node
 
--- the wires between switches
+-- the hops over wires between switches
 abbrev pub switch_hops : Fabric → List Hop → List Hop
 switch_hops f hops = filter (is_between_switches f) hops
 
--- the switches that a packet meets, in turn
+-- the GUIDs of the switches that a packet from `source` meets over `hops`, in turn
 abbrev pub switches_met : Fabric → NodePort → List Hop → List ℕ
 switches_met f source hops = map (guid_at f) (filter (λ p. is_switch_at f p.node) (source ∷ map (λ h. h.into) hops))
 
--- the channels of the wires between switches that a packet takes
+-- the numbers of the channels between switches that a packet takes over `hops`, in turn
 abbrev pub channels_taken : Routing → Fabric → List Hop → List ℕ
 channels_taken rule f hops = map (λ h. rule.channel (guid_at f h.out) (guid_at f h.into)) (switch_hops f hops)
 
--- the last of the numbers, or d if there is none
+-- the last of some numbers; `d` if there is none
 abbrev pub last_or : ℕ → List ℕ → ℕ
 last_or d [] = d
 last_or d (x ∷ xs) = last_or x xs
 
--- n is the cost of routing from the first of these switches to the last
+-- `n` is the cost of `rule` from the first of the switches to the last; true if there is none
 abbrev pub IsCostAlong : Routing → List ℕ → ℕ → Type 0
 IsCostAlong rule [] n = Unit {0}
 IsCostAlong rule (s ∷ switches) n = rule.cost s (last_or s switches) ≡ Some n
 
--- the way of a packet: between its first switch and its last it takes as many wires as routing costs; it meets no
--- switch twice; it takes at most two wires to or from adapter ports; its channels rise
+-- the hops are a way of `rule`: from its first switch to its last it takes as many wires between switches as the cost;
+-- it meets no switch twice; it takes at most two other wires; its channels' numbers rise
 pub record IsRoutedWay (rule : Routing) (f : Fabric) (source : NodePort) (hops : List Hop) : Type 0 where
   pub at_cost : IsCostAlong rule (switches_met f source hops) (length (switch_hops f hops))
   pub no_switch_twice : AllPairs (λ a b. a ≢ b) (switches_met f source hops)
   pub adapter_wires : count_by (λ h. not (is_between_switches f h)) hops ≤ 2
   pub channels_rise : IsStrictlyIncreasing (channels_taken rule f hops)
 
--- a packet for a LID is delivered at the end port that owns it, over a way of the rule
+-- a packet for `lid` from `source` is delivered at the port of the part that is `owner`, over a way of `rule`
 pub record ArrivesBy (rule : Routing) (part : Part) (f : Fabric) (lid : ℕ) (source : NodePort) (owner : EndPort) : Type
     0 where
   pub target : NodePort
@@ -94,12 +95,13 @@ pub record ArrivesBy (rule : Routing) (part : Part) (f : Fabric) (lid : ℕ) (so
   pub delivered : IsDelivered f lid source hops target
   pub way : IsRoutedWay rule f source hops
 
--- a packet for a LID is delivered at the end port that owns it, over a way of a rule that can be asked for
+-- a packet for `lid` from `source` is delivered at the port of the part that is `owner`, over a way of a rule that can
+-- be asked for
 abbrev pub Arrives : RuleValue → Part → Cells → Fabric → ℕ → NodePort → EndPort → Type 0
 Arrives rule part cells f lid source owner = ArrivesBy (routing_by rule cells) part f lid source owner
 
--- if the plan is in force in the part that an end port is joined to, a packet from each end port of the part for each
--- LID of the plan arrives
+-- if the plan is in force in the part that an end port is joined to, a packet from each end port of the part, for each
+-- LID of the plan, is delivered at the LID's owner, over a way of `rule`
 abbrev pub EveryPacketArrivesBy : Routing → Cells → PlanValue → Type 0
 EveryPacketArrivesBy rule cells plan =
     (f : Fabric) (origin : NodePort) → IsEndPort f origin → IsInForce (IsJoinedTo f origin) cells plan f
@@ -107,7 +109,7 @@ EveryPacketArrivesBy rule cells plan =
     → (lid : ℕ) (owner : EndPort) → owner_of plan.given lid ≡ Some owner
     → ArrivesBy rule (IsJoinedTo f origin) f lid source owner
 
--- every packet arrives by the plan of each view with room, by any rule of routing
+-- by the plan of facts with room, by any rule of routing, every packet arrives where the plan is in force
 abbrev pub PacketsArriveByEachRouting : Type 0
 PacketsArriveByEachRouting = (lmc : ℕ) (facts : Facts) (rule : Routing) → IsRouting (graph_of (cells_of facts)) rule
     → ¬ (IsNoRoom lmc (cells_of facts))
@@ -126,7 +128,8 @@ PacketsArriveWhereCovered =
     → HasEndPort (IsJoinedTo f origin) f owner.node owner.port
     → ArrivesBy rule (IsJoinedTo f origin) f lid source owner
 
--- every packet arrives, by a rule that can be asked for
+-- if the plan is in force in a part, every packet arrives there (`EveryPacketArrivesBy`), by a rule that can be asked
+-- for
 abbrev pub EveryPacketArrives : RuleValue → Cells → PlanValue → Type 0
 EveryPacketArrives rule cells plan = EveryPacketArrivesBy (routing_by rule cells) cells plan
 
@@ -138,7 +141,7 @@ EveryPacketArrivesIfConnected rule cells plan = (f : Fabric) → IsConnected f �
     → (lid : ℕ) (owner : EndPort) → owner_of plan.given lid ≡ Some owner
     → Arrives rule WholeFabric cells f lid source owner
 
--- if a fabric is connected, every packet arrives by the plan of each view with room
+-- by the plan of facts with room, every packet arrives in a connected fabric, if the plan is in force in all of it
 abbrev pub PacketsArriveIfConnected : Type 0
 PacketsArriveIfConnected = (rule : RuleValue) (lmc : ℕ) (facts : Facts) → ¬ (IsNoRoom lmc (cells_of facts))
     → EveryPacketArrivesIfConnected rule (cells_of facts) (plan_of rule lmc (cells_of facts))

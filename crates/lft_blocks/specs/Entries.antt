@@ -1,4 +1,5 @@
--- The entries of linear forwarding tables, in blocks of 64 (subnet management chapter, LinearForwardingTable).
+-- The entries of linear forwarding tables, in blocks of 64: by which port a switch sends packets for a LID (subnet
+-- management chapter, LinearForwardingTable).
 use Rattle.std.specs.Prelude.{ℕ, suc, ◌+◌, ◌*◌, ◌/◌, List, map, Option, Some, ◌==◌, unwrap_or, option_and_then, if◌then◌else◌}
 use Rattle.std.specs.Option.{option_map_or}
 use Rattle.std.specs.List.{range_with_len}
@@ -7,37 +8,35 @@ use Rattle.subnet_view.specs.Reading.{Cells, is_usable}
 use Rattle.subnet_view.specs.Wires.{attached}
 use Rattle.lid_assign.specs.Lids.{Given, owner_of}
 
--- the usable switch and its port at which an end port is attached: port 0 if the end port is a switch's, and otherwise
--- the port that the adapter port is wired to
+-- the switch and its port at which the end port `e` is attached: port 0 of a usable switch itself, or the port that an
+-- adapter port is wired to; None if there is none
 abbrev pub attachment_of : Cells → EndPort → Option (ℕ × ℕ)
 attachment_of cells e = if is_usable cells e.node then Some (e.node, 0) else attached cells e.node e.port
 
--- the attachment of the end port that has a LID
+-- the attachment of the end port that owns `lid`; None if nobody does or it has none
 abbrev pub attachment_of_lid : Cells → Given → ℕ → Option (ℕ × ℕ)
 attachment_of_lid cells given lid = option_and_then (attachment_of cells) (owner_of given lid)
 
--- for a LID and two switches, the port by which a packet for the LID leaves the first switch for the second; None if
--- there is no way
+-- the port by which a packet for a LID leaves one switch for another; None if there is none
 abbrev pub Next : Type 0
 Next = ℕ → ℕ → ℕ → Option ℕ
 
--- the attachment's port if s is the attachment's switch, and otherwise the next port towards that switch; 255 if there
--- is no way
+-- the port of the attachment if switch `s` is its switch, else the next port towards that switch; 255 if there is none
 abbrev pub port_to : Next → ℕ → ℕ → ℕ × ℕ → ℕ
 port_to next lid s attachment = if attachment.0 == s then attachment.1 else unwrap_or (next lid s attachment.0) 255
 
--- the entry of switch s for a LID; 255 if nobody has the LID or its owner has no attachment
+-- the entry of switch `s` for `lid`; 255 if the LID has no attachment, or there is no next port
 abbrev pub entry : (ℕ → Option (ℕ × ℕ)) → Next → ℕ → ℕ → ℕ
 entry attachments next s lid = option_map_or (port_to next lid s) (attachments lid) 255
 
--- the entries of switch s for the 64 LIDs from 64 b on
+-- the entries of switch `s` for the 64 LIDs from 64 `b` on
 abbrev pub block : (ℕ → Option (ℕ × ℕ)) → Next → ℕ → ℕ → List ℕ
 block attachments next s b = map (λ i. entry attachments next s (64 * b + i)) (range_with_len 0 64)
 
--- the number of blocks that hold all LIDs up to `top`; 0 if there is no LID
+-- the number of blocks that hold all LIDs up to `top`; 0 if there is none
 abbrev pub block_count : Option ℕ → ℕ
 block_count top = option_map_or (λ lid. suc (lid / 64)) top 0
 
--- the first `count` blocks of switch s
+-- the first `count` blocks of switch `s`
 abbrev pub blocks : (ℕ → Option (ℕ × ℕ)) → Next → ℕ → ℕ → List (List ℕ)
 blocks attachments next count s = map (block attachments next s) (range_with_len 0 count)

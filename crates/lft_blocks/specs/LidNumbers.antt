@@ -1,5 +1,5 @@
--- The numbers by which LIDs take turns among the ports of switches. They depend on the ports at which LIDs are
--- attached, and only modulo 2^LMC on the LIDs themselves.
+-- The numbers of LIDs, by which they take turns among the ports of switches. They depend on the ports at which LIDs are
+-- attached, and on the LIDs themselves only modulo 2^LMC.
 use Rattle.std.specs.Prelude.{ℕ, ◌+◌, ◌*◌, ◌%◌, ◌^◌, List, Option, None, map, length, slice_index, slice_index_or}
 use Rattle.std.specs.List.{range_with_len}
 use Rattle.std.specs.Option.{option_map_or}
@@ -15,34 +15,34 @@ use Rattle.spread_routes.specs.Adapters.{adapters_of}
 use Rattle.lft_blocks.specs.declared.attachment.Attachment.{Attachment}
 use Rattle.lft_blocks.specs.Entries.{attachment_of_lid}
 
--- the values that the numbers of LIDs are computed from: the LMC, the number of each switch among the leaf switches,
--- and the most adapter ports that are wired to one switch
+-- what the numbers of LIDs are computed from: the LMC, the leaf number of each switch, and the most adapters that one
+-- switch has
 pub record Numbering : Type 0 where
   pub lmc : ℕ
   pub leaf_numbers : List ℕ
   pub most : ℕ
 
--- the number of a LID that is attached at a port of the switch at an index, modulo 2^16: each leaf switch has as many
--- ports as the most adapters of a switch, and each port has 2^LMC numbers
+-- the number of `lid` if it is attached at `port` of the switch at index `switch`, modulo 2^16: each leaf number stands
+-- for as many ports as the most adapters of a switch, and each port for 2^LMC numbers
 abbrev pub number_at : Numbering → ℕ → ℕ → ℕ → ℕ
 number_at by switch port lid =
     ((slice_index by.leaf_numbers switch * by.most + port) * 2 ^ by.lmc + lid % 2 ^ by.lmc) % 2 ^ 16
 
--- the number of a LID, given the GUIDs of the switches and the attachments; 0 if it has no attachment
+-- the number of `lid`, given the attachments by GUID; 0 if it has none
 abbrev pub number_of : Numbering → List ℕ → (ℕ → Option (ℕ × ℕ)) → ℕ → ℕ
 number_of by guids attachments lid =
     option_map_or (λ a. number_at by (position_of guids a.0) a.1 lid) (attachments lid) 0
 
--- the number of a LID, given the attachments by index; 0 if it has no attachment
+-- the number of `lid`, given the attachments by index; 0 if it has none
 abbrev pub indexed_number : Numbering → List (Option Attachment) → ℕ → ℕ
 indexed_number by attachments lid =
     option_map_or (λ h. number_at by h.switch h.port lid) (slice_index_or attachments lid None) 0
 
--- the number of each LID that has an entry
+-- the number of each LID below the length of `attachments`
 abbrev pub indexed_numbers : Numbering → List (Option Attachment) → List ℕ
 indexed_numbers by attachments = map (indexed_number by attachments) (range_with_len 0 (length attachments))
 
--- the values that numbers are computed from, given the LMC, the wires, and how many adapters each switch has
+-- what the numbers of LIDs are computed from, for a graph, if `adapters` has how many adapters each switch has
 abbrev pub numbering_by : ℕ → List SwitchEdges → List ℕ → Numbering
 numbering_by lmc graph adapters = record {
   lmc = lmc;
@@ -50,15 +50,15 @@ numbering_by lmc graph adapters = record {
   most = greatest 0 adapters;
 }
 
--- the values that the numbers of a view's LIDs are computed from
+-- what the numbers of LIDs are computed from, for a view
 abbrev pub numbering_of : ℕ → Cells → Numbering
 numbering_of lmc cells = numbering_by lmc (graph_of cells) (adapters_of cells)
 
--- the number of each LID of a view, if end ports have these LIDs
+-- the number of each LID in a view, if end ports have the LIDs `given`
 abbrev pub lid_numbers : ℕ → Cells → Given → ℕ → ℕ
 lid_numbers lmc cells given =
     number_of (numbering_of lmc cells) (guids_of (graph_of cells)) (attachment_of_lid cells given)
 
--- the rule that routes a LID as `rule` routes its number
+-- the rule that routes each LID as `rule` routes its number
 abbrev pub numbered : (ℕ → ℕ) → Routing → Routing
 numbered number rule = record rule { next = λ lid. rule.next (number lid) }

@@ -9,26 +9,26 @@ use Rattle.lft_blocks.specs.Rules.{RuleValue, routing_by}
 use Rattle.lft_blocks.specs.LidNumbers.{lid_numbers, numbered}
 use Rattle.lft_blocks.specs.Entries.{Next, attachment_of_lid, block_count, blocks}
 
--- the GUID of a usable switch, and its blocks from 0 on
+-- the GUID of a switch, and its blocks from block 0 on
 pub record SwitchTable : Type 0 where
   pub guid : ℕ
   pub blocks : List (List ℕ)
 
--- the LIDs of the end ports in their order, and the tables of the usable switches by rising GUID
+-- a plan: the LIDs of the end ports in their order, and the tables of the usable switches by rising GUID
 pub record PlanValue : Type 0 where
   pub given : Given
   pub tables : List SwitchTable
 
--- the table of each switch of the list
+-- the table of each of the switches `guids`, with `count` blocks
 abbrev pub tables_of : (ℕ → Option (ℕ × ℕ)) → Next → ℕ → List ℕ → List SwitchTable
 tables_of attachments next count guids = map (λ s. record { guid = s; blocks = blocks attachments next count s }) guids
 
--- the tables of a view by a rule of routing, if end ports have these LIDs
+-- the tables of a view by a rule of routing, if end ports have the LIDs `given`
 abbrev pub tables_by : Routing → Cells → Given → List SwitchTable
 tables_by rule cells given =
     tables_of (attachment_of_lid cells given) rule.next (block_count (top_of given)) (switches cells)
 
--- the plan of a view by a rule of routing and under an LMC
+-- the plan of a view by a rule of routing, under the LMC `lmc`
 abbrev pub plan_by : Routing → ℕ → Cells → PlanValue
 plan_by rule lmc cells =
     let given = lids lmc cells in
@@ -38,24 +38,24 @@ plan_by rule lmc cells =
           tables_of (attachment_of_lid cells given) rule.next (block_count (top_of given)) (switches cells);
     }
 
--- the routing of LIDs by a rule that can be asked for: each LID is routed as its number
+-- the routing of LIDs by a rule that can be asked for, which routes each LID as its number
 abbrev pub lid_routing : RuleValue → ℕ → Cells → Given → Routing
 lid_routing rule lmc cells given = numbered (lid_numbers lmc cells given) (routing_by rule cells)
 
--- the plan of a view by a rule that can be asked for
+-- the plan of a view by a rule that can be asked for, under the LMC `lmc`
 abbrev pub plan_of : RuleValue → ℕ → Cells → PlanValue
 plan_of rule lmc cells = plan_by (lid_routing rule lmc cells (lids lmc cells)) lmc cells
 
--- block b of a switch; None if the GUID is not that of a usable switch, or there is no such block
+-- block `b` of the switch `guid` in a plan; None if the plan has no such switch or no such block
 abbrev pub block_at : PlanValue → ℕ → ℕ → Option (List ℕ)
 block_at plan guid b =
     option_and_then (λ table. slice_get table.blocks b) (find (λ table. table.guid == guid) plan.tables)
 
--- the usable switches
+-- the GUIDs of the switches of a plan, rising
 abbrev pub switches_of : PlanValue → List ℕ
 switches_of plan = map (λ table. table.guid) plan.tables
 
--- the GUIDs are those of the tables, and rise strictly
+-- `guids` are the GUIDs of the tables, and rise strictly
 pub record AreTables (guids : List ℕ) (tables : List SwitchTable) : Type 0 where
   pub theirs : guids ≡ map (λ table. table.guid) tables
   pub rising : IsStrictlyIncreasing guids

@@ -1,4 +1,4 @@
--- The laws of plans.
+-- Laws of plans: when a plan stays as it is, and which blocks it has.
 use Rattle.std.specs.Prelude.{◌≡◌, ◌<◌, ℕ, ◌+◌, ◌*◌, List, Option, MatchOption, Some, slice_get}
 use Rattle.fact_store.specs.View.{Facts, cells_of}
 use Rattle.subnet_view.specs.declared.end_port.EndPort.{EndPort}
@@ -11,45 +11,47 @@ use Rattle.lft_blocks.specs.Rules.{RuleValue, order_of, spread_in}
 use Rattle.lft_blocks.specs.Entries.{Next, attachment_of_lid, entry, block, block_count, blocks}
 use Rattle.lft_blocks.specs.Plan.{plan_by, plan_of, block_at}
 
--- if each end port claims its LID and nothing else changes, there is still room and the plan stays
+-- if there is room, each end port claims its LID and nothing else changes, there is still room and the plan is equal
 abbrev pub PlansStay : Type 0
 PlansStay = (rule : RuleValue) (lmc : ℕ) (x y : Facts) → ¬ (IsNoRoom lmc (cells_of x)) → IsClaimed lmc x y
     → ¬ (IsNoRoom lmc (cells_of y)) × (plan_of rule lmc (cells_of y) ≡ plan_of rule lmc (cells_of x))
 
--- end ports keep their LIDs in plans if they claim them, whatever other end ports are added
+-- if there is room before and after, end ports that claim their LIDs keep them in plans when others are added that
+-- claim nothing
 abbrev pub LidsStayInPlans : Type 0
 LidsStayInPlans = (rule : RuleValue) (lmc : ℕ) (x z : Facts) → ¬ (IsNoRoom lmc (cells_of x))
     → ¬ (IsNoRoom lmc (cells_of z)) → GrowsFrom lmc (cells_of x) (cells_of z)
     → (e : EndPort) (lid : ℕ) → lid_of (plan_of rule lmc (cells_of x)).given e ≡ Some lid
     → lid_of (plan_of rule lmc (cells_of z)).given e ≡ Some lid
 
--- block b has the entry for the LID 64 b + i at index i
+-- block `b` of a switch has the entry for the LID 64 `b` + `i` at index `i`
 abbrev pub BlocksHoldEntries : Type 0
 BlocksHoldEntries = (attachments : ℕ → Option (ℕ × ℕ)) (next : Next) (count s b i : ℕ) (ports : List ℕ)
     → slice_get (blocks attachments next count s) b ≡ Some ports → i < 64 → slice_get ports i
     ≡ Some (entry attachments next s (64 * b + i))
 
--- the GUID is a usable switch's, and the greatest LID is in block b or a later one
+-- `g` is a usable switch, and the greatest LID is in block `b` or a later one
 abbrev pub HasBlock : ℕ → Cells → ℕ → ℕ → Type 0
 HasBlock lmc cells g b = IsUsable cells g × (b < block_count (top_of (lids lmc cells)))
 
--- block b of the switch g
+-- block `b` of switch `g` in the plan of a view by `rule`
 abbrev pub block_of : Routing → ℕ → Cells → ℕ → ℕ → List ℕ
 block_of rule lmc cells g b = block (attachment_of_lid cells (lids lmc cells)) rule.next g b
 
--- by any rule, a plan has exactly the blocks of usable switches up to the block of the greatest LID, with the switch's
+-- a plan by any rule has exactly the blocks of usable switches up to that of the greatest LID, with the switches'
 -- entries
 abbrev pub BlocksAreOfSwitches : Type 0
 BlocksAreOfSwitches = (rule : Routing) (lmc : ℕ) (facts : Facts) (g b : ℕ)
     → MatchOption (block_at (plan_by rule lmc (cells_of facts)) g b) (¬ (HasBlock lmc (cells_of facts) g b))
     (λ x. HasBlock lmc (cells_of facts) g b × (x ≡ block_of rule lmc (cells_of facts) g b))
 
--- if the switches are named in the order of a plan, the order stays the same and the plan is equal
+-- if a list names the switches in the order of a plan, the order that grows by the list is that order, and the plan is
+-- equal
 pub record OrderHolds (order : OrderValue) (lmc : ℕ) (cells : Cells) : Type 0 where
   pub order_stands : order_of (named_in order (order_of order cells)) cells ≡ order_of order cells
   pub plan_stands : plan_of (spread_in (named_in order (order_of order cells))) lmc cells
       ≡ plan_of (spread_in order) lmc cells
 
--- each order satisfies `OrderHolds`, in each view and under each LMC
+-- each order satisfies `OrderHolds`, for all facts and under each LMC
 abbrev pub OrdersHold : Type 0
 OrdersHold = (order : OrderValue) (lmc : ℕ) (facts : Facts) → OrderHolds order lmc (cells_of facts)

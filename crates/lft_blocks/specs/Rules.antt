@@ -11,35 +11,35 @@ use Rattle.spread_routes.specs.Adapters.{adapters_of}
 use Rattle.spread_routes.specs.Spread.{spread_by, switches_in_order}
 use Rattle.spread_routes.specs.SwitchOrders.{OrderValue, order_value_of}
 
--- a rule of routing: up and down, or spreading by an order of switches
+-- a rule that can be asked for: up/down routing, or spreading by an order of switches
 pub data RuleValue : Type 0 where
   up_and_down : RuleValue
   spread_in : OrderValue → RuleValue
 
--- the value of a rule of the code
+-- the value of a `Rule` of the code
 abbrev pub value_of : Rule → RuleValue
 value_of UpDown = up_and_down
 value_of (Spread order) = spread_in (order_value_of order)
 
--- the routing of a rule on the wires of a view
+-- the routing by a rule that can be asked for, on the wires of a view
 abbrev pub routing_by : RuleValue → Cells → Routing
 routing_by up_and_down cells = updown (graph_of cells)
 routing_by (spread_in order) cells = spread_by (graph_of cells) (adapters_of cells) order
 
--- the usable switches in the order of the rule that spreads
+-- the usable switches of a view, in the order of the rule that spreads by `order`
 abbrev pub order_of : OrderValue → Cells → List ℕ
 order_of order cells = switches_in_order (graph_of cells) (adapters_of cells) order
 
--- the routing of a rule of the code on the wires of a view
+-- the routing by a `Rule` of the code, on the wires of a view
 abbrev pub rule_of : Rule → Cells → Routing
 rule_of rule cells = routing_by (value_of rule) cells
 
--- each rule that can be asked for is a rule of routing
+-- each rule that can be asked for is a rule of routing, on the graph of any facts
 abbrev pub RulesAreRoutings : Type 0
 RulesAreRoutings =
     (rule : RuleValue) (facts : Facts) → IsRouting (graph_of (cells_of facts)) (routing_by rule (cells_of facts))
 
--- a rule depends only on the view's wires between switches and on how many adapters each switch has
+-- a rule routes alike by facts with equal graphs of switches and equally many adapters at each switch
 abbrev pub RulesStay : Type 0
 RulesStay = (rule : RuleValue) (x y : Facts) → graph_of (cells_of x) ≡ graph_of (cells_of y)
     → adapters_of (cells_of x) ≡ adapters_of (cells_of y) → routing_by rule (cells_of x) ≡ routing_by rule (cells_of y)

@@ -22,7 +22,7 @@ pub(crate) struct Attachment {
 }
 
 /// Returns the attachment of each LID that has an entry in the first `count` blocks. The index of an attachment is its
-/// LID.
+/// LID. `guids` must be the usable switches by rising GUID, and `count` the number of blocks that hold all LIDs.
 pub(crate) fn attachments(
     alloc: Global,
     wires: &Wires,
@@ -45,7 +45,7 @@ pub(crate) fn attachments(
 }
 
 /// Returns the attachment of `lid`. Returns `None` if no end port has `lid`, or its owner is not attached to a usable
-/// switch. Takes about six searches.
+/// switch. `guids` must be the usable switches by rising GUID.
 fn attachment_of_lid(wires: &Wires, guids: &[Guid], lids: &LidMap, lid: Lid) -> Option<Attachment>
     requires { guids.now ≡ switches (cells_of wires.now) }
     ensures { IsIndexed guids.now (attachment_of_lid (cells_of wires.now) lids.now lid) result }
@@ -67,7 +67,8 @@ fn attachment_of(wires: &Wires, port: EndPort) -> Option<(Guid, PortNum)>
     }
 }
 
-/// Returns the index of `guid` among `guids`, or `None` if it is not there. Takes a search.
+/// Returns the index of `guid` among `guids`, which must rise strictly, or `None` if it is not there. Takes a binary
+/// search.
 pub(crate) fn index_of(guids: &[Guid], guid: Guid) -> Option<usize>
     requires { IsStrictlyIncreasing guids.now }
     ensures { IsIndexIn guids.now guid result }

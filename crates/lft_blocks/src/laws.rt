@@ -30,8 +30,8 @@ pub fn blocks_are_of_switches()
 
 /// If a view with room describes the part around an end port exactly, and the part holds the view's plan by a rule of
 /// routing, a packet from each end port of the part, for each LID of the plan, is delivered at the end port that owns
-/// the LID, over as many wires between switches as the rule's cost, past no switch twice, and over rising channels. It
-/// depends on nothing else of the rule.
+/// the LID, over as many wires between switches as the rule's cost, past no switch twice, and over rising channels. The
+/// rule may be any that keeps `IsRouting`.
 pub fn packets_arrive_by_each_routing()
     ensures { PacketsArriveByEachRouting }
 {}

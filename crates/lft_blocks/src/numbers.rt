@@ -28,8 +28,8 @@ impl Model for Numbering {
     ghost view = { λ a. record { lmc = a.lmc; leaf_numbers = a.leaf_numbers.items; most = a.most } };
 }
 
-/// Returns the values that the numbers of LIDs are computed from, given the number of adapters at each switch, by
-/// rising GUID. Takes as long as `leaf_numbers`.
+/// Returns the values that the numbers of LIDs are computed from. `adapters` must have the number of adapters at each
+/// switch, by rising GUID.
 pub(crate) fn find_numbering(
     alloc: Global,
     graph: &SwitchGraph,
@@ -48,6 +48,7 @@ pub(crate) fn find_numbering(
 }
 
 /// Returns the number of each LID that has an entry, or 0 if it has no attachment. The index of a number is its LID.
+/// `by` must have a leaf number for the switch of each attachment.
 pub(crate) fn lid_numbers(
     alloc: Global,
     by: &Numbering,
@@ -63,7 +64,8 @@ pub(crate) fn lid_numbers(
     Ok(numbers)
 }
 
-/// Returns the number of `lid`, or 0 if it has no attachment.
+/// Returns the number of `lid`, or 0 if `lid` has no attachment. `by` must have a leaf number for the switch of each
+/// attachment.
 fn number_of(by: &Numbering, attachments: &[Option<Attachment>], lid: usize) -> u16
     requires { AreWithin (length by.now.leaf_numbers) attachments.now }
     ensures { result ≡ indexed_number by.now attachments.now lid }
@@ -74,7 +76,7 @@ fn number_of(by: &Numbering, attachments: &[Option<Attachment>], lid: usize) -> 
     }
 }
 
-/// Returns the number of `lid` at `attachment`, modulo 2^16.
+/// Returns the number of `lid` at `attachment`, modulo 2^16. `by` must have a leaf number for the attachment's switch.
 fn number_at(by: &Numbering, attachment: Attachment, lid: usize) -> u16
     requires { attachment.switch < length by.now.leaf_numbers }
     ensures { result ≡ number_at by.now attachment.switch attachment.port lid }

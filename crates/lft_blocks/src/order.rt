@@ -10,9 +10,7 @@ use spread_routes::{SwitchOrder, adapters_of, switches_in_order};
 use std::alloc::Global;
 use subnet_view::{SwitchGraph, Wires};
 
-/// Returns the usable switches in the order of the rule that spreads. Takes a walk over the cells, two searches for
-/// each port of a switch, a breadth-first search from each leaf switch and each root, and one step for each pair of
-/// switches.
+/// Returns the usable switches in the order of the rule that spreads by `order`.
 pub fn switch_order(alloc: Global, store: &Store, order: &SwitchOrder) -> Result<Vec<Guid>, Refused>
     ensures { IfOk result (λ found.
         found.items ≡ order_of (order_value_of order.now) (cells_of store.now)) }

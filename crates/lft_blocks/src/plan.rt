@@ -53,9 +53,8 @@ impl Model for Plan {
 }
 
 impl Plan {
-    /// Plans a view by a rule of routing, with 2^LMC LIDs for each adapter port. Takes the time to assign the LIDs and
-    /// to compute the routes, about six searches for each LID, and two steps for each entry. The plan takes 64 bytes
-    /// for each block of each switch. While it is made, it takes 2 more bytes for each pair of switches.
+    /// Plans a view by a rule of routing, with 2^LMC LIDs for each adapter port. Where the plan is in force, every
+    /// packet arrives. The plan takes 64 bytes for each block of each switch.
     ///
     /// # Errors
     ///
@@ -84,7 +83,7 @@ impl Plan {
         &self.lids
     }
 
-    /// Returns the greatest LID, or `None` if no end port has a LID. Takes one step.
+    /// Returns the greatest LID, or `None` if no end port has a LID.
     pub fn top(&self) -> Option<Lid>
         ensures { result ≡ top_of self.now.given }
     {
@@ -101,7 +100,7 @@ impl Plan {
     /// Returns block `b` of the switch `guid`. Entry `i` is the port by which packets for the LID `64 * b + i` leave.
     /// It is 0 if the switch has that LID itself, and 255 if nobody has it or no way leads to its owner. Returns `None`
     /// exactly if `guid` is not the GUID of a usable switch, or `b` is greater than the number of the greatest LID's
-    /// block. Takes a search.
+    /// block. Takes a binary search among the switches.
     pub fn block(&self, guid: Guid, b: usize) -> Option<&[u8; 64]>
         ensures { option_copied result ≡ block_at self.now guid b }
     {
@@ -117,7 +116,7 @@ impl Plan {
     }
 }
 
-/// Returns the usable switches, by rising GUID, and the table of each.
+/// Returns the usable switches, by rising GUID, and the table of each by `rule`.
 fn tables_of(
     alloc: Global,
     wires: &Wires,
@@ -136,7 +135,7 @@ fn tables_of(
     }
 }
 
-/// Returns the usable switches, by rising GUID, and the table of each by the rule that spreads.
+/// Returns the usable switches, by rising GUID, and the table of each by the rule that spreads by `order`.
 fn by_spread(
     alloc: Global,
     wires: &Wires,
@@ -173,7 +172,8 @@ fn by_updown(
     Ok((graph.into_switches(), tables))
 }
 
-/// Returns the table of each switch of a graph, by routes that go up and then down.
+/// Returns the table of each switch of `graph`, with `count` blocks, by routes that go up and then down. The switches
+/// of `graph` must be by rising GUID, and those of `attachments` among them. `count` must be at most 1024.
 fn updown_tables(
     alloc: Global,
     graph: &Graph,

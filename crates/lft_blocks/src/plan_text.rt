@@ -17,8 +17,8 @@ use smp_bytes::{Guid, Lid};
 use subnet_view::EndPort;
 
 /// Writes a line for each LID, in rising order, and then for each usable switch, by rising GUID, a line with the
-/// greatest LID and a line for each block. Flushes at the end. Without end ports there are no lines. Takes no memory,
-/// and writes the digits of each block at once.
+/// greatest LID and a line for each block. Flushes at the end. Without end ports there are no lines. Returns an error
+/// only if `sink` has failed. Does not allocate.
 pub fn write_plan<W: Sink>(sink: &mut W, plan: &Plan) -> Result<(), WriteFault>
     ensures writes { Writes W.written W.has_failed result sink.old sink.new (plan_text plan.now) }
     ensures flushed { OnOk result (IsTrue (W.is_flushed sink.new)) }
@@ -51,7 +51,7 @@ fn write_owner<W: Sink>(sink: &mut W, lids: &LidMap, lid: Lid) -> Result<(), Wri
     }
 }
 
-/// Writes the line of a LID: `lid`, the LID, the end port that has it, and its LMC if that is not 0.
+/// Writes the line of `lid`: `lid`, the LID, the end port `port` that has it, and `lmc` if that is not 0.
 pub fn write_lid<W: Sink>(sink: &mut W, lid: Lid, lmc: Lmc, port: EndPort) -> Result<(), WriteFault>
     ensures { Writes W.written W.has_failed result sink.old sink.new (lid_line (lid, lmc, port)) }
 {
@@ -63,7 +63,7 @@ pub fn write_lid<W: Sink>(sink: &mut W, lid: Lid, lmc: Lmc, port: EndPort) -> Re
     sink.write(b"\n")
 }
 
-/// Writes ` lmc ` and the number of `lmc`, or nothing if the number is 0.
+/// Writes ` lmc ` and the number of `lmc`, or nothing if that is 0.
 fn write_lmc<W: Sink>(sink: &mut W, lmc: Lmc) -> Result<(), WriteFault>
     ensures { WritesPart W.written W.has_failed result sink.old sink.new (lmc_text lmc) }
 {
@@ -74,7 +74,7 @@ fn write_lmc<W: Sink>(sink: &mut W, lmc: Lmc) -> Result<(), WriteFault>
     write_number(sink, u64::from(lmc.number()))
 }
 
-/// Writes the lines of all switches and their blocks if there is a LID, and nothing otherwise.
+/// Writes the lines of all switches and their blocks if the plan has a LID, and nothing otherwise.
 fn write_tables<W: Sink>(sink: &mut W, plan: &Plan) -> Result<(), WriteFault>
     ensures { WritesPart W.written W.has_failed result sink.old sink.new (tables_text plan.now) }
 {
@@ -84,7 +84,7 @@ fn write_tables<W: Sink>(sink: &mut W, plan: &Plan) -> Result<(), WriteFault>
     }
 }
 
-/// Writes the lines of the switches of `tables` and of their blocks.
+/// Writes the lines of the switches of `tables`, with `top` as the greatest LID, and of their blocks.
 fn write_each_table<W: Sink>(sink: &mut W, top: Lid, tables: &[Table]) -> Result<(), WriteFault>
     ensures { WritesPart W.written W.has_failed result sink.old sink.new
         (flat_map (table_text top) tables.now) }
@@ -95,7 +95,7 @@ fn write_each_table<W: Sink>(sink: &mut W, top: Lid, tables: &[Table]) -> Result
     Ok(())
 }
 
-/// Writes the line of a switch and the lines of its blocks.
+/// Writes the line of a switch with `top` as the greatest LID, and the lines of its blocks.
 fn write_table<W: Sink>(sink: &mut W, top: Lid, table: &Table) -> Result<(), WriteFault>
     ensures { WritesPart W.written W.has_failed result sink.old sink.new (table_text top table.now) }
 {
@@ -103,7 +103,7 @@ fn write_table<W: Sink>(sink: &mut W, top: Lid, table: &Table) -> Result<(), Wri
     write_blocks(sink, table.blocks())
 }
 
-/// Writes the line of a switch: `switch`, `guid`, `top`, and the greatest LID, which is `top`.
+/// Writes the line of a switch: `switch`, `guid`, `top`, and the number of `top`, the greatest LID.
 pub fn write_switch<W: Sink>(sink: &mut W, top: Lid, guid: Guid) -> Result<(), WriteFault>
     ensures { Writes W.written W.has_failed result sink.old sink.new (switch_line top guid) }
 {
@@ -114,7 +114,7 @@ pub fn write_switch<W: Sink>(sink: &mut W, top: Lid, guid: Guid) -> Result<(), W
     sink.write(b"\n")
 }
 
-/// Writes a line for each block.
+/// Writes a line for each of `blocks`, numbered from 0 on.
 fn write_blocks<W: Sink>(sink: &mut W, blocks: &[[u8; 64]]) -> Result<(), WriteFault>
     ensures { WritesPart W.written W.has_failed result sink.old sink.new (blocks_text blocks.now) }
 {

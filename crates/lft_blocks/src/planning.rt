@@ -33,14 +33,14 @@ impl Model for Planning {
 }
 
 impl Planning {
-    /// Creates a planning with this LMC and rule of routing.
+    /// Creates a planning with `lmc` and `rule`.
     pub fn new(lmc: Lmc, rule: Rule) -> Self
         ensures { result ≡ record { lmc = lmc; rule = value_of rule } }
     {
         Planning { lmc, rule }
     }
 
-    /// Returns a copy. Takes one step for each GUID that the rule names.
+    /// Returns a copy. Takes time linear in the number of GUIDs that the rule names.
     pub fn try_clone(&self, alloc: Global) -> Result<Self, AllocError>
         ensures { IfOk result (λ planning. planning ≡ self.now) }
     {
@@ -50,7 +50,7 @@ impl Planning {
         })
     }
 
-    /// Plans the view that `store` holds.
+    /// Plans the view that `store` holds. Where the plan is in force, every packet arrives.
     ///
     /// # Errors
     ///

@@ -17,7 +17,7 @@ pub enum Rule {
 }
 
 impl Rule {
-    /// Returns a copy. Takes one step for each GUID that the order names.
+    /// Returns a copy. Takes time linear in the number of GUIDs that the order names.
     pub fn try_clone(&self, alloc: Global) -> Result<Self, AllocError>
         ensures { IfOk result (λ copy. value_of copy ≡ value_of self.now) }
     {

@@ -23,8 +23,8 @@ use std::alloc::{AllocError, Global};
 use std::mem;
 use subnet_view::{SwitchGraph, Wires};
 
-/// Returns the table of each switch by the rule that spreads, with the switches in `order`. Each table has `count`
-/// blocks.
+/// Returns the table of each switch by the rule that spreads by `order`. Each table has `count` blocks, at most 1024.
+/// `graph` must be that of `wires`, and `attachments` must have `64 * count` items, at switches of `graph`.
 pub(crate) fn spread_tables(
     alloc: Global,
     wires: &Wires,
@@ -54,7 +54,8 @@ pub(crate) fn spread_tables(
     tables_of(alloc, guids, &mut rows, count)
 }
 
-/// Returns the row of entries of each switch.
+/// Returns the row of entries of each switch. There must be `switches` switches, with those of the attachments among
+/// them, and a number for each attachment.
 fn rows(
     alloc: Global,
     spread: &Spread,
@@ -88,7 +89,8 @@ fn rows(
     Ok(rows)
 }
 
-/// Writes the entries of all switches for the LIDs that are attached to one of the targets of `towards`.
+/// Writes the entries of all switches for the LIDs that are attached to one of the targets of `towards`. `rows` must
+/// have the entries for all targets before these, and `lids` the LIDs that are attached to each switch.
 fn write_rows<'s>(
     alloc: Global,
     rows: &mut [TableRow],
@@ -125,7 +127,8 @@ fn write_rows<'s>(
 }
 
 /// Writes the entries of the switch at the index `own` for the LIDs that are attached to one of the targets of
-/// `towards`. Replaces the contents of `exits`.
+/// `towards`. `row` must have its entries for all targets before these, and `lids` the LIDs that are attached to each
+/// switch. Replaces the contents of `exits`.
 fn write_row<'s>(
     row: &mut TableRow,
     own: usize,
@@ -173,8 +176,8 @@ fn no_ways(alloc: Global, switches: usize, len: usize) -> Result<Vec<TableRow>, 
     Ok(rows)
 }
 
-/// Returns the table of each switch, with the entries of its row in `count` blocks. Frees each row once its table is
-/// made.
+/// Returns the table of each switch, with the entries of its row in `count` blocks. There must be a row of `64 * count`
+/// entries for each of `guids`, and `count` must be at most 1024. Takes the rows out of `rows`.
 fn tables_of(
     alloc: Global,
     guids: &[Guid],

@@ -25,7 +25,7 @@ impl Model for Table {
 }
 
 impl Table {
-    /// Creates the table of a switch with these blocks.
+    /// Creates the table of the switch `guid` with `blocks`, at most 1024.
     pub(crate) fn new(guid: Guid, blocks: Vec<[u8; 64]>) -> Self
         requires { length blocks.items ≤ 1024 }
         ensures { result ≡ record { guid = guid; blocks = blocks.items } }
@@ -40,7 +40,7 @@ impl Table {
         self.guid
     }
 
-    /// Returns block `b`, or `None` if there is no such block.
+    /// Returns block `b`, or `None` if there are fewer blocks.
     pub(crate) fn block(&self, b: usize) -> Option<&[u8; 64]>
         ensures { option_copied result ≡ slice_get self.now.blocks b }
     {

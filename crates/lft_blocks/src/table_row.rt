@@ -34,7 +34,7 @@ impl TableRow {
         Ok(TableRow { entries })
     }
 
-    /// Creates an empty row. Takes no memory.
+    /// Creates an empty row. Does not allocate.
     pub(crate) fn empty(alloc: Global) -> Self
         ensures { result ≡ [] }
     {
@@ -45,7 +45,8 @@ impl TableRow {
 
     /// Writes the entries for `lids`, which are attached to `target` of the exits. If `is_own`, these are the ports of
     /// the attachments, and otherwise the ports by which packets leave for `target`. Each LID chooses by its number in
-    /// `numbers`.
+    /// `numbers`. The row must have an entry for each of `lids`, with an attachment and a number each, and `target`
+    /// must be below 64.
     pub(crate) fn write(
         &mut self,
         attachments: &[Option<Attachment>],
@@ -69,7 +70,8 @@ impl TableRow {
         }
     }
 
-    /// Returns the entries in `count` blocks of 64.
+    /// Returns the entries in `count` blocks of 64. The row must have `64 * count` entries, and `count` must be at most
+    /// 1024.
     pub(crate) fn blocks(&self, alloc: Global, count: usize) -> Result<Vec<[u8; 64]>, AllocError>
         requires few { count ≤ 1024 }
         requires all { length self.now ≡ 64 * count }
@@ -83,7 +85,8 @@ impl TableRow {
     }
 }
 
-/// Sets the entry for each of `lids` to the port of its attachment, or to 255 if it has none.
+/// Sets the entry for each of `lids` to the port of its attachment, or to 255 if it has none. `entries` must have an
+/// entry for each of `lids`, with an attachment each.
 fn write_own(entries: &mut [u8], attachments: &[Option<Attachment>], lids: &[Lid])
     requires lids { All (λ lid. lid < length entries.old) lids.now }
     requires attachments { length entries.old ≡ length attachments.now }
@@ -95,7 +98,7 @@ fn write_own(entries: &mut [u8], attachments: &[Option<Attachment>], lids: &[Lid
     }
 }
 
-/// Returns block `b` of the entries.
+/// Returns block `b` of `entries`, which must have all of it.
 fn block(entries: &[u8], b: usize) -> [u8; 64]
     requires few { b < 1024 }
     requires within { 64 * b + 64 ≤ length entries.now }
@@ -108,7 +111,7 @@ fn block(entries: &[u8], b: usize) -> [u8; 64]
     block
 }
 
-/// Returns the port of the attachment of `lid`, or 255 if `lid` has none.
+/// Returns the port of the attachment of `lid`, or 255 if `lid` has none. `attachments` must have an item for `lid`.
 fn own_entry(attachments: &[Option<Attachment>], lid: Lid) -> u8
     requires { lid < length attachments.now }
     ensures { result ≡ attachment_port (slice_index_or attachments.now lid None) }
@@ -119,7 +122,8 @@ fn own_entry(attachments: &[Option<Attachment>], lid: Lid) -> u8
     }
 }
 
-/// Returns for each switch the LIDs that are attached to it, in rising order.
+/// Returns for each of `switches` switches the LIDs that are attached to it, in rising order. The attachments must be
+/// at these switches, and at most 65536.
 pub(crate) fn lids_by_switch(
     alloc: Global,
     attachments: &[Option<Attachment>],

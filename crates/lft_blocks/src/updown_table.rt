@@ -10,7 +10,7 @@ use smp_bytes::{Guid, NO_ENTRY};
 use std::alloc::{AllocError, Global};
 use updown_routes::Routes;
 
-/// Returns the table of each switch, with `count` blocks. Takes two steps for each entry.
+/// Returns the table of each switch, with `count` blocks, at most 1024. The attachments must be at these switches.
 pub(crate) fn tables(
     alloc: Global,
     routes: &Routes,
@@ -31,7 +31,8 @@ pub(crate) fn tables(
     Ok(tables)
 }
 
-/// Returns the table of the switch at the index `own`.
+/// Returns the table of the switch at the index `own`, with `count` blocks, at most 1024. The attachments must be at
+/// switches of `guids`, and `own` must be the index of one.
 fn table_at(
     alloc: Global,
     routes: &Routes,

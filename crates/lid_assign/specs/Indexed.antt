@@ -7,24 +7,24 @@ use Rattle.std.specs.BTreeMap.{BTreeMap, get}
 use Rattle.lid_assign.specs.Ranges.{width_of, Range, is_in}
 use Rattle.lid_assign.specs.Lids.{Given, count_up, owner_of, lid_among, top_of, rising_lids, is_lid}
 
--- the table has at each number the end port that owns it, or None if it has no owner; numbers past its end have none
+-- `owners` has at each number the end port that owns it, or None if nobody does; numbers past its end have no owner
 abbrev pub AreOwners : Given → List (Option EndPort) → Type 0
 AreOwners given owners = (n : ℕ) → slice_index_or owners n None ≡ owner_of given n
 
--- `new` is `old` with `e` written at each number of `r`
+-- `new` is `old` with the end port `e` written at each number of the range `r`
 pub record AreOwnersMore (e : EndPort) (r : Range) (old new : List (Option EndPort)) : Type 0 where
   pub all : length new ≡ length old
   pub each : (n : ℕ) → slice_index_or new n None ≡ (if is_in r n then Some e else slice_index_or old n None)
 
--- a number is marked exactly if it is an end port's LID
+-- `marks` has true at a number exactly if the number is an end port's LID
 abbrev pub AreLidMarks : List (EndPort × ℕ) → List Bool → Type 0
 AreLidMarks given marks = (n : ℕ) → slice_index_or marks n false ≡ is_lid given n
 
--- the marked numbers, from `first` on
+-- the marked numbers from `first` on, rising
 abbrev pub marked_from : List Bool → ℕ → List ℕ
 marked_from marks first = filter (λ n. slice_index_or marks n false) (count_up first (length marks - first))
 
--- the last number of each end port's range is below the bound
+-- the last number of each end port's range is below `bound`, under the LMC `lmc`
 abbrev pub AreBelow : ℕ → ℕ → List (EndPort × ℕ) → Type 0
 AreBelow bound lmc given = (e : EndPort) (n : ℕ) → Contains given (e, n) → n + width_of lmc e ≤ bound
 
@@ -32,11 +32,12 @@ AreBelow bound lmc given = (e : EndPort) (n : ℕ) → Contains given (e, n) →
 abbrev pub node_port_cmp : ℕ × ℕ → ℕ × ℕ → Ordering
 node_port_cmp a b = ordering_then (nat_cmp a.0 b.0) (nat_cmp a.1 b.1)
 
--- the table has the LID of each end port by node and port, and no others
+-- `lids` has the LID of each end port of `given` under its node and port, and no other LID of an end port
 abbrev pub ByPort : List (EndPort × ℕ) → BTreeMap (ℕ × ℕ) ℕ → Type 0
 ByPort given lids = (e : EndPort) → get node_port_cmp lids (e.node, e.port) ≡ lid_among given e
 
--- the tables of a map are the tables of `given`, and all its numbers are unicast LIDs
+-- the tables are those of `given`: the owner of each number, the LID of each end port, the greatest number, and the
+-- rising LIDs; all numbers are below 0xC000, where unicast LIDs end
 pub record IsIndexed (given : Given) (owners : List (Option EndPort)) (lids : BTreeMap (ℕ × ℕ) ℕ) (top : Option ℕ)
     (rising : List ℕ) : Type 0 where
   pub owned : AreOwners given owners

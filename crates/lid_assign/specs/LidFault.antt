@@ -1,4 +1,4 @@
--- When end ports get no LIDs, and the names of the faults.
+-- When end ports get no LIDs: no room, or no memory.
 use Rattle.std.specs.Prelude.{ℕ, Bool, true, false, List, Option, None, Some, length, codes, if◌then◌else◌}
 use Rattle.subnet_view.specs.Reading.{Cells}
 use Rattle.subnet_view.specs.EndPorts.{end_ports}
@@ -7,21 +7,22 @@ use Rattle.lid_assign.specs.declared.fault.LidFault.{LidFault}
 use Rattle.lid_assign.specs.declared.fault.LidFault.TheVariants.{NoRoom, Memory}
 use Rattle.lid_assign.specs.Lids.{room, is_no_room}
 
--- the name of a fault
+-- the name of a fault of assigning LIDs
 abbrev pub lid_fault_name : LidFault → List ℕ
 lid_fault_name (NoRoom why) = codes "NoRoom"
 lid_fault_name Memory = codes "Memory"
 
+-- whether the fault is lack of memory, and not of room
 abbrev pub is_memory : LidFault → Bool
 is_memory (NoRoom why) = false
 is_memory Memory = true
 
--- the number of end ports and the room if an end port finds no LID, otherwise None
+-- the number of end ports and the room if an end port finds no LID, else None
 abbrev pub no_room : ℕ → Cells → Option Room
 no_room lmc cells =
     if is_no_room lmc cells then Some (record { endports = length (end_ports cells); room = room cells }) else None
 
--- why no LIDs are assigned; None if there is room
+-- `NoRoom` if a lack of room is given, else None
 abbrev pub lid_fault : Option Room → Option LidFault
 lid_fault None = None
 lid_fault (Some why) = Some (NoRoom why)

@@ -1,4 +1,5 @@
--- Which LID each end port has (addressing chapter, unicast LIDs: 0x0001 to 0xBFFF).
+-- Which LID each end port has: the claim that it keeps, else the least that is left (addressing chapter, unicast LIDs:
+-- 0x0001 to 0xBFFF).
 use Rattle.std.specs.Prelude.{◌≡◌, ◌↔◌, ◌⊎◌, ◌<◌, ◌≤◌, ◌+◌, ◌-◌, ℕ, zero, suc, Bool, false, List, [], ◌∷◌, ◌++◌, min, max, map, filter, length, Contains, Option, None, Some, ◌==◌, ◌&&◌, not, option_map, option_and_then, unwrap_or, is_some, IsTrue, if◌then◌else◌}
 use Rattle.std.specs.Option.{option_map_or}
 use Rattle.std.specs.List.{filter_map, list_any, find, AllPairs}
@@ -10,68 +11,71 @@ use Rattle.subnet_view.specs.EndPorts.{end_ports}
 use Rattle.smp_bytes.specs.LidRange.{has_lid}
 use Rattle.lid_assign.specs.Ranges.{lmc_at, width_of, Range, range_at, is_in, meets, fits, IsIn, IsInBoth, Fits}
 
--- the least of some table rooms, but at most the first number past the unicast LIDs
+-- the least of some table rooms, at most 0xC000, the first number past the unicast LIDs
 abbrev pub least_room : List ℕ → ℕ
 least_room [] = 0xC000
 least_room (cap ∷ caps) = min cap (least_room caps)
 
--- the least table room of a usable switch, but at most the first number past the unicast LIDs; all LIDs are below it
+-- the least table room of a usable switch, at most 0xC000, the first number past the unicast LIDs; all LIDs are below
+-- it
 abbrev pub room : Cells → ℕ
 room cells = least_room (filter_map (cap_of cells) (switches cells))
 
 -- claims that are kept: -----------------------------------------------------------
 
--- c if its range fits, otherwise None
+-- `c` if the range of the end port `e` from `c` on fits, else None
 abbrev pub if_fits : ℕ → ℕ → EndPort → ℕ → Option ℕ
 if_fits room lmc e c = if fits room (range_at lmc e c) then Some c else None
 
--- the number that an end port claims if its range fits, otherwise None
+-- the number that the end port `e` claims, if its range from there on fits; else None
 abbrev pub fitting_claim : ℕ → Cells → EndPort → Option ℕ
 fitting_claim lmc cells e = option_and_then (if_fits (room cells) lmc e) (claim_of cells e.node e.port)
 
--- the end port claims a range that fits and meets r
+-- whether the end port `e` claims a range that fits and has a number in common with `r`
 abbrev pub claims : ℕ → Cells → Range → EndPort → Bool
 claims lmc cells r e = option_map_or (λ c. meets r (range_at lmc e c)) (fitting_claim lmc cells e) false
 
--- c if no end port of `earlier` claims a range that fits and meets the range of c, otherwise None
+-- `c` if no end port of `earlier` claims a range that fits and has a number in common with that of `e` from `c` on;
+-- else None
 abbrev pub if_first : ℕ → Cells → List EndPort → EndPort → ℕ → Option ℕ
 if_first lmc cells earlier e c = if list_any (claims lmc cells (range_at lmc e c)) earlier then None else Some c
 
--- the claim that an end port keeps; None if it keeps none; `earlier` are the end ports before it
+-- the claim that the end port `e` keeps, if `earlier` are the end ports before it; None if it keeps none
 abbrev pub kept_claim : ℕ → Cells → List EndPort → EndPort → Option ℕ
 kept_claim lmc cells earlier e = option_and_then (if_first lmc cells earlier e) (fitting_claim lmc cells e)
 
--- the end ports in their order, each with the claim that it keeps; `earlier` are the end ports before them
+-- each end port of a list with the claim that it keeps, or None, if `earlier` are the end ports before the list
 abbrev pub with_kept : ℕ → Cells → List EndPort → List EndPort → List (EndPort × Option ℕ)
 with_kept lmc cells earlier [] = []
 with_kept lmc cells earlier (e ∷ rest) = (e, kept_claim lmc cells earlier e) ∷ with_kept lmc cells (e ∷ earlier) rest
 
--- each end port with the claim that it keeps
+-- each end port in order, with the claim that it keeps, or None
 abbrev pub kept : ℕ → Cells → List (EndPort × Option ℕ)
 kept lmc cells = with_kept lmc cells [] (end_ports cells)
 
--- the range of a claim that is kept; None if none is kept
+-- the range of a claim that an end port keeps; None if it keeps none
 abbrev pub kept_range : ℕ → EndPort × Option ℕ → Option Range
 kept_range lmc x = option_map (range_at lmc x.0) x.1
 
 -- LIDs that are handed out: -------------------------------------------------------
 
--- n numbers, counting up from `start`
+-- the `n` numbers from `start` on
 abbrev pub count_up : ℕ → ℕ → List ℕ
 count_up start zero = []
 count_up start (suc n) = start ∷ count_up (suc start) n
 
--- the range fits, and meets none of the ranges `taken`
+-- whether the range `r` fits and has no number in common with any of the ranges `taken`
 abbrev pub is_open : ℕ → List Range → Range → Bool
 is_open room taken r = fits room r && not (list_any (meets r) taken)
 
--- the least number whose range of this width fits and meets none of the ranges `taken`; None if there is none
+-- the least number from which on a range of `width` fits and has no number in common with the ranges `taken`; None if
+-- there is none
 abbrev pub least_open : ℕ → List Range → ℕ → Option ℕ
 least_open room taken width =
     find (λ c. is_open room taken (record { first = c; width = width })) (count_up 1 (room - 1))
 
--- kept claims stay, and each other end port, in order, takes the least number whose range is open; None if one finds
--- none
+-- each end port of a list with its LID: the claim that it keeps or, in order, the least number from which on its range
+-- fits and meets neither `taken` nor what was handed out; None if one finds none
 abbrev pub hand_out : ℕ → ℕ → List Range → List (EndPort × Option ℕ) → Option (List (EndPort × ℕ))
 hand_out room lmc taken [] = Some []
 hand_out room lmc taken ((e, Some c) ∷ rest) = option_map (λ given. (e, c) ∷ given) (hand_out room lmc taken rest)
@@ -79,7 +83,7 @@ hand_out room lmc taken ((e, None) ∷ rest) =
     option_and_then (λ c. option_map (λ given. (e, c) ∷ given) (hand_out room lmc (range_at lmc e c ∷ taken) rest))
     (least_open room taken (width_of lmc e))
 
--- the end ports in their order, each with its LID; None if one of them finds none
+-- each end port in order, with its LID; None if one of them finds none
 abbrev pub handed_out : ℕ → Cells → Option (List (EndPort × ℕ))
 handed_out lmc cells = hand_out (room cells) lmc (filter_map (kept_range lmc) (kept lmc cells)) (kept lmc cells)
 
@@ -88,57 +92,58 @@ pub record Given : Type 0 where
   pub lmc : ℕ
   pub ports : List (EndPort × ℕ)
 
--- the LIDs of a view under an LMC; no end port has one if one of them finds none
+-- the LIDs of a view under the LMC `lmc`; if an end port finds none, no end port has one
 abbrev pub lids : ℕ → Cells → Given
 lids lmc cells = record { lmc = lmc; ports = unwrap_or (handed_out lmc cells) [] }
 
--- an end port finds no LID
+-- whether an end port finds no LID
 abbrev pub is_no_room : ℕ → Cells → Bool
 is_no_room lmc cells = not (is_some (handed_out lmc cells))
 
--- an end port finds no LID, as a statement
+-- an end port finds no LID (`is_no_room`), so none are assigned
 abbrev pub IsNoRoom : ℕ → Cells → Type 0
 IsNoRoom lmc cells = IsTrue (is_no_room lmc cells)
 
 -- what the LIDs say: ---------------------------------------------------------------
 
--- the number n is in the end port's range
+-- whether the number `n` is in the range of an end port with its LID
 abbrev pub has_number : ℕ → ℕ → EndPort × ℕ → Bool
 has_number lmc n x = is_in (range_at lmc x.0 x.1) n
 
--- the end port whose range has the number n; None if there is none
+-- the end port whose range has the number `n`; None if no range has it
 abbrev pub owner_of : Given → ℕ → Option EndPort
 owner_of given n = option_map (λ x. x.0) (find (has_number given.lmc n) given.ports)
 
--- the entry is the end port's
+-- whether an end port with its LID is `e`
 abbrev pub is_end_port_at : EndPort → EndPort × ℕ → Bool
 is_end_port_at e x = e.node == x.0.node && e.port == x.0.port
 
--- the LID that an end port has, the first number of its range; None if it has none
+-- the LID of the end port `e` in a list, which is the first number of its range; None if it has none
 abbrev pub lid_among : List (EndPort × ℕ) → EndPort → Option ℕ
 lid_among given e = option_map (λ x. x.1) (find (is_end_port_at e) given)
 
+-- the LID of the end port `e`, which is the first number of its range; None if it has none
 abbrev pub lid_of : Given → EndPort → Option ℕ
 lid_of given e = lid_among given.ports e
 
--- the LMC of an end port
+-- the LMC of the end port `e`: 0 for a switch, else the subnet's
 abbrev pub lmc_of : Given → EndPort → ℕ
 lmc_of given e = lmc_at given.lmc e
 
--- the LID and the LMC that an end port has; None if it has no LID
+-- the LID and the LMC of the end port `e`; None if it has no LID
 abbrev pub range_of : Given → EndPort → Option (ℕ × ℕ)
 range_of given e = option_map (λ lid. (lid, lmc_of given e)) (lid_of given e)
 
--- the greatest of some numbers, 0 if there are none
+-- the greatest of some numbers; 0 if there are none
 abbrev pub greatest : List ℕ → ℕ
 greatest [] = 0
 greatest (n ∷ ns) = max n (greatest ns)
 
--- the last number of an end port's range
+-- the last number of the range of an end port with its LID
 abbrev pub last_of : ℕ → EndPort × ℕ → ℕ
 last_of lmc x = x.1 + width_of lmc x.0 - 1
 
--- the greatest number in these ranges, None if there are no ranges
+-- the greatest number in the ranges of a list; None if it is empty
 abbrev pub top_among : ℕ → List (EndPort × ℕ) → Option ℕ
 top_among lmc [] = None
 top_among lmc (x ∷ given) = Some (max (last_of lmc x) (greatest (map (last_of lmc) given)))
@@ -147,43 +152,43 @@ top_among lmc (x ∷ given) = Some (max (last_of lmc x) (greatest (map (last_of 
 abbrev pub top_of : Given → Option ℕ
 top_of given = top_among given.lmc given.ports
 
--- one more than the greatest number, 0 if there is none
+-- one more than `top`, the greatest number that an end port has; 0 if there is none
 abbrev pub end_of : Option ℕ → ℕ
 end_of None = 0
 end_of (Some top) = suc top
 
--- the number is an end port's LID
+-- whether the number `n` is the LID of an end port, the first number of its range
 abbrev pub is_lid : List (EndPort × ℕ) → ℕ → Bool
 is_lid given n = list_any (λ x. x.1 == n) given
 
--- the LIDs that are assigned, rising
+-- the LIDs of end ports, the first numbers of their ranges, rising
 abbrev pub rising_lids : Given → List ℕ
 rising_lids given = filter (is_lid given.ports) (count_up 0 (end_of (top_of given)))
 
 -- the law of LIDs, as statements: -----------------------------------------------------
 
--- the list `all` is `earlier`, then x, then `later`
+-- `x` stands in the list `all` after `earlier` and before `later`
 abbrev pub Stands : {X : Type 0} → List X → X → List X → List X → Type 0
 Stands earlier x later all = all ≡ earlier ++ x ∷ later
 
--- the end port claims the number c, and its range fits
+-- the end port `e` claims the number `c`, and its range from there on fits
 pub record ClaimsFitting (lmc : ℕ) (cells : Cells) (e : EndPort) (c : ℕ) : Type 0 where
   pub claimed : claim_of cells e.node e.port ≡ Some c
   pub claim_fits : Fits (room cells) (range_at lmc e c)
 
--- the end port claims c with a range that fits, and no earlier end port claims a range that fits and has a number in
--- common with it
+-- the end port `e` keeps the claim `c`: its range from there on fits, and no end port before it claims a range that
+-- fits and has a number in common with it
 abbrev pub Keeps : ℕ → Cells → EndPort → ℕ → Type 0
 Keeps lmc cells e c =
     (earlier later : List EndPort) → Stands earlier e later (end_ports cells) → ClaimsFitting lmc cells e c
     × ((x : EndPort) (d n : ℕ) → Contains earlier x → ClaimsFitting lmc cells x d
     → IsInBoth (range_at lmc e c) (range_at lmc x d) n → ⊥)
 
--- the end port keeps no claim
+-- the end port `e` keeps no claim
 abbrev pub KeepsNothing : ℕ → Cells → EndPort → Type 0
 KeepsNothing lmc cells e = (c : ℕ) → Keeps lmc cells e c → ⊥
 
--- the number n is in the range of an earlier end port, or of an end port that keeps its claim
+-- the number `n` is in the range of an end port of `given` that is in `earlier`, or that keeps its claim
 pub record WasTaken (lmc : ℕ) (cells : Cells) (earlier given : List (EndPort × ℕ)) (n : ℕ) : Type 0 where
   pub by : EndPort
   pub lid : ℕ
@@ -191,8 +196,8 @@ pub record WasTaken (lmc : ℕ) (cells : Cells) (earlier given : List (EndPort �
   pub is_before : Contains earlier (by, lid) ⊎ Keeps lmc cells by lid
   pub is_its : IsIn (range_at lmc by lid) n
 
--- the end ports in order, each with the claim that it keeps or, if it keeps none, with the least number whose range
--- fits and has no number that was taken
+-- `given` has the end ports in order, each with a LID; ranges fit and have no number in common; each has the claim that
+-- it keeps or, if it keeps none, the least number from which on its range fits and has no number that was taken
 pub record AreLids (lmc : ℕ) (cells : Cells) (given : List (EndPort × ℕ)) : Type 0 where
   pub end_ports_in_order : map (λ x. x.0) given ≡ end_ports cells
   pub each_fits : (e : EndPort) (n : ℕ) → Contains given (e, n) → Fits (room cells) (range_at lmc e n)
@@ -209,7 +214,7 @@ abbrev pub LidsLaw : Type 0
 LidsLaw = (lmc : ℕ) (facts : Facts) → ¬ (IsNoRoom lmc (cells_of facts))
     → AreLids lmc (cells_of facts) (lids lmc (cells_of facts)).ports
 
--- no other LIDs satisfy `AreLids`
+-- only the LIDs that are assigned satisfy `AreLids`
 abbrev pub LidsAreUnique : Type 0
 LidsAreUnique = (lmc : ℕ) (facts : Facts) (given : List (EndPort × ℕ)) → AreLids lmc (cells_of facts) given
     → given ≡ (lids lmc (cells_of facts)).ports
@@ -219,26 +224,26 @@ abbrev pub NoRoomLaw : Type 0
 NoRoomLaw = (lmc : ℕ) (facts : Facts) → IsNoRoom lmc (cells_of facts)
     ↔ ((given : List (EndPort × ℕ)) → AreLids lmc (cells_of facts) given → ⊥)
 
--- with one LID for each port, there is no room exactly if there are end ports, and at least as many as the room
+-- under LMC 0 there is no room exactly if there are end ports, and at least as many as the room
 abbrev pub NoRoomAtLmc0 : Type 0
 NoRoomAtLmc0 = (cells : Cells) → IsNoRoom 0 cells
     ↔ ((0 < length (end_ports cells)) × (room cells ≤ length (end_ports cells)))
 
--- end ports of one width that keep no claim have rising LIDs
+-- of two end ports of equal width that keep no claim, the one that comes first has the lesser LID
 abbrev pub OthersRise : Type 0
 OthersRise = (lmc : ℕ) (facts : Facts) (given earlier middle later : List (EndPort × ℕ)) (e f : EndPort) (n m : ℕ)
     → AreLids lmc (cells_of facts) given
     → given ≡ earlier ++ (e, n) ∷ middle ++ (f, m) ∷ later → width_of lmc e ≡ width_of lmc f
     → KeepsNothing lmc (cells_of facts) e → KeepsNothing lmc (cells_of facts) f → n < m
 
--- if there is room, an end port owns a number exactly if it has the number as one of its LIDs
+-- if there is room, an end port is the owner of a number exactly if the number is one of its LIDs
 abbrev pub OwnersAreInverse : Type 0
 OwnersAreInverse = (lmc : ℕ) (facts : Facts) → ¬ (IsNoRoom lmc (cells_of facts)) → (e : EndPort) (n : ℕ)
     → (owner_of (lids lmc (cells_of facts)) n ≡ Some e)
     ↔ ((lid : ℕ) × (lid_of (lids lmc (cells_of facts)) e ≡ Some lid)
     × IsTrue (has_lid lid (lmc_of (lids lmc (cells_of facts)) e) n))
 
--- the rising LIDs are the LIDs that are assigned, each once
+-- `rising_lids` has exactly the LIDs of end ports, each once, rising
 abbrev pub RisingLidsLaw : Type 0
 RisingLidsLaw = (given : Given)
     → ((n : ℕ) → Contains (rising_lids given) n ↔ ((e : EndPort) × Contains given.ports (e, n)))

@@ -7,74 +7,76 @@ use Rattle.lid_assign.specs.declared.hand_out.Next.{Next}
 use Rattle.lid_assign.specs.Ranges.{Range, is_in, fits}
 use Rattle.lid_assign.specs.Lids.{count_up}
 
+-- whether the number `n` is marked; false past the end of `marks`
 abbrev pub is_marked : List Bool → ℕ → Bool
 is_marked marks n = slice_index_or marks n false
 
--- a number of the range is marked
+-- whether a number of the range `r` is marked
 abbrev pub any_marked : List Bool → Range → Bool
 any_marked marks r = list_any (is_marked marks) (count_up r.first r.width)
 
--- the range of this width from c on
+-- the range of `width` from `c` on
 abbrev pub from_on : ℕ → ℕ → Range
 from_on width c = record { first = c; width = width }
 
--- the number is in the range, if there is one
+-- whether the number `n` is in the range `r`; false if there is none
 abbrev pub is_in_some : Option Range → ℕ → Bool
 is_in_some r n = option_map_or (λ r. is_in r n) r false
 
--- `new` is `old` with each number of `r` marked, if there is a range
+-- `new` is `old` with each number of the range `r` marked, if there is one
 pub record AreMarkedMore (r : Option Range) (old new : List Bool) : Type 0 where
   pub all : length new ≡ length old
   pub each : (n : ℕ) → n < length old → is_marked new n ≡ (is_in_some r n || is_marked old n)
 
--- c if the range of this width from c on fits, otherwise None
+-- `c` if the range of `width` from `c` on fits, else None
 abbrev pub if_within : ℕ → ℕ → ℕ → Option ℕ
 if_within room width c = if fits room (from_on width c) then Some c else None
 
--- the claim if its range fits, otherwise None
+-- the claim if there is one and its range fits, else None
 abbrev pub fitting : ℕ → ℕ → Option ℕ → Option ℕ
 fitting room width claim = option_and_then (if_within room width) claim
 
--- c if nothing in the range from c on is marked, otherwise None
+-- `c` if no number of the range of `width` from `c` on is marked, else None
 abbrev pub if_unmarked : List Bool → ℕ → ℕ → Option ℕ
 if_unmarked marks width c = if any_marked marks (from_on width c) then None else Some c
 
--- the claim if it is kept: its range fits, and has no mark; otherwise None
+-- the claim if there is one, its range fits, and none of its numbers is marked; else None
 abbrev pub unmarked : List Bool → ℕ → Option ℕ → Option ℕ
 unmarked marks width claim = option_and_then (if_unmarked marks width) (fitting (length marks) width claim)
 
--- the range from c on fits, and has no mark
+-- the range of `width` from `c` on fits, and none of its numbers is marked
 pub record IsUnmarked (marks : List Bool) (width c : ℕ) : Type 0 where
   pub is_fit : fits (length marks) (from_on width c) ≡ true
   pub is_open : any_marked marks (from_on width c) ≡ false
 
--- no number from `low` up to, but not including, `high` has an unmarked range
+-- no number from `low` up to, but not including, `high` begins a range of `width` that fits and has no mark
 abbrev pub NoneUnmarked : List Bool → ℕ → ℕ → ℕ → Type 0
 NoneUnmarked marks width low high = (c : ℕ) → low ≤ c → c < high → IsUnmarked marks width c → ⊥
 
--- c is the least number from `low` on with an unmarked range
+-- `c` is the least number from `low` on that begins a range of `width` that fits and has no mark
 pub record IsLeastUnmarked (marks : List Bool) (width low c : ℕ) : Type 0 where
   pub unmarked_there : IsUnmarked marks width c
   pub from_low : low ≤ c
   pub none_before : NoneUnmarked marks width low c
 
--- the marked numbers are the numbers of the ranges, below the room
+-- the marked numbers are exactly those of `ranges` that are below `room`
 pub record AreTaken (room : ℕ) (ranges : List Range) (marks : List Bool) : Type 0 where
   pub all : length marks ≡ room
   pub each : (n : ℕ) → n < room → is_marked marks n ≡ list_any (λ r. is_in r n) ranges
 
--- no number below `next` has an open range of this width, and `next` may be tried
+-- no number below `next` begins a range of `width` that fits and has no mark; `next` is a multiple of `width`, not 0,
+-- and at most `width` past the end of `marks`
 pub record IsPassed (marks : List Bool) (width next : ℕ) : Type 0 where
   pub aligned : next % width ≡ 0
   pub not_0 : 1 ≤ next
   pub near : next ≤ length marks + width
   pub none_before : NoneUnmarked marks width 0 next
 
--- `next.switch` is passed for switches, and `next.adapter` for adapter ports
+-- `next.switch` is passed (`IsPassed`) for switches, and `next.adapter` for adapter ports
 pub record ArePassed (lmc : ℕ) (marks : List Bool) (next : Next) : Type 0 where
   pub switches : IsPassed marks 1 next.switch
   pub adapters : IsPassed marks (2 ^ lmc) next.adapter
 
--- the result is the LIDs, or None if an end port finds none
+-- `found` is the LIDs that `handed` has; None if that is None
 abbrev pub IsFound : {V : Type 0} → (V → List (EndPort × ℕ)) → Option (List (EndPort × ℕ)) → Option V → Type 0
 IsFound items handed found = option_map items found ≡ handed

@@ -1,13 +1,14 @@
--- The numbers of an end port, from its LID on, as many as it has LIDs (addressing chapter, base LID and LMC).
+-- The LIDs of an end port, as a range: consecutive numbers from its LID on, 2^LMC for an adapter port (addressing
+-- chapter, base LID and LMC).
 use Rattle.std.specs.Prelude.{◌≡◌, ◌↔◌, ◌<◌, ◌≤◌, ◌+◌, ◌%◌, ◌^◌, ℕ, Bool, ◌==◌, ◌&&◌, nat_le, nat_lt, IsTrue, if◌then◌else◌}
 use Rattle.smp_bytes.specs.LidRange.{is_among}
 use Rattle.subnet_view.specs.declared.end_port.EndPort.{EndPort}
 
--- the LMC of an end port: 0 for port 0, which is a switch's, otherwise the subnet's
+-- the LMC of the end port `e`: 0 for port 0, which is a switch's, else the subnet's
 abbrev pub lmc_at : ℕ → EndPort → ℕ
 lmc_at lmc e = if e.port == 0 then 0 else lmc
 
--- the number of LIDs of an end port
+-- the number of LIDs of the end port `e`: 2 to the power of its LMC
 abbrev pub width_of : ℕ → EndPort → ℕ
 width_of lmc e = 2 ^ lmc_at lmc e
 
@@ -16,39 +17,39 @@ pub record Range : Type 0 where
   pub first : ℕ
   pub width : ℕ
 
--- the numbers of an end port with this LID
+-- the LIDs of the end port `e` if its LID is `lid`
 abbrev pub range_at : ℕ → EndPort → ℕ → Range
 range_at lmc e lid = record { first = lid; width = width_of lmc e }
 
--- the number is one of the range
+-- whether the number `n` is in the range `r`
 abbrev pub is_in : Range → ℕ → Bool
 is_in r n = is_among r.first r.width n
 
--- the ranges have a number in common
+-- whether two ranges, neither of them empty, have a number in common
 abbrev pub meets : Range → Range → Bool
 meets a b = nat_lt a.first (b.first + b.width) && nat_lt b.first (a.first + a.width)
 
--- the range can be an end port's below the room: it begins at a multiple of its width, not at 0, and its last number is
--- below the room
+-- whether an end port can have the range `r`: it begins at a multiple of its width, not at 0, and ends below `room`
 abbrev pub fits : ℕ → Range → Bool
 fits room r = nat_le 1 r.first && (r.first % r.width == 0 && nat_le (r.first + r.width) room)
 
 -- as statements: -----------------------------------------------------------------
 
+-- the number `n` is in the range `r`
 abbrev pub IsIn : Range → ℕ → Type 0
 IsIn r n = (r.first ≤ n) × (n < r.first + r.width)
 
--- the number is in both ranges
+-- the number `n` is in both ranges
 abbrev pub IsInBoth : Range → Range → ℕ → Type 0
 IsInBoth a b n = IsIn a n × IsIn b n
 
--- the range begins at a multiple of its width, not at 0, and its last number is below the room
+-- an end port can have the range `r`: it begins at a multiple of its width, not at 0, and ends below `room`
 pub record Fits (room : ℕ) (r : Range) : Type 0 where
   pub not_0 : 1 ≤ r.first
   pub aligned : r.first % r.width ≡ 0
   pub in_room : r.first + r.width ≤ room
 
--- `is_in`, `meets` and `fits` agree with `IsIn`, `IsInBoth` and `Fits` if the ranges are not empty
+-- if ranges are not empty, `is_in`, `meets` and `fits` agree with `IsIn`, `IsInBoth` and `Fits`
 abbrev pub RangesLaw : Type 0
 RangesLaw = (room n : ℕ) (a b : Range) → 1 ≤ a.width → 1 ≤ b.width
     → (IsTrue (is_in a n) ↔ IsIn a n) × (IsTrue (meets a b) ↔ ((k : ℕ) × IsInBoth a b k))

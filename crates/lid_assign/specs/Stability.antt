@@ -1,4 +1,4 @@
--- When LIDs stay as they are.
+-- When LIDs stay: if end ports claim them, also if others are added.
 use Rattle.std.specs.Prelude.{◌≡◌, ◌≢◌, ◌<◌, ◌⊎◌, ℕ, Contains, None, Some}
 use Rattle.reply_facts.specs.declared.key.Key.{Key}
 use Rattle.reply_facts.specs.declared.key.Key.TheVariants.{Claim}
@@ -9,36 +9,39 @@ use Rattle.subnet_view.specs.Reading.{Cells}
 use Rattle.subnet_view.specs.EndPorts.{end_ports}
 use Rattle.lid_assign.specs.Lids.{IsNoRoom, room, lids, lid_of, top_of}
 
--- the views differ at most in claims
+-- the facts `x` and `y` have equal cells for all keys but claims
 abbrev pub DifferInClaims : Facts → Facts → Type 0
 DifferInClaims x y = (key : Key) → ((g p : ℕ) → key ≢ Claim g p) → cell_for x key ≡ cell_for y key
 
--- each end port of view x claims in y the LID that it has in x
+-- each end port that has a LID by the cells `x` claims it in the cells `y`
 abbrev pub ClaimLids : ℕ → Cells → Cells → Type 0
 ClaimLids lmc x y = (e : EndPort) (lid : ℕ) → lid_of (lids lmc x) e ≡ Some lid → claim_of y e.node e.port ≡ Some lid
 
--- view y is view x after its LIDs are claimed
+-- the facts `y` are `x`, except that each end port claims the LID that it has by `x`
 pub record IsClaimed (lmc : ℕ) (x y : Facts) : Type 0 where
   pub same : DifferInClaims x y
   pub claimed : ClaimLids lmc (cells_of x) (cells_of y)
 
--- after the LIDs of a view are claimed, they are assigned again under the same LMC
+-- if there is room for the LIDs by facts, and each end port then claims its LID and nothing else changes, there is
+-- still room and the LIDs are equal, under one LMC
 abbrev pub LidsSettle : Type 0
 LidsSettle = (lmc : ℕ) (x y : Facts) → ¬ (IsNoRoom lmc (cells_of x)) → IsClaimed lmc x y
     → ¬ (IsNoRoom lmc (cells_of y)) × (lids lmc (cells_of y) ≡ lids lmc (cells_of x))
 
--- the end port claims nothing, or 0
+-- the end port `e` is not known to claim a LID, or claims 0
 abbrev pub ClaimsNothing : Cells → EndPort → Type 0
 ClaimsNothing cells e = (claim_of cells e.node e.port ≡ None) ⊎ (claim_of cells e.node e.port ≡ Some 0)
 
--- view z has x's end ports, which claim their LIDs, other end ports that claim nothing, and room for these LIDs
+-- the cells `z` have the end ports of `x`, which claim their LIDs, perhaps others, which claim nothing, and a room
+-- above the greatest LID by `x`
 pub record GrowsFrom (lmc : ℕ) (x z : Cells) : Type 0 where
   pub has : (e : EndPort) → Contains (end_ports x) e → Contains (end_ports z) e
   pub claimed : ClaimLids lmc x z
   pub others : (e : EndPort) → Contains (end_ports z) e → (Contains (end_ports x) e → ⊥) → ClaimsNothing z e
   pub in_room : (top : ℕ) → top_of (lids lmc x) ≡ Some top → top < room z
 
--- LIDs that are claimed stay under the same LMC, whatever end ports are added
+-- under one LMC and with room before and after, end ports keep LIDs that they claim when others that claim nothing are
+-- added (`GrowsFrom`)
 abbrev pub LidsStay : Type 0
 LidsStay = (lmc : ℕ) (x z : Facts) → ¬ (IsNoRoom lmc (cells_of x)) → ¬ (IsNoRoom lmc (cells_of z))
     → GrowsFrom lmc (cells_of x) (cells_of z)

@@ -19,9 +19,10 @@ use subnet_view::{EndPort, end_ports};
 
 /// Assigns a LID to each end port of the view. A switch has a range of one number, its LID, and an adapter's port has a
 /// range of 2^`lmc` numbers, from its LID on. A range fits if it begins at a multiple of its width, not at 0, and ends
-/// below the room of every usable switch's table. An end port keeps its claim if the claim's range fits and meets no
-/// range that fits and that an earlier end port claims. Each other end port, in order, takes the least number whose
-/// range is open. Walks the cells twice, and takes a search for each end port.
+/// below the room of every usable switch's table and within the unicast LIDs. An end port keeps its claim if the
+/// claim's range fits and meets no range that fits and that an earlier end port claims. Each other end port, in order,
+/// takes the least number whose range fits and has no number that is taken. Unless memory runs out, walks the cells at
+/// most four times.
 ///
 /// # Errors
 ///
@@ -37,7 +38,8 @@ pub fn assign(alloc: Global, store: &Store, lmc: Lmc) -> Result<LidMap, LidFault
     }
 }
 
-/// Returns the fault if memory runs out before the LIDs are known: `NoRoom` if there is no room, otherwise `Memory`.
+/// Returns the fault if memory runs out before the LIDs are known: `NoRoom` if an end port finds no LID, otherwise
+/// `Memory`.
 fn out_of_memory(store: &Store, lmc: Lmc) -> LidFault
     ensures { result ≡ unwrap_or (lid_fault (no_room lmc (cells_of store.now))) Memory }
 {

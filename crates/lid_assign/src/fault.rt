@@ -4,12 +4,12 @@ use fact_store::Refused;
 use std::alloc::AllocError;
 use thiserror::Error;
 
-/// An end port finds no LID: no range that fits is left below the room of the smallest forwarding table.
+/// An end port finds no LID: no range that fits below the room is left.
 #[derive(Clone, Copy, Debug, PartialEq, Eq)]
 pub struct NoRoom {
     /// The number of end ports.
     pub endports: usize,
-    /// The number of LIDs that the smallest table has room for, including 0.
+    /// The least table room of a usable switch, but at most 49152.
     pub room: u16,
 }
 

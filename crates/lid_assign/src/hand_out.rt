@@ -19,7 +19,8 @@ pub(crate) struct Next {
 }
 
 /// Returns the end ports in their order, each with its LID: the claim that it keeps, or the least number whose range
-/// fits and has no number that is taken. Returns `None` if one of them finds none.
+/// fits and has no number that is taken. Returns `None` if one of them finds none. The ranges of kept claims, and no
+/// others, must be marked in `taken`.
 pub(crate) fn hand_out(
     alloc: Global,
     lmc: Lmc,
@@ -56,7 +57,8 @@ pub(crate) fn first(lmc: Lmc) -> Next
     }
 }
 
-/// Takes and returns the least number whose range fits an end port and is open, or returns `None` if there is none.
+/// Takes and returns the least number whose range, as wide as that of `port`, is open, or returns `None` if there is
+/// none. No range from a number below `next` on may be open.
 pub(crate) fn take(taken: &mut [bool], next: &mut Next, lmc: Lmc, port: EndPort) -> Option<Lid>
     requires room { length taken.old ≤ 0xC000 }
     requires passed { ArePassed lmc taken.old next.old }
@@ -74,8 +76,8 @@ pub(crate) fn take(taken: &mut [bool], next: &mut Next, lmc: Lmc, port: EndPort)
     }
 }
 
-/// Takes and returns the least number whose range is open, or returns `None` if there is none. The number is not below
-/// `next`.
+/// Takes and returns the least number whose range of `width` numbers is open, or returns `None` if there is none. No
+/// range from a number below `next` on may be open.
 fn take_from(taken: &mut [bool], next: &mut usize, width: usize) -> Option<Lid>
     requires some { 1 ≤ width }
     requires few { width ≤ 128 }
@@ -92,7 +94,8 @@ fn take_from(taken: &mut [bool], next: &mut usize, width: usize) -> Option<Lid>
     Some(Lid::new(first as u16))
 }
 
-/// Returns the least number from `next` on whose range has no mark, or `None` if there is none.
+/// Returns the least number from `next` on whose range of `width` numbers fits and has no mark, or `None` if there is
+/// none. `next` must be a multiple of `width`, not 0, and no range from a number below it on may be open.
 fn least_unmarked(marks: &[bool], mut next: usize, width: usize) -> Option<usize>
     requires some { 1 ≤ width }
     requires few { width ≤ 128 }

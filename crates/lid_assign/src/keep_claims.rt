@@ -15,7 +15,7 @@ use subnet_view::EndPort;
 
 /// Returns the end ports in their order, each with the claim that it keeps, or `None` if it keeps none. A claim is kept
 /// if its range fits, and meets no range that fits and that an earlier end port claims. Marks the ranges of fitting
-/// claims in `claimed`, and the ranges of kept claims in `taken`.
+/// claims in `claimed`, and the ranges of kept claims in `taken`. Neither may have a mark before.
 pub(crate) fn keep_claims(
     alloc: Global,
     store: &Store,
@@ -39,15 +39,15 @@ pub(crate) fn keep_claims(
     Ok(keepers)
 }
 
-/// Returns the LID that an end port claims, or `None` if it claims none. Takes a search.
+/// Returns the LID that `port` claims, or `None` if it claims none. Takes a binary search among the cells.
 pub(crate) fn claim(store: &Store, port: EndPort) -> Option<Lid>
     ensures { result ≡ claim_of (cells_of store.now) port.node port.port }
 {
     store.claim(port.node, port.port)
 }
 
-/// Returns the claim if its range fits and has no mark in `claimed`, otherwise `None`. Marks the range in `claimed` if
-/// it fits, and in `taken` if the claim is returned.
+/// Returns `claim` if its range of `width` numbers fits and has no mark in `claimed`, otherwise `None`. Marks the range
+/// in `claimed` if it fits, and in `taken` if the claim is returned.
 pub(crate) fn keep(
     claim: Option<Lid>,
     width: usize,
@@ -67,7 +67,8 @@ pub(crate) fn keep(
     Some(lid)
 }
 
-/// Returns the claim if its range fits and has no mark yet, otherwise `None`. Marks the range in `claimed` if it fits.
+/// Returns `claim` if its range of `width` numbers fits and has no mark in `claimed`, otherwise `None`. Marks the range
+/// there if it fits.
 pub(crate) fn claims_first(claim: Option<Lid>, width: usize, claimed: &mut [bool]) -> Option<Lid>
     requires some { 1 ≤ width }
     requires few { width ≤ 128 }

@@ -17,7 +17,7 @@ pub struct LidMap {
     lmc: Lmc,
     /// The end ports in their order, each with its LID.
     given: Vec<(EndPort, Lid)>,
-    /// For each number, the end port that has it.
+    /// For each number up to the greatest one in a range, the end port that has it.
     owners: Vec<Option<EndPort>>,
     /// The LID of each end port, by node and port.
     by_port: BTreeMap<(Guid, PortNum), Lid>,
@@ -40,7 +40,7 @@ impl Model for LidMap {
 }
 
 impl LidMap {
-    /// Creates a map from the end ports in their order, each with its LID.
+    /// Creates a map from the end ports in their order, each with its LID. All ranges must be below 49152.
     pub(crate) fn new(
         alloc: Global,
         lmc: Lmc,
@@ -63,7 +63,7 @@ impl LidMap {
         })
     }
 
-    /// Returns the LMC of an end port: 0 for port 0, which is a switch's, otherwise the map's LMC.
+    /// Returns the LMC of `port`: 0 for port 0, which is a switch's, otherwise the map's LMC.
     pub fn lmc_of(&self, port: &EndPort) -> Lmc
         ensures { result ≡ lmc_of self.now port.now }
     {
@@ -77,7 +77,7 @@ impl LidMap {
         &self.given
     }
 
-    /// Returns the end port whose range has the number `lid`, or `None` if there is none. Takes one step.
+    /// Returns the end port whose range has the number `lid`, or `None` if there is none. Takes constant time.
     pub fn owner(&self, lid: Lid) -> Option<EndPort>
         ensures owner { result ≡ owner_of self.now lid }
         ensures unicast { IfSome result (λ port. lid < 0xC000) }
@@ -88,7 +88,8 @@ impl LidMap {
             .flatten()
     }
 
-    /// Returns the LID of an end port, the first number of its range, or `None` if it has none. Takes a search.
+    /// Returns the LID of `port`, the first number of its range, or `None` if it has none. Takes time logarithmic in
+    /// the number of end ports.
     pub fn lid_of(&self, port: EndPort) -> Option<Lid>
         ensures { result ≡ lid_of self.now port }
     {
@@ -102,7 +103,7 @@ impl LidMap {
         &self.rising
     }
 
-    /// Returns the greatest number that an end port has, or `None` if there are no end ports. Takes one step.
+    /// Returns the greatest number that an end port has, or `None` if there are no end ports. Takes constant time.
     pub fn top(&self) -> Option<Lid>
         ensures { result ≡ top_of self.now }
     {
@@ -110,8 +111,8 @@ impl LidMap {
     }
 }
 
-/// Returns, for each number below `end`, the end port that has it. Writes the entries of the first end port last, so
-/// that the first owner of a number wins.
+/// Returns, for each number below `end`, the end port that has it. All ranges must be below `end`. Writes the entries
+/// of the first end port last, so that the first owner of a number wins.
 fn owners(
     alloc: Global,
     lmc: Lmc,
@@ -129,7 +130,7 @@ fn owners(
     Ok(owners)
 }
 
-/// Writes an end port at each number of its range.
+/// Writes an end port at each number of its range, which must be within `owners`.
 fn own(owners: &mut Vec<Option<EndPort>>, lmc: Lmc, given: &(EndPort, Lid))
     requires { given.now.1 + width_of lmc given.now.0 ≤ vec_len owners.old }
     ensures owned { AreOwnersMore given.now.0 (range_at lmc given.now.0 given.now.1)
@@ -142,7 +143,7 @@ fn own(owners: &mut Vec<Option<EndPort>>, lmc: Lmc, given: &(EndPort, Lid))
     }
 }
 
-/// Returns, for each number below `end`, whether it is an end port's LID.
+/// Returns, for each number below `end`, whether it is an end port's LID. All ranges must be below `end`.
 fn lid_marks(
     alloc: Global,
     lmc: Lmc,
@@ -160,7 +161,7 @@ fn lid_marks(
     Ok(marks)
 }
 
-/// Returns the marked numbers, rising.
+/// Returns the marked numbers, rising. There must be at most 2^16 marks.
 fn rising(alloc: Global, marks: &[bool]) -> Result<Vec<Lid>, AllocError>
     requires { length marks.now ≤ 2 ^ 16 }
     ensures { IfOk result (λ lids. lids.items ≡ marked_from marks.now 0) }
@@ -174,7 +175,7 @@ fn rising(alloc: Global, marks: &[bool]) -> Result<Vec<Lid>, AllocError>
     Ok(lids)
 }
 
-/// Returns one more than the greatest number, or 0 if there is none.
+/// Returns one more than `top`, or 0 if it is `None`.
 fn end(top: &Option<Lid>) -> usize
     ensures { result ≡ end_of top.now }
 {
@@ -199,7 +200,8 @@ fn by_port(
     Ok(lids)
 }
 
-/// Returns the greatest number that an end port has, or `None` if there are no end ports.
+/// Returns the greatest number that an end port has, or `None` if there are no end ports. All ranges must be below
+/// 49152.
 fn top(lmc: Lmc, given: &[(EndPort, Lid)]) -> Option<Lid>
     requires { AreBelow 0xC000 lmc given.now }
     ensures { result ≡ top_among lmc given.now }
@@ -211,7 +213,7 @@ fn top(lmc: Lmc, given: &[(EndPort, Lid)]) -> Option<Lid>
     top
 }
 
-/// Returns the last number of an end port's range.
+/// Returns the last number of the range of `port` from `lid` on, which must be below 49152.
 fn last(lmc: Lmc, port: EndPort, lid: Lid) -> Lid
     requires { lid + width_of lmc port ≤ 0xC000 }
     ensures { result ≡ last_of lmc (port, lid) }

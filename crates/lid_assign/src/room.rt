@@ -12,9 +12,10 @@ use fact_store::{Sighting, Store};
 use smp_bytes::Lid;
 use subnet_view::{count_end_ports, usable_guid};
 
-/// Returns the room and the number of end ports if an end port of the view finds no LID, otherwise `None`. Takes no
-/// memory. Walks the cells twice if there are at least as many end ports as the room, or if their ranges fit side by
-/// side (as they always do with LMC 0). Otherwise walks them twice for each end port.
+/// Returns the room and the number of end ports if an end port of the view finds no LID, otherwise `None`. Walks the
+/// cells at most four times if there are at least as many end ports as the room, or if their ranges fit side by side
+/// (as they always do otherwise with LMC 0). Otherwise walks them a number of times that is linear in the number of end
+/// ports. Does not allocate.
 pub fn no_room(store: &Store, lmc: Lmc) -> Option<NoRoom>
     ensures { result ≡ no_room lmc (cells_of store.now) }
 {
@@ -52,7 +53,7 @@ pub(crate) fn room_and_end_ports(store: &Store) -> NoRoom
 }
 
 /// Returns the least table room of a usable switch, but at most the first number past the unicast LIDs. Walks the
-/// cells.
+/// cells, with at most two binary searches for each switch.
 pub(crate) fn room(store: &Store) -> u16
     ensures { result ≡ room (cells_of store.now) }
 {
@@ -65,7 +66,8 @@ pub(crate) fn room(store: &Store) -> u16
     least
 }
 
-/// Returns the table room of a cell's node if that is a usable switch, otherwise `None`.
+/// Returns the table room of the node of `sighting` if that is a usable switch, otherwise `None`. `sighting` must be a
+/// cell of `store`.
 fn usable_cap(store: &Store, sighting: &Sighting) -> Option<u16>
     requires { cell_for store.now sighting.now.0 ≡ Some sighting.now.1 }
     ensures { result ≡ usable_cap (cells_of store.now) sighting.now }

@@ -17,14 +17,15 @@ use subnet_view::next_end_port;
 /// The number of LIDs up to the last unicast LID, including 0.
 const NUMBERS: usize = Lid::UNICAST_END as usize;
 
-/// Returns whether an end port finds no LID. Takes no memory, and walks the cells twice for each end port.
+/// Returns whether an end port finds no LID. The number of walks over the cells is linear in the number of end ports.
+/// Does not allocate.
 pub(crate) fn runs_out(store: &Store, lmc: Lmc) -> bool
     ensures { result ≡ is_no_room lmc (cells_of store.now) }
 {
     runs_out_below::<NUMBERS>(store, lmc, usize::from(room(store)))
 }
 
-/// Returns whether an end port finds no LID, if the room `most` is at most `N`.
+/// Returns whether an end port finds no LID. `most` must be the room, and at most `N`.
 fn runs_out_below<const N: usize>(store: &Store, lmc: Lmc, most: usize) -> bool
     requires room { most ≡ room (cells_of store.now) }
     requires within { most ≤ N }
@@ -36,7 +37,7 @@ fn runs_out_below<const N: usize>(store: &Store, lmc: Lmc, most: usize) -> bool
     runs_out_after(store, lmc, &mut [false; N][..most], &mut taken[..most])
 }
 
-/// Marks the numbers of the end ports that keep their claims.
+/// Marks the ranges of kept claims in `taken`. Neither `claimed` nor `taken` may have a mark before.
 fn keep_in_turn(store: &Store, lmc: Lmc, claimed: &mut [bool], taken: &mut [bool])
     requires claimed { claimed.old ≡ replicate (room (cells_of store.now)) false }
     requires taken { taken.old ≡ replicate (room (cells_of store.now)) false }
@@ -50,7 +51,8 @@ fn keep_in_turn(store: &Store, lmc: Lmc, claimed: &mut [bool], taken: &mut [bool
     }
 }
 
-/// Returns whether an end port that keeps no claim finds no LID. The ranges of kept claims are marked in `taken`.
+/// Returns whether an end port that keeps no claim finds no LID. The ranges of kept claims, and no others, must be
+/// marked in `taken`, and none in `claimed`.
 fn runs_out_after(store: &Store, lmc: Lmc, claimed: &mut [bool], taken: &mut [bool]) -> bool
     requires claimed { claimed.old ≡ replicate (room (cells_of store.now)) false }
     requires taken { AreTaken (room (cells_of store.now))

@@ -10,19 +10,20 @@ use Rattle.held_tables.specs.PlanTables.{blocks_from}
 use Rattle.packet_walks.specs.Edges.{greatest_top}
 use Rattle.next_tables.specs.NextTables.{next_switch}
 
--- the entry of the switch at `index` for `lid`, 255 if there is none
+-- the entry of the switch at `index` for `lid`, if `columns` has the entries of all switches for each LID; 255 if there
+-- is none
 abbrev pub entry_in : List (List ℕ) → ℕ → ℕ → ℕ
 entry_in columns index lid = slice_index_or (slice_index_or columns lid []) index 255
 
--- the block `b` of the switch at `index`
+-- the block `b` of the switch at `index`, from `columns`, which has the entries of all switches for each LID
 abbrev pub block_in : List (List ℕ) → ℕ → ℕ → List ℕ
 block_in columns index b = map (λ i. entry_in columns index (64 * b + i)) (range_with_len 0 64)
 
--- the first `count` blocks of the switch at `index`
+-- the first `count` blocks of the switch at `index`, from `columns`, which has the entries of all switches for each LID
 abbrev pub some_blocks : List (List ℕ) → ℕ → ℕ → List HeldBlock
 some_blocks columns index count = blocks_from index 0 (map (block_in columns index) (range_with_len 0 count))
 
--- the blocks of `switches`; the first switch has the index `index`
+-- the blocks of `switches`, each up to its top, from `columns`; the first switch has the index `index`
 abbrev pub all_blocks : List (List ℕ) → ℕ → List HeldSwitch → List HeldBlock
 all_blocks columns index [] = []
 all_blocks columns index (s ∷ switches) =
@@ -37,6 +38,6 @@ tables_with cells held plan columns = record {
   blocks = all_blocks columns 0 (map (next_switch held plan) (switches cells));
 }
 
--- the number of blocks up to the greatest top in both tables
+-- the number of blocks up to the greatest top of a usable switch, held or planned
 abbrev pub most_blocks : Cells → HeldPlan → HeldPlan → ℕ
 most_blocks cells held plan = block_count (Some (max (greatest_top cells held) (greatest_top cells plan)))

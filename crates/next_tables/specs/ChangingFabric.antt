@@ -27,34 +27,36 @@ use Rattle.next_tables.specs.NextTables.{IsKept, StepRuleValue, next_tables, set
 abbrev pub entry_now : Fabric → ℕ → ℕ → ℕ
 entry_now now lid number = counted lid (now.top number) (now.entry number lid)
 
--- `entry` is the held or the next entry; if switch `g` drops the packet by the held tables, `entry` may be anything
+-- for `lid`, `entry` is the held or the next entry of switch `g`; if the held tables drop the packet at `g`, `entry`
+-- may be anything
 abbrev pub IsLooseEntry : Cells → HeldPlan → HeldPlan → ℕ → ℕ → ℕ → Type 0
 IsLooseEntry cells held next lid g entry =
     (entry ≡ entry_for held lid g)
     ⊎ ((entry ≡ entry_for next lid g) ⊎ ((x : ℕ) × (cause : Cause) × (step_at cells held lid g ≡ Ends (Lost x cause))))
 
--- nodes and cables are as before, and the part's owners of the LID stay the same
+-- `now` has the nodes and cables of `before`, and the end ports of `part` own `lid` exactly if they owned it
 pub record StandsStill (part : Part) (lid : ℕ) (before now : Fabric) : Type 0 where
   pub nodes : now.nodes ≡ before.nodes
   pub cables : (p : NodePort) → now.across p ≡ before.across p
   pub owners : (port : NodePort) (node : Node) → IsEndPortIn part before port node
       → owns now port lid ≡ owns before port lid
 
--- during a change each switch of the part has a loose entry for the LID
+-- in `now` nodes, cables and owners of `lid` are as `before`, and each switch of `part` has for `lid` its held or next
+-- entry, or any entry if the held tables drop the packet there
 pub record IsInChange (part : Part) (cells : Cells) (held next : HeldPlan) (lid : ℕ) (before now : Fabric) : Type 0
   where
     pub still : StandsStill part lid before now
     pub entries : (port : NodePort) (node : Node) → IsEndPortIn part before port node → IsTrue (is_switch node.kind)
         → IsLooseEntry cells held next lid node.guid (entry_now now lid port.node)
 
--- the fabric is in the change whenever the packet reaches a node; `fabrics k` is the fabric when the packet has passed
--- k wires
+-- each of `fabrics` is in the change from `before` (`IsInChange`); `fabrics k` is the fabric when a packet has passed k
+-- wires
 abbrev pub ChangesMeanwhile : Part → Cells → HeldPlan → HeldPlan → ℕ → Fabric → (ℕ → Fabric) → Type 0
 ChangesMeanwhile part cells held next lid before fabrics =
     (k : ℕ) → IsInChange part cells held next lid before (fabrics k)
 
--- while tables are being written, each switch has its old or its next top, and its old or its next entry for the LID;
--- the top and the entry may be written in any order
+-- in `now` nodes, cables and owners of `lid` are as `before`, and each switch of `part` has its old or its next top,
+-- and its old or its next entry for `lid`; the top and the entry may be written in any order
 pub record IsBeingWritten (part : Part) (next : HeldPlan) (lid : ℕ) (before now : Fabric) : Type 0 where
   pub still : StandsStill part lid before now
   pub tops : (port : NodePort) (node : Node) → IsEndPortIn part before port node → IsTrue (is_switch node.kind)
@@ -63,7 +65,8 @@ pub record IsBeingWritten (part : Part) (next : HeldPlan) (lid : ℕ) (before no
       → (now.entry port.node lid ≡ before.entry port.node lid)
       ⊎ (now.entry port.node lid ≡ entry_of next node.guid lid)
 
--- a packet goes from `s` to `end` over these wires in order, and each node forwards it by the fabric at that time
+-- a packet for `lid` goes from `s` to `end` over the given wires in order, and each node forwards it by the fabric at
+-- that time
 abbrev pub GoesMeanwhile : (ℕ → Fabric) → ℕ → Standing → List Hop → Standing → Type 0
 GoesMeanwhile fabrics lid s [] end = s ≡ end
 GoesMeanwhile fabrics lid s (h ∷ hops) end =
@@ -71,14 +74,14 @@ GoesMeanwhile fabrics lid s (h ∷ hops) end =
     (course now lid s ≡ LeavesBy h.out) × (now.across h.out ≡ Some h.into)
     × GoesMeanwhile (λ k. fabrics (suc k)) lid (arrived_at h.into) hops end
 
--- a packet from `source` is delivered at `target` over these wires; each node acts by the fabric when the packet
+-- a packet for `lid` from `source` is delivered at `target` over `hops`; each node acts by the fabric when the packet
 -- reaches it
 abbrev pub IsDeliveredMeanwhile : (ℕ → Fabric) → ℕ → NodePort → List Hop → NodePort → Type 0
 IsDeliveredMeanwhile fabrics lid source hops target =
     (end : Standing) × GoesMeanwhile fabrics lid (sent_from source) hops end
     × (course (fabrics (length hops)) lid end ≡ Delivers target)
 
--- a packet from `source` is delivered at the end port `e` and nowhere else, over at most `most` wires
+-- a packet for `lid` from `source` is delivered at the end port `e` and nowhere else, over at most `most` wires
 pub record ArrivesMeanwhile (fabrics : ℕ → Fabric) (lid : ℕ) (source : NodePort) (e : EndPort) (most : ℕ) : Type 0 where
   pub hops : List Hop
   pub target : NodePort
@@ -88,9 +91,9 @@ pub record ArrivesMeanwhile (fabrics : ℕ → Fabric) (lid : ℕ) (source : Nod
   pub nowhere_else : (others : List Hop) (other : NodePort) → IsDeliveredMeanwhile fabrics lid source others other
       → other ≡ target
 
--- if one end port alone holds a LID in the held tables and in the plan, the facts describe all that is joined to an end
+-- If one end port alone holds a LID in the held tables and in the plan, the facts describe all that is joined to an end
 -- port, and the end ports and switches there hold the tables at first, a packet that the held tables deliver is
--- delivered while the switches change to the next tables, each at its own time
+-- delivered while the switches change, each at its own time, to the next tables by the rule of settled entries.
 abbrev pub PacketsArriveWhileTablesChange : Type 0
 PacketsArriveWhileTablesChange =
     (facts : Facts) (held plan : HeldPlan) (line : HeldLid) (before : Fabric) (origin : NodePort)
@@ -107,7 +110,8 @@ PacketsArriveWhileTablesChange =
     }) (Some (Taken line.port))
     → ArrivesMeanwhile fabrics line.lid source line.port (2 * length (switches (cells_of facts)) + 1)
 
--- a fabric whose tables are being written is in the change
+-- if facts and held tables say at first what a part is and holds, then by each rule of steps a fabric whose tables are
+-- being written is in the change (`IsInChange`)
 abbrev pub WrittenTablesAreInChange : Type 0
 WrittenTablesAreInChange =
     (facts : Facts) (rule : StepRuleValue) (held plan : HeldPlan) (lid : ℕ) (before now : Fabric) (origin : NodePort)

@@ -18,11 +18,11 @@ use Rattle.next_tables.specs.Next.{step_at, comes_to, delivers}
 abbrev pub IsOrder : Cells → (ℕ → ℕ) → Type 0
 IsOrder cells q = (i : ℕ) → i < length (switches cells) → q i < length (switches cells)
 
--- the position of the switch at index i, 0 past the end
+-- the position of the switch at index `i`, 0 past the end
 abbrev pub position_at : List ℕ → ℕ → ℕ
 position_at positions i = slice_index_or positions i 0
 
--- the switch at index i, 0 past the end
+-- the GUID of the usable switch at index `i`, 0 past the end
 abbrev pub switch_at : Cells → ℕ → ℕ
 switch_at cells i = slice_index_or (switches cells) i 0
 
@@ -43,7 +43,7 @@ is_down q i j = not (nat_lt (q j) (q i))
 abbrev pub is_up : (ℕ → ℕ) → ℕ → ℕ → Bool
 is_up q i j = not (nat_lt (q i) (q j))
 
--- the turn from i to j and on to k goes down and then up
+-- the turn from i to j and on to k is bad: it goes down and then up
 abbrev pub is_bad : (ℕ → ℕ) → ℕ → ℕ → ℕ → Bool
 is_bad q i j k = is_down q i j && is_up q j k
 
@@ -53,16 +53,16 @@ pub record Leads (cells : Cells) (tables : HeldPlan) (lid i j : ℕ) : Type 0 wh
   pub is_there : slice_get (switches cells) i ≡ Some switch
   pub goes : step_at cells tables lid switch ≡ To j
 
--- no packet for `lid` that reaches a switch by `before` and leaves it by `now` makes a bad turn
+-- no packet for `lid` that reaches a switch by `before` and leaves it by `now` goes down and then up in the order `q`
 abbrev pub TurnsWell : Cells → (ℕ → ℕ) → HeldPlan → HeldPlan → ℕ → Type 0
 TurnsWell cells q before now lid =
     (i j k : ℕ) → Leads cells before lid i j → Leads cells now lid j k → is_bad q i j k ≡ false
 
--- no packet for `lid` makes a bad turn by `tables`: they are right by the order
+-- `tables` are right by the order `q` for `lid`: no packet for it goes down and then up by them
 abbrev pub AreRight : Cells → (ℕ → ℕ) → HeldPlan → ℕ → Type 0
 AreRight cells q tables lid = TurnsWell cells q tables tables lid
 
--- the entries of switch `g` for `lid` are equal in both tables
+-- the effective entries of switch `g` for `lid` are equal in `held` and in `goal`
 abbrev pub is_same : Cells → HeldPlan → HeldPlan → ℕ → ℕ → Bool
 is_same cells held goal lid g = entry_for held lid g == entry_for goal lid g
 
@@ -71,42 +71,44 @@ abbrev pub comes_down : (ℕ → ℕ) → ℕ → ℕ → NextHop → Bool
 comes_down q x i (To j) = (j == i) && is_down q x i
 comes_down q x i (Ends e) = false
 
--- each switch whose held entry leads down to the switch at index i has the goal's entry already
+-- each switch whose held entry for `lid` leads down to the switch at index i has the goal's entry already
 abbrev pub none_comes_down : Cells → (ℕ → ℕ) → HeldPlan → HeldPlan → ℕ → ℕ → Bool
 none_comes_down cells q held goal lid i =
     list_all (λ x. not (comes_down q x i (step_at cells held lid (switch_at cells x)))
     || is_same cells held goal lid (switch_at cells x)) (range_with_len 0 (length (switches cells)))
 
--- the hop of the switch at index j leads up
+-- the hop of the switch at index j leads up to a switch; false of an end
 abbrev pub goes_up : (ℕ → ℕ) → ℕ → NextHop → Bool
 goes_up q j (To k) = is_up q j k
 goes_up q j (Ends e) = false
 
--- the held entry of the switch at index j does not lead up, or is the goal's already
+-- the held entry for `lid` of the switch at index j does not lead up, or is the goal's already
 abbrev pub none_goes_up : Cells → (ℕ → ℕ) → HeldPlan → HeldPlan → ℕ → ℕ → Bool
 none_goes_up cells q held goal lid j =
     not (goes_up q j (step_at cells held lid (switch_at cells j))) || is_same cells held goal lid (switch_at cells j)
 
--- the goal's entry of the switch at index i leads up only if no packet comes down to the switch, and down only to a
--- switch that does not send it up
+-- the goal's next hop of the switch at index i makes no bad turn with held entries: it ends, or it leads up only if no
+-- held entry that is not the goal's leads down to the switch, and down only to a switch without a held entry that leads
+-- up and is not the goal's
 abbrev pub turns_well : Cells → (ℕ → ℕ) → HeldPlan → HeldPlan → ℕ → ℕ → NextHop → Bool
 turns_well cells q held goal lid i (To j) =
     (not (is_up q i j) || none_comes_down cells q held goal lid i)
     && (not (is_down q i j) || none_goes_up cells q held goal lid j)
 turns_well cells q held goal lid i (Ends e) = true
 
--- the hop leads to the end port, or to a switch from which the held tables deliver
+-- the hop ends at the port of `line`, or leads to a switch from which the held tables deliver
 abbrev pub leads_in : Cells → HeldPlan → HeldLid → NextHop → Bool
 leads_in cells held line (To j) = delivers cells held line (switch_at cells j)
 leads_in cells held line (Ends e) = is_at line.port (Some e)
 
--- the switch `g` at index i may take the goal's entry
+-- the switch `g` at index i may take the goal's entry: this turns well with held entries and, if the held tables
+-- deliver from `g`, leads to the end port or to a switch from which they deliver
 abbrev pub may_change : Cells → (ℕ → ℕ) → HeldPlan → HeldPlan → HeldLid → ℕ → ℕ → Bool
 may_change cells q held goal line i g =
     turns_well cells q held goal line.lid i (step_at cells goal line.lid g)
     && (not (delivers cells held line g) || leads_in cells held line (step_at cells goal line.lid g))
 
--- the entry that a switch tries: the goal's entry if it may change to it, otherwise the held entry
+-- the entry that the switch `g` at index i tries: the goal's if it may take that one, otherwise the held one
 abbrev pub tried_entry : Cells → (ℕ → ℕ) → HeldPlan → HeldPlan → HeldLid → ℕ → ℕ → ℕ
 tried_entry cells q held goal line i g =
     if may_change cells q held goal line i g then entry_for goal line.lid g else entry_for held line.lid g
@@ -117,24 +119,25 @@ tried_at cells q held goal line i =
     if may_change cells q held goal line i (switch_at cells i) then step_at cells goal line.lid (switch_at cells i) else
     step_at cells held line.lid (switch_at cells i)
 
--- the next hop of each switch by the entry that it tries
+-- the next hop of each usable switch by the entry that it tries
 abbrev pub tried : Cells → (ℕ → ℕ) → HeldPlan → HeldPlan → HeldLid → List NextHop
 tried cells q held goal line = map (tried_at cells q held goal line) (range_with_len 0 (length (switches cells)))
 
--- the tried entry if the packet arrives from the switch by the tried entries, otherwise 255
+-- the next entry of the switch `g` at index i by the order: the tried entry if the packet arrives from there by the
+-- tried entries, otherwise 255
 abbrev pub next_by_order : Cells → (ℕ → ℕ) → HeldPlan → HeldPlan → HeldLid → ℕ → ℕ → ℕ
 next_by_order cells q held goal line i g =
     if comes_to line.port (tried cells q held goal line) (To i) then tried_entry cells q held goal line i g else 255
 
--- `next` has the next entries by the order for the LID of `line`, and the LID's owners stay the same
+-- `next` has the next entries by the order `q` for the LID of `line`, whose owners stay the same
 pub record IsNextByOrder (cells : Cells) (q : ℕ → ℕ) (held goal : HeldPlan) (line : HeldLid) (next : HeldPlan) : Type 0
   where
     pub owners : owners_of next line.lid ≡ owners_of held line.lid
     pub entries : (i g : ℕ) → slice_get (switches cells) i ≡ Some g
         → entry_for next line.lid g ≡ next_by_order cells q held goal line i g
 
--- as `IsNextByOrder`, but a switch from which the packet does not arrive by the tried entries may have either its tried
--- entry or 255
+-- the LID's owners stay the same, and each switch has in `next` its tried entry for it or, if the packet does not
+-- arrive from there by the tried entries, possibly 255
 pub record IsTriedByOrder (cells : Cells) (q : ℕ → ℕ) (held goal : HeldPlan) (line : HeldLid) (next : HeldPlan) : Type 0
   where
     pub owners : owners_of next line.lid ≡ owners_of held line.lid
@@ -142,7 +145,8 @@ pub record IsTriedByOrder (cells : Cells) (q : ℕ → ℕ) (held goal : HeldPla
         → (entry_for next line.lid g ≡ tried_entry cells q held goal line i g)
         ⊎ ((comes_to line.port (tried cells q held goal line) (To i) ≡ false) × (entry_for next line.lid g ≡ 255))
 
--- each entry of `next` for `lid` is the held entry, 255, or the goal's entry if that turns well
+-- each entry of `next` for `lid` is the held entry, 255, or the goal's entry if that makes no bad turn with held
+-- entries
 abbrev pub IsChoice : Cells → (ℕ → ℕ) → HeldPlan → HeldPlan → ℕ → HeldPlan → Type 0
 IsChoice cells q held goal lid next =
     (i g : ℕ) → slice_get (switches cells) i ≡ Some g
@@ -151,17 +155,19 @@ IsChoice cells q held goal lid next =
     ⊎ ((entry_for next lid g ≡ entry_for goal lid g)
     × (turns_well cells q held goal lid i (step_at cells goal lid g) ≡ true)))
 
--- the number of a channel from position a to position b, among n positions
+-- the number of a channel from position a to position b, among n positions: channels up have lesser numbers than
+-- channels down
 abbrev pub channel_number : ℕ → ℕ → ℕ → ℕ
 channel_number n a b = if nat_lt b a then n - b else n + 1 + b
 
--- the number of a channel from the switch at index i, by where its wire leads; 0 if it leads to no switch
+-- the number of a channel from the switch at index i to where its wire leads, by the positions `q`; 0 if it leads to no
+-- switch
 abbrev pub number_over : ℕ → (ℕ → ℕ) → ℕ → Far → ℕ
 number_over n q i Nothing = 0
 number_over n q i (Switch j) = channel_number n (q i) (q j)
 number_over n q i (Port e) = 0
 
--- the numbers of the channels of all ports of the usable switches
+-- the numbers of the channels of all ports of the usable switches, by the positions `q`
 abbrev pub numbers_by : Cells → (ℕ → ℕ) → List ℕ
 numbers_by cells q =
     map (λ c. number_over (length (switches cells)) q (c / 256) (far_by cells c))

@@ -18,13 +18,13 @@ use Rattle.packet_walks.specs.EndsBySwitch.{IsEndOf, after, onward}
 use Rattle.packet_walks.specs.HopsByTables.{IsBrought, first_hop, next_hops_of}
 use Rattle.next_tables.specs.Next.{step_at, IsNext}
 
--- `mixed` has for `lid`, at each switch, the entry of `held` or of `next`
+-- `mixed` has for `lid`, at each usable switch, the effective entry of `held` or of `next`, and the owners of `held`
 pub record IsMixed (cells : Cells) (held next : HeldPlan) (lid : ℕ) (mixed : HeldPlan) : Type 0 where
   pub owners : owners_of mixed lid ≡ owners_of held lid
   pub entries : (g : ℕ) → Contains (switches cells) g → (entry_for mixed lid g ≡ entry_for held lid g)
       ⊎ (entry_for mixed lid g ≡ entry_for next lid g)
 
--- the step n steps after `s`, if step number k is taken by `steps k`
+-- the step `n` steps after `s`, if step number k is taken by `steps k`, from 0 on
 abbrev pub after_by : ℕ → (ℕ → List NextHop) → NextHop → NextHop
 after_by zero steps s = s
 after_by (suc n) steps s = after_by n (λ k. steps (suc k)) (onward (steps 0) s)
@@ -36,8 +36,8 @@ IsBroughtBy cells tables lid e end =
     (n : ℕ) × (after_by n (λ k. next_hops_of cells (tables k) lid)
     (first_hop (owners_of (tables 0) lid) (sender_of cells e)) ≡ Ends end)
 
--- as `IsMixed`, but a switch that drops the packet by the held tables may have any entry; its top may be raised before
--- its blocks are written
+-- for `lid`, `mixed` has the owners of `held` and, at each usable switch, the entry of `held` or of `next`, or any
+-- entry if the switch drops the packet by the held tables: its top may be raised before its blocks are written
 pub record IsLoose (cells : Cells) (held next : HeldPlan) (lid : ℕ) (mixed : HeldPlan) : Type 0 where
   pub owners : owners_of mixed lid ≡ owners_of held lid
   pub entries : (g : ℕ) → Contains (switches cells) g
@@ -45,8 +45,9 @@ pub record IsLoose (cells : Cells) (held next : HeldPlan) (lid : ℕ) (mixed : H
       ⊎ ((entry_for mixed lid g ≡ entry_for next lid g)
       ⊎ ((x : ℕ) × (cause : Cause) × (step_at cells held lid g ≡ Ends (Lost x cause))))
 
--- a packet that the held tables deliver at an end port is delivered there by any loose mixtures of the held and the
--- next tables
+-- if the plan gives a LID to its owners in the held tables, and `next` has the next entries for it, a packet that the
+-- held tables deliver at the end port of `line` is delivered there by any loose mixtures of the held and the next
+-- tables
 abbrev pub NoneIsLost : Type 0
 NoneIsLost =
     (cells : Cells) (held plan next : HeldPlan) (line : HeldLid) → owners_of plan line.lid ≡ owners_of held line.lid
@@ -55,7 +56,8 @@ NoneIsLost =
     → (source : EndPort) → IsBrought cells held line.lid source (Some (Taken line.port))
     → IsBroughtBy cells mixed line.lid source (Taken line.port)
 
--- each switch delivers the packet by the next tables, or has no entry
+-- if the plan gives a LID to its owners in the held tables, and `next` has the next entries for it, then each switch
+-- delivers the packet by the next tables, or has the entry 255
 abbrev pub NextDeliverOrDrop : Type 0
 NextDeliverOrDrop =
     (cells : Cells) (held plan next : HeldPlan) (line : HeldLid) → owners_of plan line.lid ≡ owners_of held line.lid
@@ -63,7 +65,8 @@ NextDeliverOrDrop =
     → (i g : ℕ) → slice_get (switches cells) i ≡ Some g
     → (entry_for next line.lid g ≡ 255) ⊎ IsEndOf (next_hops_of cells next line.lid) (To i) (Some (Taken line.port))
 
--- a packet that does not loop by the held tables does not loop by any mixtures of the held and the next tables
+-- if the plan gives a LID to its owners in the held tables, and `next` has the next entries for it, a packet that does
+-- not loop by the held tables does not loop by any mixtures of the held and the next tables
 abbrev pub NoneGoesRound : Type 0
 NoneGoesRound =
     (cells : Cells) (held plan next : HeldPlan) (line : HeldLid) → owners_of plan line.lid ≡ owners_of held line.lid
@@ -71,12 +74,14 @@ NoneGoesRound =
     → (source : EndPort) (end : End) → IsBrought cells held line.lid source (Some end) → (last : End)
     × IsBroughtBy cells mixed line.lid source last
 
--- `tables n` are the tables after n steps
+-- for the LID of `line`, `tables n` are the tables after n steps towards the plan, and at first its owners are the
+-- plan's
 pub record AreSteps (cells : Cells) (plan : HeldPlan) (line : HeldLid) (tables : ℕ → HeldPlan) : Type 0 where
   pub owners : owners_of plan line.lid ≡ owners_of (tables 0) line.lid
   pub steps : (n : ℕ) → IsNext cells (tables n) plan line (tables (suc n))
 
--- if the plan's route from a switch passes n switches, the switch has the plan's entry after n or more steps
+-- in steps towards a plan, if the plan delivers a packet for the LID of `line` from a switch after n hops, the switch
+-- has the plan's entry after n or more steps
 abbrev pub EndInThePlan : Type 0
 EndInThePlan =
     (cells : Cells) (plan : HeldPlan) (line : HeldLid) (tables : ℕ → HeldPlan) → AreSteps cells plan line tables
@@ -84,7 +89,8 @@ EndInThePlan =
     ≡ Ends (Taken line.port) → n ≤ m
     → entry_for (tables m) line.lid g ≡ entry_for plan line.lid g
 
--- if a step changes nothing, each switch from which the plan delivers has the plan's entry
+-- if the plan gives a LID to its owners in the held tables, and a step changes none of its entries, each switch from
+-- which the plan delivers has the plan's entry
 abbrev pub StillIsThePlan : Type 0
 StillIsThePlan =
     (cells : Cells) (held plan : HeldPlan) (line : HeldLid) → owners_of plan line.lid ≡ owners_of held line.lid
@@ -93,45 +99,49 @@ StillIsThePlan =
     ≡ Ends (Taken line.port)
     → entry_for held line.lid g ≡ entry_for plan line.lid g
 
--- each packet that arrives by the plan arrives after two steps
+-- in steps towards a plan, each packet for the LID of `line` that arrives by the plan arrives by the tables after two
+-- steps
 abbrev pub HealInTwo : Type 0
 HealInTwo =
     (cells : Cells) (plan : HeldPlan) (line : HeldLid) (tables : ℕ → HeldPlan) → AreSteps cells plan line tables
     → (source : EndPort) → IsBrought cells plan line.lid source (Some (Taken line.port))
     → IsBrought cells (tables 2) line.lid source (Some (Taken line.port))
 
--- a packet leaves some switch by `channel`, an edge of `before`, and the next switch by `next`, an edge of `now`
+-- a packet leaves some switch by `channel`, by its edge in `before`, and the next switch by `next`, by its edge in
+-- `now`
 abbrev pub TakesBy : List (Option Edge) → List (Option Edge) → ℕ → ℕ → Type 0
 TakesBy before now channel next = (switch : ℕ) × TakesAcross before now switch channel next
 
--- a packet takes channel a and then b, each by an edge of the held or of the next tables
+-- a packet takes channel `a` and then `b`, each by an edge of `held` or of `next`
 abbrev pub TakesInStep : List (Option Edge) → List (Option Edge) → ℕ → ℕ → Type 0
 TakesInStep held next a b =
     TakesBy held held a b ⊎ (TakesBy held next a b ⊎ (TakesBy next held a b ⊎ TakesBy next next a b))
 
--- channel a waits for channel b: packets for `lid` that hold a take b next
+-- channel `a` waits for channel `b`: packets for `lid` that took `a` by the tables `before` take `b` next by the tables
+-- `now`
 abbrev pub WaitsAcross : Cells → HeldPlan → HeldPlan → ℕ → ℕ → ℕ → Type 0
 WaitsAcross cells before now lid a b = TakesBy (edges_of cells before lid) (edges_of cells now lid) a b
 
--- packets for `lid` that hold channel a take b next, each by the held or by the next tables
+-- packets for `lid` that hold channel `a` take `b` next, each of the two by the held or by the next tables
 abbrev pub WaitsInStep : Cells → HeldPlan → HeldPlan → ℕ → ℕ → ℕ → Type 0
 WaitsInStep cells held next lid a b = TakesInStep (edges_of cells held lid) (edges_of cells next lid) a b
 
--- if a channel waits for another in any mixtures, it does so by edges of the held or the next tables
+-- if a channel waits for another for `lid` while tables change from one mixture to another, it does so by edges of the
+-- held or of the next tables
 abbrev pub MixturesWaitSo : Type 0
 MixturesWaitSo =
     (cells : Cells) (held next before now : HeldPlan) (lid : ℕ) → IsMixed cells held next lid before
     → IsMixed cells held next lid now
     → (a b : ℕ) → WaitsAcross cells before now lid a b → WaitsInStep cells held next lid a b
 
--- each channel has a number less than the number of each channel that it waits for in the step, for every LID, whether
+-- in a step, each channel has a number less than the number of each channel that it waits for, for every LID, whether
 -- or not a port holds the LID
 abbrev pub RiseInStep : Cells → HeldPlan → HeldPlan → List ℕ → Type 0
 RiseInStep cells held next numbers =
     (lid a b : ℕ) → 1 ≤ lid → WaitsInStep cells held next lid a b → slice_index_or numbers a 0
     < slice_index_or numbers b 0
 
--- channel a waits for channel b in some mixtures
+-- channel `a` waits for channel `b` for some LID, by a mixture of the held and the next tables first and by one then
 pub record WaitsMixed (cells : Cells) (held next : HeldPlan) (a b : ℕ) : Type 0 where
   pub lid : ℕ
   pub is_lid : 1 ≤ lid
@@ -141,14 +151,14 @@ pub record WaitsMixed (cells : Cells) (held next : HeldPlan) (a b : ℕ) : Type 
   pub now_is : IsMixed cells held next lid now
   pub waits : WaitsAcross cells before now lid a b
 
--- in the list that has `channel`, then the given channels, then `last`, each channel waits for the next one in some
--- mixtures
+-- in the list that has `channel`, then the given channels, then `last`, each channel waits for the next one by some
+-- mixtures of the held and the next tables
 abbrev pub WaitOnMixed : Cells → HeldPlan → HeldPlan → ℕ → List ℕ → ℕ → Type 0
 WaitOnMixed cells held next channel [] last = WaitsMixed cells held next channel last
 WaitOnMixed cells held next channel (c ∷ later) last =
     WaitsMixed cells held next channel c × WaitOnMixed cells held next c later last
 
--- if numbers rise in the step, channels never wait in a cycle, whatever the mixtures
+-- if numbers of channels rise in a step, channels never wait in a credit loop, whatever the mixtures
 abbrev pub NoCycleInStep : Type 0
 NoCycleInStep =
     (cells : Cells) (held next : HeldPlan) (numbers : List ℕ) → RiseInStep cells held next numbers

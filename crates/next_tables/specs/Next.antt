@@ -1,4 +1,5 @@
--- The next entry of each switch for a LID, from the tables that switches hold towards the tables of a plan.
+-- The next entry of each switch for a LID, from held tables towards a plan's, by settled entries: the plan's entry once
+-- it leads on.
 use Rattle.std.specs.Prelude.{◌≡◌, ℕ, ◌==◌, Bool, List, Contains, length, map, if◌then◌else◌}
 use Rattle.subnet_view.specs.declared.end_port.EndPort.{EndPort}
 use Rattle.subnet_view.specs.Reading.{Cells, switches}
@@ -18,60 +19,62 @@ abbrev pub step_at : Cells → HeldPlan → ℕ → ℕ → NextHop
 step_at cells tables lid g =
     by_entry (owners_of tables lid) g (cause_of cells tables lid g) (row_of cells g) (entry_for tables lid g)
 
--- the walk from `s` arrives at the port
+-- the walk from `s` by `steps` arrives at `port`
 abbrev pub comes_to : EndPort → List NextHop → NextHop → Bool
 comes_to port steps s = is_at port (end_of (after (length steps) steps s))
 
--- the next hop of switch `g` if it has the plan's entry already; otherwise it drops the packet
+-- the plan's next hop of switch `g` if its held entry for `lid` is the plan's already; otherwise it drops the packet
 abbrev pub agreed_at : Cells → HeldPlan → HeldPlan → ℕ → ℕ → NextHop
 agreed_at cells held plan lid g =
     if entry_for held lid g == entry_for plan lid g then step_at cells plan lid g else Ends (Lost g NoEntry)
 
--- the next hop of each switch that has the plan's entry already; any other switch drops the packet
+-- for each usable switch, the plan's next hop if its held entry for `lid` is the plan's already; any other switch drops
+-- the packet
 abbrev pub agreed : Cells → HeldPlan → HeldPlan → ℕ → List NextHop
 agreed cells held plan lid = map (agreed_at cells held plan lid) (switches cells)
 
--- the plan's entry leads to the end port, or to a switch from which each entry on the way is the plan's already
+-- the plan's entry of switch `g` leads to the port of `line`, or to a switch from which each entry on the way there is
+-- the plan's already
 abbrev pub leads_on : Cells → HeldPlan → HeldPlan → HeldLid → ℕ → Bool
 leads_on cells held plan line g = comes_to line.port (agreed cells held plan line.lid) (step_at cells plan line.lid g)
 
--- the held tables deliver the packet from switch `g`
+-- the held tables deliver a packet for the LID of `line` from switch `g` at its port
 abbrev pub delivers : Cells → HeldPlan → HeldLid → ℕ → Bool
 delivers cells held line g = comes_to line.port (next_hops_of cells held line.lid) (step_at cells held line.lid g)
 
--- the entry of a switch while mending: the held entry if the switch forwards the packet, otherwise the plan's
+-- the entry of switch `g` while mending: the held entry if it forwards the packet to a switch, otherwise the plan's
 abbrev pub patch_entry : Cells → HeldPlan → HeldPlan → ℕ → ℕ → ℕ
 patch_entry cells held plan lid g =
     if is_to (step_at cells held lid g) then entry_for held lid g else entry_for plan lid g
 
--- the next hop of a switch while mending: the held one if the switch forwards the packet, otherwise the plan's
+-- the next hop of switch `g` while mending: the held one if it leads to a switch, otherwise the plan's
 abbrev pub patch_at : Cells → HeldPlan → HeldPlan → ℕ → ℕ → NextHop
 patch_at cells held plan lid g =
     if is_to (step_at cells held lid g) then step_at cells held lid g else step_at cells plan lid g
 
--- what becomes of a packet at a switch while mending: it is delivered if the held tables deliver it, otherwise it takes
--- the mending hop
+-- what becomes of a packet at switch `g` while mending: it is delivered if the held tables deliver it; otherwise it
+-- takes the held hop if that leads to a switch, and else the plan's
 abbrev pub mending_at : Cells → HeldPlan → HeldPlan → HeldLid → ℕ → NextHop
 mending_at cells held plan line g =
     if delivers cells held line g then Ends (Taken line.port) else patch_at cells held plan line.lid g
 
--- what becomes of a packet at each switch while mending
+-- for each usable switch, what becomes of a packet there while mending (`mending_at`)
 abbrev pub mending : Cells → HeldPlan → HeldPlan → HeldLid → List NextHop
 mending cells held plan line = map (mending_at cells held plan line) (switches cells)
 
--- while mending, the packet reaches a switch that delivers it
+-- while mending, a packet from switch `g` reaches a switch from which the held tables deliver, or the port of `line`
 abbrev pub mends : Cells → HeldPlan → HeldPlan → HeldLid → ℕ → Bool
 mends cells held plan line g = comes_to line.port (mending cells held plan line) (mending_at cells held plan line g)
 
--- the plan's entry if it leads on; otherwise the held entry if it delivers; otherwise the mending entry if it mends;
--- otherwise 255
+-- the next entry of switch `g`: the plan's if it leads on; otherwise the held one if the held tables deliver from `g`;
+-- otherwise the entry while mending if that mends; otherwise 255
 abbrev pub next_entry : Cells → HeldPlan → HeldPlan → HeldLid → ℕ → ℕ
 next_entry cells held plan line g =
     if leads_on cells held plan line g then entry_for plan line.lid g else
     (if delivers cells held line g then entry_for held line.lid g else
     (if mends cells held plan line g then patch_entry cells held plan line.lid g else 255))
 
--- `next` has the next entries for the LID of `line`, and the LID's owners stay the same
+-- `next` has the next entry of each usable switch for the LID of `line`, and the LID's owners stay the same
 pub record IsNext (cells : Cells) (held plan : HeldPlan) (line : HeldLid) (next : HeldPlan) : Type 0 where
   pub owners : owners_of next line.lid ≡ owners_of held line.lid
   pub entries : (g : ℕ) → Contains (switches cells) g → entry_for next line.lid g ≡ next_entry cells held plan line g

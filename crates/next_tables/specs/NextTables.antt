@@ -1,4 +1,4 @@
--- The tables to write next, for all LIDs.
+-- The tables to write next, for all LIDs, by either rule of steps.
 use Rattle.std.specs.Prelude.{◌≡◌, ℕ, ◌+◌, ◌*◌, Bool, true, false, List, [], ◌∷◌, Option, None, Some, map, max, not, option_map, unwrap_or, if◌then◌else◌}
 use Rattle.std.specs.List.{find, range_with_len}
 use Rattle.subnet_view.specs.declared.end_port.EndPort.{EndPort}
@@ -19,33 +19,34 @@ use Rattle.next_tables.specs.declared.step_rule.StepRule.TheVariants.{SettledFir
 use Rattle.next_tables.specs.EntriesByOrder.{next_by_order, position_at}
 use Rattle.next_tables.specs.Next.{next_entry}
 
--- an end port other than the line's holds the line's LID
+-- an end port other than the port of `line` holds its LID in the held tables
 abbrev pub moves : HeldPlan → HeldLid → Bool
 moves held line = not (is_sole line.port (owners_of held line.lid))
 
--- the first LID that the plan gives to an end port and the held tables give to another; None if there is none
+-- the first LID that the plan gives to an end port and that another one holds in the held tables; None if there is none
 abbrev pub first_moved : HeldPlan → HeldPlan → Option ℕ
 first_moved held plan = option_map (λ line. line.lid) (find (moves held) plan.lids)
 
--- `e` if it is the only end port in the list, otherwise None
+-- `e` if it is the only end port in the list; None if the list is empty, or has another one or several
 abbrev pub kept_by : EndPort → List EndPort → Option EndPort
 kept_by e [] = None
 kept_by e (x ∷ []) = if is_same_end e x then Some e else None
 kept_by e (x ∷ y ∷ xs) = None
 
--- the end port that is the only owner of a LID in the plan and in the held tables, by the LID's owners in each; None if
--- there is none
+-- the end port that is the only owner of a LID in the plan and in the held tables, if the lists have the LID's owners
+-- in each; None if there is none
 abbrev pub keeper : List EndPort → List EndPort → Option EndPort
 keeper [] held = None
 keeper (e ∷ []) held = kept_by e held
 keeper (e ∷ x ∷ es) held = None
 
--- the plan's entry for a LID that the plan has, otherwise 255
+-- `entry`, if the plan's list of a LID's owners is not empty, otherwise 255
 abbrev pub if_owned : List EndPort → ℕ → ℕ
 if_owned [] entry = 255
 if_owned (e ∷ es) entry = entry
 
--- the next entry by settled entries: towards the end port that keeps the LID, otherwise the plan's entry
+-- the next entry of switch `g` for `lid` by settled entries: the one towards the end port that keeps the LID; if there
+-- is none (None), the plan's entry, or 255 if `planned` is empty
 abbrev pub next_for : Cells → HeldPlan → HeldPlan → ℕ → List EndPort → Option EndPort → ℕ → ℕ
 next_for cells held plan lid planned None g = if_owned planned (entry_for plan lid g)
 next_for cells held plan lid planned (Some port) g = next_entry cells held plan (record { lid = lid; port = port }) g
@@ -56,15 +57,17 @@ pub data StepRuleValue : Type 0 where
   settled_first : StepRuleValue
   by_order : List ℕ → StepRuleValue
 
+-- the rule of steps that the value of the code's type stands for
 abbrev pub value_of : StepRule → StepRuleValue
 value_of SettledFirst = settled_first
 value_of (ByOrder positions) = by_order positions.items
 
--- the index of switch `g`; 0 if it is no usable switch
+-- the index of switch `g` among the usable switches; 0 if it is none
 abbrev pub index_at : Cells → ℕ → ℕ
 index_at cells g = unwrap_or (index_in (switches cells) g) 0
 
--- the next entry by an order, towards the first owner of the LID in the plan; 255 if it has no owner
+-- the next entry of switch `g`, at index i, for `lid` by an order, towards the first of the LID's owners in the plan;
+-- 255 if it has none there
 abbrev pub ordered_for : Cells → (ℕ → ℕ) → HeldPlan → HeldPlan → ℕ → List EndPort → ℕ → ℕ → ℕ
 ordered_for cells q held plan lid [] i g = 255
 ordered_for cells q held plan lid (port ∷ ports) i g =
@@ -78,7 +81,7 @@ next_at cells settled_first held plan lid g =
 next_at cells (by_order positions) held plan lid g =
     ordered_for cells (position_at positions) held plan lid (owners_of plan lid) (index_at cells g) g
 
--- the next entries of all usable switches for `lid`
+-- the next entries of all usable switches for `lid`, by the rule
 abbrev pub column_of : Cells → StepRuleValue → HeldPlan → HeldPlan → ℕ → List ℕ
 column_of cells rule held plan lid = map (next_at cells rule held plan lid) (switches cells)
 
@@ -87,19 +90,19 @@ pub record IsKept (held plan : HeldPlan) (line : HeldLid) : Type 0 where
   pub in_plan : owners_of plan line.lid ≡ line.port ∷ []
   pub in_held : owners_of held line.lid ≡ line.port ∷ []
 
--- the greater of the switch's tops in the held tables and in the plan
+-- the greater of the tops of switch `g` in the held tables and in the plan
 abbrev pub next_top : HeldPlan → HeldPlan → ℕ → ℕ
 next_top held plan g = max (top_of held g) (top_of plan g)
 
--- switch `g` with the greater of its tops
+-- switch `g` with the greater of its tops in the held tables and in the plan
 abbrev pub next_switch : HeldPlan → HeldPlan → ℕ → HeldSwitch
 next_switch held plan g = record { guid = g; top = next_top held plan g }
 
--- the block `b` of switch `g`, with the next entries
+-- the block `b` of switch `g`, with the next entries by the rule
 abbrev pub next_block : Cells → StepRuleValue → HeldPlan → HeldPlan → ℕ → ℕ → List ℕ
 next_block cells rule held plan g b = map (λ i. next_at cells rule held plan (64 * b + i) g) (range_with_len 0 64)
 
--- the blocks of switch `g` with the next entries, up to the block of its top
+-- switch `g` with its blocks of next entries, up to the block of its next top
 abbrev pub next_table : Cells → StepRuleValue → HeldPlan → HeldPlan → ℕ → SwitchTable
 next_table cells rule held plan g = record {
   guid = g;
@@ -114,11 +117,12 @@ next_tables cells rule held plan = record {
   blocks = blocks_of 0 (map (next_table cells rule held plan) (switches cells));
 }
 
--- the fault of a step if this LID moves; None if no LID moves
+-- the fault of a step if a LID moves from one end port to another; None if none does (None)
 abbrev pub step_fault : Option ℕ → Option StepFault
 step_fault None = None
 step_fault (Some lid) = Some (Moves lid)
 
+-- the fault is that memory ran out
 abbrev pub is_memory : StepFault → Bool
 is_memory (Moves lid) = false
 is_memory Memory = true

@@ -14,69 +14,71 @@ use Rattle.next_tables.specs.SettledEntries.{Both, hops_of}
 abbrev pub flag : List Bool → ℕ → Bool
 flag flags i = slice_index_or flags i false
 
--- the switch has different entries in the two tables
+-- the switch has different entries by the held tables and by the goal's
 abbrev pub is_differing : SwitchStep → SwitchStep → Bool
 is_differing held goal = not (held.entry == goal.entry)
 
--- for each switch, whether the held tables deliver the packet from there
+-- for each switch, whether the held tables deliver the packet from there at `port`
 abbrev pub delivered_of : EndPort → List SwitchStep → List Bool
 delivered_of port held = map (λ x. comes_to port (hops_of held) x.hop) held
 
--- the switch sends the packet up by an entry that is not the goal's
+-- by the held tables the switch sends the packet up, by an entry that is not the goal's
 abbrev pub goes_up_by : List ℕ → ℕ × Both → Bool
 goes_up_by positions x = goes_up (position_at positions) x.0 x.1.0.hop && is_differing x.1.0 x.1.1
 
--- for each switch, whether it sends the packet up by an entry that is not the goal's
+-- for each switch, whether it sends the packet up by a held entry that is not the goal's
 abbrev pub going_up_of : List ℕ → List SwitchStep → List SwitchStep → List Bool
 going_up_of positions held goal = map (goes_up_by positions) (enumerate_from 0 (zip held goal))
 
--- the packet comes down from the switch at `index` to the switch at i, by an entry that is not the goal's
+-- the packet comes down from the switch at `index` to the switch at i, by a held entry that is not the goal's
 abbrev pub enters : List ℕ → ℕ → SwitchStep → SwitchStep → ℕ → Bool
 enters positions index held goal i =
     comes_down (position_at positions) index i held.hop && is_differing held goal
 
--- the packet comes down from a switch, given by its index and its steps, to the switch at i, by an entry that is not
--- the goal's
+-- the packet comes down from a switch, given by its index and its steps, to the switch at i, by a held entry that is
+-- not the goal's
 abbrev pub enters_from : List ℕ → ℕ → ℕ × Both → Bool
 enters_from positions i x = enters positions x.0 x.1.0 x.1.1 i
 
--- the packet comes down to the switch at i from some switch, by an entry that is not the goal's
+-- the packet comes down to the switch at i from some switch, by a held entry that is not the goal's
 abbrev pub is_entered : List ℕ → List SwitchStep → List SwitchStep → ℕ → Bool
 is_entered positions held goal i = list_any (enters_from positions i) (enumerate_from 0 (zip held goal))
 
--- for each switch, whether the packet comes down to it by an entry that is not the goal's
+-- for each switch, whether the packet comes down to it by a held entry that is not the goal's
 abbrev pub entered_of : List ℕ → List SwitchStep → List SwitchStep → List Bool
 entered_of positions held goal = map (is_entered positions held goal) (range_with_len 0 (length held))
 
--- if the switch at index i takes the hop, no packet can go down and then up
+-- if the switch at index i takes the hop, this makes no turn down and then up with held entries that are not the
+-- goal's; true of an end
 abbrev pub turns_well_by : List ℕ → List Bool → List Bool → ℕ → NextHop → Bool
 turns_well_by positions going_up entered i (To j) =
     (not (is_up (position_at positions) i j) || not (flag entered i))
     && (not (is_down (position_at positions) i j) || not (flag going_up j))
 turns_well_by positions going_up entered i (Ends e) = true
 
--- the hop leads to the port, or to a switch from which the held tables deliver the packet
+-- the hop ends at `port`, or leads to a switch from which the held tables deliver the packet
 abbrev pub leads_in : EndPort → List Bool → NextHop → Bool
 leads_in port delivered (To j) = flag delivered j
 leads_in port delivered (Ends e) = is_at port (Some e)
 
--- the switch at index i may take the goal's entry, by which its hop is `hop`
+-- the switch at index i may take the goal's entry, by which its hop is `hop`: this turns well and, if the held tables
+-- deliver from there, leads to the port or to a switch from which they deliver
 abbrev pub may_change_by : List ℕ → EndPort → List Bool → List Bool → List Bool → ℕ → NextHop → Bool
 may_change_by positions port delivered going_up entered i hop =
     turns_well_by positions going_up entered i hop && (not (flag delivered i) || leads_in port delivered hop)
 
--- the step that a switch tries: the goal's step if it may change to it, otherwise the held step
+-- the step that a switch tries: the goal's if it may take that one, otherwise the held one
 abbrev pub tried_by : List ℕ → EndPort → List Bool → List Bool → List Bool → ℕ × Both → SwitchStep
 tried_by positions port delivered going_up entered x =
     if may_change_by positions port delivered going_up entered x.0 x.1.1.hop then x.1.1 else x.1.0
 
--- the step that each switch tries
+-- the step that each switch tries: the goal's if it may take that one, otherwise the held one
 abbrev pub tried_of : List ℕ → EndPort → List Bool → List Bool → List Bool → List SwitchStep → List SwitchStep
     → List SwitchStep
 tried_of positions port delivered going_up entered held goal =
     map (tried_by positions port delivered going_up entered) (enumerate_from 0 (zip held goal))
 
--- the entry of a tried step if the walk from the switch arrives at the port, otherwise 255
+-- the entry of a tried step if `comes` says that the walk from its switch arrives, otherwise 255
 abbrev pub entry_by : (NextHop → Bool) → ℕ × SwitchStep → ℕ
 entry_by comes x = if comes (To x.0) then x.1.entry else 255
 
@@ -84,7 +86,8 @@ entry_by comes x = if comes (To x.0) then x.1.entry else 255
 abbrev pub entries_by : EndPort → List SwitchStep → List ℕ
 entries_by port tried = map (entry_by (comes_to port (hops_of tried))) (enumerate_from 0 tried)
 
--- the next entries of all switches
+-- the next entries of all switches by the order that `positions` give, from what each switch does by the held tables
+-- and by the goal's
 unfoldable pub ordered_of : List ℕ → EndPort → List SwitchStep → List SwitchStep → List ℕ
 ordered_of positions port held goal =
     entries_by port

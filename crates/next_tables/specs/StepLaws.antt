@@ -21,7 +21,7 @@ pub record AreNextTables (cells : Cells) (rule : StepRuleValue) (held plan next 
   pub entries : (g lid : ℕ) → Contains (switches cells) g → entry_for next lid g
       ≡ next_at cells rule held plan lid g
 
--- what `next_tables` gives are next tables
+-- the tables of `next_tables` have the plan's owners and, at each usable switch, the greater top and the next entries
 abbrev pub NextTablesAreSo : Type 0
 NextTablesAreSo =
     (cells : Cells) (rule : StepRuleValue) (held plan : HeldPlan)
@@ -32,8 +32,8 @@ abbrev pub StepsFollowTheRule : Type 0
 StepsFollowTheRule = (cells : Cells) (held plan : HeldPlan) (line : HeldLid) → IsKept held plan line
     → IsNext cells held plan line (next_tables cells settled_first held plan)
 
--- a packet that the held tables deliver at the end port is delivered there by any loose mixtures of the held and the
--- next tables
+-- if one end port alone holds a LID in both tables, a packet that the held tables deliver there is delivered there by
+-- any loose mixtures of the held tables and the next ones by settled entries
 abbrev pub StepsLoseNone : Type 0
 StepsLoseNone =
     (cells : Cells) (held plan : HeldPlan) (line : HeldLid) → IsKept held plan line
@@ -41,7 +41,8 @@ StepsLoseNone =
     → (source : EndPort) → IsBrought cells held line.lid source (Some (Taken line.port))
     → IsBroughtBy cells mixed line.lid source (Taken line.port)
 
--- a packet that does not loop by the held tables does not loop by any mixtures of the held and the next tables
+-- if one end port alone holds a LID in both tables, a packet for it that does not loop by the held tables does not loop
+-- by any mixtures of the held tables and the next ones by settled entries
 abbrev pub StepsSendNoneRound : Type 0
 StepsSendNoneRound =
     (cells : Cells) (held plan : HeldPlan) (line : HeldLid) → IsKept held plan line
@@ -49,12 +50,13 @@ StepsSendNoneRound =
     → (source : EndPort) (end : End) → IsBrought cells held line.lid source (Some end) → (last : End)
     × IsBroughtBy cells mixed line.lid source last
 
--- the tables after n steps from `held` towards the plan
+-- the tables after `n` steps by settled entries from `held` towards `plan`
 abbrev pub stepped : Cells → HeldPlan → HeldPlan → ℕ → HeldPlan
 stepped cells plan held zero = held
 stepped cells plan held (suc n) = next_tables cells settled_first (stepped cells plan held n) plan
 
--- if the plan's route from a switch passes n switches, the switch has the plan's entry after n or more steps
+-- if one end port alone holds a LID in both tables, and the plan delivers there from a switch after n hops, the switch
+-- has the plan's entry after n or more steps by settled entries
 abbrev pub StepsEndInThePlan : Type 0
 StepsEndInThePlan =
     (cells : Cells) (held plan : HeldPlan) (line : HeldLid) → IsKept held plan line
@@ -62,7 +64,8 @@ StepsEndInThePlan =
     ≡ Ends (Taken line.port) → n ≤ m
     → entry_for (stepped cells plan held m) line.lid g ≡ entry_for plan line.lid g
 
--- each packet that arrives by the plan arrives after two steps
+-- if one end port alone holds a LID in both tables, each packet for it that arrives by the plan arrives after two steps
+-- by settled entries
 abbrev pub StepsHealInTwo : Type 0
 StepsHealInTwo =
     (cells : Cells) (held plan : HeldPlan) (line : HeldLid) → IsKept held plan line

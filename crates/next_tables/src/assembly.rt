@@ -13,7 +13,7 @@ use std::alloc::{AllocError, Global};
 
 /// Returns tables with the plan's LIDs. For each usable switch, they have the greater of its tops in both tables, and
 /// its entries in `columns` up to that top. `columns` has, for each LID, the entries of all usable switches, by rising
-/// GUID. A missing entry is 255. Takes a step for each entry.
+/// GUID. A missing entry is 255. `held` and `plan` must have the same facts.
 pub fn tables_with(
     alloc: Global,
     held: &Network,
@@ -30,7 +30,8 @@ pub fn tables_with(
     Ok(Held::of(lids, switches, blocks))
 }
 
-/// Returns the number of blocks that hold all LIDs up to the greatest top in both tables.
+/// Returns how many blocks have all LIDs up to the greatest top in `held` and `plan`, at most 1024. Both must have the
+/// same facts.
 pub fn most_blocks(held: &Network, plan: &Network) -> usize
     requires facts { plan.now.facts ≡ held.now.facts }
     ensures few { result ≤ 1024 }
@@ -39,14 +40,15 @@ pub fn most_blocks(held: &Network, plan: &Network) -> usize
     block_count(Some(greater(held.greatest_top(), plan.greatest_top())))
 }
 
-/// Returns the greater of two LIDs.
+/// Returns the greater of `lid` and `other`.
 pub fn greater(lid: Lid, other: Lid) -> Lid
     ensures { result ≡ max lid other }
 {
     Lid::new(lid.number().max(other.number()))
 }
 
-/// Returns the usable switches, by rising GUID, each with the greater of its tops in both tables.
+/// Returns the usable switches, by rising GUID, each with the greater of its tops in both tables. `held` and `plan`
+/// must have the same facts.
 fn switches_with(
     alloc: Global,
     held: &Network,
@@ -66,7 +68,8 @@ fn switches_with(
     Ok(made)
 }
 
-/// Returns the blocks of the switches. `columns` has, for each LID, the entries of all switches.
+/// Returns the blocks of each of `switches` in turn, up to the block that has the entry for its top. `columns` has, for
+/// each LID, the entries of all switches. A missing entry is 255.
 fn all_blocks(
     alloc: Global,
     columns: &[Vec<u8>],
@@ -83,7 +86,7 @@ fn all_blocks(
     Ok(blocks)
 }
 
-/// Appends the first `count` blocks of the switch at `index`.
+/// Appends the first `count` blocks of the switch at `index`. `count` must be at most 1024.
 fn add_blocks(
     blocks: &mut Vec<HeldBlock>,
     columns: &[Vec<u8>],
@@ -104,7 +107,7 @@ fn add_blocks(
     Ok(())
 }
 
-/// Returns the block `number` of the switch at `index`.
+/// Returns block `number` of the switch at `index`. A missing entry is 255. `number` must be less than 1024.
 fn block(columns: &[Vec<u8>], index: usize, number: usize) -> [u8; 64]
     requires { number < 1024 }
     ensures { result ≡ block_in (map (λ column. column.items) columns.now) index number }
@@ -116,7 +119,7 @@ fn block(columns: &[Vec<u8>], index: usize, number: usize) -> [u8; 64]
     block
 }
 
-/// Returns the entry of the switch at `index` for `lid`, or 255 if there is none.
+/// Returns the entry of the switch at `index` for `lid` in `columns`, or 255 if there is none.
 fn entry(columns: &[Vec<u8>], index: usize, lid: usize) -> u8
     ensures { result ≡ entry_in (map (λ column. column.items) columns.now) index lid }
 {
@@ -126,7 +129,7 @@ fn entry(columns: &[Vec<u8>], index: usize, lid: usize) -> u8
     }
 }
 
-/// Returns the entry at `index`, or 255 if there is none.
+/// Returns the entry of `column` at `index`, or 255 if there is none.
 fn entry_at(column: &[u8], index: usize) -> u8
     ensures { result ≡ slice_index_or column.now index 255 }
 {

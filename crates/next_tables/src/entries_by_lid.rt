@@ -15,7 +15,8 @@ use smp_bytes::{Lid, NO_ENTRY};
 use std::alloc::{AllocError, Global};
 use subnet_view::EndPort;
 
-/// Returns the entries of all usable switches for each LID of `count` blocks, from LID 0 on.
+/// Returns the next entries of all usable switches for each LID of the first `count` blocks. `held` and `plan` must
+/// have the same facts, and `count` must be at most 1024.
 pub(crate) fn columns(
     alloc: Global,
     rule: &StepRule,
@@ -53,7 +54,8 @@ pub(crate) fn columns(
     Ok(columns)
 }
 
-/// Returns the entries of all usable switches for `lid`.
+/// Returns the next entries of all usable switches for `lid`, by `rule`. `held` and `plan` must have the same facts,
+/// and `held_blocks` and `plan_blocks` must be those with `lid`.
 fn column(
     alloc: Global,
     rule: &StepRule,
@@ -96,7 +98,8 @@ fn column(
     }
 }
 
-/// Returns the entries of all usable switches for `lid`, by the order `positions`.
+/// Returns the next entries of all usable switches for `lid`, by the order `positions`. Its other arguments must be as
+/// `column` asks.
 fn ordered_column(
     alloc: Global,
     positions: &[usize],
@@ -132,7 +135,8 @@ fn ordered_column(
     ordered_entries(alloc, &port, positions, &held_steps, &plan_steps)
 }
 
-/// Returns the entries of all usable switches for `lid`, by settled entries.
+/// Returns the next entries of all usable switches for `lid`, by settled entries. Its arguments must be as `column`
+/// asks.
 fn settled_column(
     alloc: Global,
     held: &Network,
@@ -190,15 +194,15 @@ pub fn no_entries(alloc: Global, count: usize) -> Result<Vec<u8>, AllocError>
     vec![in alloc; NO_ENTRY; count]
 }
 
-/// Returns whether the two lists of entries are equal.
+/// Returns whether `entries` and `others` are equal.
 fn are_same(entries: &[u8], others: &[u8]) -> bool
     ensures { IsTrue result ↔ (entries.now ≡ others.now) }
 {
     entries == others
 }
 
-/// Returns the end port that is the only owner of a LID in the plan and in the held tables, or `None` if there is none.
-/// `planned` and `held` are the LID's owners in each.
+/// Returns the end port that is the only one in `planned` and in `held`, or `None` if there is none. `planned` and
+/// `held` are a LID's owners in the plan and in the held tables.
 fn keeper(planned: &[EndPort], held: &[EndPort]) -> Option<EndPort>
     ensures { result ≡ keeper planned.now held.now }
 {

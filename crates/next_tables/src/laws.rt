@@ -7,34 +7,39 @@ ghost use Rattle.next_tables.specs.NextText.{NextTextsAreRead, StepTextsAreRead}
 ghost use Rattle.next_tables.specs.StepLaws.{StepsEndInThePlan, StepsHealInTwo};
 ghost use Rattle.next_tables.specs.StepLaws.{NextTablesAreSo, StepsFollowTheRule, StepsLoseNone, StepsSendNoneRound};
 
-/// A packet that the held tables deliver is delivered by any loose mixtures of the held and the next tables, even if
-/// the mixture changes while the packet travels.
+/// If a LID has the same owners in the held tables and in the plan, a packet for it that the held tables deliver is
+/// delivered there by any loose mixtures of the held and the next tables, even if the mixture changes while the packet
+/// travels.
 pub fn none_is_lost()
     ensures law { NoneIsLost }
 {}
 
-/// A packet that the held tables deliver or drop does not loop by any mixtures of the held and the next tables.
+/// If a LID has the same owners in the held tables and in the plan, a packet for it that the held tables deliver or
+/// drop does not loop by any mixtures of the held and the next tables.
 pub fn none_goes_round()
     ensures law { NoneGoesRound }
 {}
 
-/// If the plan's route from a switch passes n switches, the switch has the plan's entry after n or more steps.
+/// If a LID has the same owners in the first tables and in the plan, and the plan delivers from a switch over n
+/// switches, that one included, the switch has the plan's entry for the LID after n or more steps.
 pub fn end_in_the_plan()
     ensures law { EndInThePlan }
 {}
 
-/// If a step changes nothing, each switch from which the plan delivers has the plan's entry.
+/// If a LID has the same owners in the held tables and in the plan, and a step changes none of its entries, each switch
+/// from which the plan delivers has the plan's entry for it.
 pub fn still_is_the_plan()
     ensures law { StillIsThePlan }
 {}
 
-/// Each packet that arrives by the plan arrives after two steps.
+/// If a LID has the same owners in the first tables and in the plan, each packet for it that arrives by the plan
+/// arrives after two steps.
 pub fn heal_in_two()
     ensures law { HealInTwo }
 {}
 
-/// Each switch delivers the packet by the next tables or has no entry, so no packet loops and none leaves by a dead
-/// port.
+/// If a LID has the same owners in the held tables and in the plan, each switch delivers packets for it by the next
+/// tables or has no entry for it. So none of these packets loops or leaves by a dead port.
 pub fn next_deliver_or_drop()
     ensures law { NextDeliverOrDrop }
 {}
@@ -75,8 +80,9 @@ pub fn steps_send_none_round()
     ensures law { StepsSendNoneRound }
 {}
 
-/// If one end port alone holds a LID in the held tables and in the plan, and the plan's route from a switch passes n
-/// switches, the switch has the plan's entry after n or more steps of `next_tables` by settled entries.
+/// If one end port alone holds a LID in the held tables and in the plan, and the plan delivers from a switch over n
+/// switches, that one included, the switch has the plan's entry after n or more steps of `next_tables` by settled
+/// entries.
 pub fn steps_end_in_the_plan()
     ensures law { StepsEndInThePlan }
 {}
@@ -95,8 +101,9 @@ pub fn packets_arrive_while_tables_change()
     ensures law { PacketsArriveWhileTablesChange }
 {}
 
-/// While tops and blocks of a fabric's switches are written, in any order, the fabric is in a change from the held to
-/// the next tables: each switch has the held entry for a LID or the next one, or drops its packets by the held tables.
+/// If the facts describe a part of a fabric that holds the held tables, and then tops and blocks of its switches are
+/// written, in any order, the part is in a change from the held to the next tables. Each switch has the held entry for
+/// a LID or the next one, or drops its packets by the held tables.
 pub fn written_tables_are_in_change()
     ensures law { WrittenTablesAreInChange }
 {}

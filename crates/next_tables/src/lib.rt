@@ -1,5 +1,6 @@
-//! The tables to write next, from the tables that switches hold towards a plan's. However entries of both are mixed on
-//! the way, no packet that arrived is lost.
+//! The tables to write next, from the tables that switches hold towards a plan's. If one end port alone holds a LID in
+//! both, no mixture of the held and the next tables loses a packet for it that arrived: by settled entries, or by an
+//! order by which both are right.
 #![tactic(auto)]
 
 mod assembly;

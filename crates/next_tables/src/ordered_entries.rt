@@ -20,15 +20,15 @@ use subnet_view::EndPort;
 struct SwitchFlags {
     /// For each switch, whether the held tables deliver the packet from there.
     delivered: Vec<bool>,
-    /// For each switch, whether it sends the packet up by an entry that is not the goal's.
+    /// For each switch, whether it sends the packet up by a held entry that is not the goal's.
     going_up: Vec<bool>,
-    /// For each switch, whether the packet comes down to it by an entry that is not the goal's.
+    /// For each switch, whether some switch sends the packet down to it by a held entry that is not the goal's.
     entered: Vec<bool>,
 }
 
 /// Returns the next entries of the switches towards `port`, from each switch's position and what it does by the held
-/// tables and by the goal's. Follows the walks from all switches twice. Each time takes some steps for each switch, in
-/// proportion to the number of binary digits of the longest walk's length.
+/// tables and by the goal's. Takes time linear in the number of switches, times the logarithm of the longest walk's
+/// length.
 pub(crate) fn ordered_entries(
     alloc: Global,
     port: &EndPort,
@@ -50,7 +50,7 @@ pub(crate) fn ordered_entries(
     entries_by(alloc, port, &tried)
 }
 
-/// Returns, for each switch, whether the held tables deliver the packet from there.
+/// Returns, for each switch, whether the held tables deliver the packet at `port` from there.
 fn delivered(alloc: Global, port: &EndPort, held: &[SwitchStep]) -> Result<Vec<bool>, AllocError>
     ensures { IfOk result (λ delivered. delivered.items ≡ delivered_of port.now held.now) }
 {
@@ -59,7 +59,8 @@ fn delivered(alloc: Global, port: &EndPort, held: &[SwitchStep]) -> Result<Vec<b
     arrivals(alloc, port, &ends, held)
 }
 
-/// Returns, for each switch, whether the walk from there arrives at `port`. `ends` has the ends of the walks.
+/// Returns, for each of `steps`, whether the walk that goes on by it arrives at `port`. `ends` has the ends of the
+/// walks from the switches.
 fn arrivals(
     alloc: Global,
     port: &EndPort,
@@ -74,7 +75,7 @@ fn arrivals(
         .collect(alloc)
 }
 
-/// Returns, for each switch, whether it sends the packet up by an entry that is not the goal's.
+/// Returns, for each switch, whether it sends the packet up by a held entry that is not the goal's.
 fn going_up(
     alloc: Global,
     positions: &[usize],
@@ -91,14 +92,14 @@ fn going_up(
         .collect(alloc)
 }
 
-/// Returns whether a switch has different entries in the held tables and the goal's.
+/// Returns whether `held` and `goal` have different entries.
 fn is_differing(held: &SwitchStep, goal: &SwitchStep) -> bool
     ensures { result ≡ is_differing held.now goal.now }
 {
     held.entry != goal.entry
 }
 
-/// Returns whether the switch at `index` sends the packet up.
+/// Returns whether `hop` leads up from the switch at `index`.
 fn goes_up(positions: &[usize], index: usize, hop: &NextHop) -> bool
     ensures { result ≡ goes_up (position_at positions.now) index hop.now }
 {
@@ -108,7 +109,7 @@ fn goes_up(positions: &[usize], index: usize, hop: &NextHop) -> bool
     }
 }
 
-/// Returns, for each switch, whether the packet comes down to it by an entry that is not the goal's.
+/// Returns, for each switch, whether the packet comes down to it by a held entry that is not the goal's.
 fn entered(
     alloc: Global,
     positions: &[usize],
@@ -131,8 +132,8 @@ fn none_entered(alloc: Global, count: usize) -> Result<Vec<bool>, AllocError>
     vec![in alloc; false; count]
 }
 
-/// Sets the flag of the switch to which the packet comes down from the switch at `index`, if it does so by an entry
-/// that is not the goal's.
+/// Sets, in `entered`, the flag of the switch to which the packet comes down from the switch at `index`, if it does so
+/// by a held entry that is not the goal's.
 fn enter(
     entered: &mut [bool],
     positions: &[usize],
@@ -170,7 +171,7 @@ fn tried(
         .collect(alloc)
 }
 
-/// Returns the step that the switch at `index` tries.
+/// Returns the step that the switch at `index` tries: `goal` if it may change to it, otherwise `held`.
 fn tried_by(
     port: &EndPort,
     positions: &[usize],
@@ -189,7 +190,9 @@ fn tried_by(
     }
 }
 
-/// Returns whether the switch at `index` may take the goal's entry. `hop` is its next hop by that entry.
+/// Returns whether the switch at `index` may take the goal's entry, by which its next hop is `hop`. That must make no
+/// turn from down to up. If the held tables deliver from the switch, it must also lead to `port` or to a switch from
+/// which they deliver.
 fn may_change(
     port: &EndPort,
     positions: &[usize],
@@ -204,8 +207,8 @@ fn may_change(
         && (!flag(&flags.delivered, index) || leads_in(port, &flags.delivered, hop))
 }
 
-/// Returns whether no packet can go down and then up if the switch at `index` takes the goal's entry. That entry may
-/// lead up only if the packet does not come down to the switch, and down only if the next switch does not send it up.
+/// Returns whether `hop`, by which the goal's entry leaves the switch at `index`, makes no turn from down to up. It may
+/// lead up only if the switch is not `entered`, and down only if the next switch is not `going_up`.
 fn turns_well(positions: &[usize], flags: &SwitchFlags, index: usize, hop: &NextHop) -> bool
     ensures { result ≡ turns_well_by positions.now flags.now.going_up.items flags.now.entered.items index hop.now }
 {
@@ -218,7 +221,7 @@ fn turns_well(positions: &[usize], flags: &SwitchFlags, index: usize, hop: &Next
     }
 }
 
-/// Returns whether `hop` leads to the port, or to a switch from which the held tables deliver the packet.
+/// Returns whether `hop` ends at `port`, or leads to a switch from which the held tables deliver the packet.
 fn leads_in(port: &EndPort, delivered: &[bool], hop: &NextHop) -> bool
     ensures { result ≡ leads_in port.now delivered.now hop.now }
 {
@@ -235,7 +238,8 @@ fn flag(flags: &[bool], index: usize) -> bool
     flags.get(index).copied().unwrap_or(false)
 }
 
-/// Returns, for each switch, the entry that it tries if the tried entries deliver the packet from there, otherwise 255.
+/// Returns, for each switch, the entry of its step in `tried` if these steps deliver the packet from there at `port`,
+/// otherwise 255.
 fn entries_by(alloc: Global, port: &EndPort, tried: &[SwitchStep]) -> Result<Vec<u8>, AllocError>
     ensures { IfOk result (λ entries. entries.items ≡ entries_by port.now tried.now) }
 {
@@ -245,7 +249,7 @@ fn entries_by(alloc: Global, port: &EndPort, tried: &[SwitchStep]) -> Result<Vec
 }
 
 /// Returns, for each switch, the entry of its step if the walk from there arrives at `port`, otherwise 255. `ends` has
-/// the ends of the walks.
+/// the ends of the walks from the switches.
 fn entries_where(
     alloc: Global,
     port: &EndPort,
@@ -263,7 +267,7 @@ fn entries_where(
 }
 
 /// Returns the entry of `step` if the walk from the switch at `index` arrives at `port`, otherwise 255. `ends` has the
-/// ends of the walks.
+/// ends of the walks from the switches.
 fn entry_by(port: &EndPort, ends: &[NextHop], index: usize, step: &SwitchStep) -> u8
     ensures { result ≡ entry_by (arrives_by port.now ends.now) (index, step.now) }
 {

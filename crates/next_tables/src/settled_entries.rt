@@ -10,10 +10,8 @@ use packet_walks::{Cause, End, NextHop, SwitchStep, is_at};
 use std::alloc::{AllocError, Global};
 use subnet_view::EndPort;
 
-/// Returns the next entries of the switches, from what each switch does by the held tables and by the plan. Follows the
-/// walks from all switches once. Follows them a second time if the held tables and the plan differ, and once more if
-/// there is a switch from which neither the plan leads on nor the held tables deliver. Each time takes some steps for
-/// each switch, in proportion to the number of binary digits of the longest walk's length.
+/// Returns the next entries of the switches, from what each switch does by the held tables and by the plan. Takes time
+/// linear in the number of switches, times the logarithm of the longest walk's length.
 pub(crate) fn next_entries(
     alloc: Global,
     port: &EndPort,
@@ -33,8 +31,8 @@ pub(crate) fn next_entries(
     entries_by(alloc, port, &settled, &delivered, held, plan)
 }
 
-/// Returns the next entries of the switches. `settled` has the ends of the walks by entries that are in both tables,
-/// and `delivered` has the ends of the walks by the held tables.
+/// Returns the next entries of the switches. `settled` must have the ends of the walks by entries that are equal in
+/// both tables, and `delivered` those of the walks by the held tables.
 fn entries_by(
     alloc: Global,
     port: &EndPort,
@@ -55,7 +53,7 @@ fn entries_by(
     chosen(alloc, port, settled, delivered, &mended, held, plan)
 }
 
-/// Returns whether `hops` are the next hops of the switches.
+/// Returns whether `hops` are the next hops of `steps`, in order.
 fn are_hops_of(hops: &[NextHop], steps: &[SwitchStep]) -> bool
     ensures { IsTrue result ↔ (hops.now ≡ hops_of steps.now) }
 {
@@ -70,15 +68,15 @@ fn are_hops_of(hops: &[NextHop], steps: &[SwitchStep]) -> bool
     true
 }
 
-/// Returns whether two next hops are equal.
+/// Returns whether `hop` and `other` are equal.
 fn is_same_hop(hop: &NextHop, other: &NextHop) -> bool
     ensures { IsTrue result ↔ (hop.now ≡ other.now) }
 {
     *hop == *other
 }
 
-/// Returns, for each switch, its next hop if its entries in both tables are equal; a switch with different entries
-/// drops the packet.
+/// Returns, for each switch, its next hop if its entries in both tables are equal, and otherwise that it drops the
+/// packet.
 fn agreed(
     alloc: Global,
     held: &[SwitchStep],
@@ -92,8 +90,7 @@ fn agreed(
         .collect(alloc)
 }
 
-/// Returns the next hop of a switch if its entries in both tables are equal; a switch with different entries drops the
-/// packet.
+/// Returns the next hop of a switch if its entries in both tables are equal, and otherwise that it drops the packet.
 fn agreed_by(held: &SwitchStep, plan: &SwitchStep) -> NextHop
     ensures { result ≡ agreed_by (held.now, plan.now) }
 {
@@ -104,14 +101,15 @@ fn agreed_by(held: &SwitchStep, plan: &SwitchStep) -> NextHop
     }
 }
 
-/// Returns the next hop of each switch.
+/// Returns the next hop of each of `steps`.
 pub(crate) fn hops(alloc: Global, steps: &[SwitchStep]) -> Result<Vec<NextHop>, AllocError>
     ensures { IfOk result (λ hops. hops.items ≡ hops_of steps.now) }
 {
     steps.iter().map(|step| step.hop).collect(alloc)
 }
 
-/// Returns whether, from each switch, the plan's entry leads on or the held tables deliver the packet.
+/// Returns whether, from each switch, the packet arrives at `port` by the plan's next hop and `settled`, or by the held
+/// one and `delivered`.
 fn is_whole(
     port: &EndPort,
     settled: &[NextHop],
@@ -143,8 +141,8 @@ fn mending(
         .collect(alloc)
 }
 
-/// Returns the next hop of a switch while mending: delivery at `port` if the held tables deliver from there, the held
-/// hop if the switch forwards the packet, otherwise the plan's hop.
+/// Returns the next hop of a switch while mending: delivery at `port` if the held tables deliver from there, otherwise
+/// the held hop if it leads to a switch, otherwise the plan's hop.
 fn mending_by(
     port: &EndPort,
     delivered: &[NextHop],
@@ -160,14 +158,14 @@ fn mending_by(
     }
 }
 
-/// Returns the held hop if the switch forwards the packet, otherwise the plan's hop.
+/// Returns the held hop if it leads to a switch, otherwise the plan's hop.
 fn patch_by(held: &SwitchStep, plan: &SwitchStep) -> NextHop
     ensures { result ≡ patch_by (held.now, plan.now) }
 {
     if is_to(&held.hop) { held.hop } else { plan.hop }
 }
 
-/// Returns the held entry if the switch forwards the packet, otherwise the plan's entry.
+/// Returns the held entry if the held hop leads to a switch, otherwise the plan's entry.
 fn patch_entry_by(held: &SwitchStep, plan: &SwitchStep) -> u8
     ensures { result ≡ patch_entry_by (held.now, plan.now) }
 {
@@ -178,8 +176,8 @@ fn patch_entry_by(held: &SwitchStep, plan: &SwitchStep) -> u8
     }
 }
 
-/// Returns the next entries. `settled`, `delivered` and `mended` have the ends of the walks by entries in both tables,
-/// by the held tables, and by mending.
+/// Returns the next entry of each switch. `settled`, `delivered` and `mended` have the ends of the walks by entries in
+/// both tables, by the held tables, and by mending.
 fn chosen(
     alloc: Global,
     port: &EndPort,
@@ -198,8 +196,8 @@ fn chosen(
         .collect(alloc)
 }
 
-/// Returns the next entry of a switch: the plan's if it leads on, the held one if it delivers, the mending one if that
-/// arrives, otherwise 255.
+/// Returns the next entry of a switch: the plan's if it arrives by `settled`, otherwise the held one if it arrives by
+/// `delivered`, otherwise the mending one if it arrives by `mended`, otherwise 255.
 fn next_by(
     port: &EndPort,
     settled: &[NextHop],

@@ -13,15 +13,14 @@ use packet_walks::Network;
 use smp_bytes::Lid;
 use std::alloc::{AllocError, Global};
 
-/// Returns the tables to write next by `rule`, from the held tables towards a plan's, both with the same facts. They
-/// have the plan's LIDs. For each usable switch they have the greater of its tops, and the next entry for each LID up
-/// to that top. Costs what an audit of both tables takes, and for each LID three walks from the switches, or two by an
-/// order.
+/// Returns the tables to write next by `rule`, from the held tables towards a plan's. `held` and `plan` must have the
+/// same facts. The tables have the plan's LIDs. For each usable switch they have the greater of its tops, and the next
+/// entry for each LID up to that top.
 ///
 /// # Errors
 ///
-/// Returns `Moves` with the first LID that the plan gives to an end port and the held tables give to another. Returns
-/// `Memory` only if there is no such LID.
+/// Returns `Moves` with the first LID that the plan gives to an end port and the held tables give to another. If there
+/// is none, returns `Memory` if memory is refused.
 pub fn next_tables(
     alloc: Global,
     rule: &StepRule,
@@ -51,14 +50,14 @@ fn first_moved(held: &Network, plan: &Network) -> Option<Lid>
         .map(|line| line.lid)
 }
 
-/// Returns whether an end port other than the line's holds the line's LID.
+/// Returns whether an end port other than that of `line` holds its LID in the held tables.
 fn moves(held: &Network, line: &HeldLid) -> bool
     ensures { result ≡ moves held.now.held line.now }
 {
     !held.is_sole_owner(line)
 }
 
-/// Returns the tables to write next. The caller has checked that no LID moves.
+/// Returns the tables to write next by `rule`, whether or not a LID moves. `held` and `plan` must have the same facts.
 fn tables(
     alloc: Global,
     rule: &StepRule,

@@ -19,23 +19,27 @@ pub record Agent : Type 0 where
 
 -- what is read of an agent -----------------------------------------------------------------
 
+-- the agent's node is a switch
 abbrev pub is_switch : Agent → Bool
 is_switch a = types.is_switch a.node.kind
 
--- a port in a state, to which nothing was written
+-- a port in `state`, to which nothing was written
 abbrev pub port_in : PortState → Port
 port_in state = record { base_lid = 0; lmc = 0; master_sm_lid = 0; state = state; is_sm = false }
 
--- a port; a port that the node does not have is down, and nothing was written to it
+-- the port `port` of an agent; a port that the node does not have is Down, and nothing was written to it
 abbrev pub port_at : Agent → ℕ → Port
 port_at a port = slice_index_or a.ports port (port_in Down)
 
+-- the state of a port; Down if the node does not have it
 abbrev pub state_at : Agent → ℕ → PortState
 state_at a port = (port_at a port).state
 
+-- the LID of a port; 0 if none was set
 abbrev pub base_lid_at : Agent → ℕ → ℕ
 base_lid_at a port = (port_at a port).base_lid
 
+-- the LMC of a port; 0 if none was set
 abbrev pub lmc_at : Agent → ℕ → ℕ
 lmc_at a port = (port_at a port).lmc
 
@@ -47,7 +51,7 @@ master_sm_lid_at a port = (port_at a port).master_sm_lid
 abbrev pub range_at : Agent → ℕ → ℕ × ℕ
 range_at a port = (base_lid_at a port, lmc_at a port)
 
--- the LID is one of the port's LIDs
+-- `lid` is one of the LIDs of a port
 abbrev pub owns : Agent → ℕ → ℕ → Bool
 owns a port lid = is_lid_of (base_lid_at a port) (lmc_at a port) lid
 
@@ -59,7 +63,7 @@ has_seat a port = (port_at a port).is_sm
 abbrev pub no_port : ℕ
 no_port = 255
 
--- the port by which the switch forwards packets for a LID; `no_port` if the table has no such entry
+-- the port by which a switch forwards packets for `lid`; `no_port` if the table has no such entry
 abbrev pub entry_at : Agent → ℕ → ℕ
 entry_at a lid = slice_index_or a.table lid no_port
 
@@ -84,12 +88,12 @@ node_of a = record {
 abbrev pub with_port : Agent → ℕ → Port → Agent
 with_port a port to = record a { ports = slice_set a.ports port to }
 
--- the agent after a cable was plugged into a port, or taken out
+-- the agent after a cable was plugged into a port, or taken out of it: the port is in Initialize, or Down
 abbrev pub after_set_wired : Agent → ℕ → Bool → Agent
 after_set_wired a port is_wired =
     with_port a port (record (port_at a port) { state = if is_wired then Initialize else Down })
 
--- the agent after a subnet manager was seated at a port
+-- the agent after a subnet manager was seated at the port `port`
 abbrev pub after_set_seat : Agent → ℕ → Agent
 after_set_seat a port = with_port a port (record (port_at a port) { is_sm = true })
 
@@ -109,8 +113,8 @@ fresh_agent node =
       top = 0;
     }
 
--- the node can be built: its GUID has 64 bits, it has 1 to 254 ports, only a switch has a table, which has at most
--- 49,152 entries, and the GUID of each port has 64 bits
+-- `node` can be built: its GUID has 64 bits, it has 1 to 254 ports, only a switch has a table, which has at most 49,152
+-- entries, and the GUID of each port has 64 bits
 pub record IsAgentNode (node : AgentNode) : Type 0 where
   pub guid : node.guid < 2 ^ 64
   pub ports : (1 ≤ node.ports) × (node.ports ≤ 254)
@@ -118,14 +122,15 @@ pub record IsAgentNode (node : AgentNode) : Type 0 where
   pub no_table : types.is_switch node.kind ≡ false → node.cap ≡ 0
   pub port_guids : types.is_switch node.kind ≡ false → node.guid + node.ports < 2 ^ 64
 
--- what holds of each port of an agent: its state is not "no change", its LID is below the end of the unicast LIDs, and
--- no subnet manager sits there if the node is a switch
+-- what holds of each port of an agent whose node has the type `kind`: its state is not "no change", its LID is below
+-- the end of the unicast LIDs, and no subnet manager sits there if the node is a switch
 pub record IsPort (kind : NodeType) (port : Port) : Type 0 where
   pub state : port.state ≢ NoChange
   pub base_lid : port.base_lid < lid_end
   pub is_sm : types.is_switch kind ≡ true → port.is_sm ≡ false
 
--- what holds of each agent
+-- what holds of each agent: its node can be built, it has each port and port 0, Active at a switch, a table of whole
+-- blocks, and a top that is 0 or below the table's room
 pub record IsAgent (a : Agent) : Type 0 where
   pub node : IsAgentNode a.node
   pub description : length a.node.description ≡ 64

@@ -17,7 +17,7 @@ use Rattle.node_agents.specs.Answers.{after_request, status_told, payload_told, 
 
 -- agents stay agents --------------------------------------------------------------------
 
--- the node, which ports are down, and the subnet managers' seats are as they were
+-- in `new` the node, which ports are Down, and the subnet managers' seats are as in `old`
 pub record KeepsShape (old new : Agent) : Type 0 where
   pub node : new.node ≡ old.node
   pub down : (port : ℕ) → (state_at new port ≡ Down) ↔ (state_at old port ≡ Down)
@@ -34,13 +34,13 @@ AnsweredIsAgent =
 
 -- answers ---------------------------------------------------------------------------------
 
--- 256 bytes that are a packet
+-- `packet` is 256 bytes that are a packet without a fault
 pub record IsPacket (packet : List ℕ) : Type 0 where
   pub count : length packet ≡ 256
   pub parses : fault_of packet ≡ None
 
--- an answer is a packet with the method GetResp, the D bit if it is directed, and the status and the attribute that the
--- agent gives; all else is as in the request
+-- the answer of an agent is a packet with the method GetResp, the D bit if it is directed, and the status and the
+-- attribute that the agent gives; all else is as in the request
 abbrev pub AnswersHold : Type 0
 AnswersHold =
     (a : Agent) (packet : List ℕ) (arrival : ℕ) → IsAgent a → IsPacket packet
@@ -61,7 +61,7 @@ RefusalsChangeNothing =
 
 -- what is said ------------------------------------------------------------------------------
 
--- what PortInfo says: the state of the port that it is about; it is Down exactly if the port is down
+-- PortInfo says `number` as the state of the port that it is about; it is Down exactly if the port is
 pub record SaysPort (a : Agent) (modifier arrival number : ℕ) : Type 0 where
   pub port : ℕ
   pub meant : port_meant a modifier arrival ≡ Some port
@@ -70,12 +70,13 @@ pub record SaysPort (a : Agent) (modifier arrival number : ℕ) : Type 0 where
   pub known : state ≢ NoChange
   pub down : (state ≡ Down) ↔ (state_at a port ≡ Down)
 
--- what SwitchInfo says: the number of entries that the switch's forwarding table has room for
+-- SwitchInfo says `cap` as the number of entries that the switch's forwarding table has room for
 pub record SaysSwitch (a : Agent) (cap : ℕ) : Type 0 where
   pub kind : is_switch a ≡ true
   pub cap_is : cap ≡ a.node.cap
 
--- what an answer says about its agent, by attribute; `arrival` is the port at which the request arrived
+-- what an answer says by its attribute, NodeInfo, PortInfo or SwitchInfo, is true of its agent; `arrival` is the port
+-- at which the request arrived
 pub record Says (a : Agent) (arrival : ℕ) (answer : List ℕ) : Type 0 where
   pub node : number_in attribute_id answer ≡ node_info → node_info_in (bytes_in attribute_data answer)
       ≡ node_info_of a.node arrival
@@ -84,7 +85,8 @@ pub record Says (a : Agent) (arrival : ℕ) (answer : List ℕ) : Type 0 where
   pub switch : number_in attribute_id answer ≡ switch_info
       → SaysSwitch a (number_in linear_fdb_cap (bytes_in attribute_data answer))
 
--- an answer with status 0, to a Get or a Set, says what is true of the node (LIDs and table entries are not covered)
+-- an answer with status 0, to a Get or a Set, says what is true of the node, of port states and of table room; LIDs and
+-- table entries are not covered
 abbrev pub AnswersSay : Type 0
 AnswersSay =
     (a : Agent) (packet : List ℕ) (arrival : ℕ) → IsAgent a → IsPacket packet → arrival ≤ a.node.ports
@@ -92,7 +94,7 @@ AnswersSay =
 
 -- Sets ------------------------------------------------------------------------------------
 
--- the packet sets the attribute `number`, and the agent accepts it
+-- the packet sets the attribute `number`, and the agent accepts it: its answer has status 0
 pub record IsTaken (a : Agent) (packet : List ℕ) (arrival number : ℕ) : Type 0 where
   pub agent : IsAgent a
   pub whole : IsPacket packet
@@ -100,13 +102,13 @@ pub record IsTaken (a : Agent) (packet : List ℕ) (arrival number : ℕ) : Type
   pub attribute : number_in attribute_id packet ≡ number
   pub done : status (after_answer a packet arrival).packet ≡ done
 
--- two packets have the same attribute and modifier
+-- the packets `p` and `q` have the same attribute and modifier
 pub record IsAboutTheSame (p q : List ℕ) : Type 0 where
   pub attribute : number_in attribute_id p ≡ number_in attribute_id q
   pub modifier : number_in attribute_modifier p ≡ number_in attribute_modifier q
 
--- a Get right after a Set, of the same attribute and modifier and at the same port, returns what the answer to the Set
--- returned
+-- a Get right after a Set that was accepted, of the same attribute and modifier and at the same port, returns what the
+-- answer to the Set returned
 abbrev pub GetsTellAsSets : Type 0
 GetsTellAsSets =
     (a : Agent) (p q : List ℕ) (arrival number : ℕ) → IsTaken a p arrival number → IsPacket q → number_in method q ≡ get
@@ -114,14 +116,14 @@ GetsTellAsSets =
     → bytes_in attribute_data (after_answer (after_answer a p arrival).agent q arrival).packet
     ≡ bytes_in attribute_data (after_answer a p arrival).packet
 
--- the block that is set is returned, and is in the table at its offset; nothing else changes
+-- the block that is set is returned, and is in the table at its offset; nothing else of the agent changes
 pub record SetsBlock (a after : Agent) (block : ℕ) (payload told : List ℕ) : Type 0 where
   pub is_told : told ≡ payload
   pub inside : (i : ℕ) → i < 64 → entry_at after (64 * block + i) ≡ slice_index payload i
   pub outside : (lid : ℕ) → (lid < 64 * block) ⊎ (64 * block + 64 ≤ lid) → entry_at after lid ≡ entry_at a lid
   pub all_else : after ≡ record a { table = after.table }
 
--- what a Set of a block does
+-- if a Set of a block is accepted, the block is returned, and is in the table at its offset; nothing else changes
 abbrev pub BlocksAreSet : Type 0
 BlocksAreSet =
     (a : Agent) (packet : List ℕ) (arrival : ℕ) → IsTaken a packet arrival linear_forwarding_table
@@ -129,20 +131,20 @@ BlocksAreSet =
     (bytes_in attribute_data packet)
     (bytes_in attribute_data (after_answer a packet arrival).packet)
 
--- the top that is set is returned; nothing else changes
+-- the top that is set is returned, and the agent has it; nothing else of the agent changes
 pub record SetsTop (a after : Agent) (payload told : List ℕ) : Type 0 where
   pub is_told : number_in linear_fdb_top told ≡ number_in linear_fdb_top payload
   pub all_else : after ≡ record a { top = number_in linear_fdb_top payload }
 
--- what a Set of SwitchInfo does
+-- if a Set of SwitchInfo is accepted, its top is returned, and the agent has it; nothing else changes
 abbrev pub TopsAreSet : Type 0
 TopsAreSet =
     (a : Agent) (packet : List ℕ) (arrival : ℕ) → IsTaken a packet arrival switch_info
     → SetsTop a (after_answer a packet arrival).agent (bytes_in attribute_data packet)
     (bytes_in attribute_data (after_answer a packet arrival).packet)
 
--- the LID and the LMC that are set at a port with a LID are returned, and so is the state unless it is 0 (no change);
--- no other port and nothing else changes
+-- the LID and the LMC that are set at a port with a LID of its own are its LID and LMC afterwards, and are returned; so
+-- is the state unless it is 0 (no change); no other port and nothing else changes
 pub record SetsPort (a after : Agent) (port : ℕ) (payload told : List ℕ) : Type 0 where
   pub lids : has_lid a port ≡ true → range_at after port ≡ range_in payload
   pub lids_told : has_lid a port ≡ true → range_in told ≡ range_in payload
@@ -150,7 +152,8 @@ pub record SetsPort (a after : Agent) (port : ℕ) (payload told : List ℕ) : T
   pub others : (index : ℕ) → index ≢ port → port_at after index ≡ port_at a index
   pub all_else : after ≡ record a { ports = after.ports }
 
--- what a Set of PortInfo does
+-- if a Set of PortInfo is accepted, the port that it is about has its LID and LMC, if it has a LID of its own; these
+-- and a state other than 0 are returned; no other port and nothing else changes
 abbrev pub PortsAreSet : Type 0
 PortsAreSet =
     (a : Agent) (packet : List ℕ) (arrival port : ℕ) → arrival ≤ a.node.ports → IsTaken a packet arrival port_info

@@ -16,7 +16,7 @@ use Rattle.node_agents.specs.SwitchInfo.{get_switch_info, set_switch_info}
 use Rattle.node_agents.specs.PortInfo.{get_port_info, set_port_info}
 use Rattle.node_agents.specs.LftBlock.{get_block, set_block}
 
--- the attribute that a Get returns, or why it is refused
+-- the attribute that a Get returns, for a request that arrived at the port `arrival`, or why it is refused
 abbrev pub get_attribute : Agent → ℕ → ℕ → ℕ → Result (List ℕ) Refusal
 get_attribute a attribute modifier arrival =
     if attribute == node_description then Ok (get_node_description a)
@@ -26,7 +26,7 @@ get_attribute a attribute modifier arrival =
     else if is_switch a && attribute == linear_forwarding_table then ok_or (get_block a modifier) InvalidField
     else Err MethodAndAttribute
 
--- the agent after a Set of an attribute, or why it is refused
+-- the agent after a Set of an attribute, for a request that arrived at the port `arrival`, or why it is refused
 abbrev pub set_attribute : Agent → ℕ → ℕ → ℕ → List ℕ → Result Agent Refusal
 set_attribute a attribute modifier arrival payload =
     if attribute == port_info then ok_or (set_port_info a modifier arrival payload) InvalidField
@@ -44,17 +44,18 @@ pub record Met : Type 0 where
   pub told : Result (List ℕ) Refusal
   pub agent : Agent
 
--- the attribute that a packet asks for, or why it is refused
+-- the attribute that the packet, taken as a Get, asks for, or why it is refused
 unfoldable pub get_of : Agent → List ℕ → ℕ → Result (List ℕ) Refusal
 get_of a packet arrival = get_attribute a (number_in attribute_id packet) (number_in attribute_modifier packet) arrival
 
--- the agent after a packet that sets an attribute, or why it is refused
+-- the agent after the packet, taken as a Set, or why it is refused
 unfoldable pub set_of : Agent → List ℕ → ℕ → Result Agent Refusal
 set_of a packet arrival =
     set_attribute a (number_in attribute_id packet) (number_in attribute_modifier packet) arrival
     (bytes_in attribute_data packet)
 
--- the answer to a Set that is accepted has what a Get would return afterwards
+-- what a Set comes to: if it is accepted, its answer has what a Get would return afterwards; if not, why, and the agent
+-- is as it was
 abbrev pub met_set : Agent → Result Agent Refusal → List ℕ → ℕ → Met
 met_set a (Ok after) packet arrival = record { told = get_of after packet arrival; agent = after }
 met_set a (Err refusal) packet arrival = record { told = Err refusal; agent = a }
@@ -66,7 +67,7 @@ after_request a packet arrival =
     else if number_in method packet == set then met_set a (set_of a packet arrival) packet arrival
     else record { told = Err Method; agent = a }
 
--- the status of an answer
+-- the status of an answer: 0 for an attribute, otherwise that of the refusal
 abbrev pub status_told : Result (List ℕ) Refusal → ℕ
 status_told (Ok payload) = done
 status_told (Err refusal) = status_of refusal
@@ -76,11 +77,11 @@ abbrev pub payload_told : Result (List ℕ) Refusal → List ℕ → List ℕ
 payload_told (Ok payload) packet = payload
 payload_told (Err refusal) packet = bytes_in attribute_data packet
 
--- the answer to a request, by the attribute or the refusal
+-- the answer to the request `packet`, by the attribute or the refusal
 abbrev pub answer_with : List ℕ → Result (List ℕ) Refusal → List ℕ
 answer_with packet told = answer_packet packet (status_told told) (payload_told told packet)
 
--- the answer to a request, and the agent afterwards
+-- the packet that answers a request, and the agent afterwards
 pub record Answered : Type 0 where
   pub packet : List ℕ
   pub agent : Agent

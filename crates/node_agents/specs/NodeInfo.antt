@@ -25,5 +25,6 @@ node_info_of node arrival =
       vendor_id = 0;
     }
 
+-- the NodeInfo that a Get returns, for a request that arrived at the port `arrival`
 abbrev pub get_node_info : Agent → ℕ → List ℕ
 get_node_info a arrival = node_info_bytes (node_info_of a.node arrival)

@@ -35,7 +35,7 @@ get_port_info a modifier arrival =
 
 -- Set ---------------------------------------------------------------------------------
 
--- the port has a LID of its own: each port of an adapter does, but only port 0 of a switch
+-- the port `port` has a LID of its own: each port of an adapter does, but only port 0 of a switch
 abbrev pub has_lid : Agent → ℕ → Bool
 has_lid a port = not (is_switch a) || port == 0
 
@@ -47,14 +47,15 @@ max_lmc a port = if is_switch a && port == 0 then 0 else 7
 abbrev pub is_next_state : PortState → PortState → Bool
 is_next_state state wish = nat_le 2 (number_of_state state) && number_of_state wish == number_of_state state + 1
 
--- the state after the request `wish`, if it is granted: no change, the present state, or the next one
+-- the state of a port in `state` once a Set asked for `wish`: `state`, if `wish` is no change or `state` itself;
+-- `wish`, if it is the next state; otherwise None
 abbrev pub state_after : PortState → PortState → Option PortState
 state_after state wish =
     if number_of_state wish == 0 || number_of_state wish == number_of_state state then Some state
     else if is_next_state state wish then Some wish
     else None
 
--- the port in the state `state`, with the LIDs and the LMC of the payload if it has LIDs
+-- `port` in the state `state`, with the LID, the LMC and the manager's LID of `payload` if it has LIDs
 abbrev pub port_with : Port → Bool → List ℕ → PortState → Port
 port_with port has_lid payload state =
     record port {
@@ -64,13 +65,12 @@ port_with port has_lid payload state =
       state = state;
     }
 
--- a port may have the LIDs of a payload, and their LMC is at most `max_lmc`
+-- a port may have the LIDs that `payload` gives it, and their LMC is at most `max_lmc`
 abbrev pub are_lids_taken : ℕ → List ℕ → Bool
 are_lids_taken max_lmc payload =
     nat_le (bits_in lmc payload) max_lmc && may_have (number_in base_lid payload) (bits_in lmc payload)
 
--- the port after a Set; None if it may not have the LIDs of the payload, or the state that the payload asks for is
--- refused
+-- the port after a Set; None if it may not have the LIDs of `payload`, or the state that `payload` asks for is refused
 abbrev pub port_after : Port → Bool → ℕ → List ℕ → Option Port
 port_after port has_lid max_lmc payload =
     if are_lids_taken max_lmc payload

@@ -13,7 +13,7 @@ use smp_bytes::{Guid, Lid, NO_ENTRY, NodeType, PortNum, Smp, Status};
 use std::alloc::{AllocError, Global};
 use std::marker::Model;
 
-/// The subnet management agent of a node. Contracts see the node, its ports, its forwarding table and the table's top.
+/// The subnet management agent of a node: the node, its ports, its forwarding table and the table's top.
 #[derive(Drop)]
 pub struct Agent {
     pub(crate) node: AgentNode,
@@ -37,8 +37,8 @@ impl Model for Agent {
 }
 
 impl Agent {
-    /// Creates the agent of a node, with no port wired, no manager seated and nothing written. Allocates all of the
-    /// agent's memory.
+    /// Creates the agent of `node`, with no port wired, no manager seated and nothing written. `node` must be one that
+    /// can be built (`IsAgentNode`). Allocates all of the agent's memory.
     #[tactic(auto, unfolding(crate::specs::Agent::fresh_agent))]
     pub fn new(alloc: Global, node: AgentNode) -> Result<Agent, AllocError>
         requires { IsAgentNode node }
@@ -97,15 +97,15 @@ impl Agent {
         self.node.cap
     }
 
-    /// Returns LinearFDBTop: the greatest LID that a switch forwards.
+    /// Returns LinearFDBTop: the greatest LID that a switch forwards, or 0 if none was set.
     pub fn top(&self) -> Lid
         ensures { result ≡ self.now.top }
     {
         self.top
     }
 
-    /// Returns the port by which a switch forwards packets for `lid`, or 255, which is no port, if the table has no
-    /// such entry.
+    /// Returns the table's entry for `lid`, whatever the top is: the port by which a switch forwards packets for `lid`,
+    /// or 255, which is no port, if the table has no such entry.
     pub fn entry(&self, lid: Lid) -> PortNum
         ensures { result ≡ entry_at self.now lid }
     {
@@ -125,38 +125,36 @@ impl Agent {
         }
     }
 
-    /// Returns the link state of a port, or Down if the node does not have the port. A switch's port 0 is always
-    /// Active.
+    /// Returns the link state of `port`, or Down if the node has no such port. A switch's port 0 is always Active.
     pub fn port_state(&self, port: PortNum) -> PortState
         ensures { result ≡ state_at self.now port }
     {
         self.port(port).state
     }
 
-    /// Returns the LID of a port, or 0 if it has none.
+    /// Returns the base LID of `port`, or 0 if it has none.
     pub fn base_lid(&self, port: PortNum) -> Lid
         ensures { result ≡ base_lid_at self.now port }
     {
         self.port(port).base_lid
     }
 
-    /// Returns the LMC of a port. The port has 2^LMC LIDs, from its base LID on. The LMC is 0 for port 0 of a switch,
-    /// and if none was set.
+    /// Returns the LMC of `port`, or 0 if none was set. A port with a LID has 2^LMC LIDs, from its base LID on.
     pub fn lmc(&self, port: PortNum) -> Lmc
         ensures { result ≡ lmc_at self.now port }
     {
         self.port(port).lmc
     }
 
-    /// Returns the LID of the subnet manager that was set at a port, or 0 if none was set.
+    /// Returns the LID of the subnet manager that was set at `port`, or 0 if none was set.
     pub fn master_sm_lid(&self, port: PortNum) -> Lid
         ensures { result ≡ master_sm_lid_at self.now port }
     {
         self.port(port).master_sm_lid
     }
 
-    /// Returns whether `lid` is one of the port's LIDs: a packet for it has then arrived. A port with LID 0 owns only
-    /// LID 0.
+    /// Returns whether `lid` is one of the LIDs of `port`: a packet for it has arrived there. A port with LID 0 owns
+    /// only LID 0.
     pub fn owns(&self, port: PortNum, lid: Lid) -> bool
         ensures { result ≡ owns self.now port lid }
     {
@@ -170,15 +168,15 @@ impl Agent {
         }
     }
 
-    /// Returns whether a subnet manager sits at a port.
+    /// Returns whether a subnet manager sits at `port`.
     pub fn has_seat(&self, port: PortNum) -> bool
         ensures { result ≡ has_seat self.now port }
     {
         self.port(port).is_sm
     }
 
-    /// Plugs a cable into a port, or takes it out. The port becomes Initialize if a cable is plugged in, and otherwise
-    /// Down.
+    /// Plugs a cable into `port` if `is_wired`, and otherwise takes it out. The port becomes Initialize or Down. `port`
+    /// must be from 1 to the port count.
     pub fn set_wired(&mut self, port: PortNum, is_wired: bool)
         requires least { 1 ≤ port }
         requires most { port ≤ self.old.node.ports }
@@ -191,7 +189,7 @@ impl Agent {
         };
     }
 
-    /// Seats a subnet manager at a port of an adapter.
+    /// Seats a subnet manager at `port`. The node must be an adapter, and `port` from 1 to its port count.
     pub fn set_seat(&mut self, port: PortNum)
         requires adapter { is_switch self.old ≡ false }
         requires least { 1 ≤ port }
@@ -201,8 +199,8 @@ impl Agent {
         self.ports[usize::from(port.number())].is_sm = true;
     }
 
-    /// Answers a request that arrived at port `arrival`, and applies a Set. A request that is refused changes nothing.
-    /// Takes time in proportion to the 64 bytes of an attribute.
+    /// Answers the request `smp` that arrived at the port `arrival`, and applies a Set. A request that is refused
+    /// changes nothing. `arrival` must be from 1 to the port count. Takes constant time.
     #[tactic(auto, unfolding(crate::specs::Answers::after_answer))]
     pub fn answer(&mut self, smp: &Smp, arrival: PortNum) -> Smp
         requires least { 1 ≤ arrival }

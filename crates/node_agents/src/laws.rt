@@ -53,20 +53,21 @@ pub fn gets_tell_as_sets()
     ensures { GetsTellAsSets }
 {}
 
-/// A block that is set is returned, and is in the table at its offset; nothing else changes.
+/// If a Set of a block is accepted, the block is returned, and is in the table at its offset; nothing else changes.
 #[tactic(auto, using(crate::proofs::Sets::blocks_are_set))]
 pub fn blocks_are_set()
     ensures { BlocksAreSet }
 {}
 
-/// The greatest LID to forward that is set is returned; nothing else changes.
+/// If a Set of SwitchInfo is accepted, its LinearFDBTop is returned, and is the agent's top; nothing else changes.
 #[tactic(auto, using(crate::proofs::Sets::tops_are_set))]
 pub fn tops_are_set()
     ensures { TopsAreSet }
 {}
 
-/// The LID and the LMC that are set at a port with a LID are returned, and so is a state other than 0 (no change); no
-/// other port and nothing else changes.
+/// If a Set of PortInfo is accepted at a port with a LID of its own, the port has the LID and the LMC of the Set, and
+/// the answer returns them. At any port, the answer returns the state of the Set unless that is 0 (no change). No other
+/// port changes, and nothing of the agent but its ports.
 pub fn ports_are_set()
     ensures { PortsAreSet }
 {}

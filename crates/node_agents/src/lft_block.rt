@@ -10,7 +10,7 @@ use smp_bytes::wire::put_bytes;
 /// The number of entries in a block.
 pub(crate) const BLOCK: usize = 64;
 
-/// Returns the block that a Get asks for, or `None` if the table does not have it.
+/// Returns the 64 entries of the block `block`, or `None` if the table does not have it.
 pub(crate) fn get(agent: &Agent, block: u32) -> Option<[u8; BLOCK]>
     ensures { result ≡ get_block agent.now block }
 {
@@ -23,7 +23,7 @@ pub(crate) fn get(agent: &Agent, block: u32) -> Option<[u8; BLOCK]>
     Some(entries)
 }
 
-/// Writes the whole block, if the table has it. Returns whether the table has it.
+/// Writes all 64 entries of the block `block` if the table has it, and returns whether it does.
 pub(crate) fn set(agent: &mut Agent, block: u32, payload: &[u8; BLOCK]) -> bool
     ensures taken { result ≡ is_some (set_block agent.old block payload.now) }
     ensures agent { agent.new ≡ unwrap_or (set_block agent.old block payload.now) agent.old }
@@ -35,7 +35,7 @@ pub(crate) fn set(agent: &mut Agent, block: u32, payload: &[u8; BLOCK]) -> bool
     has_block
 }
 
-/// Returns whether the block has unicast LIDs and begins within the table.
+/// Returns whether the block `block` has unicast LIDs and begins within the table.
 fn has_block(agent: &Agent, block: u32) -> bool
     ensures { result ≡ has_block agent.now block }
 {

@@ -10,7 +10,7 @@ pub struct Port {
     pub(crate) base_lid: Lid,
     /// The LMC: the port has 2^LMC LIDs, from its base LID on.
     pub(crate) lmc: Lmc,
-    /// The LID of the subnet manager.
+    /// The LID of the subnet manager that was set at the port, 0 for none.
     pub(crate) master_sm_lid: Lid,
     pub(crate) state: PortState,
     /// IsSM: whether a subnet manager sits at the port.
@@ -20,7 +20,7 @@ pub struct Port {
 impl Port {
     ghost use Rattle.node_agents.specs.Agent.{port_in};
 
-    /// Creates a port in a state, to which nothing was written.
+    /// Creates a port in the state `state`, to which nothing was written.
     pub(crate) fn in_state(state: PortState) -> Self
         ensures { result ≡ port_in state }
     {

@@ -11,7 +11,7 @@ use crate::port::Port;
 use attr_codec::{Attribute, Lmc, PortInfo, PortState};
 use smp_bytes::{Lid, PortNum};
 
-/// Returns the attribute for a Get, or `None` if the modifier does not name a port that the Get may ask for.
+/// Returns the attribute for a Get that arrived at the port `arrival`, or `None` if `modifier` means no port.
 pub(crate) fn get(agent: &Agent, modifier: u32, arrival: PortNum) -> Option<[u8; 64]>
     ensures { result ≡ get_port_info agent.now modifier arrival }
 {
@@ -19,7 +19,8 @@ pub(crate) fn get(agent: &Agent, modifier: u32, arrival: PortNum) -> Option<[u8;
     Some(info_of(agent.port(port), arrival))
 }
 
-/// Writes the LIDs and the LMC of an end port, and the state, if all of them can be set. Returns whether they can.
+/// Writes the LID, the LMC and the manager's LID of an end port, and the state of any port. Writes nothing if one of
+/// these is refused, or `modifier` means no port. Returns whether it wrote. `arrival` must be at most the port count.
 pub(crate) fn set(agent: &mut Agent, modifier: u32, arrival: PortNum, payload: &[u8; 64]) -> bool
     requires { arrival ≤ agent.old.node.ports }
     ensures taken { result ≡ is_some (set_port_info agent.old modifier arrival payload.now) }
@@ -35,7 +36,8 @@ pub(crate) fn set(agent: &mut Agent, modifier: u32, arrival: PortNum, payload: &
     }
 }
 
-/// Returns the port that a Set means, with its values afterwards, or `None` if the Set is refused.
+/// Returns the port that a Set means, with its values afterwards, or `None` if the Set is refused. `arrival` must be at
+/// most the port count.
 #[tactic(auto, unfolding(crate::specs::PortInfo::changed_port))]
 fn changed_port(
     agent: &Agent,
@@ -57,8 +59,8 @@ fn changed_port(
     Some((port, after))
 }
 
-/// Returns the port that a request means: for a switch, any port from 0 on; for an adapter, the port at which the
-/// request arrived, if the modifier is 0 or its number. Returns `None` if there is no such port.
+/// Returns the port that a request means. For a switch this is any port from 0 on; for an adapter, the port `arrival`
+/// at which the request arrived, if `modifier` is 0 or its number. Returns `None` if there is no such port.
 fn port_meant(agent: &Agent, modifier: u32, arrival: PortNum) -> Option<PortNum>
     ensures port { result ≡ port_meant agent.now modifier arrival }
 {
@@ -86,14 +88,14 @@ fn info_of(port: Port, arrival: PortNum) -> [u8; 64]
     info.encode()
 }
 
-/// Returns whether the port has a LID of its own. Each port of an adapter does, but only port 0 of a switch.
+/// Returns whether `port` can have a LID of its own. Each port of an adapter can, but only port 0 of a switch.
 fn has_lid(agent: &Agent, port: PortNum) -> bool
     ensures { result ≡ has_lid agent.now port }
 {
     !agent.node.is_switch() || port.number() == 0
 }
 
-/// Returns the greatest LMC that can be set at a port: 0 for port 0 of a switch, which has one LID, otherwise 7.
+/// Returns the greatest LMC that can be set at `port`: 0 for port 0 of a switch, which has one LID, and otherwise 7.
 fn max_lmc(agent: &Agent, port: PortNum) -> u8
     ensures { result ≡ max_lmc agent.now port }
 {
@@ -104,7 +106,7 @@ fn max_lmc(agent: &Agent, port: PortNum) -> u8
     }
 }
 
-/// Returns whether a port may have the LIDs in `info`, with an LMC of at most `max_lmc`.
+/// Returns whether a port may have the LIDs in `info`, and their LMC is at most `max_lmc`.
 fn are_lids_taken(max_lmc: u8, info: &PortInfo) -> bool
     ensures { result ≡ are_lids_taken max_lmc info.now }
 {
@@ -112,8 +114,8 @@ fn are_lids_taken(max_lmc: u8, info: &PortInfo) -> bool
     lmc.number() <= max_lmc && may_have(info.base_lid(), lmc)
 }
 
-/// Returns whether a port may have the LID `base` with `lmc`: `base` is 0, for none, or a multiple of the number of
-/// LIDs, all of which are unicast.
+/// Returns whether a port may have the LID `base` with `lmc`: `base` is 0, for none, or a multiple of 2^LMC such that
+/// all 2^LMC LIDs are unicast.
 fn may_have(base: Lid, lmc: Lmc) -> bool
     ensures { result ≡ may_have base lmc }
 {
@@ -122,7 +124,8 @@ fn may_have(base: Lid, lmc: Lmc) -> bool
     first == 0 || (first % count == 0 && first + count <= u32::from(Lid::UNICAST_END))
 }
 
-/// Returns the port after a Set, or `None` if the LIDs or the link state are refused.
+/// Returns `port` after a Set of `payload`, or `None` if the LIDs or the link state are refused. Without `has_lid`,
+/// only the state changes.
 fn port_after(port: Port, has_lid: bool, max_lmc: u8, payload: &[u8; 64]) -> Option<Port>
     ensures { result ≡ port_after port has_lid max_lmc payload.now }
 {
@@ -143,8 +146,8 @@ fn port_after(port: Port, has_lid: bool, max_lmc: u8, payload: &[u8; 64]) -> Opt
     })
 }
 
-/// Returns the link state after the request `wish`: no change, the present state, or the next one on the way to Active.
-/// Returns `None` for any other request.
+/// Returns the link state after the request `wish`: no change, the present state, or the next one on the way from
+/// Initialize to Active. Returns `None` for any other request.
 fn state_after(state: PortState, wish: PortState) -> Option<PortState>
     ensures { result ≡ state_after state wish }
 {

@@ -9,7 +9,8 @@ use crate::refusal::Refusal;
 use crate::{lft_block, node_description, node_info, port_info, switch_info};
 use smp_bytes::{AttributeId, Method, PortNum, Smp};
 
-/// Returns the attribute that answers a request, or why it is refused, and applies a Set.
+/// Returns the attribute that answers the request `smp`, or why the request is refused, and applies a Set. `arrival`
+/// must be at most the port count.
 pub(crate) fn handle(agent: &mut Agent, smp: &Smp, arrival: PortNum) -> Result<[u8; 64], Refusal>
     requires { arrival ≤ agent.old.node.ports }
     ensures told { result ≡ (after_request agent.old smp.now arrival).told }
@@ -25,7 +26,7 @@ pub(crate) fn handle(agent: &mut Agent, smp: &Smp, arrival: PortNum) -> Result<[
     }
 }
 
-/// Returns the attribute that the packet asks for, or why it is refused.
+/// Returns the attribute that `smp` asks for, or why a Get of it is refused. `arrival` must be at most the port count.
 #[tactic(auto, unfolding(crate::specs::Answers::get_of))]
 fn get(agent: &Agent, smp: &Smp, arrival: PortNum) -> Result<[u8; 64], Refusal>
     requires { arrival ≤ agent.now.node.ports }
@@ -48,7 +49,8 @@ fn get(agent: &Agent, smp: &Smp, arrival: PortNum) -> Result<[u8; 64], Refusal>
     }
 }
 
-/// Applies a Set of the packet's attribute, or returns why it is refused.
+/// Applies a Set of the attribute in `smp`, or returns why it is refused and changes nothing. `arrival` must be at most
+/// the port count.
 #[tactic(auto, unfolding(crate::specs::Answers::set_of))]
 fn set(agent: &mut Agent, smp: &Smp, arrival: PortNum) -> Result<(), Refusal>
     requires { arrival ≤ agent.old.node.ports }
@@ -68,7 +70,7 @@ fn set(agent: &mut Agent, smp: &Smp, arrival: PortNum) -> Result<(), Refusal>
     }
 }
 
-/// Returns `Ok` if the fields were taken, and otherwise `InvalidField`.
+/// Returns `InvalidField` unless `is_taken`.
 fn valid_if(is_taken: bool) -> Result<(), Refusal>
     ensures { Judges result (if is_taken then None else Some InvalidField) }
 {

@@ -16,7 +16,8 @@ pub(crate) fn get(agent: &Agent) -> [u8; 64]
     info.encode()
 }
 
-/// Writes LinearFDBTop, if it is below LinearFDBCap. Returns whether it is below.
+/// Writes the LinearFDBTop in `payload` if it is below LinearFDBCap, and returns whether it is. All else in `payload`
+/// is ignored.
 pub(crate) fn set(agent: &mut Agent, payload: &[u8; 64]) -> bool
     ensures taken { result ≡ is_some (set_switch_info agent.old payload.now) }
     ensures agent { agent.new ≡ unwrap_or (set_switch_info agent.old payload.now) agent.old }

@@ -14,34 +14,36 @@ use Rattle.sm_cli.specs.declared.fault.Fault.{Fault}
 use Rattle.sm_cli.specs.declared.input_tables.TablesAndFacts.{TablesAndFacts}
 use Rattle.audit_report.specs.RunAudit.{IsAnswerFault}
 
--- the switches of an order from the first one on, or none if there is no order; `taken` has the last switch first
+-- the GUIDs of the switches of an order from the first one on, where `taken` has the last switch first; none for None,
+-- if there is no order
 abbrev pub told_switches : Cells → Option (List ℕ) → List ℕ
 told_switches cells None = []
 told_switches cells (Some taken) = map (switch_at cells) (reverse taken)
 
--- the order that the tables imply was written. Of several switches that may be taken, the switch with the greatest GUID
--- is. `has_order` says whether the tables imply an order
+-- `prints` holds of the order that the tables imply; of several switches that may be taken next, from the end of the
+-- order on, the one with the greatest GUID is. `has_order` says whether they imply an order
 pub record IsTelling (facts : Facts) (held : HeldPlan) (prints : List ℕ → Type 0) (has_order : Bool) : Type 0 where
   pub order : Option (List ℕ)
   pub told : IsTold (cells_of facts) held (range_with_len 0 (length (switches (cells_of facts)))) order
   pub written : prints (order_text (told_switches (cells_of facts) order))
   pub judged : has_order ≡ is_some order
 
--- the tables and then the files were read, and the order of the tables was written
+-- the tables and then the files were read, and `prints` holds of the order that the tables imply; `has_order` says
+-- whether they imply one
 pub record HasTold {S : Type 0} (state : S → SourceState) (floor : ℕ) (olds news : List S)
     (prints : List ℕ → Type 0) (has_order : Bool) : Type 0 where
   pub read_are : TablesAndFacts
   pub read : AreTablesAndFiles state floor olds news read_are
   pub telling : IsTelling read_are.store read_are.held prints has_order
 
--- the inputs were read, and the order of the tables was not written
+-- the tables and the files were read, and the order of the tables was not written for `fault`
 pub record FailsToTell {S : Type 0} (state : S → SourceState) (floor : ℕ) (olds news : List S)
     (sink_failed : Bool) (fault : Fault) : Type 0 where
   pub read_are : TablesAndFacts
   pub read : AreTablesAndFiles state floor olds news read_are
   pub why : IsAnswerFault sink_failed fault
 
--- why a run over open inputs fails: the inputs are not read, or the order is not written
+-- a run over open inputs fails for `fault`: the inputs are not read, or the order is not written
 abbrev pub IsOrderFault : {S : Type 0} → (S → SourceState) → ℕ → List S → List S → Bool → Fault → Type 0
 IsOrderFault state floor olds news sink_failed fault =
     AreNoTablesAndFiles state 0 olds news fault ⊎ FailsToTell state floor olds news sink_failed fault

@@ -1,5 +1,4 @@
-//! The order of the switches that tables imply, from files. Reads the tables that switches hold, and the files that
-//! describe the subnet.
+//! The order of the switches that tables imply, from files.
 #![tactic(auto)]
 
 mod order_run;

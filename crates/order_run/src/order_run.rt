@@ -19,14 +19,14 @@ use smp_bytes::{Generation, Guid};
 use std::alloc::{AllocError, Global};
 use told_order::told_order;
 
-/// Reads the tables from the first input, then the files in order. Writes the usable switches in an order by which
-/// these tables send no packet, for any LID, down and then up again: for each switch, a line with `0x` and its GUID.
-/// Writes nothing if there is no such order. Returns whether there is one.
+/// Reads the tables from the first input, which there must be, then the files in order. Writes the usable switches in
+/// an order by which these tables send no packet, for any LID, down and then up again: for each switch, a line with
+/// `0x` and its GUID. Writes nothing if there is no such order. Returns whether there is one.
 ///
 /// # Errors
 ///
-/// Returns the first fault. If an input is refused or memory runs out, nothing is written. If a write fails, how much
-/// was written before is unspecified.
+/// Returns the fault of the first input that is refused, `Memory` if memory is refused, or `Write` if a write fails.
+/// Nothing is written unless the error is `Write`; how much is written then is unspecified.
 pub fn run_order_of<S: Source, W: Sink>(
     alloc: Global,
     inputs: &mut [S],
@@ -48,7 +48,8 @@ pub fn run_order_of<S: Source, W: Sink>(
     }
 }
 
-/// Writes the order that the tables imply, and flushes. Returns whether they imply an order.
+/// Writes the order that the tables `held` imply in the subnet of `store`, or nothing if they imply none, and flushes.
+/// Returns whether they imply an order.
 fn answer<W: Sink>(alloc: Global, sink: &mut W, store: &Store, held: &Held) -> Result<bool, Fault>
     ensures told { IfOk result (IsTelling store.now held.now
         (Appends (W.written sink.old) (W.written sink.new))) }
@@ -87,8 +88,8 @@ fn indices(alloc: Global, count: usize) -> Result<Vec<usize>, AllocError>
     (0..count).collect(alloc)
 }
 
-/// Returns the switches of an order from the first one on, or none if there is no order. `order` has the last switch
-/// first.
+/// Returns the GUIDs of the switches of `order` from the first one on, or an empty list if `order` is `None`. `order`
+/// has the switches' indices, the last switch first.
 fn told_switches(
     alloc: Global,
     network: &Network,
@@ -103,7 +104,7 @@ fn told_switches(
     }
 }
 
-/// Returns the switches at the indices `taken`, the last one first.
+/// Returns the GUIDs of the switches at the indices `taken`, from the last of these to the first.
 fn switches_at(alloc: Global, network: &Network, taken: &[usize]) -> Result<Vec<Guid>, AllocError>
     ensures { IfOk result (λ switches. switches.items
         ≡ map (switch_at (cells_of network.now.facts)) (reverse taken.now)) }

@@ -1,4 +1,4 @@
--- A test of whether tables are right by an order.
+-- A test of whether tables are right by an order: no packet goes down and then up.
 use Rattle.std.specs.Prelude.{◌≡◌, ◌↔◌, ◌≤◌, ℕ, ◌&&◌, not, Bool, true, false, List, length, Option, None, slice_index_or}
 use Rattle.std.specs.List.{list_all, range_with_len}
 use Rattle.std.specs.Option.{option_map_or}
@@ -8,25 +8,25 @@ use Rattle.held_tables.specs.Held.{HeldPlan}
 use Rattle.packet_walks.specs.Edges.{edges_of, greatest_top}
 use Rattle.next_tables.specs.EntriesByOrder.{AreRight, is_down, is_up}
 
--- packets leave the switch at index j by a channel up
+-- by `edges`, packets leave the switch at index `j` by a channel up
 abbrev pub leaves_up : (ℕ → ℕ) → List (Option Edge) → ℕ → Bool
 leaves_up q edges j = option_map_or (λ e. is_up q j e.to) (slice_index_or edges j None) false
 
--- packets do not leave the switch at index i by a channel down and the next switch by a channel up
+-- by `edges`, packets do not leave the switch at index `i` by a channel down and the next switch by a channel up
 abbrev pub goes_well : (ℕ → ℕ) → List (Option Edge) → ℕ → Bool
 goes_well q edges i =
     option_map_or (λ e. not (is_down q i e.to && leaves_up q edges e.to)) (slice_index_or edges i None) true
 
--- packets for a LID never go down and then up again
+-- by `edges`, packets for a LID never go down and then up
 abbrev pub is_right_column : (ℕ → ℕ) → List (Option Edge) → Bool
 is_right_column q edges = list_all (goes_well q edges) (range_with_len 0 (length edges))
 
--- packets never go down and then up again, for each LID up to the greatest top
+-- by `tables`, packets for each LID up to the greatest top never go down and then up
 abbrev pub are_right : Cells → (ℕ → ℕ) → HeldPlan → Bool
 are_right cells q tables =
     list_all (λ lid. is_right_column q (edges_of cells tables lid)) (range_with_len 1 (greatest_top cells tables))
 
--- `are_right` is true exactly if tables are right for every LID
+-- `are_right` is true exactly if tables are right by the order for every LID
 abbrev pub RightnessIsTold : Type 0
 RightnessIsTold =
     (cells : Cells) (q : ℕ → ℕ) (tables : HeldPlan)

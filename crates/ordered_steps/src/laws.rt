@@ -17,12 +17,14 @@ pub fn next_are_right()
     ensures law { NextAreRight }
 {}
 
-/// In a step, the channels' numbers by the order rise from each channel to the channels that it can wait for.
+/// In a step whose held tables and goal are right by the order, the channels' numbers by the order rise from each
+/// channel to the channels that it can wait for.
 pub fn numbers_rise_by_order()
     ensures law { NumbersRiseByOrder }
 {}
 
-/// In a step, channels never wait in a cycle, whatever the mixtures of the held and the next tables.
+/// In a step whose held tables and goal are right by the order, channels never wait in a cycle, whatever the mixtures
+/// of the held and the next tables.
 pub fn no_cycle_by_order()
     ensures law { NoCycleByOrder }
 {}
@@ -37,40 +39,46 @@ pub fn rule_is_tried()
     ensures law { RuleIsTried }
 {}
 
-/// A packet that the held tables deliver is delivered by any loose mixtures of the held and the next tables, even if
-/// the mixture changes while the packet travels.
+/// If the held tables and the goal are right by the order for a LID and have the same owners of it, a packet for it
+/// that the held tables deliver is delivered there by any loose mixtures of the held and the next tables, even if the
+/// mixture changes while the packet travels.
 pub fn none_is_lost_by_order()
     ensures law { NoneIsLostByOrder }
 {}
 
-/// After as many steps as its depth, and from then on, a switch from which the goal delivers has the goal's entry, and
-/// the tables deliver from it.
+/// In steps by an order (`AreStepsByOrder`), after as many steps as its depth, and from then on, a switch from which
+/// the goal delivers has the goal's entry, and the tables deliver from it.
 pub fn end_in_the_goal()
     ensures law { EndInTheGoal }
 {}
 
-/// Each switch from which the goal delivers has the goal's entry after twice as many steps as there are switches.
+/// In steps by an order (`AreStepsByOrder`), each switch from which the goal delivers has the goal's entry after twice
+/// as many steps as there are switches, and the tables deliver from it.
 pub fn end_in_twice_as_many()
     ensures law { EndInTwiceAsMany }
 {}
 
-/// Each packet that arrives by the goal arrives after twice as many steps as there are switches.
+/// In steps by an order (`AreStepsByOrder`), each packet that arrives by the goal arrives after twice as many steps as
+/// there are switches.
 pub fn heal_by_order()
     ensures law { HealByOrder }
 {}
 
-/// After `2n` steps among `n` switches, or one step if `n` is 0, the tables are right by every order by which the goal
-/// is right, if the goal delivers from each switch that sends packets straight to the end port by the first tables.
+/// In steps by an order (`AreStepsByOrder`), after `2n` steps among `n` switches, or one step if `n` is 0, the tables
+/// are right by every order by which the goal is right, if the goal delivers from each switch that sends packets
+/// straight to the end port by the first tables.
 pub fn end_right_by_any()
     ensures law { EndRightByAny }
 {}
 
-/// Every packet, wherever it is sent, ends by any mixtures of the held and the next tables: none loops forever.
+/// If the held tables and the goal are right by the order, every packet, wherever it is sent, ends by any mixtures of
+/// the held and the next tables: none loops.
 pub fn all_end_by_order()
     ensures law { AllEndByOrder }
 {}
 
-/// Each switch delivers the packet by the next tables or has no entry.
+/// If a LID has the same owners in the held tables and in the goal, each switch delivers packets for it by the next
+/// tables or has no entry for it.
 pub fn next_deliver_or_drop_by_order()
     ensures law { NextDeliverOrDropByOrder }
 {}
@@ -98,8 +106,9 @@ pub fn all_follow_the_rule()
     ensures law { AllFollowTheRule }
 {}
 
-/// If the facts describe all that is joined to an end port, and the end ports and switches there hold the tables when a
-/// change begins, a packet that the held tables deliver at the end port of a line is delivered there while the fabric's
+/// If the facts describe all that is joined to an end port, the end ports and switches there hold the tables when a
+/// change begins, and the held tables and the goal are right by the order for the LID of a line and have the same
+/// owners of it, a packet that the held tables deliver at the line's end port is delivered there while the fabric's
 /// switches change to the next tables, each at its own time. The packet takes at most 2n + 1 wires, for n usable
 /// switches.
 pub fn packets_arrive_by_order()

@@ -12,8 +12,8 @@ use smp_bytes::Lid;
 use std::alloc::{AllocError, Global};
 
 /// Returns whether no packet, for any LID, goes down and then up again by the tables of `held`, in the order that
-/// `positions` gives. `positions` has the position of each usable switch, by rising GUID. Takes a step for each switch
-/// and each LID up to the greatest top.
+/// `positions` gives. `positions` has the position of each usable switch, by rising GUID. Takes what `Network::edges`
+/// takes for each LID up to the greatest top, and what `Network::blocks` takes for each 64 of them.
 pub fn are_right(alloc: Global, held: &Network, positions: &[usize]) -> Result<bool, AllocError>
     ensures { IfOk result (λ right.
         right ≡ are_right (cells_of held.now.facts) (position_at positions.now) held.now.held) }
@@ -30,15 +30,16 @@ pub fn are_right(alloc: Global, held: &Network, positions: &[usize]) -> Result<b
     Ok(true)
 }
 
-/// Returns whether packets for a LID never go down and then up again. `edges` has the edge by which the packets leave
-/// each switch.
+/// Returns whether packets for a LID never go down and then up again. `edges` has the edge by which they leave each
+/// switch.
 fn is_right_column(positions: &[usize], edges: &[Option<Edge>]) -> bool
     ensures { result ≡ is_right_column (position_at positions.now) edges.now }
 {
     (0..edges.len()).all(|index| goes_well(positions, edges, index))
 }
 
-/// Returns whether packets do not leave the switch at `index` by a channel down and the next switch by a channel up.
+/// Returns whether packets that leave the switch at `index` by a channel down do not leave the next switch by a channel
+/// up.
 fn goes_well(positions: &[usize], edges: &[Option<Edge>], index: usize) -> bool
     ensures { result ≡ goes_well (position_at positions.now) edges.now index }
 {

@@ -1,4 +1,4 @@
--- What is seen of packets, for all LIDs of a block at once.
+-- From which switches packets reach the only holder of their LID, for the 64 LIDs of a block at once.
 use Rattle.std.specs.Prelude.{◌≡◌, ◌⊎◌, ◌<◌, ◌+◌, ◌*◌, ℕ, zero, suc, Bool, true, List, [], ◌∷◌, ◌++◌, Option, None, Some, length, map, slice_get, slice_index_or, slice_set, if◌then◌else◌}
 use Rattle.subnet_view.specs.declared.end_port.EndPort.{EndPort}
 use Rattle.held_tables.specs.declared.audited_switch.AuditedSwitch.{AuditedSwitch}
@@ -14,35 +14,38 @@ use Rattle.packet_walks.specs.HopsByTables.{is_at, next_hop_of}
 use Rattle.held_tables.specs.Owners.{sole_among}
 use Rattle.packet_walks.specs.EndsBySwitch.{IsEndOf, onward}
 
--- the only end port that holds the LID at `index` of the block `number`; None if none or several do
+-- the only end port that holds the LID at `index` of the block `number`, by `owners`; None if none or several do, or
+-- past the end
 abbrev pub target_at : List Owner → ℕ → ℕ → Option EndPort
 target_at owners number index = sole_among (slice_index_or owners (64 * number + index) Several)
 
--- the list of the owners, if `None` stands for none
+-- the owners of a LID that has at most one: none for None, otherwise the one end port
 abbrev pub owners_in : Option EndPort → List EndPort
 owners_in None = []
 owners_in (Some port) = port ∷ []
 
--- the next hop of each switch for packets for a LID that only `target` holds
+-- the next hop of each of `nodes` for packets for `lid`, by the blocks `rows`, if `target` alone holds `lid`; for None,
+-- if nobody holds it
 abbrev pub hops_for : List AuditedSwitch → List (List ℕ) → ℕ → Option EndPort → List NextHop
 hops_for nodes rows lid target = map (next_hop_of (owners_in target) rows lid) nodes
 
--- the next hop of each switch for packets for the LID at `index` of the block `number`
+-- the next hop of each of `nodes` for packets for the LID at `index` of the block `number`, by `rows`; as if nobody
+-- held the LID if several do
 abbrev pub hops_at : List AuditedSwitch → List Owner → List (List ℕ) → ℕ → ℕ → List NextHop
 hops_at nodes owners rows number index = hops_for nodes rows (64 * number + index) (target_at owners number index)
 
--- packets from `switch` reach the end port `target`
+-- there is a `target`, and packets from `switch` reach it by `hops`
 pub record Comes (hops : List NextHop) (target : Option EndPort) (switch : ℕ) : Type 0 where
   pub port : EndPort
   pub is_target : target ≡ Some port
   pub ends : IsEndOf hops (To switch) (Some (Taken port))
 
--- the LIDs whose packets are seen to arrive from `switch`; none if there is no such switch
+-- the set in `arrived` of the LIDs whose packets are seen to arrive from `switch`; empty if there is no such switch
 abbrev pub lids_at : List LidSet → ℕ → LidSet
 lids_at arrived switch = slice_index_or arrived switch no_lids
 
--- packets from a switch for its LIDs in `arrived` reach their end port, and each exit leads from its switch to the
--- next, by the hops at each index of the block
+-- `arrived` has a set for each of `count` switches, and packets from a switch for the LIDs of its set reach their
+-- targets; each exit leads from its switch to the next one, by the hops at each index of the exit's LIDs
 pub record AreSeen (count : ℕ) (hops : ℕ → List NextHop) (target : ℕ → Option EndPort) (arrived : List LidSet)
     (exits : List Exit) : Type 0 where
   pub as_many : length arrived ≡ count
@@ -51,7 +54,8 @@ pub record AreSeen (count : ℕ) (hops : ℕ → List NextHop) (target : ℕ →
   pub lead : (k index : ℕ) (exit : Exit) → slice_get exits k ≡ Some exit → has exit.lids index ≡ true
       → onward (hops index) (To exit.from) ≡ To exit.to
 
--- `AreSeen` by the tables `rows` and the sole owners of the LIDs of the block `number`
+-- of `nodes`, `arrived` and `exits` are seen (`AreSeen`) by the blocks `rows` and the only holders of the LIDs of the
+-- block `number`
 abbrev pub AreSeenBy : List AuditedSwitch → List Owner → List (List ℕ) → ℕ → List LidSet → List Exit → Type 0
 AreSeenBy nodes owners rows number arrived exits =
     AreSeen (length nodes) (hops_at nodes owners rows number) (target_at owners number) arrived exits
@@ -62,7 +66,8 @@ pub record ComeFromEach (count : ℕ) (hops : List NextHop) (target : Option End
   pub is_target : target ≡ Some port
   pub each : (switch : ℕ) → switch < count → IsEndOf hops (To switch) (Some (Taken port))
 
--- packets from every switch for each of `lids` reach the LID's end port
+-- for each of `lids`, of the block `number`, one end port alone holds it, and packets from each of `nodes` reach this
+-- port
 abbrev pub AreDelivered : List AuditedSwitch → List Owner → List (List ℕ) → ℕ → LidSet → Type 0
 AreDelivered nodes owners rows number lids = (index : ℕ) → has lids index ≡ true
     → ComeFromEach (length nodes) (hops_at nodes owners rows number index) (target_at owners number index)
@@ -93,34 +98,34 @@ IsWithExit old from to index new =
     IsExitMore old from to index new
     ⊎ (new ≡ old ++ record { from = from; to = to; lids = with_lid no_lids index } ∷ [])
 
--- `more` and `others` are `arrived` and `exits` with the hop of `switch` for the LID at `index` added; `port` holds the
--- LID
+-- `more` and `others` are `arrived` and `exits` with the hop of `switch` for the LID at `index` added: a hop to a
+-- switch goes to an exit, and an end at `port`, which holds the LID, to the arrivals; another end adds nothing
 abbrev pub IsWithHop : List LidSet → List Exit → ℕ → ℕ → EndPort → NextHop → List LidSet → List Exit → Type 0
 IsWithHop arrived exits switch index port (To to) more others =
     (more ≡ arrived) × IsWithExit exits switch to index others
 IsWithHop arrived exits switch index port (Ends end) more others =
     (more ≡ arrived_if (is_at port (Some end)) arrived switch index) × (others ≡ exits)
 
--- packets for the LIDs of `exit` arrive from `exit.from` too if they arrive from `exit.to`
+-- `arrived`, where packets for the LIDs of `exit` arrive from `exit.from` too if they arrive from `exit.to`
 abbrev pub back_over : Exit → List LidSet → List LidSet
 back_over exit arrived =
     slice_set arrived exit.from (either (lids_at arrived exit.from) (both (lids_at arrived exit.to) exit.lids))
 
--- `arrived` after arrivals are carried back along each exit in turn
+-- `arrived` after arrivals are carried back along each of the exits in turn
 abbrev pub back_by : List Exit → List LidSet → List LidSet
 back_by [] arrived = arrived
 back_by (exit ∷ exits) arrived = back_by exits (back_over exit arrived)
 
--- `arrived` after `n` rounds over the exits
+-- `arrived` after `n` rounds, each of which carries arrivals back along all `exits` in turn
 abbrev pub back_times : ℕ → List Exit → List LidSet → List LidSet
 back_times zero exits arrived = arrived
 back_times (suc n) exits arrived = back_by exits (back_times n exits arrived)
 
--- `new` is `old` after some number of rounds
+-- `new` is `old` after some number of rounds, each of which carries arrivals back along all exits in turn
 abbrev pub AreAfterRounds : List Exit → List LidSet → List LidSet → Type 0
 AreAfterRounds exits old new = (n : ℕ) × (new ≡ back_times n exits old)
 
--- the LIDs that are in `lids` and in each set
+-- the LIDs that are in `lids` and in each set of the list
 abbrev pub in_each : LidSet → List LidSet → LidSet
 in_each lids [] = lids
 in_each lids (more ∷ later) = in_each (both lids more) later

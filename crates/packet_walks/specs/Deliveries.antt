@@ -11,18 +11,18 @@ use Rattle.packet_walks.specs.HopsByTables.{next_hops_of}
 use Rattle.held_tables.specs.Tables.{owners_of}
 use Rattle.packet_walks.specs.EndsBySwitch.{IsEndOf}
 
--- `lid` is one of the deliveries
+-- `lid` is one of `deliveries`: it is in their block, and their set has its index there
 abbrev pub is_delivered : Deliveries → ℕ → Bool
 is_delivered deliveries lid = lid / 64 == deliveries.number && has deliveries.lids (lid % 64)
 
--- packets from each usable switch for `lid` reach the only end port that holds it
+-- one end port alone holds `lid`, and packets from each usable switch for `lid` reach it
 pub record ComeToOwner (cells : Cells) (held : HeldPlan) (lid : ℕ) : Type 0 where
   pub port : EndPort
   pub owner_is : owners_of held lid ≡ port ∷ []
   pub each : (switch : ℕ) → switch < length (switches cells)
       → IsEndOf (next_hops_of cells held lid) (To switch) (Some (Taken port))
 
--- packets from each usable switch for each of the deliveries reach the LID's end port
+-- for each LID of `deliveries`, one end port alone holds it, and packets from each usable switch for it reach this port
 abbrev pub AreDeliveries : Cells → HeldPlan → Deliveries → Type 0
 AreDeliveries cells held deliveries =
     (lid : ℕ) → is_delivered deliveries lid ≡ true → ComeToOwner cells held lid

@@ -15,25 +15,27 @@ pub record Ended : Type 0 where
   pub port : EndPort
   pub ends : List (Option End)
 
--- where the packet of `source` ends; None if it loops forever
+-- where the packet of `source` ends, if `walks` has where the walk from each switch ends; None if it loops forever
 abbrev pub end_from : List EndPort → List NextHop → Sender → Option End
 end_from owners walks source = end_of (onward walks (first_hop owners source))
 
--- for each walk, whether it ends at `port`
+-- for each of `walks`, whether it has ended at `port`
 abbrev pub arrivals : EndPort → List NextHop → List Bool
 arrivals port walks = map (λ walk. is_at port (end_of walk)) walks
 
--- the walk from this switch ends at the port; false if there is no switch
+-- by `arrive`, the walk from the switch at the given index ends at the port; false for None and past the end
 abbrev pub comes_by : Option ℕ → List Bool → Bool
 comes_by None arrive = false
 comes_by (Some index) arrive = slice_index_or arrive index false
 
--- all packets first reach a switch, each walk ends at the port, and no other end port holds the LID
+-- all packets first reach a switch (`begin`), each walk ends at the port (`arrive`), and no other end port holds the
+-- LID (`sole`)
 abbrev pub all_come : Bool → List Bool → Bool → Bool
 all_come begin arrive sole = begin && sole && list_all (λ arrives. arrives) arrive
 
--- `firsts` has the first switch of each packet, and `arrive` whether the walk from each switch ends at `port`; `sole`
--- and `all` have the values that follow
+-- `firsts` has the first switch of each sender's packets, and `arrive` whether the walk from each switch ends at
+-- `port`; `sole` says that each of `owners` is `port`, and `all` that all packets first reach a switch and come to
+-- `port` alone
 pub record AreEnds (port : EndPort) (sources : List Sender) (firsts : List (Option ℕ)) (owners : List EndPort)
     (walks : List NextHop) (arrive : List Bool)
     (sole all : Bool) : Type 0 where

@@ -4,27 +4,28 @@ use Rattle.packet_walks.specs.declared.packet_end.End.{End}
 use Rattle.packet_walks.specs.declared.next_hop.NextHop.{NextHop}
 use Rattle.packet_walks.specs.declared.next_hop.NextHop.TheVariants.{To, Ends}
 
--- the step after the given one, by the steps of the switches; an end stays as it is
+-- the step after a step, if `steps` has the step of each switch; an end stays as it is, and so does a switch past the
+-- end of `steps`
 abbrev pub onward : List NextHop → NextHop → NextHop
 onward steps (To i) = slice_index_or steps i (To i)
 onward steps (Ends e) = Ends e
 
--- the step `n` steps after the given one
+-- the step `n` steps after `s`, if `steps` has the step of each switch
 abbrev pub after : ℕ → List NextHop → NextHop → NextHop
 after zero steps s = s
 after (suc n) steps s = after n steps (onward steps s)
 
--- the walk from `s` ends at the given end; None if it goes on forever
+-- the walk from `s` by `steps` ends at the given end; for None, it goes on forever
 abbrev pub IsEndOf : List NextHop → NextHop → Option End → Type 0
 IsEndOf steps s (Some e) = (n : ℕ) × (after n steps s ≡ Ends e)
 IsEndOf steps s None = (n : ℕ) → (i : ℕ) × (after n steps s ≡ To i)
 
--- the step leads to a switch
+-- the step leads to a switch, and is no end
 abbrev pub is_to : NextHop → Bool
 is_to (To i) = true
 is_to (Ends e) = false
 
--- where a walk has ended; None if it has reached a switch
+-- the end that a walk has come to; None if it is still at a switch
 abbrev pub end_of : NextHop → Option End
 end_of (To i) = None
 end_of (Ends e) = Some e
@@ -34,19 +35,19 @@ pub record HaveEnded (steps ends : List NextHop) : Type 0 where
   pub as_many : length ends ≡ length steps
   pub ended : (s : NextHop) → IsEndOf steps s (end_of (onward ends s))
 
--- each of `jumps` is `n` steps after its switch
+-- each of `jumps` is where `n` of `steps` lead from its switch
 pub record AreAfter (steps jumps : List NextHop) (n : ℕ) : Type 0 where
   pub as_many : length jumps ≡ length steps
   pub onward_is : (s : NextHop) → onward jumps s ≡ after n steps s
 
--- the walk from switch `i` has gone on from the switch that it had reached: to where the walk from that switch was
--- before the round or, if that walk went on earlier in the round, to where it is now
+-- in `new`, the walk from switch `i` has gone on from the switch that it had reached in `old`: to where the walk from
+-- that switch was in `old` or, if that switch comes before `i`, to where it is in `new`
 abbrev pub IsFurther : List NextHop → List NextHop → ℕ → Type 0
 IsFurther old new i =
     (onward new (To i) ≡ onward old (onward old (To i)))
     ⊎ ((j : ℕ) × (j < i) × (onward old (To i) ≡ To j) × (onward new (To i) ≡ onward new (To j)))
 
--- the walks from all switches have gone on once, one after the other
+-- `new` is `old` after the walks from all switches have gone on once, one after the other
 pub record AreFurther (old new : List NextHop) : Type 0 where
   pub as_many : length new ≡ length old
   pub each : (i : ℕ) → i < length old → IsFurther old new i

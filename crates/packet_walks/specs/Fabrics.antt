@@ -25,13 +25,14 @@ pub record HoldsTables (held : HeldPlan) (f : Fabric) : Type 0 where
   pub entries : (id : ℕ) (node : Node) (lid : ℕ) → IsNodeAt f id node → IsTrue (is_switch node.kind)
       → counted lid (f.top id) (f.entry id lid) ≡ entry_for held lid node.guid
 
--- a fabric that the facts describe exactly and that holds the tables
+-- `f` is a fabric that the facts describe exactly and that holds the tables
 pub record IsSeen (cells : Cells) (held : HeldPlan) (f : Fabric) : Type 0 where
   pub is_fabric : IsFabric f
   pub agrees : AgreesOn WholeFabric cells f
   pub holds : HoldsTables held f
 
--- the end ports and switches of `part` hold the tables
+-- each end port of `part` owns exactly the LIDs that its lines give, and each switch there has the effective entries of
+-- its lines
 pub record HoldsTablesIn (part : Part) (held : HeldPlan) (f : Fabric) : Type 0 where
   pub lids : (port : NodePort) (node : Node) (lid : ℕ) → IsEndPortIn part f port node → 1 ≤ lid
       → owns f port lid ≡ is_owner (owners_of held lid) (record { node = node.guid; port = port.port })
@@ -44,15 +45,16 @@ pub record IsSeenIn (part : Part) (cells : Cells) (held : HeldPlan) (f : Fabric)
   pub covers : Covers part cells f
   pub holds : HoldsTablesIn part held f
 
--- a packet that ends at a port is delivered there; any other packet is lost
+-- the packet for `lid` from `source` is delivered at the port where `end` says that it ends; it is lost if `end` says
+-- that it is lost, or None that it loops forever
 abbrev pub EndsAs : Fabric → ℕ → NodePort → Option End → Type 0
 EndsAs f lid source (Some (Taken e)) =
     (hops : List Hop) × (target : NodePort) × IsPortNamed f e.node e.port target × IsDelivered f lid source hops target
 EndsAs f lid source (Some (Lost g cause)) = (hops : List Hop) × (id : ℕ) × IsLost f lid source hops id
 EndsAs f lid source None = (hops : List Hop) × (id : ℕ) × IsLost f lid source hops id
 
--- if the facts describe a fabric exactly and it holds the tables, packets of each end port end there as facts and
--- tables say
+-- if the facts describe a fabric exactly and it holds the tables, a packet that an end port sends for a LID other than
+-- 0 ends there as facts and tables say
 abbrev pub PacketsEndAsTold : Type 0
 PacketsEndAsTold = (facts : Facts) (held : HeldPlan) (f : Fabric) → IsSeen (cells_of facts) held f
     → (source : NodePort) (node : Node) (lid : ℕ) (end : Option End) → IsNodeAt f source.node node → IsEndPort f source
@@ -60,8 +62,8 @@ PacketsEndAsTold = (facts : Facts) (held : HeldPlan) (f : Fabric) → IsSeen (ce
     → IsBrought (cells_of facts) held lid (record { node = node.guid; port = source.port }) end
     → EndsAs f lid source end
 
--- if the facts describe all that is joined to `origin`, and this part holds the tables, packets of its end ports end as
--- facts and tables say
+-- if the facts describe all that is joined to `origin`, and this part holds the tables, a packet that an end port of
+-- the part sends for a LID other than 0 ends as facts and tables say
 abbrev pub PacketsEndAsToldInParts : Type 0
 PacketsEndAsToldInParts = (facts : Facts) (held : HeldPlan) (f : Fabric) (origin : NodePort) → IsEndPort f origin
     → IsSeenIn (IsJoinedTo f origin) (cells_of facts) held f

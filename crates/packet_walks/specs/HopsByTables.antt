@@ -21,55 +21,59 @@ use Rattle.held_tables.specs.Switches.{row_of, sender_of}
 use Rattle.held_tables.specs.Tables.{owners_of, is_owner, is_same_end, counted, entry_for, top_of}
 use Rattle.packet_walks.specs.EndsBySwitch.{IsEndOf, after, end_of}
 
--- where a packet that reaches the port `e` ends: it is delivered if `e` holds the LID, otherwise lost
+-- where a packet that reaches the port `e` ends: it is delivered if `e` is one of `owners`, who hold its LID, otherwise
+-- it is lost
 abbrev pub at_port : List EndPort → EndPort → End
 at_port owners e = if is_owner owners e then Taken e else Lost e.node Foreign
 
--- what becomes of a packet that leaves node `g` over a wire; if there is no wire, it is lost for `cause`
+-- the next hop of a packet that leaves node `g` over a wire to the given far end, for a LID that `owners` hold; if
+-- there is no wire, it is lost for `cause`
 abbrev pub over : List EndPort → ℕ → Cause → Far → NextHop
 over owners g cause Nothing = Ends (Lost g cause)
 over owners g cause (Switch index) = To index
 over owners g cause (Port e) = Ends (at_port owners e)
 
--- why a switch with `ports` ports does not forward a packet for `lid` by its entry: the first cause that applies
+-- the cause for which a switch with `ports` ports does not forward a packet for `lid` by `entry`: the first that
+-- applies
 abbrev pub cause_by : ℕ → ℕ → ℕ → ℕ → Cause
 cause_by ports top lid entry =
     if nat_lt top lid then AboveTop else
     (if entry == 255 then NoEntry else (if nat_lt ports entry then NoPort else NoLink))
 
--- why switch `g` of the facts does not forward a packet for `lid`
+-- the cause for which switch `g` of the facts does not forward a packet for `lid` by the held tables, if it does not
 abbrev pub cause_of : Cells → HeldPlan → ℕ → ℕ → Cause
 cause_of cells held lid g = cause_by (port_count_of cells g) (top_of held g) lid (entry_for held lid g)
 
--- the next hop by the entry: 0 is the switch itself, and any other entry is the port by which the packet leaves
+-- the next hop of switch `g` by `entry`: 0 is the switch itself, and any other entry is the port by which the packet
+-- leaves
 abbrev pub by_entry : List EndPort → ℕ → Cause → List Far → ℕ → NextHop
 by_entry owners g cause row entry =
     if entry == 0 then Ends (Taken (record { node = g; port = 0 })) else over owners g cause
     (slice_index_or row entry Nothing)
 
--- the next hop of each usable switch for `lid`
+-- the next hop of each usable switch, by rising GUID, for packets for `lid`
 abbrev pub next_hops_of : Cells → HeldPlan → ℕ → List NextHop
 next_hops_of cells held lid =
     map (λ g. by_entry (owners_of held lid) g (cause_of cells held lid g) (row_of cells g) (entry_for held lid g))
     (switches cells)
 
--- the entry for `lid` in the row at `index`; 255 if there is none
+-- the entry for `lid` in the block at `index` of `rows`; 255 if there is no index, block or entry
 abbrev pub entry_among : List (List ℕ) → Option ℕ → ℕ → ℕ
 entry_among rows index lid = option_map_or (λ k. slice_index_or (slice_index_or rows k []) (lid % 64) 255) index 255
 
--- the effective entry of a switch by the blocks `rows`
+-- the effective entry of the switch `node` for `lid`, if `rows` are the blocks that `lid` is in
 abbrev pub node_entry : List (List ℕ) → ℕ → AuditedSwitch → ℕ
 node_entry rows lid node = counted lid node.top (entry_among rows node.index lid)
 
--- the next hop of a switch for `lid`, if it has this entry
+-- the next hop of the switch `node` for packets for `lid`, if its effective entry is `entry`
 abbrev pub next_hop_by : List EndPort → ℕ → AuditedSwitch → ℕ → NextHop
 next_hop_by owners lid node entry = by_entry owners node.guid (cause_by node.ports node.top lid entry) node.row entry
 
--- the next hop of a switch for `lid`, by its entry in `rows`
+-- the next hop of the switch `node` for packets for `lid`, by its effective entry in the blocks `rows`
 abbrev pub next_hop_of : List EndPort → List (List ℕ) → ℕ → AuditedSwitch → NextHop
 next_hop_of owners rows lid node = next_hop_by owners lid node (node_entry rows lid node)
 
--- switch `g` with its entry for `lid`, and its next hop
+-- switch `g` with its effective entry for `lid` by the held tables, and its next hop
 abbrev pub switch_step : Cells → HeldPlan → ℕ → ℕ → SwitchStep
 switch_step cells held lid g = record {
   switch = g;
@@ -77,22 +81,22 @@ switch_step cells held lid g = record {
   hop = by_entry (owners_of held lid) g (cause_of cells held lid g) (row_of cells g) (entry_for held lid g);
 }
 
--- a switch with this entry for `lid`, and its next hop
+-- the switch `node` with `entry` as its effective entry for `lid`, and its next hop
 abbrev pub switch_step_by : List EndPort → ℕ → AuditedSwitch → ℕ → SwitchStep
 switch_step_by owners lid node entry =
     record { switch = node.guid; entry = entry; hop = next_hop_by owners lid node entry }
 
--- a switch with its entry for `lid` in `rows`, and its next hop
+-- the switch `node` with its effective entry for `lid` in the blocks `rows`, and its next hop
 abbrev pub switch_step_of : List EndPort → List (List ℕ) → ℕ → AuditedSwitch → SwitchStep
 switch_step_of owners rows lid node = switch_step_by owners lid node (node_entry rows lid node)
 
--- a packet sent by a switch begins at the switch; an adapter port takes a packet for its own LID, and sends any other
--- over its wire
+-- the first hop of a packet that `e` sends: to the usable switch at the index, if `e` is its end port; another end port
+-- (None) takes a packet for its own LID, and sends any other over its wire
 abbrev pub sent : List EndPort → EndPort → Option ℕ → Far → NextHop
 sent owners e (Some index) far = To index
 sent owners e None far = if is_owner owners e then Ends (Taken e) else over owners e.node NoLink far
 
--- where a packet sent by `source` begins
+-- the first hop of a packet that `source` sends for a LID that `owners` hold
 abbrev pub first_hop : List EndPort → Sender → NextHop
 first_hop owners source = sent owners source.port source.switch source.far
 
@@ -108,7 +112,7 @@ end_for cells held lid e =
     end_of (after (length (switches cells)) (next_hops_of cells held lid)
     (first_hop (owners_of held lid) (sender_of cells e)))
 
--- a packet ends as `end_for` says, and in no other way
+-- the packet that an end port sends for a LID ends as `end_for` says, and in no other way
 abbrev pub EndsAreFound : Type 0
 EndsAreFound = (cells : Cells) (held : HeldPlan) (lid : ℕ) (e : EndPort) (end : Option End)
     → IsBrought cells held lid e end ↔ (end ≡ end_for cells held lid e)
@@ -123,12 +127,12 @@ pub record AreBrought (cells : Cells) (held : HeldPlan) (lid : ℕ) (ends : List
   pub brought : (k : ℕ) (e : EndPort) (end : Option End) → slice_get (end_ports cells) k ≡ Some e → slice_get ends k
       ≡ Some end → IsBrought cells held lid e end
 
--- the packets of all end ports for the line's LID arrive at the line's port
+-- the packets that the end ports of the facts send for the LID of `line` arrive at its port
 abbrev pub LineArrives : Cells → HeldPlan → HeldLid → Type 0
 LineArrives cells held line =
     (e : EndPort) → Contains (end_ports cells) e → IsBrought cells held line.lid e (Some (Taken line.port))
 
--- a packet with this end is delivered at `e`
+-- a packet with this end is delivered at `e`; false if it is lost or loops forever
 abbrev pub is_at : EndPort → Option End → Bool
 is_at e None = false
 is_at e (Some (Lost g cause)) = false

@@ -3,6 +3,7 @@ use Rattle.std.specs.Prelude.{ℕ, ◌*◌, ◌%◌, ◌^◌, ◌==◌, Bool, bi
 use Rattle.std.specs.Int.{bit_at}
 use Rattle.packet_walks.specs.declared.lid_set.LidSet.{LidSet}
 
+-- the empty set
 abbrev pub no_lids : LidSet
 no_lids = record { bits = 0 }
 

@@ -1,4 +1,4 @@
--- What a view says about a subnet, with the tables that its switches hold.
+-- The facts of a subnet with the tables that its switches hold, and the network that is made of both.
 use Rattle.std.specs.Prelude.{◌≡◌, ℕ, Bool, List, Option, length, map}
 use Rattle.subnet_view.specs.Reading.{Cells, switches}
 use Rattle.subnet_view.specs.EndPorts.{end_ports}

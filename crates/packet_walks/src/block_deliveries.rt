@@ -24,7 +24,7 @@ pub struct Deliveries {
 }
 
 impl Deliveries {
-    /// Returns whether `lid` is one of the deliveries. Takes one step.
+    /// Returns whether `lid` is one of the deliveries. Takes constant time.
     pub fn has(&self, lid: Lid) -> bool
         ensures { result ≡ is_delivered self.now lid }
     {
@@ -54,14 +54,12 @@ pub(crate) struct BlockWalks {
 /// Blocks from this number on have no LIDs.
 const NUMBERS: u16 = 0x400;
 
-/// The maximum number of rounds in which arrivals are carried back. On a longer walk, arrivals may be missed if its
-/// exits are listed in the wrong order.
+/// The maximum number of rounds in which arrivals are carried back. On a walk over more switches, arrivals may be
+/// missed if its exits are listed in the wrong order.
 const MOST_ROUNDS: usize = 64;
 
 /// Returns the LIDs of the block `number` that exactly one end port holds, if their packets are seen to reach it from
-/// every switch. Takes a step for each switch and LID. Each round also takes a step for each pair of switches of which
-/// one forwards packets to the other. There are at most as many rounds as the longest walk has switches, and at most
-/// 64.
+/// every switch. They may not be seen to if a walk has over 64 switches.
 pub(crate) fn delivered(
     alloc: Global,
     nodes: &[AuditedSwitch],
@@ -95,7 +93,8 @@ impl BlockWalks {
         })
     }
 
-    /// Adds what the switch at index `switch` does with packets for each LID of the block.
+    /// Adds what the switch at index `switch` does with packets for each LID of the block `number`. `switch` must be
+    /// the index of one of `nodes`, and `number` be below 1024.
     fn add_switch(
         &mut self,
         nodes: &[AuditedSwitch],
@@ -121,8 +120,9 @@ impl BlockWalks {
         Ok(())
     }
 
-    /// Adds what the switch at index `switch` does with packets for the LID at `index`, if exactly one end port holds
-    /// the LID. The caller has checked that the switch does not forward them to another switch.
+    /// Adds what the switch at index `switch` does with packets for the LID at `index` of the block `number`, if
+    /// exactly one end port holds the LID, and otherwise nothing. `switch` must be the index of one of `nodes`,
+    /// `number` be below 1024, and `index` below 64.
     fn add_last(
         &mut self,
         nodes: &[AuditedSwitch],
@@ -147,7 +147,8 @@ impl BlockWalks {
         Ok(())
     }
 
-    /// Adds `hop`, the next hop of `switch` for the LID at `index`. `port` is the only end port that holds the LID.
+    /// Adds `hop`, the next hop of `switch` for the LID at `index`, which must be below 64. `port` is the only end port
+    /// that holds the LID.
     fn add_hop(
         &mut self,
         switch: usize,
@@ -171,7 +172,7 @@ impl BlockWalks {
     }
 }
 
-/// Returns the LID at `index` of the block `number`.
+/// Returns the LID at `index` of the block `number`. `number` must be below 1024, and `index` below 64.
 fn lid_at(number: u16, index: usize) -> Lid
     requires number { number < 1024 }
     requires index { index < 64 }
@@ -180,7 +181,7 @@ fn lid_at(number: u16, index: usize) -> Lid
     Lid::new(64 * number + index as u16)
 }
 
-/// Records that the switch `from` forwards packets for the LID at `index` to the switch `to`.
+/// Records that the switch `from` forwards packets for the LID at `index`, which must be below 64, to the switch `to`.
 fn add_exit(
     exits: &mut Vec<Exit>,
     slots: &mut Vec<usize>,
@@ -209,7 +210,7 @@ fn add_exit(
     Ok(())
 }
 
-/// Returns the LIDs of the exit at `slot`, or `None` if that does not lead from `from` to `to`.
+/// Returns the LIDs of the exit at `slot`, or `None` if there is no such exit, or it does not lead from `from` to `to`.
 fn lids_of(exits: &[Exit], slot: usize, from: usize, to: usize) -> Option<LidSet>
     ensures { IfSome result (IsExit exits.now slot from to) }
 {
@@ -221,7 +222,7 @@ fn lids_of(exits: &[Exit], slot: usize, from: usize, to: usize) -> Option<LidSet
     }
 }
 
-/// Returns the slot of a switch, or 0 if there is no such switch.
+/// Returns the slot of `switch`, or 0 if there is no such switch.
 fn slot_at(slots: &[usize], switch: usize) -> usize {
     match slots.get(switch) {
         Some(slot) => *slot,
@@ -229,15 +230,15 @@ fn slot_at(slots: &[usize], switch: usize) -> usize {
     }
 }
 
-/// Sets the slot of a switch, if there is such a switch.
+/// Sets the slot of `switch`, if there is such a switch.
 fn put_slot(slots: &mut Vec<usize>, switch: usize, slot: usize) {
     if switch < slots.len() {
         slots[switch] = slot;
     }
 }
 
-/// Records that packets from `switch` for the LID at `index` reach the LID's end port. Changes nothing if there is no
-/// such switch.
+/// Records that packets from `switch` for the LID at `index`, which must be below 64, reach the LID's end port. Does
+/// nothing if there is no such switch.
 fn add_lid(arrived: &mut Vec<LidSet>, switch: usize, index: usize)
     requires { index < 64 }
     ensures { arrived.new.items ≡ arrived_more arrived.old.items switch index }

@@ -21,7 +21,7 @@ pub struct Ends<'a> {
     /// The end port whose LID the packets are for.
     port: EndPort,
     sources: &'a [Sender],
-    /// For each source, the index of the first switch that its packet reaches.
+    /// For each source, the index of the first switch that its packet reaches, or `None` if it reaches none.
     firsts: &'a [Option<usize>],
     /// The end ports that hold the LID.
     owners: Vec<EndPort>,
@@ -31,7 +31,8 @@ pub struct Ends<'a> {
     arrive: Vec<bool>,
     /// Whether no end port other than `port` holds the LID.
     sole: bool,
-    /// Whether the other fields show that all packets end at `port`.
+    /// Whether each source's packet first reaches a switch, the walk from each switch ends at `port`, and no other end
+    /// port holds the LID. If so, all packets end at `port`.
     all: bool,
 }
 
@@ -48,7 +49,9 @@ impl<'a> Model for Ends<'a> {
 }
 
 impl<'a> Ends<'a> {
-    /// Builds the ends from the owners of the LID and from `walks`, the ends of the walks from the switches.
+    /// Builds the ends from `owners`, the end ports that hold the LID, and from `walks`, the ends of the walks from the
+    /// switches. `firsts` must have the first switch of each source, and `begin` be whether each of these is the index
+    /// of a walk.
     pub(crate) fn new(
         alloc: Global,
         port: EndPort,
@@ -79,15 +82,15 @@ impl<'a> Ends<'a> {
     }
 
     /// Returns where the packet of the end port at `index` ends, or `None` if it loops forever or there is no such end
-    /// port. Takes a step for each owner of the LID.
+    /// port. Takes time linear in the number of owners of the LID.
     pub fn at(&self, index: usize) -> Option<End>
         ensures { result ≡ slice_index_or self.now.ends index None }
     {
         end_at(&self.owners, &self.walks, self.sources, index)
     }
 
-    /// Returns whether the packet of the end port at `index` arrives at the port. Takes a step or two if the packet
-    /// arrives by way of a switch and no other end port holds the LID.
+    /// Returns whether the packet of the end port at `index` is delivered at the port whose LID it is for. Takes
+    /// constant time if the packet arrives by way of a switch and no other end port holds the LID.
     pub fn arrives(&self, index: usize) -> bool
         ensures { result ≡ is_at self.now.port (slice_index_or self.now.ends index None) }
     {
@@ -97,9 +100,9 @@ impl<'a> Ends<'a> {
         is_at(&self.port, &self.at(index))
     }
 
-    /// Returns the index of the first end port whose packet does not end at the port, or `None` if all do. Takes one
-    /// step if all packets first reach a switch, each walk from a switch ends at the port, and no other end port holds
-    /// the LID. Otherwise takes what `arrives` does for each end port.
+    /// Returns the index of the first end port whose packet is not delivered at the port whose LID it is for, or `None`
+    /// if all are. Takes constant time if all packets first reach a switch, each walk from a switch ends at the port,
+    /// and no other end port holds the LID.
     pub fn first_elsewhere(&self) -> Option<usize>
         ensures { result ≡ position (λ end. not (is_at self.now.port end)) self.now.ends }
     {
@@ -109,8 +112,8 @@ impl<'a> Ends<'a> {
         self.look_elsewhere()
     }
 
-    /// Returns the index of the first end port whose packet does not end at the port, or `None` if all do. Looks at
-    /// each end port.
+    /// Returns the index of the first end port whose packet is not delivered at the port whose LID it is for, or `None`
+    /// if all are. Asks `arrives` of each end port up to that one.
     fn look_elsewhere(&self) -> Option<usize>
         ensures { result ≡ position (λ end. not (is_at self.now.port end)) self.now.ends }
     {
@@ -149,22 +152,22 @@ fn end_from(owners: &[EndPort], walks: &[NextHop], source: &Sender) -> Option<En
     end_of(onward(walks, first_hop(owners, source)))
 }
 
-/// Returns whether `sole` is true and the packet of the source at `index` reaches the port by way of a switch.
+/// Returns whether `sole` is true, and the walk from the first switch of the source at `index` ends at the port.
 fn comes_there(sole: bool, firsts: &[Option<usize>], arrive: &[bool], index: usize) -> bool
     ensures { result ≡ (sole && comes_by (slice_index_or firsts.now index None) arrive.now) }
 {
     sole && comes_by(first_at(firsts, index), arrive)
 }
 
-/// Returns the index of the first switch that the packet of the source at `index` reaches, or `None` if it reaches
-/// none.
+/// Returns the index of the first switch that the packet of the source at `index` reaches, or `None` if it reaches none
+/// or there is no such source.
 fn first_at(firsts: &[Option<usize>], index: usize) -> Option<usize>
     ensures { result ≡ slice_index_or firsts.now index None }
 {
     firsts.get(index).copied().flatten()
 }
 
-/// Returns whether the walk from the switch `first` ends at the port. Returns false if there is no such switch.
+/// Returns whether the walk from the switch `first` ends at the port, or false if there is no such switch.
 fn comes_by(first: Option<usize>, arrive: &[bool]) -> bool
     ensures { result ≡ comes_by first arrive.now }
 {
@@ -184,28 +187,28 @@ fn arrivals(alloc: Global, port: &EndPort, walks: &[NextHop]) -> Result<Vec<bool
         .collect(alloc)
 }
 
-/// Returns whether all `owners` are `port`.
+/// Returns whether all `owners` are `port`, as they are if there are none.
 fn is_sole(port: &EndPort, owners: &[EndPort]) -> bool
     ensures { result ≡ is_sole port.now owners.now }
 {
     owners.iter().all(|owner| is_same_end(port, owner))
 }
 
-/// Returns whether the arguments show that all packets end at the port.
+/// Returns whether `begin` and `sole` are true and all walks end at the port, so that all packets do.
 fn all_come(begin: bool, arrive: &[bool], sole: bool) -> bool
     ensures { result ≡ all_come begin arrive.now sole }
 {
     begin && sole && all_arrive(arrive)
 }
 
-/// Returns whether all walks end at the port.
+/// Returns whether all walks end at the port, by `arrive`.
 fn all_arrive(arrive: &[bool]) -> bool
     ensures { result ≡ list_all (λ arrives. arrives) arrive.now }
 {
     arrive.iter().all(|arrives| *arrives)
 }
 
-/// Returns whether a packet that ends at `end` is delivered at `port`. Takes one step.
+/// Returns whether `end` is a delivery at `port`.
 pub fn is_at(port: &EndPort, end: &Option<End>) -> bool
     ensures { result ≡ is_at port.now end.now }
 {

@@ -5,9 +5,9 @@ ghost use Rattle.packet_walks.specs.EndsBySwitch.{AreFurther, HaveEnded, end_of,
 use crate::next_hop::NextHop;
 use crate::packet_end::End;
 
-/// Returns where the walks from the switches end. A walk that still leads to a switch in the result goes on forever. A
-/// round takes a step for each switch. There are at most as many rounds as the longest walk's length has binary digits,
-/// and one more if some walk loops forever.
+/// Returns where the walks from the switches end. A walk that leads to a switch in the result goes on forever. Each
+/// round takes time linear in the number of switches. There are at most as many rounds as the longest walk's length has
+/// binary digits, and one more if some walk loops forever.
 pub fn ends(steps: Vec<NextHop>) -> Vec<NextHop>
     ensures { HaveEnded steps.items result.items }
 {
@@ -23,7 +23,7 @@ pub fn ends(steps: Vec<NextHop>) -> Vec<NextHop>
     jumps
 }
 
-/// Takes each walk further, one after the other. Returns the number of walks that have not ended.
+/// Takes each walk further, one after the other. Returns the number of walks that have not ended then.
 fn go_further(jumps: &mut Vec<NextHop>) -> usize
     ensures further { AreFurther jumps.old.items jumps.new.items }
     ensures left { result ≡ count_by is_to jumps.new.items }
@@ -39,14 +39,15 @@ fn go_further(jumps: &mut Vec<NextHop>) -> usize
     left
 }
 
-/// Returns whether the step leads to a switch.
+/// Returns whether `step` leads to a switch.
 pub fn is_to(step: &NextHop) -> bool
     ensures { result ≡ is_to step.now }
 {
     matches!(step, NextHop::To(_))
 }
 
-/// Returns the step after `step`, by the steps of the switches. An end stays as it is.
+/// Returns the step after `step`, by the steps of the switches. Returns `step` itself if it is an end, or if `steps`
+/// has none for its switch.
 pub fn onward(steps: &[NextHop], step: NextHop) -> NextHop
     ensures { result ≡ onward steps.now step }
 {

@@ -14,7 +14,7 @@ pub(crate) fn entry_for(held: &Held, switch: Guid, lid: Lid) -> u8
     counted(lid, top_at(held, index), entry_at(held, index, lid))
 }
 
-/// Returns the entry for `lid` of the held switch at `index`, or 255 if none is held.
+/// Returns the entry for `lid` of the held switch at `index`, or 255 if `index` is `None` or no block has the entry.
 fn entry_at(held: &Held, index: Option<usize>, lid: Lid) -> u8
     ensures { result ≡ entry_at held.now index lid }
 {
@@ -38,7 +38,7 @@ fn block_at(held: &Held, index: usize, number: u16) -> Option<HeldBlock>
         .find(|block| is_block_of(index, number, block))
 }
 
-/// Returns whether `block` has this number and belongs to the switch at `index`.
+/// Returns whether `block` has the number `number` and belongs to the switch at `index`.
 fn is_block_of(index: usize, number: u16, block: &HeldBlock) -> bool
     ensures { result ≡ is_block_of index number block.now }
 {

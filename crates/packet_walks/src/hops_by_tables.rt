@@ -22,7 +22,7 @@ pub(crate) fn is_owner(owners: &[EndPort], port: &EndPort) -> bool
         .any(|owner| owner.node == port.node && owner.port == port.port)
 }
 
-/// Returns the next hop of each switch for packets for `lid`.
+/// Returns the next hop of each of `nodes` for packets for `lid`, by its entry in `rows`.
 pub(crate) fn steps(
     alloc: Global,
     nodes: &[AuditedSwitch],
@@ -38,7 +38,7 @@ pub(crate) fn steps(
         .collect(alloc)
 }
 
-/// Returns the next hop of a switch for packets for `lid`.
+/// Returns the next hop of the switch `node` for packets for `lid`, by its entry in `rows`.
 pub(crate) fn next_hop_at(
     owners: &[EndPort],
     rows: &[[u8; 64]],
@@ -50,7 +50,7 @@ pub(crate) fn next_hop_at(
     next_hop_by(owners, lid, node, entry_of(rows, lid, node))
 }
 
-/// Returns the next hop of a switch for packets for `lid`, if its entry is `entry`.
+/// Returns the next hop of the switch `node` for packets for `lid`, if its entry is `entry`.
 fn next_hop_by(owners: &[EndPort], lid: Lid, node: &AuditedSwitch, entry: u8) -> NextHop
     ensures { result ≡ next_hop_by owners.now lid node.now entry }
 {
@@ -70,7 +70,7 @@ fn next_hop_by(owners: &[EndPort], lid: Lid, node: &AuditedSwitch, entry: u8) ->
     }
 }
 
-/// Returns the entry of each switch for `lid`, and its next hop.
+/// Returns, for each of `nodes`, its entry for `lid` in `rows`, and its next hop.
 pub(crate) fn switch_steps(
     alloc: Global,
     nodes: &[AuditedSwitch],
@@ -86,7 +86,7 @@ pub(crate) fn switch_steps(
         .collect(alloc)
 }
 
-/// Returns the entry of a switch for `lid`, and its next hop.
+/// Returns the entry of the switch `node` for `lid` in `rows`, and its next hop.
 fn switch_step_at(
     owners: &[EndPort],
     rows: &[[u8; 64]],
@@ -103,7 +103,7 @@ fn switch_step_at(
     }
 }
 
-/// Returns why a switch with `ports` ports and this top does not forward a packet for `lid` by its entry: the first
+/// Returns why a switch with `ports` ports and the top `top` does not forward a packet for `lid` by `entry`: the first
 /// cause that applies.
 fn cause_by(ports: u8, top: Lid, lid: Lid, entry: u8) -> Cause
     ensures { result ≡ cause_by ports top lid entry }
@@ -119,7 +119,7 @@ fn cause_by(ports: u8, top: Lid, lid: Lid, entry: u8) -> Cause
     }
 }
 
-/// Returns the effective entry of each switch for `lid`.
+/// Returns the effective entry of each of `nodes` for `lid`.
 pub(crate) fn entries(
     alloc: Global,
     nodes: &[AuditedSwitch],
@@ -134,14 +134,14 @@ pub(crate) fn entries(
         .collect(alloc)
 }
 
-/// Returns the effective entry of a switch for `lid`.
+/// Returns the effective entry of the switch `node` for `lid`, by `rows`.
 pub(crate) fn entry_of(rows: &[[u8; 64]], lid: Lid, node: &AuditedSwitch) -> u8
     ensures { result ≡ node_entry rows.now lid node.now }
 {
     counted(lid, node.top, entry_among(rows, node.index, lid))
 }
 
-/// Returns the entry for `lid` in the row at `index`; 255 if there is no row.
+/// Returns the entry for `lid` in the row at `index`, or 255 if there is no such row.
 fn entry_among(rows: &[[u8; 64]], index: Option<usize>, lid: Lid) -> u8
     ensures { result ≡ entry_among rows.now index lid }
 {
@@ -154,7 +154,7 @@ fn entry_among(rows: &[[u8; 64]], index: Option<usize>, lid: Lid) -> u8
     }
 }
 
-/// Returns the effective entry: 255 for LID 0 and above the top, otherwise `entry`.
+/// Returns the effective entry: 255 if `lid` is 0 or above `top`, and otherwise `entry`.
 pub(crate) fn counted(lid: Lid, top: Lid, entry: u8) -> u8
     ensures { result ≡ counted lid top entry }
 {
@@ -165,8 +165,8 @@ pub(crate) fn counted(lid: Lid, top: Lid, entry: u8) -> u8
     }
 }
 
-/// Returns, for each switch, the port by which it forwards packets for `lid` to another usable switch, and the index of
-/// that switch; `None` if it does not.
+/// Returns, for each of `nodes`, the port by which it forwards packets for `lid` to a usable switch, possibly itself,
+/// and the index of that switch; `None` if it forwards them to none.
 pub(crate) fn edges(
     alloc: Global,
     nodes: &[AuditedSwitch],
@@ -189,7 +189,8 @@ pub(crate) fn edges(
     Ok(edges)
 }
 
-/// Returns the index of the usable switch to which a switch forwards packets by `entry`, or `None` if it does not.
+/// Returns the index of the usable switch to which the switch `node` forwards packets by `entry`, or `None` if it
+/// forwards them to none.
 pub(crate) fn switch_by(node: &AuditedSwitch, entry: u8) -> Option<usize>
     ensures { result ≡ switch_by node.now.row entry }
 {
@@ -211,8 +212,8 @@ fn over(owners: &[EndPort], node: Guid, cause: Cause, far: Far) -> NextHop
     }
 }
 
-/// Returns where a packet that reaches the port of an adapter ends. It is delivered if `port` is one of `owners`,
-/// otherwise lost.
+/// Returns where a packet ends that reaches `port`, of a node that is no usable switch. It is delivered if `port` is
+/// one of `owners`, and otherwise lost.
 fn at_port(owners: &[EndPort], port: &EndPort) -> End
     ensures { result ≡ at_port owners.now port.now }
 {
@@ -223,7 +224,8 @@ fn at_port(owners: &[EndPort], port: &EndPort) -> End
     }
 }
 
-/// Returns where a packet sent by `source` begins. If an adapter port owns the LID, the packet ends at once.
+/// Returns where a packet sent by `source` begins: at its own switch if it is the end port of one. Otherwise the packet
+/// ends at once if `source` is one of `owners`, and goes over its wire if not.
 pub(crate) fn first_hop(owners: &[EndPort], source: &Sender) -> NextHop
     ensures { result ≡ first_hop owners.now source.now }
 {

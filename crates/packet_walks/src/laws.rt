@@ -9,14 +9,15 @@ pub fn ends_are_found()
     ensures law { EndsAreFound }
 {}
 
-/// If the facts describe a fabric exactly and it holds the tables, each packet that an end port sends to a LID is
-/// delivered at the port that `Network::ends` gives as its end, or is lost if that gives no port.
+/// If the facts describe a fabric exactly and it holds the tables, each packet that an end port sends to a LID other
+/// than 0 is delivered at the port that `Network::ends` gives as its end, or is lost if that gives no port.
 pub fn packets_end_as_told()
     ensures law { PacketsEndAsTold }
 {}
 
 /// If a part is all that is joined to an end port, the facts describe the part, and the part holds the tables, each
-/// packet that an end port of the part sends ends as `Network::ends` says, whatever the rest of the fabric is.
+/// packet that an end port of the part sends to a LID other than 0 ends as `Network::ends` says, whatever the rest of
+/// the fabric is.
 pub fn packets_end_as_told_in_parts()
     ensures law { PacketsEndAsToldInParts }
 {}

@@ -16,7 +16,7 @@ impl LidSet {
         LidSet { bits: 0 }
     }
 
-    /// Returns the set with the LID at `index` added.
+    /// Returns the set with the LID at `index` added. `index` must be below 64.
     pub(crate) fn with(self, index: usize) -> Self
         requires { index < 64 }
         ensures { result ≡ with_lid self index }
@@ -44,7 +44,7 @@ impl LidSet {
         }
     }
 
-    /// Returns whether the set has the LID at `index`.
+    /// Returns whether the set has the LID at `index`. `index` must be below 64.
     pub(crate) fn has(self, index: usize) -> bool
         requires { index < 64 }
         ensures { result ≡ has self index }

@@ -73,8 +73,7 @@ pub struct Blocks {
 }
 
 impl<'a> Network<'a> {
-    /// Builds the network of the view's usable switches and end ports, with the tables `held`. Takes three searches for
-    /// each port of a switch and each end port, and a walk over the held switches for each switch.
+    /// Builds the network of the view's usable switches and end ports, with the tables `held`.
     pub fn of(alloc: Global, store: &'a Store, held: &'a Held) -> Result<Self, Refused>
         ensures facts { IfOk result (λ network. network.facts ≡ store.now) }
         ensures held { IfOk result (λ network. network.held ≡ held.now) }
@@ -97,8 +96,8 @@ impl<'a> Network<'a> {
         })
     }
 
-    /// Returns the blocks `number`, which have the entries for the 64 LIDs from 64 * `number` on. Takes a step for each
-    /// held switch and each held block with this number.
+    /// Returns the blocks `number`, which have the entries for the 64 LIDs from 64 * `number` on. Takes time linear in
+    /// the number of held switches, and of held blocks with the number `number`.
     pub fn blocks(&self, alloc: Global, number: u16) -> Result<Blocks, AllocError>
         ensures { IfOk result (λ blocks. AreBlocks self.now.held blocks.number blocks.rows.items
             × (blocks.number ≡ number)) }
@@ -107,7 +106,8 @@ impl<'a> Network<'a> {
         Ok(Blocks { number, rows })
     }
 
-    /// Returns the blocks that have the entries for `lid`. This is `blocks` itself if it has the right number.
+    /// Returns the blocks that have the entries for `lid`. They are `blocks` itself if its number is that of `lid`.
+    /// `blocks` must be of this network.
     pub fn blocks_for(&self, alloc: Global, blocks: Blocks, lid: Lid) -> Result<Blocks, AllocError>
         requires { AreBlocks self.now.held blocks.number blocks.rows.items }
         ensures { IfOk result (λ blocks. AreBlocks self.now.held blocks.number blocks.rows.items
@@ -120,8 +120,7 @@ impl<'a> Network<'a> {
     }
 
     /// Returns where packets for the LID of `line` end, for each end port that sends one, in order, or `None` if the
-    /// packet loops forever. For each switch, it takes steps in proportion to the number of binary digits of the
-    /// longest walk's length. If several end ports hold the LID, it also walks the held LIDs.
+    /// packet loops forever. `blocks` must be those of this network for that LID.
     pub fn ends<'s>(
         &'s self,
         alloc: Global,
@@ -148,7 +147,7 @@ impl<'a> Network<'a> {
     }
 
     /// Returns, for each usable switch by rising GUID, its entry for `lid` and what it does with packets by this entry.
-    /// Takes a step for each switch. If several end ports hold the LID, it also walks the held LIDs.
+    /// `blocks` must be those of this network for `lid`.
     pub fn switch_steps(
         &self,
         alloc: Global,
@@ -164,8 +163,8 @@ impl<'a> Network<'a> {
         switch_steps(alloc, &self.nodes, &owners, &blocks.rows, lid)
     }
 
-    /// Returns the entry of each usable switch for `lid`, by rising GUID; 255 means no entry. Takes a step for each
-    /// switch.
+    /// Returns the entry of each usable switch for `lid`, by rising GUID; 255 means no entry. `blocks` must be those of
+    /// this network for `lid`.
     pub fn entries(&self, alloc: Global, blocks: &Blocks, lid: Lid) -> Result<Vec<u8>, AllocError>
         requires held { AreBlocks self.now.held blocks.now.number blocks.now.rows.items }
         requires number { blocks.now.number ≡ lid / 64 }
@@ -176,9 +175,7 @@ impl<'a> Network<'a> {
     }
 
     /// Returns the LIDs of a block that exactly one end port holds, if their packets are seen to reach it from every
-    /// usable switch. Takes a step for each switch and LID. Each round also takes a step for each pair of switches of
-    /// which one forwards packets to the other. There are at most as many rounds as the longest walk has switches, and
-    /// at most 64.
+    /// usable switch. They may not be seen to if a walk has over 64 switches. `blocks` must be those of this network.
     pub fn deliveries(&self, alloc: Global, blocks: &Blocks) -> Result<Deliveries, AllocError>
         requires { AreBlocks self.now.held blocks.now.number blocks.now.rows.items }
         ensures { IfOk result (AreDeliveries (cells_of self.now.facts) self.now.held) }
@@ -196,7 +193,8 @@ impl<'a> Network<'a> {
         })
     }
 
-    /// Returns the deliveries of `blocks`. This is `deliveries` itself if it has the right number.
+    /// Returns the deliveries of `blocks`. They are `deliveries` itself if both have one number. `blocks` and
+    /// `deliveries` must be of this network.
     pub fn deliveries_for(
         &self,
         alloc: Global,
@@ -213,8 +211,9 @@ impl<'a> Network<'a> {
         self.deliveries(alloc, blocks)
     }
 
-    /// Returns whether all packets that end ports send to the line's LID are seen to arrive at the line's port. If it
-    /// returns false, they may arrive as well. Takes a step or two, unless several end ports hold the LID.
+    /// Returns whether all packets that end ports send to the line's LID are seen to be delivered at the line's port.
+    /// If it returns false, they may be delivered there too. `deliveries` must be of this network. Takes constant time,
+    /// unless several end ports hold the LID.
     pub fn all_arrive(&self, deliveries: &Deliveries, line: &HeldLid) -> bool
         requires { AreDeliveries (cells_of self.now.facts) self.now.held deliveries.now }
         ensures { result ≡ true → LineArrives (cells_of self.now.facts) self.now.held line.now }
@@ -222,23 +221,24 @@ impl<'a> Network<'a> {
         self.begin && deliveries.has(line.lid) && self.is_sole_owner(line)
     }
 
-    /// Returns the end ports that hold `lid`. Takes a step or two if at most one does; otherwise walks the held LIDs.
+    /// Returns the end ports that hold `lid`. Takes constant time if at most one does, and otherwise time linear in the
+    /// number of held LIDs.
     pub fn owners(&self, alloc: Global, lid: Lid) -> Result<Vec<EndPort>, AllocError>
         ensures { IfOk result (λ owners. owners.items ≡ owners_of self.now.held lid) }
     {
         owners_of(alloc, &self.lines, &self.owners, lid)
     }
 
-    /// Returns whether no end port other than the line's holds the line's LID. Takes no memory. Takes a step or two if
-    /// at most one end port holds it; otherwise walks the held LIDs.
+    /// Returns whether no end port other than the line's holds the line's LID. Takes constant time if at most one end
+    /// port holds it, and otherwise time linear in the number of held LIDs. Does not allocate.
     pub fn is_sole_owner(&self, line: &HeldLid) -> bool
         ensures { result ≡ is_sole line.now.port (owners_of self.now.held line.now.lid) }
     {
         is_sole_owner(&self.lines, &self.owners, line)
     }
 
-    /// Returns whether more than one end port holds `lid`. Takes no memory, and a step or two if the LID is below
-    /// 49152.
+    /// Returns whether more than one end port holds `lid`. Takes constant time if `lid` is below 49,152. Does not
+    /// allocate.
     pub fn is_told_twice(&self, lid: Lid) -> bool
         ensures { result ≡ is_told_twice (lines_of self.now.held) lid }
     {
@@ -260,7 +260,7 @@ impl<'a> Network<'a> {
     }
 
     /// Returns the top of the usable switch at `index`, counted by rising GUID, or 0 if there is no such switch or no
-    /// top is held. Takes one step.
+    /// top is held. Takes constant time.
     pub fn top(&self, index: usize) -> Lid
         ensures { result
             ≡ option_map_or (top_of self.now.held) (slice_get (switches (cells_of self.now.facts)) index) 0 }
@@ -272,8 +272,8 @@ impl<'a> Network<'a> {
     }
 
     /// Returns, for each usable switch by rising GUID, the port by which it forwards packets for `lid` to a usable
-    /// switch, possibly itself, and the index of that switch; `None` if it forwards them to none. Takes a step for
-    /// each switch.
+    /// switch, possibly itself, and the index of that switch; `None` if it forwards them to none. `blocks` must be
+    /// those of this network for `lid`.
     pub fn edges(
         &self,
         alloc: Global,
@@ -295,15 +295,15 @@ impl<'a> Network<'a> {
     }
 
     /// Returns the greatest top of a usable switch, or 0 if there is none. No switch forwards packets for a LID above
-    /// it to another switch. Takes a step for each switch.
+    /// it to another switch. Takes time linear in the number of switches.
     pub fn greatest_top(&self) -> Lid
         ensures { result ≡ greatest_top (cells_of self.now.facts) self.now.held }
     {
         greatest_top(&self.nodes)
     }
 
-    /// Returns the GUID of the usable switch at `index`, counted by rising GUID, or `None` if there is none. Takes one
-    /// step.
+    /// Returns the GUID of the usable switch at `index`, counted by rising GUID, or `None` if there is none. Takes
+    /// constant time.
     pub fn switch(&self, index: usize) -> Option<Guid>
         ensures { result ≡ slice_get (switches (cells_of self.now.facts)) index }
     {
@@ -312,7 +312,7 @@ impl<'a> Network<'a> {
     }
 
     /// Returns where the wire in a port of a usable switch leads. `number` is 256 times the switch's index, plus the
-    /// port. Returns `Nothing` if there is no such switch. Takes one step.
+    /// port. Returns `Nothing` if there is no such switch. Takes constant time.
     pub fn far(&self, number: usize) -> Far
         ensures { result ≡ far_by (cells_of self.now.facts) number }
     {
@@ -337,8 +337,7 @@ impl<'a> Network<'a> {
     }
 
     /// Returns the entry by which the usable switch `node` forwards packets for `lid` (255 means no entry), or `None`
-    /// if `node` is no usable switch. Takes two searches, a walk over the held switches and a walk over the held
-    /// blocks.
+    /// if `node` is no usable switch. Takes time linear in the number of held switches and blocks.
     pub fn entry(&self, node: Guid, lid: Lid) -> Option<u8>
         ensures { result ≡ entry_by (cells_of self.now.facts) self.now.held node lid }
     {
@@ -367,7 +366,7 @@ fn nodes_and_sources(
     Ok((nodes, sources))
 }
 
-/// Returns the end ports as senders, in their order.
+/// Returns the end ports as senders, in their order. `guids` must be the usable switches, by rising GUID.
 fn sources_of(alloc: Global, wires: &Wires, guids: &[Guid]) -> Result<Vec<Sender>, Refused>
     requires { guids.now ≡ switches (cells_of wires.now) }
     ensures { IfOk result (λ sources.
@@ -387,7 +386,7 @@ fn lines_and_owners(alloc: Global, held: &Held) -> Result<(Vec<HeldLid>, Vec<Own
     Ok((lines, owners))
 }
 
-/// Returns the greatest top, or 0 if there is no switch.
+/// Returns the greatest top of `nodes`, or 0 if there are none.
 fn greatest_top(nodes: &[AuditedSwitch]) -> Lid
     ensures { result ≡ greatest (map (λ node. node.top) nodes.now) }
 {

@@ -16,11 +16,11 @@ pub enum End {
 pub enum Cause {
     /// The LID is above the switch's top.
     AboveTop,
-    /// The entry is 255. It is also 255 if no block is held.
+    /// The entry is 255, as it is too if no block is held.
     NoEntry,
     /// The entry is above the number of the switch's ports.
     NoPort,
-    /// The port has no wire: it is down or has no cable.
+    /// No wire is in the port.
     NoLink,
     /// The packet came over a wire to a port that does not hold the LID.
     Foreign,

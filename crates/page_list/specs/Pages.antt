@@ -6,26 +6,27 @@ use Rattle.std.specs.Vec.{vec_capacity}
 use Rattle.std.specs.declared.alloc.Global.{Global}
 use Rattle.page_list.specs.Listing.{Listing}
 
--- the items of the pages, one page after another
+-- the items of the pages, one page after the other
 abbrev pub items_of : {T : Type 0} → List (Vec T Global) → List T
 items_of pages = flat_map (λ p. p.items) pages
 
--- the index of each page's first item, if the first page begins at index `at`
+-- the index of the first item of each page, if that of the first page is `at`
 abbrev pub starts_from : {T : Type 0} → ℕ → List (Vec T Global) → List ℕ
 starts_from at [] = []
 starts_from at (p ∷ pages) = at ∷ starts_from (at + length p.items) pages
 
--- the page has at most 256 items, and room for 256
+-- the page has at most 256 items, and memory for 256
 pub record IsPage {T : Type 0} (page : Vec T Global) : Type 0 where
   pub bounded : length page.items ≤ 256
   pub roomy : 256 ≤ vec_capacity page
 
--- the page is empty, and has room for 256 items
+-- the page is empty, and has memory for 256 items
 pub record IsEmptyPage {T : Type 0} (page : Vec T Global) : Type 0 where
   pub empty : page.items ≡ []
   pub roomy : 256 ≤ vec_capacity page
 
--- the indices are right, and every spare page can be put among the others without new memory
+-- `pages` hold a list of `len` items, `starts` has the index of the first item of each, and there is at least one spare
+-- page for each of `room` more items, which can be put among the others without new memory
 pub record ArePages {T : Type 0} (pages : Vec (Vec T Global) Global) (starts : Listing ℕ)
     (spare : Vec (Vec T Global) Global) (len room : ℕ) : Type 0 where
   pub starts_are : starts.items ≡ starts_from 0 pages.items
@@ -37,7 +38,7 @@ pub record ArePages {T : Type 0} (pages : Vec (Vec T Global) Global) (starts : L
   pub pages_roomy : length pages.items + length spare.items ≤ vec_capacity pages
   pub starts_roomy : length spare.items ≤ starts.room
 
--- the item at index i is at `offset` in page `page`, or would be there if the list ends at i
+-- the item at index `i` is at `offset` of the page at index `page`; if the list ends at `i`, it would be put there
 pub record IsSlot {T : Type 0} (pages : List (Vec T Global)) (i page offset : ℕ) : Type 0 where
   pub there : page < length pages
   pub counted : length (items_of (take page pages)) + offset ≡ i

@@ -7,7 +7,7 @@ use std::alloc::{AllocError, Global};
 /// The number of items that a page has room for.
 pub(crate) const PAGE: usize = 256;
 
-/// Inserts an item into a list that has room for it.
+/// Inserts `item` into `page` at `index`, which must be at most the length. There must be room for one more item.
 pub(crate) fn insert_within<T>(page: &mut Vec<T>, index: usize, item: T)
     requires index { index ≤ vec_len page.old }
     requires room { vec_len page.old < vec_capacity page.old }
@@ -20,8 +20,8 @@ pub(crate) fn insert_within<T>(page: &mut Vec<T>, index: usize, item: T)
     }
 }
 
-/// Inserts an item into a full page and moves half of the page to the empty page `tail`. Returns the number of items
-/// that stay in `page`.
+/// Inserts `item` into the full page `page` at `index`, and moves the second half of it to the empty page `tail`. Both
+/// must have room for `PAGE` items. Returns the number of items in `page` then.
 pub(crate) fn insert_halved<T: Copy>(
     page: &mut Vec<T>,
     tail: &mut Vec<T>,
@@ -53,7 +53,7 @@ pub(crate) fn insert_halved<T: Copy>(
     page.len()
 }
 
-/// Allocates empty pages until there are at least `n`.
+/// Adds empty pages to `spare` until it has at least `n`. Keeps those that were added if memory runs out.
 pub(crate) fn fill<T: Copy>(
     spare: &mut Vec<Vec<T>>,
     alloc: Global,

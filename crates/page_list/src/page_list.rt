@@ -10,14 +10,14 @@ use crate::starts::Starts;
 use std::alloc::{AllocError, Global};
 use std::marker::Model;
 
-/// A list in pages, each of which has at most `PAGE` items.
+/// A list in pages, each of which has at most 256 items.
 #[derive(Drop)]
 pub struct PageList<T> {
-    /// The items, in pages of at most `PAGE`.
+    /// The pages that have the items, in order.
     pub(crate) pages: Vec<Vec<T>>,
     /// The index of each page's first item.
     pub(crate) starts: Starts,
-    /// Pages with no items.
+    /// Empty pages, each with room for `PAGE` items.
     spare: Vec<Vec<T>>,
     /// The number of items.
     len: usize,
@@ -38,7 +38,7 @@ impl<T> Model for PageList<T> {
 }
 
 impl<T: Copy> PageList<T> {
-    /// Creates an empty list, which takes its memory from `alloc` later.
+    /// Creates an empty list, which allocates from `alloc` later.
     pub fn new(alloc: Global) -> Self
         ensures { result ≡ record { items = []; room = 0 } }
     {
@@ -63,16 +63,16 @@ impl<T: Copy> PageList<T> {
         self.len
     }
 
-    /// Returns the item at index `i`, or `None` if there is none. Takes one step if the first or the last page contains
-    /// it, otherwise a binary search among the pages.
+    /// Returns the item at index `i`, or `None` if there is none. Takes constant time if the first or the last page
+    /// contains it, otherwise a binary search among the pages.
     pub fn get(&self, i: usize) -> Option<T>
         ensures { result ≡ slice_get self.now.items i }
     {
         self.get_near(i, Slot::first()).copied()
     }
 
-    /// Returns the item at index `i`, or `None` if there is none. Takes one step if the page of `near` contains it,
-    /// otherwise a binary search among the pages.
+    /// Returns the item at index `i`, or `None` if there is none. Takes constant time if the page of `near` or the last
+    /// page contains it, otherwise a binary search among the pages.
     pub fn get_near(&self, i: usize, near: Slot) -> Option<&T>
         ensures { option_copied result ≡ slice_get self.now.items i }
     {
@@ -83,7 +83,8 @@ impl<T: Copy> PageList<T> {
         Some(&self.pages[at.page][at.offset])
     }
 
-    /// Returns the index that `slot` stands for, or `None` if the list has no such index. Takes one step.
+    /// Returns the index that `slot` stands for, or `None` if the list has no such page or no such index. Takes
+    /// constant time.
     pub fn index_at(&self, slot: Slot) -> Option<usize>
         ensures { IfSome result (λ i. i < length self.now.items) }
     {
@@ -94,7 +95,7 @@ impl<T: Copy> PageList<T> {
         if index < self.len { Some(index) } else { None }
     }
 
-    /// Iterates over the items in order.
+    /// Returns an iterator over the items in order.
     pub fn iter(&self) -> Iter<'_, T>
         ensures items { rest_of result ≡ self.now.items }
         ensures countable { length self.now.items < 2 ^ 64 }
@@ -105,8 +106,8 @@ impl<T: Copy> PageList<T> {
         }
     }
 
-    /// Replaces the item at index `i` and returns its slot. Takes one step if the page of `near` contains it, otherwise
-    /// a binary search among the pages.
+    /// Replaces the item at index `i`, which must exist, with `item`, and returns its slot. Takes constant time if the
+    /// page of `near` or the last page contains it, otherwise a binary search among the pages.
     pub fn set_near(&mut self, i: usize, item: T, near: Slot) -> Slot
         requires { i < length self.old.items }
         ensures items { self.new.items ≡ slice_set self.old.items i item }
@@ -117,7 +118,7 @@ impl<T: Copy> PageList<T> {
         at
     }
 
-    /// Inserts an item at index `i`, before the item that is there.
+    /// Inserts `item` at index `i`, before the item that is there, or at the end. There must be room for one more item.
     pub fn insert(&mut self, i: usize, item: T)
         requires index { i ≤ length self.old.items }
         requires room { 0 < self.old.room }
@@ -127,10 +128,10 @@ impl<T: Copy> PageList<T> {
         self.insert_near(i, item, Slot::first());
     }
 
-    /// Inserts an item at index `i`, before the item that is there, and returns its slot. Finds the page in one step if
-    /// it is the page of `near`. Moves the items behind it in its page, and increments the start indices of at most 64
-    /// pages and one number for every 64 further pages. About once in a hundred items a full page is halved, which
-    /// moves the list of pages and walks their start indices.
+    /// Inserts `item` at index `i`, before the item that is there, or at the end, and returns its slot. There must be
+    /// room for one more item. Looks first in the page of `near`. Moves the items behind it in its page, and increments
+    /// the start indices of at most 64 pages and one number for each later group of 64. If the page is full, halves it,
+    /// which takes time linear in the number of pages.
     pub fn insert_near(&mut self, i: usize, item: T, near: Slot) -> Slot
         requires index { i ≤ length self.old.items }
         requires room { 0 < self.old.room }
@@ -156,8 +157,8 @@ impl<T: Copy> PageList<T> {
         slot_in_halves(at)
     }
 
-    /// Reserves memory for `n` further items. Each may need a page of its own. Keeps the room that there was if memory
-    /// runs out.
+    /// Reserves memory for `n` further items, each of which may need a page of its own. Keeps the room that there was
+    /// if memory runs out or the list would get too long.
     pub fn reserve(&mut self, n: usize) -> Result<(), AllocError>
         ensures ok { OnOk result (n ≤ self.new.room) }
         ensures room { self.old.room ≤ self.new.room }
@@ -192,7 +193,8 @@ impl<T: Copy> PageList<T> {
         self.len = n;
     }
 
-    /// Appends an item. Pages that only this function fills are three quarters full.
+    /// Appends `item`. If the last page is at least three quarters full, opens a new one. If memory runs out, returns
+    /// an error, and the items stay as they are.
     pub fn push(&mut self, item: T) -> Result<(), AllocError>
         ensures ok { OnOk result (self.new.items ≡ self.old.items ++ item ∷ []) }
         ensures err { OnErr result (self.new.items ≡ self.old.items) }
@@ -211,7 +213,7 @@ impl<T: Copy> PageList<T> {
         Ok(())
     }
 
-    /// Appends a new page with one item.
+    /// Appends a new page with `item` alone. There must be room for one more item.
     fn open(&mut self, item: T)
         requires room { 0 < self.old.room }
         ensures items { self.new.items ≡ self.old.items ++ item ∷ [] }

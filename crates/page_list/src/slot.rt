@@ -2,8 +2,8 @@ ghost use Rattle.std.specs.Prelude.{◌≡◌, ◌+◌, ◌<◌, ◌≤◌, Some
 
 use crate::starts::Starts;
 
-/// Returns the last page that begins at index `at` or before it. `starts` has the index of each page's first item.
-/// Takes one step if it is the last page of the list, otherwise a binary search.
+/// Returns the last page that begins at index `at` or before it. `starts` has the index of each page's first item, and
+/// must begin with 0. Takes constant time if it is the last page of the list, otherwise a binary search.
 pub(crate) fn page_of(starts: &Starts, at: usize) -> usize
     requires { slice_get starts.now.items 0 ≡ Some 0 }
     ensures within { result < length starts.now.items }
@@ -43,7 +43,7 @@ impl Slot {
     }
 }
 
-/// Returns the slot of index `i`, also if `i` is the end of the list.
+/// Returns the slot of index `i`, which must be at most the length of the list. The list must have a page.
 pub(crate) fn slot_of<T>(pages: &[Vec<T>], starts: &Starts, i: usize) -> Slot
     requires some { 0 < length pages.now }
     requires starts { starts.now.items ≡ starts_from 0 pages.now }
@@ -57,7 +57,7 @@ pub(crate) fn slot_of<T>(pages: &[Vec<T>], starts: &Starts, i: usize) -> Slot
     }
 }
 
-/// Returns the slot of index `i`, also if `i` is the end of the list. Looks at `page` first.
+/// Returns the slot of index `i` as `slot_of` does, but looks in `page` first.
 pub(crate) fn slot_near<T>(pages: &[Vec<T>], starts: &Starts, page: usize, i: usize) -> Slot
     requires some { 0 < length pages.now }
     requires starts { starts.now.items ≡ starts_from 0 pages.now }

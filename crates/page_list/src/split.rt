@@ -40,10 +40,10 @@ impl<T: Copy> PageList<T> {
         }
     }
 
-    /// Returns an item at an index from `low` up to, but not including, `high`, with at most `most` items of the part
-    /// on either side. Prefers the first item of the page in the middle of `pages`, so that searches read the same few
-    /// items; otherwise takes the item in the middle. Takes one step if the part lies in one page, and usually
-    /// otherwise too; at worst a binary search among the pages.
+    /// Returns an item at an index from `low` up to, but not including, `high`, with at most `most` items of this part
+    /// on either side. The part must have at least one item, and at most 2 * `most` + 1. Prefers the first item of the
+    /// page in the middle of `pages`, so that searches read the same few items; otherwise takes the item in the middle.
+    /// Takes at most a binary search among the pages.
     pub fn split(&self, low: usize, high: usize, most: usize, pages: Pages) -> Split<T>
         requires part { low < high }
         requires within { high ≤ length self.now.items }
@@ -72,8 +72,8 @@ impl<T: Copy> PageList<T> {
     }
 }
 
-/// Returns `wished` if it is in the part and at most `most` items are on either side of it, otherwise the index in the
-/// middle.
+/// Returns `wished` if it is from `low` up to, but not including, `high`, with at most `most` indices of this part on
+/// either side. Otherwise returns the index in the middle. The part must be as in `PageList::split`.
 fn fair_index(low: usize, high: usize, most: usize, wished: usize) -> usize
     requires part { low < high }
     requires halves { high ≤ low + 2 * most + 1 }

@@ -16,7 +16,7 @@ const GROUP: usize = 64;
 pub(crate) struct Starts {
     /// Each index, less the number that is added to its group.
     starts: Vec<usize>,
-    /// The number that is added to each index of a group.
+    /// The number that is added to each index of a group, for each group.
     added: Vec<usize>,
 }
 
@@ -54,7 +54,7 @@ impl Starts {
         self.starts.len()
     }
 
-    /// Returns the index of the page's first item.
+    /// Returns the index of the first item of `page`, which must exist.
     pub(crate) fn at(&self, page: usize) -> usize
         requires { page < length self.now.items }
         ensures { result ≡ slice_index self.now.items page }
@@ -62,8 +62,8 @@ impl Starts {
         self.starts[page] + self.added[page / GROUP]
     }
 
-    /// Adds one to each index from page `from` on. Takes at most one step for each index of a group, and one for each
-    /// later group.
+    /// Adds 1 to each index from page `from` on. All sums must fit in 64 bits. Changes at most the indices of one
+    /// group, and one number for each later group.
     pub(crate) fn shift(&mut self, from: usize)
         requires fits { All (λ start. start + 1 < 2 ^ 64) self.old.items }
         ensures items { self.new.items
@@ -85,8 +85,8 @@ impl Starts {
         count_up(&mut self.added, group + 1, groups);
     }
 
-    /// Inserts an index at `page`. The caller has reserved room. Walks all indices, unless nothing is added to any
-    /// group.
+    /// Inserts `start` at `page`, which must be at most the number of pages. There must be room for one more index.
+    /// Takes time linear in the number of pages.
     pub(crate) fn insert(&mut self, page: usize, start: usize)
         requires page { page ≤ length self.old.items }
         requires room { 0 < self.old.room }
@@ -97,7 +97,8 @@ impl Starts {
         insert_within(&mut self.starts, page, start);
     }
 
-    /// Appends an index. The caller has reserved room. Walks all indices only if something was added to its group.
+    /// Appends `start`. There must be room for one more index. Takes time linear in the number of pages if something
+    /// was added to its group, and otherwise constant time.
     pub(crate) fn push(&mut self, start: usize)
         requires room { 0 < self.old.room }
         ensures items { self.new.items ≡ self.old.items ++ start ∷ [] }
@@ -143,7 +144,7 @@ fn open_groups(added: &mut Vec<usize>, groups: usize) -> Result<(), AllocError>
     added.resize(groups, 0)
 }
 
-/// Adds one to each number at an index from `from` up to, but not including, `until`.
+/// Adds 1 to each number at an index from `from` up to, but not including, `until`. All sums must fit in 64 bits.
 fn count_up(numbers: &mut [usize], from: usize, until: usize)
     requires from { from ≤ until }
     requires until { until ≤ length numbers.old }
@@ -157,7 +158,7 @@ fn count_up(numbers: &mut [usize], from: usize, until: usize)
     }
 }
 
-/// Adds to each index the number of its group, and sets the groups' numbers to 0.
+/// Adds to each index the number of its group, and then sets the numbers of all groups to 0.
 fn settle(numbers: &mut Vec<usize>, added: &mut Vec<usize>)
     requires grouped { length numbers.old.items ≤ 64 * length added.old.items }
     requires fits { All (λ n. n < 2 ^ 64) (raised added.old.items 0 numbers.old.items) }
@@ -185,7 +186,7 @@ fn has_any(numbers: &[usize]) -> bool
     false
 }
 
-/// Adds to each index the number of its group.
+/// Adds to each index the number of its group. Leaves the numbers of the groups as they are.
 fn add_all(numbers: &mut [usize], added: &[usize])
     requires grouped { length numbers.old ≤ 64 * length added.now }
     requires fits { All (λ n. n < 2 ^ 64) (raised added.now 0 numbers.old) }

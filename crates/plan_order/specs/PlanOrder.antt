@@ -7,20 +7,20 @@ use Rattle.updown_routes.specs.Ranks.{is_before, rank_of}
 use Rattle.spread_labels.specs.Orders.{position_of}
 use Rattle.lft_blocks.specs.Rules.{RuleValue, order_of, spread_in, up_and_down}
 
--- the position of switch b by rank: how many switches come before it, by rank and then by GUID
+-- the position of switch `b` by rank: how many switches are of lesser rank, or of equal rank and lesser GUID
 abbrev pub rank_position : List SwitchEdges → ℕ → ℕ
 rank_position graph b = count_by (λ a. is_before graph a b) (guids_of graph)
 
--- a switch with its rank, 0 if it has none
+-- switch `g` after its rank; 0 if it has none
 abbrev pub ranked : List SwitchEdges → ℕ → ℕ × ℕ
 ranked graph g = (unwrap_or (rank_of graph g) 0, g)
 
--- whether switch a comes before switch b, by rank and then by GUID
+-- whether a switch `a` after its rank comes before such a `b`: its rank is less, or equal and its GUID is less
 abbrev pub comes_before : ℕ × ℕ → ℕ × ℕ → Bool
 comes_before a b = nat_lt a.0 b.0 || (a.0 == b.0 && nat_lt a.1 b.1)
 
--- the position of each usable switch, by rising GUID: by rank for the rule that goes up and down, and in its order for
--- the rule that spreads
+-- the position of each usable switch, by rising GUID, in the order by which a rule plans: by rank for up/down routing,
+-- in its order for a rule that spreads
 abbrev pub positions_by : RuleValue → Cells → List ℕ
 positions_by up_and_down cells = map (rank_position (graph_of cells)) (guids_of (graph_of cells))
 positions_by (spread_in order) cells =

@@ -16,8 +16,7 @@ use subnet_view::{SwitchGraph, Wires};
 use updown_routes::Graph;
 
 /// Returns the position of each usable switch of `store`, by rising GUID, in the order that `rule` plans by. A rule
-/// that goes up and down plans by rank and then by GUID. A rule that spreads plans by its order. Takes one step for
-/// each pair of switches, and the time to find the ranks or the order.
+/// that goes up and down plans by rank and then by GUID. A rule that spreads plans by its order.
 pub fn plan_positions(alloc: Global, store: &Store, rule: &Rule) -> Result<Vec<usize>, Refused>
     ensures { IfOk result (λ positions.
         positions.items ≡ positions_by (value_of rule.now) (cells_of store.now)) }
@@ -29,7 +28,7 @@ pub fn plan_positions(alloc: Global, store: &Store, rule: &Rule) -> Result<Vec<u
     }
 }
 
-/// Returns the position of each usable switch, by rising GUID, by rank and then by GUID.
+/// Returns the position of each usable switch, by rising GUID, in the order by rank and then by GUID.
 fn by_rank(alloc: Global, wires: &Wires) -> Result<Vec<usize>, Refused>
     ensures { IfOk result (λ positions.
         positions.items ≡ positions_by up_and_down (cells_of wires.now)) }
@@ -38,7 +37,7 @@ fn by_rank(alloc: Global, wires: &Wires) -> Result<Vec<usize>, Refused>
     Ok(rank_positions(alloc, &graph)?)
 }
 
-/// Returns the position of each usable switch, by rising GUID, in the order of the rule that spreads.
+/// Returns the position of each usable switch, by rising GUID, in the order of the rule that spreads by `order`.
 fn by_spread(alloc: Global, wires: &Wires, order: &SwitchOrder) -> Result<Vec<usize>, Refused>
     ensures { IfOk result (λ positions.
         positions.items ≡ positions_by (spread_in (order_value_of order.now)) (cells_of wires.now)) }
@@ -49,7 +48,7 @@ fn by_spread(alloc: Global, wires: &Wires, order: &SwitchOrder) -> Result<Vec<us
     Ok(positions_in(alloc, &ordered, graph.switches())?)
 }
 
-/// Returns the position of each switch in the list `ordered`, or the length of the list if it is not there.
+/// Returns the position of each of `switches` in the list `ordered`, or the length of `ordered` if it is not there.
 fn positions_in(
     alloc: Global,
     ordered: &[Guid],
@@ -63,7 +62,8 @@ fn positions_in(
         .collect(alloc)
 }
 
-/// Returns the position of `switch` in the list `ordered`, or the length of the list if it is not there.
+/// Returns the position of `switch` in the list `ordered`, or the length of `ordered` if it is not there. Takes time
+/// linear in that length.
 fn position_of(ordered: &[Guid], switch: Guid) -> usize
     ensures { result ≡ position_of ordered.now switch }
 {

@@ -1,4 +1,5 @@
--- The tables of a plan are right by the order of switches by which the plan was made.
+-- That the tables of a plan are right by the order of switches by which the plan was made, and steps towards it end in
+-- it.
 use Rattle.std.specs.Prelude.{◌≡◌, ◌≤◌, ◌<◌, ◌*◌, ℕ, suc, Contains, Some, length, slice_get}
 use Rattle.fact_store.specs.View.{Facts, cells_of, AreInRange}
 use Rattle.subnet_view.specs.EndPorts.{end_ports}
@@ -15,8 +16,8 @@ use Rattle.next_tables.specs.EntriesByOrder.{AreApart, AreRight, IsNextByOrder, 
 use Rattle.next_tables.specs.Mixtures.{RiseInStep}
 use Rattle.ordered_steps.specs.StepLaws.{AreNextByOrder, DeliverFrom}
 
--- if a plan sends packets for a LID over two channels one after the other, the rule's number of the second is greater
--- than that of the first
+-- if facts are in range and have room, and their plan sends packets for a LID over two channels one after the other,
+-- the rule's number of the second is greater than that of the first
 abbrev pub PlanTurnsRise : Type 0
 PlanTurnsRise =
     (rule : RuleValue) (lmc : ℕ) (facts : Facts) → AreInRange facts → ¬ (IsNoRoom lmc (cells_of facts))
@@ -25,11 +26,11 @@ PlanTurnsRise =
     → (routing_by rule (cells_of facts)).channel (switch_at (cells_of facts) i) (switch_at (cells_of facts) j)
     < (routing_by rule (cells_of facts)).channel (switch_at (cells_of facts) j) (switch_at (cells_of facts) k)
 
--- the position of the switch at index i in the order of a rule
+-- the position of the switch at an index in the order of a rule
 abbrev pub plan_position : RuleValue → Cells → ℕ → ℕ
 plan_position rule cells = position_at (positions_by rule cells)
 
--- the plan of a view with room is right for every LID by the positions of its rule
+-- if facts are in range and have room, their plan is right for every LID by the positions of its rule
 abbrev pub PlansAreRight : Type 0
 PlansAreRight =
     (rule : RuleValue) (lmc : ℕ) (facts : Facts) → AreInRange facts → ¬ (IsNoRoom lmc (cells_of facts))
@@ -44,7 +45,8 @@ PlanOrdersAreOrders =
     → IsOrder (cells_of facts) (plan_position rule (cells_of facts))
     × AreApart (cells_of facts) (plan_position rule (cells_of facts))
 
--- a plan delivers from both of two usable switches with a wire between them, or from neither
+-- if facts are in range and have room, their plan delivers, for the LID of an end port that they have, from both of two
+-- usable switches with a wire between them, or from neither
 abbrev pub PlansCover : Type 0
 PlansCover =
     (rule : RuleValue) (lmc : ℕ) (facts : Facts) → AreInRange facts → ¬ (IsNoRoom lmc (cells_of facts))
@@ -54,8 +56,8 @@ PlansCover =
     → DeliverFrom (cells_of facts) (held_plan (plan_of rule lmc (cells_of facts))) line j
     → DeliverFrom (cells_of facts) (held_plan (plan_of rule lmc (cells_of facts))) line i
 
--- in a step towards a plan, for all LIDs, from tables that are right by the plan's positions, the channels' numbers
--- rise, and the next tables are right by these positions
+-- if facts are in range and have room, then in a step towards their plan, for all LIDs, from tables that are right by
+-- the plan's positions, the channels' numbers by these positions rise, and the next tables are right by them
 abbrev pub StepsTowardsPlans : Type 0
 StepsTowardsPlans =
     (rule : RuleValue) (lmc : ℕ) (facts : Facts) → AreInRange facts → ¬ (IsNoRoom lmc (cells_of facts))
@@ -66,8 +68,9 @@ StepsTowardsPlans =
     → RiseInStep (cells_of facts) held next (numbers_by (cells_of facts) (plan_position rule (cells_of facts)))
     × ((lid : ℕ) → 1 ≤ lid → AreRight (cells_of facts) (plan_position rule (cells_of facts)) next lid)
 
--- after twice as many steps as there are switches, each switch from which the plan delivers to an end port has the
--- plan's entry, and delivers
+-- if facts are in range and have room, then in steps towards their plan, from 2n steps on, for n switches, each switch
+-- from which the plan delivers to the end port of `line` has the plan's entry, and delivers; at first the tables must
+-- be right by the plan's positions and have its owners for the LID
 abbrev pub StepsEndInPlans : Type 0
 StepsEndInPlans =
     (rule : RuleValue) (lmc : ℕ) (facts : Facts) → AreInRange facts → ¬ (IsNoRoom lmc (cells_of facts))

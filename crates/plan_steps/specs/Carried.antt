@@ -1,4 +1,4 @@
--- What a Set of PortInfo or SwitchInfo carries in addition to what its step sets: what was read, if that is kept.
+-- What a Set of PortInfo or SwitchInfo carries besides what its step sets: the image that was read, with some changes.
 -- InfiniBand Architecture Specification, Volume 1: subnet management, PortInfo and SwitchInfo.
 use Rattle.std.specs.Prelude.{ℕ, min, List, [], ◌∷◌, Option, Some, None, option_and_then, option_map, ◌==◌, if◌then◌else◌, replicate}
 use Rattle.smp_bytes.specs.Field.{Bits, Field, bits_in, number_in, with_bits, with_number}
@@ -11,43 +11,51 @@ use Rattle.plan_steps.specs.declared.carried.PortRead.{PortRead}
 
 -- further fields of PortInfo -------------------------------------------------------------------
 
+-- LinkWidthEnabled, a component of PortInfo
 abbrev pub link_width_enabled : Bits
 link_width_enabled = record { at = 29; shift = 0; width = 8 }
 
+-- NeighborMTU, a component of PortInfo
 abbrev pub neighbor_mtu : Bits
 neighbor_mtu = record { at = 36; shift = 4; width = 4 }
 
+-- MTUCap, a component of PortInfo
 abbrev pub mtu_cap : Bits
 mtu_cap = record { at = 41; shift = 0; width = 4 }
 
+-- LinkSpeedEnabled, a component of PortInfo
 abbrev pub link_speed_enabled : Bits
 link_speed_enabled = record { at = 35; shift = 0; width = 4 }
 
+-- LinkSpeedExtEnabled, a component of PortInfo
 abbrev pub link_speed_ext_enabled : Bits
 link_speed_ext_enabled = record { at = 63; shift = 0; width = 5 }
 
+-- HOQLife, a component of PortInfo
 abbrev pub hoq_life : Bits
 hoq_life = record { at = 42; shift = 0; width = 5 }
 
+-- ClientReregister, a component of PortInfo
 abbrev pub client_reregister : Bits
 client_reregister = record { at = 51; shift = 7; width = 1 }
 
+-- SubnetTimeOut, a component of PortInfo
 abbrev pub subnet_timeout : Bits
 subnet_timeout = record { at = 51; shift = 0; width = 5 }
 
 -- what is changed of what was read ---------------------------------------------------------------
 
--- bits, and the number that a Set carries in them
+-- some bits, and the number that a Set carries in them instead of what was read
 pub record Change : Type 0 where
   pub bits : Bits
   pub number : ℕ
 
--- bytes with each change made
+-- `bytes` with each change made, one after the other
 abbrev pub changed : List Change → List ℕ → List ℕ
 changed [] bytes = bytes
 changed (c ∷ changes) bytes = changed changes (with_bits c.bits c.number bytes)
 
--- `number`, or `otherwise` if it is 0
+-- `number`; if it is 0, `otherwise`
 abbrev pub or_default : ℕ → ℕ → ℕ
 or_default otherwise number = if number == 0 then otherwise else number
 
@@ -55,24 +63,25 @@ or_default otherwise number = if number == 0 then otherwise else number
 abbrev pub link_local_prefix : ℕ
 link_local_prefix = 0xFE80000000000000
 
--- the number that makes a Set leave bits unchanged
+-- the number that leaves a component unchanged
 abbrev pub no_change : ℕ
 no_change = 0
 
--- times of 4.096 us * 2^n, as their n: 268 ms and 1 s
+-- the n of 4.096 us * 2^n that is 268 ms
 abbrev pub quarter_second : ℕ
 quarter_second = 16
 
+-- the n of 4.096 us * 2^n that is 1 s
 abbrev pub one_second : ℕ
 one_second = 18
 
--- the MTU of a port on a wire: the lesser of the MTUs that its two ends can take, if both report one, and otherwise as
--- it was read
+-- the NeighborMTU of a port: the lesser MTUCap of its wire's two ends, if both images are there and neither says 0;
+-- else as it was read
 abbrev pub mtu_of : List ℕ → Option (List ℕ) → ℕ
 mtu_of own None = bits_in neighbor_mtu own
 mtu_of own (Some far) = or_default (bits_in neighbor_mtu own) (min (bits_in mtu_cap own) (bits_in mtu_cap far))
 
--- the bits of PortInfo in which a Set may carry another value than was read
+-- the bits of PortInfo in which a Set carries something else than was read, or may
 abbrev pub port_changes : PortRead → List Change
 port_changes read =
     record { bits = link_width_enabled; number = no_change }
@@ -85,7 +94,7 @@ port_changes read =
     ∷ record { bits = subnet_timeout; number = or_default one_second (bits_in subnet_timeout read.own) }
     ∷ record { bits = client_reregister; number = 0 } ∷ []
 
--- the bits of SwitchInfo in which a Set may carry another value than was read: a 1 clears PortStateChange
+-- the bits of SwitchInfo in which a Set carries something else than was read, or may; a 1 clears PortStateChange
 abbrev pub switch_changes : List ℕ → List Change
 switch_changes read =
     record { bits = life_time_value; number = or_default one_second (bits_in life_time_value read) }
@@ -93,33 +102,36 @@ switch_changes read =
 
 -- what was read ---------------------------------------------------------------------------------------
 
--- the PortInfo that was read of the port across; None if there is no such port or it is not kept
+-- the image of PortInfo of the other end of the wire in port `port` of node `guid`; None if there is no wire, or the
+-- image is not kept
 abbrev pub far_image : Cells → Sweep → ℕ → ℕ → Option (List ℕ)
 far_image cells sweep guid port = option_and_then (λ far. port_image sweep far.0 far.1) (across cells guid port)
 
--- the PortInfo that was read of a port and of the port across; None if that of the port is not kept
+-- the images of PortInfo of port `port` of node `guid` and of its wire's other end; None if the port's own is not kept
 abbrev pub port_read : Cells → Sweep → ℕ → ℕ → Option PortRead
 port_read cells sweep guid port =
     option_map (λ own. record { own = own; far = far_image cells sweep guid port }) (port_image sweep guid port)
 
 -- what is carried ------------------------------------------------------------------------------------
 
--- an attribute as a whole
+-- the 64 bytes of an attribute as one field
 abbrev pub all_bytes : Field
 all_bytes = record { at = 0; len = 64 }
 
--- the 64 bytes of `read`
+-- the first 64 bytes of `read`
 abbrev pub copied : List ℕ → List ℕ
 copied read = with_number all_bytes (number_in all_bytes read) (replicate 64 0)
 
--- PortInfo as a Set carries it: as it was read, except for the changes and the GID prefix; zeros if none is kept
+-- PortInfo as a Set carries it, before what its step sets: as it was read, except for `port_changes` and a GID prefix
+-- of 0; zeros without an image
 abbrev pub carried_port : Option PortRead → List ℕ
 carried_port None = replicate 64 0
 carried_port (Some read) =
     changed (port_changes read)
     (with_number gid_prefix (or_default link_local_prefix (number_in gid_prefix read.own)) (copied read.own))
 
--- SwitchInfo as a Set carries it: as it was read, except for the changes; zeros if none is kept
+-- SwitchInfo as a Set carries it, before what its step sets: as it was read, except for `switch_changes`; zeros without
+-- an image
 abbrev pub carried_switch : Option (List ℕ) → List ℕ
 carried_switch None = replicate 64 0
 carried_switch (Some read) = changed (switch_changes read) (copied read)

@@ -1,5 +1,5 @@
--- What a plan sets at end ports: their LIDs, and the LID of the manager.
--- InfiniBand Architecture Specification, Volume 1: subnet management, PortInfo; addressing, unicast LIDs.
+-- The steps that set LIDs at end ports, and with them the LID of the manager. InfiniBand Architecture Specification,
+-- Volume 1: subnet management, PortInfo; addressing, unicast LIDs.
 use Rattle.std.specs.Prelude.{◌≡◌, ◌≤◌, ◌⊎◌, ℕ, Bool, false, List, Contains, Option, Some, ◌==◌, ◌&&◌, option_and_then}
 use Rattle.std.specs.Option.{option_map_or}
 use Rattle.std.specs.List.{filter_map, find}
@@ -24,55 +24,55 @@ abbrev pub is_own_port : Cells → ℕ → ℕ → EndPort → Bool
 is_own_port cells port_guid port e =
     e.port == port && option_map_or (λ guid. guid == port_guid) (port_guid_of cells e.node e.port) false
 
--- the LID of the manager at the port with this GUID and number: that of the first end port that has both; 0 if there is
--- none
+-- the LID of the manager's end port, the first with the GUID `port_guid` and the number `port`; 0 if there is none
 abbrev pub own_lid : Cells → List (EndPort × ℕ) → ℕ → ℕ → ℕ
 own_lid cells given port_guid port = option_map_or (λ x. x.1) (find (λ x. is_own_port cells port_guid port x.0) given) 0
 
--- PortInfo with a LID and an LMC, the manager's LID and a state; everything else is as a Set carries it
+-- PortInfo with a LID and an LMC, the manager's LID `master` and a state; all else as a Set carries it (`carried_port`)
 abbrev pub port_data : Option PortRead → ℕ × ℕ → ℕ → PortState → List ℕ
 port_data read range master state =
     with_bits port_state (number_of_state state)
     (with_bits lmc range.1 (with_number master_sm_lid master (with_number base_lid range.0 (carried_port read))))
 
--- the step that sets the LID and the LMC of an end port, and the manager's LID; None if the sweep did not reach it
+-- the step that sets the LID and the LMC of the end port `e`, and the manager's LID `master`; None if the sweep did not
+-- reach `e`
 abbrev pub lid_step : Cells → Sweep → ℕ → ℕ × ℕ → EndPort → Option Step
 lid_step cells sweep master range e =
     step_at sweep e.node e.port port_info e.port (port_data (port_read cells sweep e.node e.port) range master NoChange)
 
--- the step of the end port that owns `lid`; None if there is none, or the sweep did not reach it
+-- the step that sets the LID `lid` at the end port that owns it; None if nobody does, or the sweep did not reach it
 abbrev pub owner_step : Cells → Sweep → ℕ → Given → ℕ → Option Step
 owner_step cells sweep master given lid =
     option_and_then (λ e. lid_step cells sweep master (lid, lmc_of given e) e) (owner_of given lid)
 
--- the steps that set the LID and the LMC of each end port that was reached, by rising LIDs
+-- the steps that set the LID and the LMC of each end port that the sweep reached, by rising LIDs
 abbrev pub lid_steps : Cells → Sweep → ℕ → Given → List Step
 lid_steps cells sweep master given = filter_map (owner_step cells sweep master given) (rising_lids given)
 
 -- the law of the manager's LID, in words: ----------------------------------------------------
 
--- the end port `e` is the manager's: it has the number `port`, and is known to have the GUID `port_guid`
+-- the end port `e` can be the manager's: it has the number `port`, and is known to have the GUID `port_guid`
 abbrev pub IsOwnPort : Cells → ℕ → ℕ → EndPort → Type 0
 IsOwnPort cells port_guid port e = (e.port ≡ port) × (port_guid_of cells e.node e.port ≡ Some port_guid)
 
--- `lid` is the LID of the manager's end port, at the node of the least GUID
+-- `lid` is that of the manager's end port; if several can be it, of the one with the least node GUID
 pub record IsOwnLid (cells : Cells) (given : List (EndPort × ℕ)) (port_guid port lid : ℕ) : Type 0 where
   pub end : EndPort
   pub held : Contains given (end, lid)
   pub own : IsOwnPort cells port_guid port end
   pub first : (e : EndPort) (n : ℕ) → Contains given (e, n) → IsOwnPort cells port_guid port e → end.node ≤ e.node
 
--- no end port is the manager's
+-- no end port with a LID can be the manager's
 abbrev pub HasNoOwnPort : Cells → List (EndPort × ℕ) → ℕ → ℕ → Type 0
 HasNoOwnPort cells given port_guid port =
     (e : EndPort) (n : ℕ) → Contains given (e, n) → IsOwnPort cells port_guid port e → ⊥
 
--- `lid` is the LID of the manager's end port, or 0 if the manager has none
+-- `lid` is that of the manager's end port; 0 if it has none
 abbrev pub IsOwnLidOr0 : Cells → List (EndPort × ℕ) → ℕ → ℕ → ℕ → Type 0
 IsOwnLidOr0 cells given port_guid port lid =
     IsOwnLid cells given port_guid port lid ⊎ (HasNoOwnPort cells given port_guid port × (lid ≡ 0))
 
--- if there is room for the LIDs, the manager's LID is that of its end port, or 0 if it has none
+-- if there is room for the LIDs, `own_lid` gives the LID of the manager's end port, or 0 if it has none
 abbrev pub OwnLidLaw : Type 0
 OwnLidLaw =
     (lmc : ℕ) (facts : Facts) → ¬ (IsNoRoom lmc (cells_of facts)) → (port_guid port : ℕ)

@@ -1,4 +1,4 @@
--- Laws of what Sets of PortInfo and SwitchInfo contain.
+-- Laws of Sets of PortInfo and SwitchInfo: they say what the plan asks for, and change nothing else but what is listed.
 use Rattle.std.specs.Prelude.{◌≡◌, ℕ, ◌<◌, ◌^◌, Bool, true, ◌&&◌, List, [], ◌∷◌, Contains, Option, Some, length, map}
 use Rattle.smp_bytes.specs.Field.{Bits, Field, are_apart, are_bits_apart, bits_in, number_in, with_bits}
 use Rattle.attr_codec.specs.PortInfo.{base_lid, gid_prefix, lmc, master_sm_lid, number_of_state, port_state, range_in}
@@ -18,19 +18,20 @@ use Rattle.plan_steps.specs.Tables.{top_data}
 
 -- what the plan asks for ---------------------------------------------------------------------------
 
--- the payload is 64 bytes of PortInfo with this LID and LMC, this LID of the manager and this state
+-- `payload` is 64 bytes of PortInfo with the LID and the LMC of `range`, the manager's LID `master` and the state
+-- `state`
 pub record SaysPort (range : ℕ × ℕ) (master : ℕ) (state : PortState) (payload : List ℕ) : Type 0 where
   pub whole : length payload ≡ 64
   pub range_is : range_in payload ≡ range
   pub master_is : number_in master_sm_lid payload ≡ master
   pub state_is : bits_in port_state payload ≡ number_of_state state
 
--- the payload is 64 bytes of SwitchInfo with this greatest LID
+-- `payload` is 64 bytes of SwitchInfo with the LinearFDBTop `top`
 pub record SaysTop (top : ℕ) (payload : List ℕ) : Type 0 where
   pub whole : length payload ≡ 64
   pub top_is : number_in linear_fdb_top payload ≡ top
 
--- whatever was read, a Set contains what the plan asks for
+-- whatever was read, a Set says what the plan asks for, if LIDs, LMC and top fit their fields
 pub record SetsSayThePlan : Type 0 where
   pub port : (read : Option PortRead) (range : ℕ × ℕ) (master : ℕ) (state : PortState)
       → range.0 < 2 ^ 16 → range.1 < 8 → master < 2 ^ 16
@@ -39,43 +40,45 @@ pub record SetsSayThePlan : Type 0 where
 
 -- all else -------------------------------------------------------------------------------------------
 
--- the bits are disjoint from all the others
+-- whether the bits `b` have none in common with any of the others
 abbrev pub are_apart_from : List Bits → Bits → Bool
 are_apart_from [] b = true
 are_apart_from (other ∷ others) b = are_bits_apart b other && are_apart_from others b
 
--- the byte of the bits is in none of the fields
+-- whether the byte of the bits `b` is in none of the fields
 abbrev pub are_outside : List Field → Bits → Bool
 are_outside [] b = true
 are_outside (f ∷ fields) b = are_apart (record { at = b.at; len = 1 }) f && are_outside fields b
 
--- the bits of these changes
+-- the bits that the changes are made in
 abbrev pub bits_of : List Change → List Bits
 bits_of changes = map (λ c. c.bits) changes
 
--- the fields of PortInfo in which a Set may differ from what was read
+-- the fields of PortInfo in which a Set may differ from what was read, apart from `port_bits`
 abbrev pub port_fields : List Field
 port_fields = base_lid ∷ master_sm_lid ∷ gid_prefix ∷ []
 
--- the bits of PortInfo in which a Set may differ from what was read
+-- the bits of PortInfo in which a Set may differ from what was read, apart from `port_fields`
 abbrev pub port_bits : PortRead → List Bits
 port_bits read = port_state ∷ lmc ∷ bits_of (port_changes read)
 
--- what a Set of PortInfo keeps of what was read, and what it changes
+-- `payload` has what was read, except in `port_fields` and `port_bits`; it has the numbers of `port_changes`, and a GID
+-- prefix of 0 is replaced
 pub record CarriesPort (read : PortRead) (payload : List ℕ) : Type 0 where
   pub others : (b : Bits) → are_outside port_fields b ≡ true → are_apart_from (port_bits read) b ≡ true
       → bits_in b payload ≡ bits_in b read.own
   pub changes : (c : Change) → Contains (port_changes read) c → bits_in c.bits payload ≡ c.number
   pub prefix : number_in gid_prefix payload ≡ or_default link_local_prefix (number_in gid_prefix read.own)
 
--- what a Set of SwitchInfo keeps of what was read, and what it changes
+-- `payload` has what was read, except for LinearFDBTop and in `switch_changes`, whose numbers it has
 pub record CarriesSwitch (read payload : List ℕ) : Type 0 where
   pub others : (b : Bits) → are_outside (linear_fdb_top ∷ []) b ≡ true
       → are_apart_from (bits_of (switch_changes read)) b ≡ true
       → bits_in b payload ≡ bits_in b read
   pub changes : (c : Change) → Contains (switch_changes read) c → bits_in c.bits payload ≡ c.number
 
--- a Set leaves what was read as it is, except for what the plan asks for and for the changes
+-- a Set leaves what was read as it is (`CarriesPort`, `CarriesSwitch`), except for what the plan asks for and for the
+-- changes
 pub record SetsChangeNothingElse : Type 0 where
   pub port : (read : PortRead) (range : ℕ × ℕ) (master : ℕ) (state : PortState) → Are64Bytes read.own → range.1 < 8
       → CarriesPort read (port_data (Some read) range master state)
@@ -83,8 +86,8 @@ pub record SetsChangeNothingElse : Type 0 where
 
 -- two Sets of one port -------------------------------------------------------------------------------
 
--- the Set of a state at an end port contains what the Set of its LID contains, except for the state; thus neither
--- undoes the other's LID and LMC, whichever comes last
+-- the Set of a state at an end port is the Set of its LID with this state; so whichever comes last, it takes back
+-- neither LID nor LMC
 abbrev pub LidAndStateAgree : Type 0
 LidAndStateAgree =
     (cells : Cells) (sweep : Sweep) (given : Given) (master : ℕ) (state : PortState) (e : EndPort) (range : ℕ × ℕ)

@@ -1,5 +1,5 @@
--- What a plan sets at the ports on wires: the states in which they carry data.
--- InfiniBand Architecture Specification, Volume 1: subnet management, PortInfo (PortState); link layer, link states.
+-- The steps that set the states of ports on wires, so that they carry data. InfiniBand Architecture Specification,
+-- Volume 1: subnet management, PortInfo (PortState); link layer, link states.
 use Rattle.std.specs.Prelude.{◌≡◌, ◌↔◌, ℕ, Bool, true, false, List, Contains, Option, Some, None, IsSome, is_some, if◌then◌else◌}
 use Rattle.std.specs.Option.{option_map_or}
 use Rattle.std.specs.List.{filter_map, AllPairs}
@@ -22,35 +22,36 @@ use Rattle.plan_steps.specs.Carried.{port_read}
 use Rattle.plan_steps.specs.Step.{step_at}
 use Rattle.plan_steps.specs.Lids.{port_data}
 
--- the port of a cell; None if the cell is not a port's link or the port is not on a wire
+-- the port whose link a cell says; None if the cell is of no link, or the port is not on a wire
 abbrev pub wired_port : Cells → Key × Cell Value → Option (ℕ × ℕ)
 wired_port cells ((Link g p), c) = if is_some (across cells g p) then Some (g, p) else None
 wired_port cells (_, c) = None
 
--- the ports on wires, including both ends of each wire, by node GUID and port
+-- the ports on wires, both ends of each, by node GUID and port
 abbrev pub wired_ports : Cells → List (ℕ × ℕ)
 wired_ports cells = filter_map (wired_port cells) cells
 
--- whether a port in the second state is due to go to the first: from Initialize to Armed or Active, or from Armed to
--- Active
+-- whether a port that was seen in the second state is to go to the first: from Initialize to Armed or Active, or from
+-- Armed to Active
 abbrev pub is_due : PortState → PortState → Bool
 is_due Armed Initialize = true
 is_due Active Initialize = true
 is_due Active Armed = true
 is_due state seen = false
 
--- the port number of the vertex of a port on a wire: 0 for a switch, and otherwise the adapter's port
+-- the port of the vertex that the port `at` belongs to: 0 for a usable switch, else the port itself
 abbrev pub vertex_port : Cells → ℕ × ℕ → ℕ
 vertex_port cells at = if is_usable cells at.0 then 0 else at.1
 
--- PortInfo with a state and an end port's LIDs; the other ports of a switch have none
+-- PortInfo with a state and, at an end port, its LID and LMC and the manager's LID; at a port without a LID, such as
+-- the other ports of a switch, these are 0
 abbrev pub state_data : Option PortRead → Given → ℕ → PortState → ℕ × ℕ → List ℕ
 state_data read given master state at =
     option_map_or (λ range. port_data read range master state) (range_of given (record { node = at.0; port = at.1 }))
     (port_data read (0, 0) 0 state)
 
--- the step that sets `state` at a port; None if the sweep did not see it in a state from which it is due to go there,
--- or did not reach it
+-- the step that sets `state` at the port `at`; None if it was not seen in a state from which it is to go there, or the
+-- sweep did not reach its vertex
 abbrev pub state_step : Cells → Sweep → Given → ℕ → PortState → ℕ × ℕ → Option Step
 state_step cells sweep given master state at =
     if option_map_or (is_due state) (seen_state sweep at.0 at.1) false
@@ -58,20 +59,21 @@ state_step cells sweep given master state at =
     (state_data (port_read cells sweep at.0 at.1) given master state at)
     else None
 
--- the steps that set `state` at each port on a wire that was reached and is due to go to `state`, by node GUID and port
+-- the steps that set `state` at each port on a wire that is to go there and whose vertex the sweep reached, by node
+-- GUID and port
 abbrev pub state_steps : Cells → Sweep → Given → ℕ → PortState → List Step
 state_steps cells sweep given master state = filter_map (state_step cells sweep given master state) (wired_ports cells)
 
 -- the law of the ports on wires, in words: -------------------------------------------------
 
--- the list has exactly the ports on wires
+-- `ports` has exactly the ports on wires as members
 abbrev pub HasWiredPorts : Cells → List (ℕ × ℕ) → Type 0
 HasWiredPorts cells ports = (g p : ℕ) → Contains ports (g, p) ↔ IsSome (across cells g p)
 
--- the list has the ports on wires, each once, by node GUID and port
+-- `ports` has exactly the ports on wires as members, each once, by node GUID and port
 abbrev pub AreWiredPorts : Cells → List (ℕ × ℕ) → Type 0
 AreWiredPorts cells ports = HasWiredPorts cells ports × AllPairs (λ a b. is_before a b ≡ true) ports
 
--- `wired_ports` has the ports on wires, each once, by node GUID and port
+-- `wired_ports` has exactly the ports on wires as members, each once, by node GUID and port
 abbrev pub WiredPortsLaw : Type 0
 WiredPortsLaw = (facts : Facts) → AreWiredPorts (cells_of facts) (wired_ports (cells_of facts))

@@ -5,12 +5,12 @@ use Rattle.smp_bytes.specs.Requests.{directed}
 use Rattle.sweep.specs.Sweep.{Sweep, path_to}
 use Rattle.plan_steps.specs.declared.step.Step.{Step}
 
--- a Set over the step's path
+-- the packet of a step: a Set over its path, with the TransactionID `transaction`
 abbrev pub set_packet : ℕ → Step → List ℕ
 set_packet transaction step = directed set step.attribute step.modifier transaction step.path step.payload
 
--- a step for a vertex, which is a switch (port 0) or an adapter's port, over the path that first reached it; None if
--- the sweep did not reach it
+-- a step that sets an attribute over the path that first reached the vertex of node `guid` with the port `vertex`,
+-- which is 0 for a switch; None if the sweep did not reach it
 abbrev pub step_at : Sweep → ℕ → ℕ → ℕ → ℕ → List ℕ → Option Step
 step_at sweep guid vertex attribute modifier payload =
     option_map (λ path. record {

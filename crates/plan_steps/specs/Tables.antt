@@ -1,5 +1,5 @@
--- What a plan sets at switches: the blocks of their forwarding tables, and the greatest LID.
--- InfiniBand Architecture Specification, Volume 1: subnet management, LinearForwardingTable, SwitchInfo.
+-- The steps that set forwarding tables at switches: their blocks, and the greatest LID as top. InfiniBand Architecture
+-- Specification, Volume 1: subnet management, LinearForwardingTable, SwitchInfo.
 use Rattle.std.specs.Prelude.{ℕ, List, [], Option, option_and_then}
 use Rattle.std.specs.Option.{option_map_or}
 use Rattle.std.specs.List.{filter_map, flat_map, range_with_len}
@@ -14,27 +14,30 @@ use Rattle.plan_steps.specs.declared.step.Step.{Step}
 use Rattle.plan_steps.specs.Carried.{carried_switch}
 use Rattle.plan_steps.specs.Step.{step_at}
 
--- the step that sets block b of a switch; None if there is no such block, or the sweep did not reach the switch
+-- the step that sets block `b` of the switch `guid`; None if the plan has no such block, or the sweep did not reach the
+-- switch
 abbrev pub block_step : Sweep → PlanValue → ℕ → ℕ → Option Step
 block_step sweep plan guid b = option_and_then (step_at sweep guid 0 linear_forwarding_table b) (block_at plan guid b)
 
--- the steps that set the blocks of a switch that was reached, from 0 to that of the greatest LID
+-- the steps that set the blocks of the switch `guid`, from 0 to that of the greatest LID; none if the sweep did not
+-- reach it
 abbrev pub switch_steps : Sweep → PlanValue → ℕ → List Step
 switch_steps sweep plan guid =
     filter_map (block_step sweep plan guid) (range_with_len 0 (block_count (top_of plan.given)))
 
--- the steps that set the blocks of each usable switch that was reached, by rising GUID
+-- the steps that set the blocks of each usable switch that the sweep reached, by rising GUID
 abbrev pub block_steps : Sweep → PlanValue → List Step
 block_steps sweep plan = flat_map (switch_steps sweep plan) (switches_of plan)
 
--- SwitchInfo with the greatest LID that is forwarded; everything else is as a Set carries it
+-- SwitchInfo with the LinearFDBTop `top`; all else as a Set carries it (`carried_switch`)
 abbrev pub top_data : Option (List ℕ) → ℕ → List ℕ
 top_data read top = with_number linear_fdb_top top (carried_switch read)
 
--- the step that sets the greatest LID at a switch; None if the sweep did not reach it
+-- the step that sets the top of the switch `guid` to `top`; None if the sweep did not reach it
 abbrev pub top_step : Sweep → ℕ → ℕ → Option Step
 top_step sweep top guid = step_at sweep guid 0 switch_info 0 (top_data (switch_image sweep guid) top)
 
--- the steps that set the greatest LID for each usable switch that was reached, by rising GUID; none if there is no LID
+-- the steps that set the top of each usable switch that the sweep reached to the greatest LID, by rising GUID; none if
+-- there is no LID
 abbrev pub top_steps : Sweep → PlanValue → List Step
 top_steps sweep plan = option_map_or (λ top. filter_map (top_step sweep top) (switches_of plan)) (top_of plan.given) []

@@ -12,7 +12,7 @@ use smp_bytes::{AttributeId, Guid, Lid, PortNum};
 use std::alloc::{AllocError, Global};
 use sweep::Sweep;
 
-/// Builds the step of each block of each switch that was reached, by rising GUID. Takes two searches for each step.
+/// Builds the step of each block of each usable switch that was reached, by rising GUID.
 pub(crate) fn block_steps(
     alloc: Global,
     sweep: &Sweep,
@@ -27,7 +27,7 @@ pub(crate) fn block_steps(
     Ok(steps)
 }
 
-/// Appends the steps of the blocks of the switch `guid`.
+/// Appends the steps of the blocks of the switch `guid`, or nothing if the sweep did not reach it.
 #[tactic(auto, using(crate::proofs::Ranges::given_some, crate::proofs::Ranges::given_none))]
 fn add_switch_steps(
     steps: &mut Vec<Step>,
@@ -47,7 +47,7 @@ fn add_switch_steps(
 }
 
 /// Builds the step of block `b` of the switch `guid`. Returns `None` if the plan has no such block, or the sweep did
-/// not reach the switch.
+/// not reach the switch. `b` must be below 1024.
 fn block_step(sweep: &Sweep, plan: &Plan, guid: Guid, b: usize) -> Option<Step>
     requires { b < 1024 }
     ensures { result ≡ block_step sweep.now plan.now guid b }
@@ -63,8 +63,8 @@ fn block_step(sweep: &Sweep, plan: &Plan, guid: Guid, b: usize) -> Option<Step>
     )
 }
 
-/// Builds the step of the greatest LID for each switch that was reached, by rising GUID. Builds none if there is no
-/// LID. Takes two searches for each switch.
+/// Builds the step of the greatest LID for each usable switch that was reached, by rising GUID. Builds none if the plan
+/// has no LID.
 pub(crate) fn top_steps(alloc: Global, sweep: &Sweep, plan: &Plan) -> Result<Vec<Step>, AllocError>
     ensures { IfOk result (λ steps. steps.items ≡ top_steps sweep.now plan.now) }
 {
@@ -74,7 +74,7 @@ pub(crate) fn top_steps(alloc: Global, sweep: &Sweep, plan: &Plan) -> Result<Vec
     }
 }
 
-/// Builds the step of the greatest LID `top` for each switch that was reached, by rising GUID.
+/// Builds the step that sets `top` as the greatest LID for each usable switch that was reached, by rising GUID.
 #[tactic(auto, using(crate::proofs::Walked::walked_some, crate::proofs::Walked::walked_none))]
 fn steps_with_top(
     alloc: Global,
@@ -94,7 +94,8 @@ fn steps_with_top(
     Ok(steps)
 }
 
-/// Builds the step that sets the greatest LID at the switch `guid`. Returns `None` if the sweep did not reach it.
+/// Builds the step that sets `top` as the greatest LID at the switch `guid`. Returns `None` if the sweep did not reach
+/// the switch.
 fn top_step(sweep: &Sweep, top: Lid, guid: Guid) -> Option<Step>
     ensures { result ≡ top_step sweep.now top guid }
 {
@@ -109,7 +110,7 @@ fn top_step(sweep: &Sweep, top: Lid, guid: Guid) -> Option<Step>
     )
 }
 
-/// Returns SwitchInfo with `top` as the greatest LID that is forwarded, and everything else as a Set carries it.
+/// Returns SwitchInfo with `top` as the greatest LID, and everything else as a Set carries it.
 fn top_data(read: Option<SwitchInfo>, top: Lid) -> [u8; 64]
     ensures { result ≡ top_data read top }
 {

@@ -31,17 +31,16 @@ macro_rules! port_bits {
     ($access:ident client_reregister $args:tt) => { $access::<51, 7, 1> $args };
 }
 
-/// The PortInfo that was read of a port, and that of the port across if it is on a wire and was read too.
+/// The PortInfo that was read of a port and, if the port is on a wire, of the far end.
 #[derive(Clone, Copy, Debug, PartialEq, Eq)]
 pub struct PortRead {
     /// The PortInfo of the port itself.
     pub own: PortInfo,
-    /// The PortInfo of the port across.
+    /// The PortInfo of the far end, or `None` if there is no wire or it is not kept.
     pub far: Option<PortInfo>,
 }
 
-/// Returns the PortInfo that was read of a port and of the port across, or `None` if that of the port is not kept.
-/// Takes about ten searches if images are kept, and one otherwise.
+/// Returns the PortInfo that was read of the port and of its far end, or `None` if that of the port is not kept.
 pub(crate) fn port_read(store: &Store, sweep: &Sweep, guid: Guid, port: PortNum) -> Option<PortRead>
     ensures { result ≡ port_read (cells_of store.now) sweep.now guid port }
 {
@@ -50,7 +49,7 @@ pub(crate) fn port_read(store: &Store, sweep: &Sweep, guid: Guid, port: PortNum)
     Some(PortRead { own, far })
 }
 
-/// Returns the PortInfo that was read of the port across, or `None` if there is no such port or it is not kept.
+/// Returns the PortInfo that was read of the port's far end, or `None` if the port is on no wire or it is not kept.
 fn far_image(store: &Store, sweep: &Sweep, guid: Guid, port: PortNum) -> Option<PortInfo>
     ensures { result ≡ far_image (cells_of store.now) sweep.now guid port }
 {
@@ -59,7 +58,7 @@ fn far_image(store: &Store, sweep: &Sweep, guid: Guid, port: PortNum) -> Option<
 }
 
 /// Returns PortInfo as a Set carries it: as it was read, except for defaults for what no manager has set, the MTU of
-/// the wire, and "no change" if a value must not be written back. Returns zeros if nothing was kept.
+/// the wire, and "no change" if a value must not be written back. Returns zeros if `read` is `None`.
 pub(crate) fn carried_port(read: Option<PortRead>) -> PortInfo
     ensures { result ≡ carried_port read }
 {
@@ -69,7 +68,7 @@ pub(crate) fn carried_port(read: Option<PortRead>) -> PortInfo
     }
 }
 
-/// Returns the PortInfo `own`, which was read of a port, as a Set carries it. `far` was read of the port across.
+/// Returns the PortInfo `own`, which was read of a port, as a Set carries it. `far` was read of the far end.
 fn carried_port_of(own: &[u8; 64], far: Option<PortInfo>) -> [u8; 64]
     ensures { result ≡ carried_port (Some (record { own = own.now; far = far })) }
 {
@@ -94,7 +93,7 @@ fn carried_port_of(own: &[u8; 64], far: Option<PortInfo>) -> [u8; 64]
 }
 
 /// Returns the lesser of the MTUs that the two ends of a wire can take, if both report one. Otherwise returns the
-/// port's own MTU as it was read.
+/// NeighborMTU in `own`.
 fn mtu_of(own: &[u8; 64], far: Option<PortInfo>) -> u8
     ensures value { result ≡ mtu_of own.now far }
     ensures fits { result < 16 }
@@ -110,7 +109,7 @@ fn mtu_of(own: &[u8; 64], far: Option<PortInfo>) -> u8
 }
 
 /// Returns SwitchInfo as a Set carries it: `read`, except for a default for a lifetime that no manager has set, and the
-/// bit that clears PortStateChange. Returns zeros if nothing was kept.
+/// bit that clears PortStateChange. Returns zeros if `read` is `None`.
 pub(crate) fn carried_switch(read: Option<SwitchInfo>) -> SwitchInfo
     ensures { result ≡ carried_switch read }
 {
@@ -120,7 +119,7 @@ pub(crate) fn carried_switch(read: Option<SwitchInfo>) -> SwitchInfo
     }
 }
 
-/// Returns the SwitchInfo `read`, which was read of a switch, as a Set carries it.
+/// Returns the SwitchInfo `read` as a Set carries it.
 fn carried_switch_of(read: &[u8; 64]) -> SwitchInfo
     ensures { result ≡ carried_switch (Some read.now) }
 {
@@ -130,7 +129,7 @@ fn carried_switch_of(read: &[u8; 64]) -> SwitchInfo
     info
 }
 
-/// Returns `number`, or `otherwise` if it is 0.
+/// Returns `number`, or `otherwise` if `number` is 0.
 fn or_default(otherwise: u8, number: u8) -> u8
     ensures value { result ≡ or_default otherwise number }
     ensures fits { (most : ℕ) → otherwise < most → number < most → result < most }
@@ -138,7 +137,7 @@ fn or_default(otherwise: u8, number: u8) -> u8
     if number == 0 { otherwise } else { number }
 }
 
-/// Returns `prefix`, or the prefix of link-local GIDs if it is 0.
+/// Returns `prefix`, or the prefix of link-local GIDs if `prefix` is 0.
 fn prefix_or_link_local(prefix: u64) -> u64
     ensures { result ≡ or_default LINK_LOCAL_PREFIX prefix }
 {

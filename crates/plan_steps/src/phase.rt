@@ -33,8 +33,7 @@ impl Model for Phase {
 
 /// Builds the phases in which a manager writes a plan over the paths of its last sweep: LIDs, blocks, the greatest LID,
 /// and then the states of ports on wires, Armed and Active (subnet management, initialization). The manager is at the
-/// port `port` with the GUID `port_guid`. Leaves out agents that the sweep did not reach. Walks the cells once, and
-/// takes a few searches for each step and about twenty for each port on a wire.
+/// port `port` with the GUID `port_guid`. Leaves out agents that the sweep did not reach.
 ///
 /// # Errors
 ///
@@ -54,7 +53,7 @@ pub fn phases(
     phases_by(alloc, plan, store, sweep, master)
 }
 
-/// Builds the phases in which a manager with the LID `master` writes a plan.
+/// Builds the phases in which a manager with the LID `master` writes `plan`.
 fn phases_by(
     alloc: Global,
     plan: &Plan,

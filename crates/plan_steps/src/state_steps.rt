@@ -17,7 +17,7 @@ use std::alloc::{AllocError, Global};
 use subnet_view::{EndPort, is_usable, wire};
 use sweep::Sweep;
 
-/// Returns the ports on wires, including both ends of each wire, by node GUID and port. Walks the cells.
+/// Returns the ports on wires, including both ends of each wire, by node GUID and port.
 pub(crate) fn wired_ports(alloc: Global, store: &Store) -> Result<Vec<(Guid, PortNum)>, AllocError>
     ensures { IfOk result (λ ports. ports.items ≡ wired_ports (cells_of store.now)) }
 {
@@ -30,7 +30,7 @@ pub(crate) fn wired_ports(alloc: Global, store: &Store) -> Result<Vec<(Guid, Por
     Ok(ports)
 }
 
-/// Returns the port of a cell, or `None` if the cell is not a port's link or the port is not on a wire.
+/// Returns the port of the cell `sighting`, or `None` if the cell is not a port's link or the port is on no wire.
 fn wired_port(store: &Store, sighting: &Sighting) -> Option<(Guid, PortNum)>
     ensures { result ≡ wired_port (cells_of store.now) sighting.now }
 {
@@ -47,7 +47,7 @@ fn wired_port(store: &Store, sighting: &Sighting) -> Option<(Guid, PortNum)>
 }
 
 /// Builds the step that sets `state` for each of `ports`, in their order, that was reached and was seen in Initialize
-/// or, if `state` is Active, in Armed. Takes about five searches for each port, and about fifteen if images are kept.
+/// or, if `state` is Active, in Armed. Builds none if `state` is neither Armed nor Active.
 #[tactic(auto, using(crate::proofs::Walked::walked_some, crate::proofs::Walked::walked_none))]
 pub(crate) fn state_steps(
     alloc: Global,
@@ -70,8 +70,8 @@ pub(crate) fn state_steps(
     Ok(steps)
 }
 
-/// Builds the step that sets `state` at a port on a wire. Returns `None` if the port is not due to go to `state`, or
-/// was not reached.
+/// Builds the step that sets `state` at the port. Returns `None` if the sweep did not see the port in a state from
+/// which it is due to go to `state`, or did not reach it.
 fn state_step(
     store: &Store,
     sweep: &Sweep,
@@ -119,7 +119,7 @@ fn is_due(state: PortState, seen: PortState) -> bool
     }
 }
 
-/// Returns the port number of the vertex of a port on a wire: 0 if its node is a switch, and otherwise `port` itself.
+/// Returns the port number of the vertex of a port: 0 if the node `guid` is a usable switch, and otherwise `port`.
 fn vertex_port(store: &Store, guid: Guid, port: PortNum) -> PortNum
     ensures { result ≡ vertex_port (cells_of store.now) (guid, port) }
 {
@@ -130,7 +130,8 @@ fn vertex_port(store: &Store, guid: Guid, port: PortNum) -> PortNum
     }
 }
 
-/// Returns the PortInfo that sets `state`. It has the LIDs of an end port. The other ports of a switch have none.
+/// Returns the PortInfo that sets `state` at the port. If the port has a LID, the PortInfo has this, the LMC and the
+/// manager's LID `master`, and otherwise 0 for each.
 fn state_data(
     read: Option<PortRead>,
     lids: &LidMap,

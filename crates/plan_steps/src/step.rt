@@ -18,7 +18,7 @@ pub struct Step {
 }
 
 impl Step {
-    /// Returns the Set of the step with this TransactionID.
+    /// Returns the packet of the step, a Set with the TransactionID `transaction`.
     pub fn packet(&self, transaction: u64) -> Smp
         ensures { result ≡ set_packet transaction self.now }
     {
@@ -33,8 +33,8 @@ impl Step {
     }
 }
 
-/// Builds the step for a vertex: a switch (port 0) or an adapter's port. Returns `None` if the sweep did not reach it.
-/// Takes a search.
+/// Builds the step for a vertex: a switch (`vertex` 0) or an adapter's port. Returns `None` if the sweep did not reach
+/// it.
 pub(crate) fn step_at(
     sweep: &Sweep,
     guid: Guid,

@@ -3,25 +3,26 @@ use Rattle.std.specs.Prelude.{◌≡◌, ◌<◌, ℕ, List, [], map, length, Co
 use Rattle.port_graph.specs.declared.edge.Edge.{Edge}
 use Rattle.port_graph.specs.Walks.{shortest, IsShortest, HasNoWalk}
 
--- the edges of vertex a
+-- the edges of vertex `a`; none past the end
 abbrev pub edges_at : List (List Edge) → ℕ → List Edge
 edges_at edges a = slice_index_or edges a []
 
--- the vertices that a's edges lead to
+-- the vertices that the edges of vertex `a` lead to, once for each edge
 abbrev pub heads : List (List Edge) → ℕ → List ℕ
 heads edges a = map (λ e. e.to) (edges_at edges a)
 
--- each edge leads to a vertex
+-- each edge leads to a vertex of the graph
 abbrev pub LeadToVertices : List (List Edge) → Type 0
 LeadToVertices edges = (a : ℕ) (e : Edge) → Contains (edges_at edges a) e → e.to < length edges
 
--- for each vertex, the length of a shortest walk to it from `from`; None if there is none
+-- `distances` has for each vertex the length of a shortest walk to it from vertex `from`, of fewer edges than there are
+-- vertices; None if there is none
 pub record AreDistances (edges : List (List Edge)) (from : ℕ) (distances : List (Option ℕ)) : Type 0 where
   pub all : length distances ≡ length edges
   pub shortest : (a : ℕ) → a < length edges → slice_index_or distances a None
       ≡ shortest (heads edges) (length edges) from a
 
--- if a vertex has a distance, a shortest walk is as long; if it has none, no walk leads there
+-- each distance is the length of a shortest walk from `from`; where there is None, no walk leads
 abbrev pub DistancesLaw : Type 0
 DistancesLaw = (edges : List (List Edge)) (from : ℕ) (distances : List (Option ℕ)) → LeadToVertices edges → from
     < length edges → AreDistances edges from distances

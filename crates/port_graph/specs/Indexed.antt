@@ -1,4 +1,4 @@
--- Slopes of vertices that are numbered from 0.
+-- Slopes of vertices that are numbered from 0 on, and their costs and next ports.
 use Rattle.std.specs.Prelude.{◌≡◌, ◌<◌, ℕ, suc, List, [], ◌∷◌, length, map, Contains, Option, None, Some, is_some, option_map, slice_index_or, if◌then◌else◌}
 use Rattle.std.specs.List.{filter_map, find}
 use Rattle.port_graph.specs.declared.edge.Edge.{Edge}
@@ -6,7 +6,7 @@ use Rattle.port_graph.specs.Heads.{edges_at, heads}
 use Rattle.port_graph.specs.Slopes.{Slope, lesser, least_of, same_number, cost, next_port}
 use Rattle.port_graph.specs.Routes.{Way}
 
--- a slope for each vertex; the vertices are numbered from `first` on
+-- the slopes of vertices with these edges up and down, numbered from `first` on, as many as the shorter list has
 abbrev pub indexed_from : ℕ → List (List Edge) → List (List Edge) → List Slope
 indexed_from first [] downs = []
 indexed_from first (u ∷ ups) [] = []
@@ -17,62 +17,63 @@ indexed_from first (u ∷ ups) (d ∷ downs) =
 abbrev pub indexed : List (List Edge) → List (List Edge) → List Slope
 indexed ups downs = indexed_from 0 ups downs
 
--- each edge leads to a lesser vertex
+-- each edge leads to a lesser vertex than it is from
 abbrev pub LeadToLesser : List (List Edge) → Type 0
 LeadToLesser edges = (a : ℕ) (e : Edge) → Contains (edges_at edges a) e → e.to < a
 
--- edges up lead to lesser vertices; each edge up has an edge down that leads back, and each edge down an edge up
+-- edges up lead to lesser vertices; for each edge up an edge down leads back, and for each edge down an edge up
 pub record AreSlopes (ups downs : List (List Edge)) : Type 0 where
   pub all : length downs ≡ length ups
   pub rise : LeadToLesser ups
   pub back_up : (a b : ℕ) → Contains (heads downs a) b → Contains (heads ups b) a
   pub back_down : (a b : ℕ) → Contains (heads ups a) b → Contains (heads downs b) a
 
--- the lesser of two costs, or the only one
+-- the lesser of two numbers, or the only one; None if there is neither
 abbrev pub lesser_of : Option ℕ → Option ℕ → Option ℕ
 lesser_of None other = other
 lesser_of (Some n) other = Some (lesser n other)
 
--- each known number is less than the bound
+-- each number that is there is less than `bound`
 abbrev pub AreLess : ℕ → List (Option ℕ) → Type 0
 AreLess bound numbers = (a n : ℕ) → slice_index_or numbers a None ≡ Some n → n < bound
 
--- the distance if there is one, otherwise one more than the least cost over the edges
+-- the cost of a vertex: its down distance if there is one, else one more than the least cost over its edges up; None if
+-- there is neither
 abbrev pub cost_of : Option ℕ → List Edge → List (Option ℕ) → Option ℕ
 cost_of distance edges costs =
     if is_some distance then distance else option_map suc
     (least_of (filter_map (λ e. slice_index_or costs e.to None) edges))
 
--- the cost of each of the first n vertices, by its distance and the costs of the vertices up from it
+-- `costs` has the cost of each of the first `n` vertices, by its down distance and the costs of the vertices that its
+-- edges up lead to
 pub record AreCosts (ups : List (List Edge)) (distances : List (Option ℕ)) (n : ℕ) (costs : List (Option ℕ)) : Type 0
   where
     pub all : length costs ≡ n
     pub cost : (a : ℕ) → a < n → slice_index_or costs a None
         ≡ cost_of (slice_index_or distances a None) (edges_at ups a) costs
 
--- the port of the first edge to a vertex whose number is one less than `number`
+-- the port of the first edge to a vertex whose number is one less than `number`; None if there is none
 abbrev pub port_nearer : List Edge → List (Option ℕ) → Option ℕ → Option ℕ
 port_nearer edges numbers number =
     option_map (λ e. e.port) (find (λ e. same_number (option_map suc (slice_index_or numbers e.to None)) number) edges)
 
--- a's port down if its distance is known, otherwise its port up
+-- the next port of vertex `a`: down if it has a down distance, else up; None if there is none
 abbrev pub port_by : List (List Edge) → List (List Edge) → List (Option ℕ) → List (Option ℕ) → ℕ → Option ℕ
 port_by ups downs distances costs a =
     let distance = slice_index_or distances a None in
     if is_some distance then port_nearer (edges_at downs a) distances distance else port_nearer (edges_at ups a) costs
     (slice_index_or costs a None)
 
--- for each vertex the next port to the target
+-- `ports` has for each vertex the next port towards `target`
 pub record AreNextPorts (ups downs : List (List Edge)) (target : ℕ) (ports : List (Option ℕ)) : Type 0 where
   pub all : length ports ≡ length ups
   pub next : (a : ℕ) → a < length ups → slice_index_or ports a None ≡ next_port (indexed ups downs) a target
 
--- the next ports between `vertices`: for each of them as the target, the next port of each of them
+-- for each of `vertices` as a target, the next port of each of them towards it
 abbrev pub ports_between : List (List Edge) → List (List Edge) → List ℕ → List (List (Option ℕ))
 ports_between ups downs vertices = map (λ t. map (λ s. next_port (indexed ups downs) s t) vertices) vertices
 
--- from each vertex with a cost to a target, the next ports lead to the target, first up and then down, over as many
--- edges as the cost
+-- from each vertex with a cost to a target, next ports lead to the target, first up and then down, over as many edges
 abbrev pub WaysLaw : Type 0
 WaysLaw = (ups downs : List (List Edge)) → AreSlopes ups downs → (s t n : ℕ) → t < length ups
     → cost (indexed ups downs) s t ≡ Some n → Way (indexed ups downs) s t n

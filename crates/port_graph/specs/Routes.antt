@@ -1,29 +1,29 @@
--- Down distances, costs and next ports as statements.
+-- What down distances, costs, next ports and ways of up/down routing are.
 use Rattle.std.specs.Prelude.{◌≡◌, ◌≢◌, ◌≤◌, ℕ, zero, suc, ◌+◌, ◌⊎◌, ◌==◌, false, List, [], ◌∷◌, ◌++◌, length, Contains, Some}
 use Rattle.port_graph.specs.declared.edge.Edge.{Edge}
 use Rattle.port_graph.specs.Walks.{IsShortest, HasNoWalk}
 use Rattle.port_graph.specs.Slopes.{Slope, ups_at, downs_at, below, cost, next_port}
 
--- n is the length of a shortest walk down from s to t
+-- `n` is the down distance from `s` to `t`: the length of a shortest walk down
 abbrev pub IsDownDistance : List Slope → ℕ → ℕ → ℕ → Type 0
 IsDownDistance slopes s t n = IsShortest (below slopes) s t n
 
--- k wires up from s to u, past switches from which no walk down leads to t
+-- `k` wires lead up from `s` to `u`, from switches from which no walk down leads to `t`
 abbrev pub Climb : List Slope → ℕ → ℕ → ℕ → ℕ → Type 0
 Climb slopes t s u zero = s ≡ u
 Climb slopes t s u (suc k) =
     HasNoWalk (below slopes) s t × ((e : Edge) × Contains (ups_at slopes s) e × Climb slopes t e.to u k)
 
--- a climb followed by a shortest walk down, n wires in all
+-- a climb (`Climb`) from `s` and then a shortest walk down to `t` take `n` wires in all
 abbrev pub IsRoute : List Slope → ℕ → ℕ → ℕ → Type 0
 IsRoute slopes s t n = (u k d : ℕ) × Climb slopes t s u k × IsDownDistance slopes u t d × (n ≡ k + d)
 
--- n is the cost: some route has n wires, and none has fewer
+-- `n` is the cost from `s` to `t`: a route takes `n` wires, and none takes fewer
 pub record IsCost (slopes : List Slope) (s t n : ℕ) : Type 0 where
   pub route : IsRoute slopes s t n
   pub least : (m : ℕ) → IsRoute slopes s t m → n ≤ m
 
--- p is the least port of a wire down to a switch one nearer to t
+-- a walk down leads from `s` to `t`, and `p` is the least port of a wire down to a switch one nearer
 pub record IsPortDown (slopes : List Slope) (s t p : ℕ) : Type 0 where
   pub distance : ℕ
   pub is_distance : IsDownDistance slopes s t (suc distance)
@@ -32,7 +32,7 @@ pub record IsPortDown (slopes : List Slope) (s t p : ℕ) : Type 0 where
   pub nearer : IsDownDistance slopes to t distance
   pub least : (e : Edge) → Contains (downs_at slopes s) e → IsDownDistance slopes e.to t distance → p ≤ e.port
 
--- no walk leads down to t, and p is the least port of a wire up to a switch of least cost
+-- no walk down leads from `s` to `t`, and `p` is the least port of a wire up to a switch of least cost
 pub record IsPortUp (slopes : List Slope) (s t p : ℕ) : Type 0 where
   pub no_walk_down : HasNoWalk (below slopes) s t
   pub to : ℕ
@@ -42,30 +42,32 @@ pub record IsPortUp (slopes : List Slope) (s t p : ℕ) : Type 0 where
   pub least_cost : (e : Edge) (n : ℕ) → Contains (ups_at slopes s) e → IsCost slopes e.to t n → its_cost ≤ n
   pub least : (e : Edge) → Contains (ups_at slopes s) e → IsCost slopes e.to t its_cost → p ≤ e.port
 
+-- `p` is the next port from `s` towards another switch `t`: the port down or, if no walk down leads there, the port up
 abbrev pub IsNextPort : List Slope → ℕ → ℕ → ℕ → Type 0
 IsNextPort slopes s t p = (s ≢ t) × (IsPortDown slopes s t p ⊎ IsPortUp slopes s t p)
 
--- the wires lead up from s to u; for `Descends`, down
+-- the wires lead up, one after the other, from `s` to `u`
 abbrev pub Climbs : List Slope → ℕ → List Edge → ℕ → Type 0
 Climbs slopes s [] u = s ≡ u
 Climbs slopes s (e ∷ es) u = Contains (ups_at slopes s) e × Climbs slopes e.to es u
 
+-- the wires lead down, one after the other, from `s` to `u`
 abbrev pub Descends : List Slope → ℕ → List Edge → ℕ → Type 0
 Descends slopes s [] u = s ≡ u
 Descends slopes s (e ∷ es) u = Contains (downs_at slopes s) e × Descends slopes e.to es u
 
--- the wires leave by the next port of each switch, until they reach the target t
+-- the wires leave by the next port of each switch, from `s` until they reach `t`
 abbrev pub GoesBy : List Slope → ℕ → ℕ → List Edge → Type 0
 GoesBy slopes t s [] = s ≡ t
 GoesBy slopes t s (e ∷ es) = ((s == t) ≡ false) × (next_port slopes s t ≡ Some e.port) × GoesBy slopes t e.to es
 
--- the costs of the switches that the wires lead to fall from n by one each
+-- the costs to `t` of the switches that the wires lead to fall by one each, from `n` on
 abbrev pub CostsFall : List Slope → ℕ → ℕ → List Edge → Type 0
 CostsFall slopes t n [] = Unit {0}
 CostsFall slopes t zero (e ∷ es) = ⊥
 CostsFall slopes t (suc n) (e ∷ es) = (cost slopes e.to t ≡ Some n) × CostsFall slopes t n es
 
--- a walk by next ports from s to t, first up and then down, over as many wires as the cost n
+-- a way from `s` to `t` by next ports: first up and then down, over `n` wires, each to a cost one less
 pub record Way (slopes : List Slope) (s t n : ℕ) : Type 0 where
   pub ups : List Edge
   pub downs : List Edge

@@ -3,11 +3,11 @@ use Rattle.std.specs.Prelude.{◌≤◌, List, map, length, All, slice_range}
 use Rattle.port_graph.specs.declared.edge.Edge.{Edge}
 use Rattle.port_graph.specs.declared.adjacency.Span.{Span}
 
--- the part of the list that a span covers
+-- the edges of the list that a span covers
 abbrev pub part : List Edge → Span → List Edge
 part edges span = slice_range edges span.start span.end
 
--- the parts of the list that the spans cover
+-- for each span, the edges of the list that it covers
 abbrev pub cut : List Edge → List Span → List (List Edge)
 cut edges spans = map (part edges) spans
 

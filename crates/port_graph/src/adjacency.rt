@@ -12,7 +12,7 @@ pub struct Adjacency {
     edges: Vec<Edge>,
 }
 
-/// The part of a list that belongs to a vertex: from `start` up to, but not including, `end`.
+/// A part of a list: from `start` up to, but not including, `end`.
 #[derive(Clone, Copy)]
 struct Span {
     start: usize,
@@ -49,7 +49,7 @@ impl Adjacency {
         self.spans.len()
     }
 
-    /// Adds a vertex with these edges, in their order. If memory runs out, nothing changes.
+    /// Adds a vertex with `edges`, in their order. If memory runs out, returns an error, and nothing changes.
     pub fn push_vertex(&mut self, edges: &[Edge]) -> Result<(), AllocError>
         ensures added { OnOk result (self.new ≡ self.old ++ edges.now ∷ []) }
         ensures unchanged { OnErr result (self.new ≡ self.old) }
@@ -61,7 +61,7 @@ impl Adjacency {
         Ok(())
     }
 
-    /// Returns the edges of `vertex` in their order, or none if there is no such vertex. Takes one step.
+    /// Returns the edges of `vertex` in their order, or none if there is no such vertex. Takes constant time.
     pub fn at(&self, vertex: usize) -> &[Edge]
         ensures { result.now ≡ slice_index_or self.now vertex [] }
     {

@@ -7,8 +7,9 @@ use crate::adjacency::Adjacency;
 use crate::edge::Edge;
 use std::alloc::{AllocError, Global};
 
-/// Computes the cost of each vertex: its distance if it has one, otherwise one more than the least cost of the vertices
-/// up from it. Takes one step for each vertex and each edge.
+/// Returns the cost of each vertex: its distance if it has one, otherwise one more than the least cost of the vertices
+/// up from it, or `None` if none of these has a cost. `ups` must lead to lesser vertices. Takes time linear in the
+/// number of vertices and edges.
 pub(crate) fn costs(
     alloc: Global,
     ups: &Adjacency,
@@ -27,7 +28,7 @@ pub(crate) fn costs(
     Ok(costs)
 }
 
-/// Returns the cost of a vertex, given its distance and the costs of the vertices up from it.
+/// Returns the cost of a vertex with `distance` and the edges `ups`, given the `costs` of the vertices up from it.
 fn cost(distance: Option<usize>, ups: &[Edge], costs: &[Option<usize>]) -> Option<usize>
     requires known { All (λ edge. edge.to < length costs.now) ups.now }
     requires room { AreLess usize.MAX costs.now }
@@ -40,7 +41,7 @@ fn cost(distance: Option<usize>, ups: &[Edge], costs: &[Option<usize>]) -> Optio
     Some(least + 1)
 }
 
-/// Returns the least cost of the vertices that the edges lead to, if any has a cost.
+/// Returns the least cost of the vertices that `edges` lead to, or `None` if none of them has a cost.
 fn least_cost(edges: &[Edge], costs: &[Option<usize>]) -> Option<usize>
     requires { All (λ edge. edge.to < length costs.now) edges.now }
     ensures { result ≡ least_of (filter_map (λ edge. slice_index_or costs.now edge.to None) edges.now) }
@@ -52,7 +53,7 @@ fn least_cost(edges: &[Edge], costs: &[Option<usize>]) -> Option<usize>
     least
 }
 
-/// Returns the lesser of two costs, or the only one.
+/// Returns the lesser of `one` and `other`, or the only one, or `None` if there is none.
 fn lesser(one: Option<usize>, other: Option<usize>) -> Option<usize>
     ensures { result ≡ lesser_of one other }
 {

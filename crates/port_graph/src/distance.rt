@@ -7,8 +7,8 @@ use crate::edge::Edge;
 use std::alloc::{AllocError, Global};
 use std::collections::VecDeque;
 
-/// Computes the length of a shortest walk from `from` to each vertex, or `None` if no walk leads there, by a
-/// breadth-first search. Takes one step for each vertex and each edge.
+/// Returns the length of a shortest walk from `from` to each vertex, or `None` if no walk leads there, by a
+/// breadth-first search. Takes time linear in the number of vertices and edges.
 pub fn distances(
     alloc: Global,
     edges: &Adjacency,
@@ -28,8 +28,8 @@ pub fn distances(
     Ok(distances)
 }
 
-/// Sets the distance of each vertex that the edges lead to and whose distance is not known yet, and adds it to the
-/// queue.
+/// Sets `distance` as that of each vertex that `edges` lead to and whose distance is not known yet, and adds the vertex
+/// to `queue`.
 fn reach_all(
     edges: &[Edge],
     distance: usize,

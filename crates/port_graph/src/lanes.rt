@@ -7,7 +7,7 @@ use smp_bytes::PortNum;
 /// The number of targets to which routes are computed at a time.
 pub(crate) const LANES: usize = 16;
 
-/// The number in a lane that has none.
+/// What stands in a lane that has no number.
 const NONE: u8 = 255;
 
 /// A number and a port for each lane.
@@ -18,7 +18,7 @@ pub(crate) struct Hops {
 }
 
 /// Finds, for each lane, the least number of the vertices that `edges` lead to, and the port of the first edge to a
-/// vertex with that number.
+/// vertex with that number. A lane where none of them has a number gets `NONE` and port 0.
 pub(crate) fn nearest(edges: &[Edge], numbers: &[[u8; LANES]]) -> Hops
     requires { All (λ edge. edge.to < length numbers.now) edges.now }
     ensures { EachLane (λ k. (slice_index result.numbers k, slice_index result.ports k)
@@ -34,7 +34,7 @@ pub(crate) fn nearest(edges: &[Edge], numbers: &[[u8; LANES]]) -> Hops
     nearest
 }
 
-/// Takes the number of `numbers`, with `port`, in each lane in which it is less than the number found so far.
+/// Sets the number of `numbers`, with `port`, in each lane in which it is less than the number found so far.
 fn take_nearer(found: &mut Hops, numbers: &[u8; LANES], port: u8)
     ensures { EachLane (λ k. (slice_index found.new.numbers k, slice_index found.new.ports k)
         ≡ nearer (slice_index found.old.numbers k, slice_index found.old.ports k) (slice_index numbers.now k) port) }
@@ -51,7 +51,7 @@ fn take_nearer(found: &mut Hops, numbers: &[u8; LANES], port: u8)
     }
 }
 
-/// Adds one to the number in each lane that has one. Returns `None` if a number gets too great for a lane.
+/// Returns `numbers` with 1 added in each lane that has a number, or `None` if a sum is too great for a lane.
 pub(crate) fn one_more(numbers: &[u8; LANES]) -> Option<[u8; LANES]>
     ensures { IfSome result (λ more. EachLane (λ k. IsOneMore (slice_index numbers.now k) (slice_index more k))) }
 {
@@ -79,7 +79,7 @@ pub(crate) fn set_at_target(numbers: &mut [u8; LANES], targets: &[usize; LANES],
     }
 }
 
-/// Takes the number and the port of `others` in each lane of `hops` without a number.
+/// Sets the number and the port of `others` in each lane of `hops` without a number.
 pub(crate) fn fill_in(hops: &mut Hops, others: &Hops)
     ensures numbers { EachLane (λ k. slice_index hops.new.numbers k
         ≡ cond (nat_lt (slice_index hops.old.numbers k) 255) (slice_index hops.old.numbers k)
@@ -103,7 +103,7 @@ pub(crate) fn fill_in(hops: &mut Hops, others: &Hops)
     }
 }
 
-/// Returns the port of a lane, or `None` if the lane's number is 0 or it has none.
+/// Returns `port`, the port of a lane, or `None` if the lane's `number` is 0 or `NONE`.
 pub(crate) fn port_in(number: u8, port: u8) -> Option<PortNum>
     ensures { result ≡ port_in number port }
 {

@@ -8,9 +8,9 @@ use crate::edge::Edge;
 use smp_bytes::PortNum;
 use std::alloc::{AllocError, Global};
 
-/// Computes the next port of each vertex towards `target`: the first port down to a vertex one nearer if a walk down
-/// leads there, otherwise the first port up to a vertex of least cost. The target has `None`, and so does a vertex
-/// without a route. Takes one step for each vertex and each edge.
+/// Returns the next port of each vertex towards `target`: the first port down to a vertex one nearer if a walk down
+/// leads there, otherwise the first port up to a vertex of least cost. `target` has `None`, and so does a vertex
+/// without a route. Takes time linear in the number of vertices and edges.
 pub(crate) fn next_ports(
     alloc: Global,
     ups: &Adjacency,
@@ -30,7 +30,7 @@ pub(crate) fn next_ports(
     Ok(ports)
 }
 
-/// Returns the next port of a vertex, given the down distances and costs of all vertices.
+/// Returns the next port of `vertex`, given the down distances and costs of all vertices.
 fn next_port(
     ups: &Adjacency,
     downs: &Adjacency,
@@ -52,7 +52,7 @@ fn next_port(
     }
 }
 
-/// Returns the port of the first edge to a vertex whose number is one less than `number`.
+/// Returns the port of the first edge to a vertex whose number is one less than `number`, or `None` if there is none.
 fn port_nearer(edges: &[Edge], numbers: &[Option<usize>], number: Option<usize>) -> Option<PortNum>
     requires { All (λ edge. edge.to < length numbers.now) edges.now }
     ensures { result ≡ port_nearer edges.now numbers.now number }

@@ -12,8 +12,9 @@ use crate::next_port::next_ports;
 use smp_bytes::PortNum;
 use std::alloc::{AllocError, Global};
 
-/// Computes the next ports between `vertices`: row `i` has the next port of each of them towards `vertices[i]`. Takes
-/// one step for each vertex and each edge for every 16 targets, or for every target if a cost is over 254.
+/// Returns the next ports between `vertices`: row `i` has the next port of each of them towards `vertices[i]`. Walks
+/// all vertices and edges once down and once up for every 16 of `vertices`, and also for each of them if a cost is over
+/// 254.
 pub fn next_ports_between(
     alloc: Global,
     ups: &Adjacency,
@@ -38,7 +39,8 @@ pub fn next_ports_between(
     Ok(rows)
 }
 
-/// Returns the targets of the lanes: `vertices` from index `first` on. Lanes left over get the last vertex.
+/// Returns the targets of the lanes: `vertices` from index `first` on. Lanes for which none is left get the last of
+/// them.
 fn targets_from(vertices: &[usize], first: usize) -> [usize; LANES]
     requires { first < length vertices.now }
     ensures { EachLane (λ k. slice_index result k ≡ target_in vertices.now first k) }
@@ -75,7 +77,7 @@ impl Block {
         })
     }
 
-    /// Computes the routes to `targets`.
+    /// Computes the costs of all vertices and their next ports towards `targets`, if the costs fit in the lanes.
     fn route(&mut self, ups: &Adjacency, downs: &Adjacency, targets: [usize; LANES])
         requires slopes { AreSlopes ups.now downs.now }
         requires numbers { length self.old.numbers.items ≡ length ups.now }
@@ -89,7 +91,7 @@ impl Block {
         self.is_routed = route_in_lanes(ups, downs, &targets, &mut self.numbers, &mut self.ports);
     }
 
-    /// Returns the next ports of `vertices` towards the target of a lane.
+    /// Returns the next ports of `vertices` towards the target of `lane`.
     fn row(
         &self,
         alloc: Global,
@@ -121,8 +123,8 @@ impl Block {
 }
 
 /// Computes, for each lane, the costs of all vertices and their next ports towards its target: first down distances,
-/// from the last vertex to the first, then costs, from the first to the last. Returns `false` if a cost is too great
-/// for a lane.
+/// from the last vertex to the first, then costs, from the first to the last. Returns `false` if a distance or a cost
+/// is too great for a lane.
 fn route_in_lanes(
     ups: &Adjacency,
     downs: &Adjacency,
@@ -170,8 +172,8 @@ fn route_in_lanes(
     true
 }
 
-/// Computes the down distances of a vertex and its ports down, given the numbers of the vertices down from it. Returns
-/// `None` if a distance is too great for a lane.
+/// Returns the down distances of `vertex` and its ports down, given the numbers of the vertices down from it, or `None`
+/// if a distance is too great for a lane.
 fn down_from(
     downs: &[Edge],
     numbers: &[[u8; LANES]],
@@ -191,8 +193,8 @@ fn down_from(
     })
 }
 
-/// Computes the costs of a vertex and its ports up for the lanes without a down distance, given the costs of the
-/// vertices up from it. Returns `None` if a cost is too great for a lane.
+/// Returns the hops of a vertex whose hops `down` are known: where a lane has no down distance, its cost and its port
+/// up, given the costs of the vertices up from it. Returns `None` if a cost is too great for a lane.
 fn up_from(ups: &[Edge], numbers: &[[u8; LANES]], down: Hops) -> Option<Hops>
     requires { All (λ edge. edge.to < length numbers.now) ups.now }
     ensures { IfSome result (λ hops. EachLane (λ k. IsStepUp (slice_index down.numbers k) (slice_index down.ports k)
@@ -208,7 +210,7 @@ fn up_from(ups: &[Edge], numbers: &[[u8; LANES]], down: Hops) -> Option<Hops>
     Some(hops)
 }
 
-/// Returns the ports of `vertices` in a lane.
+/// Returns the ports of `vertices` in `lane`, each `None` if the vertex is the target or has no route.
 fn ports_in_lane(
     alloc: Global,
     numbers: &[[u8; LANES]],
@@ -229,7 +231,7 @@ fn ports_in_lane(
     Ok(found)
 }
 
-/// Returns the ports of `vertices`.
+/// Returns the entries of `ports` for `vertices`.
 fn ports_at(
     alloc: Global,
     ports: &[Option<PortNum>],

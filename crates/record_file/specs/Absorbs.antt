@@ -11,14 +11,14 @@ use Rattle.record_file.specs.declared.format.Format.{Format}
 use Rattle.record_file.specs.Head.{IsFormat, floored_magic, format_in, head_bytes}
 use Rattle.record_file.specs.RecordFile.{AreGoodRecords, Judgement, facts_in, fault_in, outcome}
 
--- a good record is added to the store, or memory runs out and the store stays; the result of a bad record is its fault,
--- and the store stays
+-- what absorbing one record does: if it is good, its sightings are merged into the store, or memory runs out and the
+-- store stays; if it is bad, the result is its fault at `index`, and the store stays
 abbrev pub AbsorbsJudged : {K : Type 0} → Judgement → ℕ → Result K FileFault → Facts → Facts → Type 0
 AbsorbsJudged (Ok sightings) index (Ok key) old new = new ≡ merge old (view sightings)
 AbsorbsJudged (Ok sightings) index (Err f) old new = (f ≡ Memory) × (new ≡ old)
 AbsorbsJudged (Err fault) index result old new = (result ≡ Err (fault index)) × (new ≡ old)
 
--- the bytes are a head and good records, at least one, followed by fewer than 4096 bytes
+-- `taken` is a head, good records, at least one, and fewer than 4096 bytes after them
 pub record EndsBehindRecord (taken : List ℕ) : Type 0 where
   pub format : Format
   pub records : List (List ℕ)
@@ -29,14 +29,15 @@ pub record EndsBehindRecord (taken : List ℕ) : Type 0 where
   pub good : AreGoodRecords format None (records ++ last ∷ [])
   pub near : length behind < 4096
 
--- the facts in the taken bytes were merged into the store; if memory ran out, only those before the record that needed
--- memory
+-- the facts in the bytes `taken` were merged into the store; if memory ran out, only those in the head and in the
+-- records before the one that needed memory
 abbrev pub HoldsKept : Result (Unit {0}) FileFault → Facts → Facts → List ℕ → Type 0
 HoldsKept (Err Memory) old new taken =
     (wanted : EndsBehindRecord taken) × (new ≡ merge old (facts_in (head_bytes wanted.format ++ concat wanted.records)))
 HoldsKept _ old new taken = new ≡ merge old (facts_in taken)
 
--- the answer is the outcome of these bytes, unless a read failed, memory ran out, or too many calls were interrupted
+-- the answer is the outcome of `bytes`; only `Read` and `Memory` may come whatever the outcome is, and `TooLong` if
+-- `interrupted` holds
 abbrev pub AnswersOutcome : Result (Unit {0}) FileFault → List ℕ → Type 0 → Type 0
 AnswersOutcome (Ok u) bytes interrupted = outcome bytes ≡ Ok u
 AnswersOutcome (Err Read) bytes interrupted = Unit {0}
@@ -44,21 +45,21 @@ AnswersOutcome (Err Memory) bytes interrupted = Unit {0}
 AnswersOutcome (Err TooLong) bytes interrupted = (outcome bytes ≡ Err TooLong) ⊎ interrupted
 AnswersOutcome (Err f) bytes interrupted = outcome bytes ≡ Err f
 
--- the magic or the header after it is not whole yet
+-- `taken` is shorter than its head: it has fewer than 8 bytes, or fewer than 16 after the magic that a header follows
 abbrev pub HasNoHeadYet : List ℕ → Type 0
 HasNoHeadYet taken = (length taken < 8) ⊎ ((starts_with nat_eq taken floored_magic ≡ true) × (length taken < 16))
 
--- the head is not whole yet, or only good records follow it so far
+-- `taken` is shorter than its head, or has a sound head and no bad record
 abbrev pub HasNoFaultYet : List ℕ → Type 0
 HasNoFaultYet taken =
     HasNoHeadYet taken ⊎ ((format : Format) × (format_in taken ≡ Ok format) × (fault_in format taken ≡ None))
 
--- the bytes have no fault yet, or they end within a piece after a good record, and all records before it are good
+-- `taken` has no fault yet, or it ends fewer than 4096 bytes after a good record, with only good records before that
 abbrev pub HasNoFaultBefore : List ℕ → Type 0
 HasNoFaultBefore taken = HasNoFaultYet taken ⊎ EndsBehindRecord taken
 
--- if the answer depends on what the source has left, the source is at its end; if reading stopped early, no fault came
--- first
+-- after success, `Truncated`, or `Magic` with fewer than 8 bytes taken, the source is at its end; after `Read` or
+-- `TooLong`, the bytes `taken` have no fault yet
 abbrev pub IsDecided : Result (Unit {0}) FileFault → List ℕ → Type 0 → Type 0
 IsDecided (Ok u) taken at_end = at_end
 IsDecided (Err Magic) taken at_end = length taken < 8 → at_end
@@ -67,19 +68,19 @@ IsDecided (Err Read) taken at_end = HasNoFaultYet taken
 IsDecided (Err TooLong) taken at_end = HasNoFaultYet taken
 IsDecided _ taken at_end = Unit {0}
 
--- the bytes taken and the calls interrupted meanwhile are together at least 2^40
+-- the bytes taken, which are `bytes` without `rest`, and the calls interrupted meanwhile are together at least 2^40
 abbrev pub WasInterruptedTooOften : List ℕ → List ℕ → ℕ → ℕ → Type 0
 WasInterruptedTooOften bytes rest interruptions interruptions' =
     (2 ^ 40 + interruptions) + length rest ≤ length bytes + interruptions'
 
--- fewer than 2^40 bytes were taken, and fewer than 2^40 calls were interrupted; at most 2^40 of each if the answer is
--- TooLong
+-- fewer than 2^40 bytes were taken, and fewer than 2^40 calls were interrupted; if the answer is `TooLong`, at most
+-- 2^40 of each
 abbrev pub IsBounded : Result (Unit {0}) FileFault → ℕ → ℕ → ℕ → Type 0
 IsBounded (Err TooLong) bytes interruptions interruptions' =
     (bytes ≤ 2 ^ 40) × (interruptions' ≤ 2 ^ 40 + interruptions)
 IsBounded _ bytes interruptions interruptions' = (bytes < 2 ^ 40) × (interruptions' < 2 ^ 40 + interruptions)
 
--- the bytes `taken` were taken, the store holds the facts in them, and the answer is the one for them
+-- the bytes `taken` were taken from the source, the store holds the facts in them, and `answer` is the one for them
 pub record AbsorbsFrom (left left' : Option (List ℕ)) (interruptions interruptions' : ℕ)
     (answer : Result (Unit {0}) FileFault) (old new : Facts) : Type 0 where
   pub taken : List ℕ
@@ -96,7 +97,8 @@ Absorbs state answer source source' old new =
     AbsorbsFrom (state source).left (state source').left (state source).interruptions (state source').interruptions
     answer old new
 
--- if the bytes of a source are known, the answer is the outcome of all of them, with the exceptions of `AnswersOutcome`
+-- if the bytes that the source had before are known, and those that it has left, the answer is the outcome of the bytes
+-- that it had before, with the exceptions of `AnswersOutcome`
 abbrev pub AnswersKnown : {S : Type 0} → (S → SourceState) → Result (Unit {0}) FileFault → S → S → Type 0
 AnswersKnown state answer source source' =
     IfSome (state source).left (λ bytes. IfSome (state source').left

@@ -14,6 +14,7 @@ use Rattle.reply_facts.specs.declared.key.Key.TheVariants.{Node, PortGuid, Link,
 use Rattle.reply_facts.specs.declared.value.Value.{Value}
 use Rattle.reply_facts.specs.declared.value.Value.TheVariants.{Kind, Guid, Peer, Up, Lid, Count}
 
+-- the byte of a flag: 1 if it is set, else 0
 abbrev pub flag_byte : Bool → ℕ
 flag_byte true = 1
 flag_byte false = 0
@@ -37,25 +38,25 @@ abbrev pub state_byte : Cell Value → ℕ
 state_byte (Known generation value) = 1
 state_byte (Disputed generation) = 2
 
--- the bytes, padded with zeros to n bytes
+-- the bytes, filled up with zeros to `n` bytes; unchanged if they are `n` or more
 abbrev pub filled_up : ℕ → List ℕ → List ℕ
 filled_up n bytes = bytes ++ replicate (n - length bytes) 0
 
--- the record that spells a cell
+-- the record of a key and its cell
 abbrev pub record_bytes : Key × Cell Value → List ℕ
 record_bytes e =
     key_kind e.0 ∷ state_byte e.1 ∷ key_port e.0 ∷ 0 ∷
     (to_be_bytes w32 (generation_of e.1) ++ to_be_bytes w64 (key_guid e.0) ++ filled_up 16 (cell_value_bytes e.1))
 
--- the keys with this GUID and port, one of each kind; a node and a table's room have no port
+-- the six keys, one of each kind, with this GUID and, except for a node and a table's room, this port
 abbrev pub keys_of : ℕ → ℕ → List Key
 keys_of guid port = Node guid ∷ PortGuid guid port ∷ Link guid port ∷ Port guid port ∷ Claim guid port ∷ Cap guid ∷ []
 
--- the key with this kind byte, GUID and port; None if there is no such kind
+-- the key with the kind number `kind`, this GUID and this port; None if `kind` is not from 1 to 6
 abbrev pub key_of : ℕ → ℕ → ℕ → Option Key
 key_of kind guid port = find (λ key. kind == key_kind key) (keys_of guid port)
 
--- the value of the key's kind in these bytes; None if they have none
+-- the value of the kind of `key` at the start of `bytes`; None if it is a node's and its type is reserved
 abbrev pub value_of : Key → List ℕ → Option Value
 value_of (Node g) bytes = option_map (λ kind. Kind kind (slice_index bytes 1)) (type_of_number (slice_index bytes 0))
 value_of (PortGuid g p) bytes = Some (Guid (from_be_bytes w64 (take 8 bytes)))
@@ -64,26 +65,27 @@ value_of (Port g p) bytes = Some (Up (slice_index bytes 0 == 1))
 value_of (Claim g p) bytes = Some (Lid (from_be_bytes w16 (take 2 bytes)))
 value_of (Cap g) bytes = Some (Count (from_be_bytes w16 (take 2 bytes)))
 
--- the cell of this key: known with the value in these bytes if the state is 1, and otherwise disputed
+-- the cell of `key`: if `state` is 1, known with the value in `bytes`, or None if they have none; else disputed
 abbrev pub state_of : Key → ℕ → ℕ → List ℕ → Option (Cell Value)
 state_of key state generation bytes =
     if state == 1 then option_map (Known generation) (value_of key bytes) else Some (Disputed generation)
 
--- the cell that these bytes spell, without a check of the bytes that have to be 0; None if they spell none
+-- the key and the cell that a record spells, whatever its other bytes are; None if its kind, or the type of a node, is
+-- reserved
 abbrev pub candidate : List ℕ → Option (Key × Cell Value)
 candidate bytes =
     option_and_then (λ key. option_map (λ cell. (key, cell))
     (state_of key (slice_index bytes 1) (from_be_bytes w32 (take 4 (drop 4 bytes))) (drop 16 bytes)))
     (key_of (slice_index bytes 0) (from_be_bytes w64 (take 8 (drop 8 bytes))) (slice_index bytes 2))
 
--- the sighting if it is in range, and otherwise None
+-- `e` if it is in range (`is_sighting`), else None
 abbrev pub if_sighting : Key × Cell Value → Option (Key × Cell Value)
 if_sighting e = if is_sighting e then Some e else None
 
--- the sighting if these bytes are its record, and otherwise None
+-- `e` if `bytes` are its record, else None
 abbrev pub if_spelled : List ℕ → Key × Cell Value → Option (Key × Cell Value)
 if_spelled bytes e = if bytes_eq (record_bytes e) bytes then Some e else None
 
--- the sighting that these bytes are the record of; None if there is none
+-- the sighting that `bytes` are the record of; None if there is none
 unfoldable pub cell_of : List ℕ → Option (Key × Cell Value)
 cell_of bytes = option_and_then (if_spelled bytes) (option_and_then if_sighting (candidate bytes))

@@ -1,4 +1,4 @@
--- Facts as text.
+-- Facts as text, a line for each: the floor, and each key with its cell.
 use Rattle.std.specs.Prelude.{ℕ, List, [], ◌++◌, nat_le, codes, decimal, if◌then◌else◌}
 use Rattle.std.specs.List.{flat_map}
 use Rattle.smp_bytes.specs.Text.{guid_text, port_text, type_word}
@@ -38,18 +38,18 @@ abbrev pub cell_text : Cell Value → List ℕ
 cell_text (Known generation value) = value_text value ++ codes " @" ++ decimal generation
 cell_text (Disputed generation) = codes "disputed @" ++ decimal generation
 
--- the text of a key and its cell
+-- the text of a key and its cell, without a line feed
 abbrev pub fact_text : Key × Cell Value → List ℕ
 fact_text cell = key_text cell.0 ++ codes " " ++ cell_text cell.1
 
--- the line of a cell
+-- the line of a key and its cell
 abbrev pub line_text : Key × Cell Value → List ℕ
 line_text cell = fact_text cell ++ codes "\n"
 
--- the line of a floor; empty for floor 1
+-- the line of `floor`; empty if it is at most 1
 abbrev pub floor_line : ℕ → List ℕ
 floor_line floor = if nat_le floor 1 then [] else codes "floor " ++ decimal floor ++ codes "\n"
 
--- the line of the floor, and the line of each cell
+-- the text of `facts`: the line of their floor, if that is over 1, and a line for each cell, in the order of keys
 abbrev pub facts_text : Facts → List ℕ
 facts_text facts = floor_line facts.floor ++ flat_map line_text (cells_of facts)

@@ -23,28 +23,29 @@ pub record Absorbing : Type 0 where
   pub awaited : Result Awaited FileFault
   pub part : List ℕ
 
--- the number of bytes of the awaited part
+-- the number of bytes of a part that is awaited
 abbrev pub awaited_size : Awaited → ℕ
 awaited_size awaited.Magic = 8
 awaited_size awaited.Header = 8
 awaited_size (awaited.Record format index last) = record_size format
 
--- the number of bytes before the awaited part
+-- the number of bytes of a file before a part that is awaited
 abbrev pub offset_of : Awaited → ℕ
 offset_of awaited.Magic = 0
 offset_of awaited.Header = 8
 offset_of (awaited.Record format index last) = head_size format + record_size format * index
 
--- not all bytes of the awaited part have come
+-- `part` has fewer bytes than the part that is awaited
 abbrev pub IsShortOf : Awaited → List ℕ → Type 0
 IsShortOf awaited part = length part < awaited_size awaited
 
--- not all bytes of the awaited part have come, and fewer than 2^40 bytes in all
+-- if a part is awaited, `part` has fewer bytes than it, and fewer than 2^40 bytes have come in all; true after a fault
 abbrev pub IsInReach : Result Awaited FileFault → List ℕ → Type 0
 IsInReach (Ok awaited) part = IsShortOf awaited part × (offset_of awaited + length part < 2 ^ 40)
 IsInReach (Err fault) part = Unit {0}
 
--- the bytes `fed` are a head, `index` good records, and `part`, the first bytes of the next record
+-- the bytes `fed` are a head, `index` good records, the last with the key `last`, and `part`, the first bytes of the
+-- next record
 pub record IsBehindRecords (format : Format) (index : ℕ) (last : Option Key) (part fed : List ℕ) : Type 0 where
   pub records : List (List ℕ)
   pub sound : IsFormat format
@@ -54,47 +55,48 @@ pub record IsBehindRecords (format : Format) (index : ℕ) (last : Option Key) (
   pub key : last ≡ last_key format None records
   pub short : length part < record_size format
 
--- after the bytes `fed`, this part is awaited, and `part` of it has come
+-- after the bytes `fed`, the given part is awaited, and the bytes `part` of it have come
 abbrev pub Awaits : Awaited → List ℕ → List ℕ → Type 0
 Awaits awaited.Magic part fed = (fed ≡ part) × (length part < 8)
 Awaits awaited.Header part fed = (fed ≡ floored_magic ++ part) × (length part < 8)
 Awaits (awaited.Record format index last) part fed = IsBehindRecords format index last part fed
 
--- the absorber was fed these bytes, and they have no fault so far
+-- the absorber `a` was fed the bytes `fed`, which are fewer than 2^40 and have no fault so far
 pub record WasFed (a : Absorbing) (fed : List ℕ) : Type 0 where
   pub awaited : Awaited
   pub goes_on : a.awaited ≡ Ok awaited
   pub awaits : Awaits awaited a.part fed
   pub short : length fed < 2 ^ 40
 
--- the absorber stopped with this fault
+-- the absorber `a` has stopped with `fault`
 abbrev pub HasStopped : Absorbing → FileFault → Type 0
 HasStopped a fault = a.awaited ≡ Err fault
 
--- the fault in the outcome of n bytes if it stays whatever follows them, and otherwise None
+-- the fault in the outcome of `n` bytes if it stays whatever follows them; None if there is none, if they are
+-- truncated, or if they are fewer than 8 and no head yet
 abbrev pub staying : ℕ → Result (Unit {0}) FileFault → Option FileFault
 staying n (Ok u) = None
 staying n (Err Magic) = if nat_lt n 8 then None else Some Magic
 staying n (Err (Truncated offset)) = None
 staying n (Err fault) = Some fault
 
--- the fault that these bytes have, whatever follows them; None if they have none
+-- the fault that `bytes` have, whatever follows them; None if there is no such fault
 abbrev pub fault_so_far : List ℕ → Option FileFault
 fault_so_far bytes = staying (length bytes) (outcome bytes)
 
--- the floor that a piece raises after the bytes `fed`: the floor of all bytes together, or 1 if `fed` already has a
--- floor
+-- the floor that `piece` brings after the bytes `fed`: that of all bytes together if the floor of `fed` is 1, else 1
 abbrev pub floor_behind : List ℕ → List ℕ → ℕ
 floor_behind fed piece = if floor_in fed == 1 then floor_in (fed ++ piece) else 1
 
--- the facts in the head and in the records that this piece completes were merged into the store
+-- what `piece` adds to the sightings kept of the bytes `fed` was merged into the store, at the floor that `piece`
+-- brings
 pub record AddsSightings (fed piece : List ℕ) (old new : Facts) : Type 0 where
   pub sightings : List (Key × Cell Value)
   pub more : kept (fed ++ piece) ≡ kept fed ++ sightings
   pub held : new ≡ merge old (view_at (floor_behind fed piece) sightings)
 
--- memory ran out for a good record that this piece completes; the facts in the head and in the records before it were
--- merged into the store
+-- memory ran out for a good record that `piece` completes; the sightings that `piece` adds before this record, and its
+-- floor, were merged into the store
 pub record WantsMemory (fed piece : List ℕ) (old new : Facts) : Type 0 where
   pub format : Format
   pub records : List (List ℕ)
@@ -109,55 +111,61 @@ pub record WantsMemory (fed piece : List ℕ) (old new : Facts) : Type 0 where
   pub more : kept (head_bytes format ++ concat records) ≡ kept fed ++ sightings
   pub held : new ≡ merge old (view_at (floor_behind fed piece) sightings)
 
--- memory ran out for a record of the piece, or the bytes have this fault; the store holds the facts before it
+-- feeding `piece` after the bytes `fed` stops with `fault`: memory ran out for a record that `piece` completes, or the
+-- bytes have this fault; what comes before was merged into the store
 abbrev pub StopsWith : FileFault → List ℕ → List ℕ → Facts → Facts → Type 0
 StopsWith fault fed piece old new =
     ((fault ≡ Memory) × WantsMemory fed piece old new)
     ⊎ ((fault_so_far (fed ++ piece) ≡ Some fault) × AddsSightings fed piece old new)
 
--- what feeding a piece after the bytes `fed` returns and does
+-- what feeding `piece` after the bytes `fed` returns and does: after `Ok`, all these bytes were fed and have no fault
+-- so far; after an error, the absorber has stopped with it
 abbrev pub FeedsBehind : List ℕ → List ℕ → Result (Unit {0}) FileFault → Absorbing → Facts → Facts → Type 0
 FeedsBehind fed piece (Ok u) a old new =
     WasFed a (fed ++ piece) × (fault_so_far (fed ++ piece) ≡ None) × AddsSightings fed piece old new
 FeedsBehind fed piece (Err fault) a old new = HasStopped a fault × StopsWith fault fed piece old new
 
--- what feeding a piece returns, and what it does to the absorber and to the store
+-- what feeding `piece` to the absorber `a` returns and does; if `a` has stopped, its fault is returned again and
+-- nothing changes
 pub record FeedsPiece (a : Absorbing) (piece : List ℕ) (answer : Result (Unit {0}) FileFault) (a' : Absorbing)
     (old new : Facts) : Type 0 where
   pub goes_on : (fed : List ℕ) → WasFed a fed → FeedsBehind fed piece answer a' old new
   pub stays : (fault : FileFault) → HasStopped a fault → (answer ≡ Err fault) × (a' ≡ a) × (new ≡ old)
 
--- what the end of the file returns
+-- what the end of the file returns: the outcome of the bytes that the absorber `a` was fed, or the fault with which it
+-- stopped
 pub record Finishes (a : Absorbing) (answer : Result (Unit {0}) FileFault) : Type 0 where
   pub ends : (fed : List ℕ) → WasFed a fed → answer ≡ outcome fed
   pub stays : (fault : FileFault) → HasStopped a fault → answer ≡ Err fault
 
 -- the steps of a piece -----------------------------------------------------------------
 
--- what is awaited after the first eight bytes of a file: the first record, or the header if the magic has one
+-- what is awaited after the first eight bytes of a file, by the format in them: the first record, or the header if it
+-- is not there yet; else the fault of the head
 abbrev pub behind_magic : Result Format FileFault → Result Awaited FileFault
 behind_magic (Ok format) = Ok (awaited.Record format 0 None)
 behind_magic (Err (Truncated offset)) = Ok awaited.Header
 behind_magic (Err fault) = Err fault
 
--- what is awaited after a header
+-- what is awaited after eight bytes that are the header of a floor: the first record; `BadFloor` if they are no header,
+-- which is None here
 abbrev pub behind_header : Option ℕ → Result Awaited FileFault
 behind_header None = Err BadFloor
 behind_header (Some floor) = Ok (awaited.Record (Cells (Some floor)) 0 None)
 
--- the facts, raised to the floor if there is one
+-- `facts` raised to the floor, if one is given
 abbrev pub raised_to : Option ℕ → Facts → Facts
 raised_to None facts = facts
 raised_to (Some floor) facts = raised facts floor
 
--- the outcome of a file that ends after n bytes of the awaited part
+-- the outcome of a file that ends after `n` bytes of a part that is awaited, if `n` is less than its size
 abbrev pub ending_at : Awaited → ℕ → Result (Unit {0}) FileFault
 ending_at awaited.Magic n = Err Magic
 ending_at awaited.Header n = Err (Truncated (offset_of awaited.Header))
 ending_at (awaited.Record format index last) n =
     if n == 0 then Ok tt else Err (Truncated (offset_of (awaited.Record format index last)))
 
--- what taking the whole awaited part returns and does to the store
+-- what taking the awaited part, whose bytes are all in `bytes`, returns and does to the store
 abbrev pub TakesAwaited : Awaited → List ℕ → Result Awaited FileFault → Facts → Facts → Type 0
 TakesAwaited awaited.Magic bytes answer old new = (answer ≡ behind_magic (format_in bytes)) × (new ≡ old)
 TakesAwaited awaited.Header bytes answer old new =
@@ -166,17 +174,17 @@ TakesAwaited (awaited.Record format index last) bytes answer old new =
     AbsorbsJudged (judged format last bytes) index answer old new
     × IfOk answer (λ next. next ≡ awaited.Record format (index + 1) (key_in format bytes))
 
--- what `piece` leads to after `fed`: an awaited part and its first bytes, or a fault
+-- what taking `piece` after the bytes `fed` leads to: the next part that is awaited and its first bytes, or a fault
 abbrev pub TakesTo : List ℕ → List ℕ → Result Awaited FileFault → List ℕ → Facts → Facts → Type 0
 TakesTo fed piece (Ok next) part old new = Awaits next part (fed ++ piece) × AddsSightings fed piece old new
 TakesTo fed piece (Err fault) part old new = StopsWith fault fed piece old new
 
--- `piece` leads to this after any bytes after which `part` of the awaited part has come
+-- taking `piece` leads to `answer` after any bytes after which the bytes `part` of the awaited part have come
 abbrev pub TakesPiece : Awaited → List ℕ → List ℕ → Result Awaited FileFault → List ℕ → Facts → Facts → Type 0
 TakesPiece awaited part piece answer part' old new =
     (fed : List ℕ) → Awaits awaited part fed → TakesTo fed piece answer part' old new
 
--- the first n bytes were taken, and lead to `next`
+-- the first `n` of `bytes`, at least one, were taken, and lead to `next`, of which the bytes `part'` have come
 pub record TakesSome (awaited : Awaited) (part bytes : List ℕ) (next : Awaited) (n : ℕ) (part' : List ℕ)
     (old new : Facts) : Type 0 where
   pub some : 0 < n
@@ -185,7 +193,8 @@ pub record TakesSome (awaited : Awaited) (part bytes : List ℕ) (next : Awaited
   pub offset : offset_of next + length part' ≡ (offset_of awaited + length part) + n
   pub takes : TakesPiece awaited part (take n bytes) (Ok next) part' old new
 
--- what taking the bytes of the awaited part returns and does
+-- what taking bytes from the front of `bytes` returns and does: the next part that is awaited and how many bytes were
+-- taken, or the fault to which they lead
 abbrev pub TakesFront : Awaited → List ℕ → List ℕ → Result (Awaited × ℕ) FileFault → List ℕ → Facts → Facts → Type 0
 TakesFront awaited part bytes (Ok taken) part' old new = TakesSome awaited part bytes taken.0 taken.1 part' old new
 TakesFront awaited part bytes (Err fault) part' old new = TakesPiece awaited part bytes (Err fault) part' old new

@@ -10,7 +10,7 @@ use Rattle.record_file.specs.declared.file_fault.FileFault.TheVariants.{Magic, T
 use Rattle.record_file.specs.declared.format.Format.{Format}
 use Rattle.record_file.specs.declared.format.Format.TheVariants.{Reports, Cells}
 
--- the magic that a header follows
+-- the magic that a header with a floor follows
 abbrev pub floored_magic : List ℕ
 floored_magic = codes "IBSMSTO2"
 
@@ -18,52 +18,53 @@ floored_magic = codes "IBSMSTO2"
 abbrev pub header : ℕ → List ℕ
 header floor = to_be_bytes w32 floor ++ (0 ∷ 0 ∷ 0 ∷ 0 ∷ [])
 
--- the bytes before the records
+-- the bytes before the records of a file of this format
 abbrev pub head_bytes : Format → List ℕ
 head_bytes Reports = codes "IBSMREP1"
 head_bytes (Cells None) = codes "IBSMSTO1"
 head_bytes (Cells (Some floor)) = floored_magic ++ header floor
 
--- the number of bytes before the records
+-- the number of bytes before the records of a file of this format
 abbrev pub head_size : Format → ℕ
 head_size Reports = 8
 head_size (Cells None) = 8
 head_size (Cells (Some floor)) = 16
 
--- the floor in the head, if there is one, is a generation
+-- whether the floor in the head, if there is one, is a generation
 abbrev pub is_format : Format → Bool
 is_format Reports = true
 is_format (Cells None) = true
 is_format (Cells (Some floor)) = is_generation floor
 
--- the floor in the head, if there is one, is a generation
+-- a file can have this format: the floor in its head, if there is one, is a generation (`is_format`)
 abbrev pub IsFormat : Format → Type 0
 IsFormat format = IsTrue (is_format format)
 
--- the floor of the head, or 1 if it has none
+-- the floor in the head of a file of this format; 1 if it has none
 abbrev pub floor_of : Format → ℕ
 floor_of Reports = 1
 floor_of (Cells head_floor) = unwrap_or head_floor 1
 
--- the floor if the bytes are its header, and otherwise None
+-- `floor` if it is a generation and `bytes` are its header, else None
 abbrev pub if_header : List ℕ → ℕ → Option ℕ
 if_header bytes floor = if is_generation floor && bytes_eq (header floor) bytes then Some floor else None
 
--- the floor of a header; None if the bytes are not a header
+-- the floor whose header `bytes` are; None if they are no header
 abbrev pub floor_told : List ℕ → Option ℕ
 floor_told bytes = if_header bytes (from_be_bytes w32 (take 4 bytes))
 
--- the format of a store file with this floor; the fault of a bad header if there is none
+-- the format of a store file with this floor in its head; `BadFloor` if there is none
 abbrev pub floored : Option ℕ → Result Format FileFault
 floored None = Err BadFloor
 floored (Some floor) = Ok (Cells (Some floor))
 
--- the format of bytes that begin with `floored_magic`, by the header after it
+-- the format of bytes that begin with `floored_magic`, by the header after it; `Truncated` at 8 if the header is
+-- incomplete, `BadFloor` if it is bad
 abbrev pub behind_floored : List ℕ → Result Format FileFault
 behind_floored bytes =
     if nat_lt (length bytes) 16 then Err (Truncated 8) else floored (floor_told (take 8 (drop 8 bytes)))
 
--- the format that the head of the bytes gives, or the fault of the head
+-- the format of a file by the first bytes of it, or the fault of its head
 abbrev pub format_in : List ℕ → Result Format FileFault
 format_in bytes =
     if starts_with nat_eq bytes (head_bytes Reports) then Ok Reports

@@ -1,4 +1,4 @@
--- Laws of reading files.
+-- Laws of reading files: what is accepted, which fault is found first, and that a fault of the head or a record stays.
 use Rattle.std.specs.Prelude.{◌≡◌, ◌↔◌, ℕ, ◌+◌, ◌*◌, ◌<◌, ◌≤◌, ◌^◌, List, ◌++◌, None, Some, Ok, Err, IsOk, length, slice_index}
 use Rattle.std.specs.List.{AllByRecursion, concat}
 use Rattle.reply_facts.specs.declared.report.Report.{Report}
@@ -10,7 +10,7 @@ use Rattle.record_file.specs.Head.{IsFormat, format_in, head_bytes, head_size}
 use Rattle.record_file.specs.RecordFile.{AreGoodRecords, floor_in, judged, kept, last_key, outcome, record_size}
 use Rattle.record_file.specs.ReportRecord.{context_guid, report_bytes, report_judged, report_of}
 
--- the fault is that of a bad header or a bad record
+-- the fault is that of a bad header or of a bad record
 abbrev pub IsBadPart : FileFault → Type 0
 IsBadPart BadFloor = Unit {0}
 IsBadPart (BadReport index f) = Unit {0}
@@ -18,37 +18,39 @@ IsBadPart (BadCell index) = Unit {0}
 IsBadPart (CellOrder index) = Unit {0}
 IsBadPart _ = ⊥
 
--- neither the fault of a bad part, nor what is kept, nor the floor depends on what follows it
+-- if `rest` follows `bytes`, the outcome is the fault `f`, and what is kept and the floor are those of `bytes` alone
 pub record StaysBad (bytes rest : List ℕ) (f : FileFault) : Type 0 where
   pub outcome_stays : outcome (bytes ++ rest) ≡ Err f
   pub kept_stays : kept (bytes ++ rest) ≡ kept bytes
   pub floor_stays : floor_in (bytes ++ rest) ≡ floor_in bytes
 
--- the fault of a bad part stays, whatever follows it
+-- if bytes have a bad header or a bad record, their outcome, what is kept of them and their floor are the same whatever
+-- follows
 abbrev pub BadPartStays : Type 0
 BadPartStays = (bytes rest : List ℕ) (f : FileFault) → IsBadPart f → outcome bytes ≡ Err f → StaysBad bytes rest f
 
--- a record that spells a report without a fault
+-- the bytes are 272, and spell a report without a fault
 abbrev pub IsGoodReport : List ℕ → Type 0
 IsGoodReport r = (length r ≡ 272) × IsOk (report_judged r)
 
--- each number fits a byte
+-- each number is less than 256
 abbrev pub AreBytes : List ℕ → Type 0
 AreBytes bytes = (i : ℕ) → slice_index bytes i < 256
 
--- a report whose parts fit their bytes in a record
+-- a report fits its record: a generation less than 2^32, a GUID less than 2^64, and a reply of 256 bytes
 pub record IsWritable (r : Report) : Type 0 where
   pub generation : r.generation < 2 ^ 32
   pub guid : context_guid r.context < 2 ^ 64
   pub reply : length r.bytes ≡ 256
 
--- 272 bytes spell a report exactly if they are its record
+-- 272 bytes spell a report that fits a record exactly if they are its record
 abbrev pub ReportsHaveOneSpelling : Type 0
 ReportsHaveOneSpelling =
     (bytes : List ℕ) (r : Report) → length bytes ≡ 272 → AreBytes bytes → IsWritable r → (report_of bytes ≡ Some r)
     ↔ (bytes ≡ report_bytes r)
 
--- a file of good records and a part of one more is truncated at the offset of that record
+-- a file of good records and some bytes of one more, in fewer than 2^40 bytes, is truncated at the offset of that
+-- record
 abbrev pub TruncationIsTold : Type 0
 TruncationIsTold =
     (format : Format) (rs : List (List ℕ)) (part : List ℕ) → IsFormat format → AreGoodRecords format None rs → 0
@@ -57,7 +59,8 @@ TruncationIsTold =
     → outcome (head_bytes format ++ (concat rs ++ part))
     ≡ Err (Truncated (head_size format + record_size format * length rs))
 
--- a file of good records and a bad record has the bad record's fault, with its index, whatever follows
+-- a file of good records, then a bad one that ends within 2^40 bytes, and then anything, has the bad record's fault at
+-- its index
 abbrev pub FirstBadRecordIsTold : Type 0
 FirstBadRecordIsTold =
     (format : Format) (rs : List (List ℕ)) (r rest : List ℕ) (f : ℕ → FileFault) → IsFormat format
@@ -66,22 +69,23 @@ FirstBadRecordIsTold =
     → length (head_bytes format ++ (concat rs ++ r)) ≤ 2 ^ 40
     → outcome (head_bytes format ++ (concat rs ++ (r ++ rest))) ≡ Err (f (length rs))
 
--- the file of these records
+-- the file of reports with the records `rs`
 abbrev pub report_file : List (List ℕ) → List ℕ
 report_file rs = head_bytes Reports ++ concat rs
 
--- the bytes are the file of these good reports, and there are fewer than 2^40 of them
+-- `bytes` are the file of the good reports `rs`, and are fewer than 2^40 bytes
 pub record IsReportFile (bytes : List ℕ) (rs : List (List ℕ)) : Type 0 where
   pub whole : bytes ≡ report_file rs
   pub each : AllByRecursion IsGoodReport rs
   pub short : length bytes < 2 ^ 40
 
--- a file of reports is accepted exactly if it is the file of some good reports
+-- bytes have the head of a file of reports and are accepted exactly if they are the file of some good reports, of fewer
+-- than 2^40 bytes
 abbrev pub ReportFilesAreAccepted : Type 0
 ReportFilesAreAccepted = (bytes : List ℕ) → ((format_in bytes ≡ Ok Reports) × (outcome bytes ≡ Ok tt))
     ↔ ((rs : List (List ℕ)) × IsReportFile bytes rs)
 
--- both parts are accepted, have the whole file's floor, and together keep what the whole file keeps
+-- `front` and `back` are accepted, have the floor of `whole`, and together keep what `whole` keeps, in its order
 pub record AreParts (whole front back : List ℕ) : Type 0 where
   pub front_accepted : outcome front ≡ Ok tt
   pub back_accepted : outcome back ≡ Ok tt

@@ -1,4 +1,4 @@
--- Laws of files that come in pieces.
+-- Laws of files that come in pieces: how their bytes are cut changes nothing.
 use Rattle.std.specs.Prelude.{◌≡◌, ℕ, List, [], ◌∷◌, ◌++◌, Some, Result, Err}
 use Rattle.std.specs.List.{concat}
 use Rattle.fact_store.specs.View.{Facts}
@@ -8,14 +8,14 @@ use Rattle.record_file.specs.declared.file_fault.FileFault.TheVariants.{Memory}
 use Rattle.record_file.specs.Feeding.{Absorbing, FeedsPiece, Finishes, WasFed, fault_so_far}
 use Rattle.record_file.specs.RecordFile.{facts_in, floor_in, kept, outcome}
 
--- these pieces are fed one after the other, and none runs out of memory
+-- the pieces are fed to the absorber `a` one after the other, and none runs out of memory
 abbrev pub FeedsEach : List (List ℕ) → Absorbing → Absorbing → Facts → Facts → Type 0
 FeedsEach [] a a' old new = (a' ≡ a) × (new ≡ old)
 FeedsEach (piece ∷ pieces) a a' old new =
     (answer : Result (Unit {0}) FileFault) × (next : Absorbing) × (mid : Facts)
     × FeedsPiece a piece answer next old mid × (answer ≡ Err Memory → ⊥) × FeedsEach pieces next a' mid new
 
--- a new absorber is fed these pieces and finished, with this answer
+-- a new absorber is fed `pieces`, none of which runs out of memory, and then finished, with `answer`
 pub record ReadsPieces (pieces : List (List ℕ)) (answer : Result (Unit {0}) FileFault) (old new : Facts) : Type 0 where
   pub a : Absorbing
   pub a' : Absorbing
@@ -23,21 +23,23 @@ pub record ReadsPieces (pieces : List (List ℕ)) (answer : Result (Unit {0}) Fi
   pub feeds : FeedsEach pieces a a' old new
   pub finishes : Finishes a' answer
 
--- pieces give the outcome and the facts of all their bytes together
+-- if memory does not run out, pieces give the outcome of all their bytes together, and the facts in these are merged
+-- into the store
 abbrev pub PiecesAreRead : Type 0
 PiecesAreRead =
     (pieces : List (List ℕ)) (answer : Result (Unit {0}) FileFault) (old new : Facts)
     → ReadsPieces pieces answer old new
     → (answer ≡ outcome (concat pieces)) × (new ≡ merge old (facts_in (concat pieces)))
 
--- pieces give the same as all their bytes in one piece
+-- if memory does not run out, pieces give the answer and the store that all their bytes give as one piece
 abbrev pub CutsChangeNothing : Type 0
 CutsChangeNothing =
     (pieces : List (List ℕ)) (answer whole_answer : Result (Unit {0}) FileFault) (old new whole_new : Facts)
     → ReadsPieces pieces answer old new
     → ReadsPieces (concat pieces ∷ []) whole_answer old whole_new → (answer ≡ whole_answer) × (new ≡ whole_new)
 
--- a fault that the bytes have so far stays, whatever follows; nothing more is kept, and the floor stays
+-- if `bytes` have a fault so far, they have it with any `rest` after them, and what is kept and the floor are those of
+-- `bytes` alone
 abbrev pub FaultsStay : Type 0
 FaultsStay =
     (bytes rest : List ℕ) (fault : FileFault) → fault_so_far bytes ≡ Some fault

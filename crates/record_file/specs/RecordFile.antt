@@ -1,4 +1,5 @@
--- A file is a head and records of one size. What reading any bytes gives.
+-- What reading any bytes as a file gives: the outcome, the sightings that are kept, and the floor. A file is a head and
+-- records of one size.
 use Rattle.std.specs.Prelude.{◌≡◌, ℕ, zero, suc, ◌+◌, ◌-◌, ◌*◌, ◌/◌, ◌%◌, ◌^◌, ◌==◌, List, [], ◌∷◌, ◌++◌, Option, None, Some, Result, Ok, Err, IsOk, length}
 use Rattle.std.specs.Prelude.{Bool, true, take, drop, nat_le, option_map, if◌then◌else◌}
 use Rattle.fact_join.specs.declared.cell.Cell.{Cell}
@@ -16,84 +17,87 @@ use Rattle.record_file.specs.CellRecord.{cell_of}
 use Rattle.record_file.specs.Head.{floor_of, format_in, head_size}
 use Rattle.record_file.specs.ReportRecord.{report_judged}
 
--- the number of bytes of a record
+-- the number of bytes of a record in a file of this format
 abbrev pub record_size : Format → ℕ
 record_size Reports = 272
 record_size (Cells head_floor) = 32
 
--- the sightings of a record, or its fault, given its index
+-- what a record says: its sightings, or its fault, as a function of its index
 abbrev pub Judgement : Type 0
 Judgement = Result (List (Key × Cell Value)) (ℕ → FileFault)
 
--- the sightings of a report, or its fault
+-- the `Judgement` of a report: its sightings, or its fault as that of a record
 abbrev pub of_report : Result (List (Key × Cell Value)) ReportFault → Judgement
 of_report (Ok sightings) = Ok sightings
 of_report (Err f) = Err (λ index. BadReport index f)
 
--- whether a cell is at the head's floor or above it; true if the head has none
+-- whether `cell` is at the floor in the head or above it; true if the head has none
 abbrev pub is_at_told : Option ℕ → Cell Value → Bool
 is_at_told None cell = true
 is_at_told (Some floor) cell = is_kept floor cell
 
--- the sighting of a cell if it is not below the head's floor and its key comes after `last`, and otherwise its fault
+-- the `Judgement` of a cell's record: its sighting; `BadCell` if it spells none, or one below the floor in the head;
+-- `CellOrder` if its key does not come after `last`
 abbrev pub of_cell : Option ℕ → Option Key → Option (Key × Cell Value) → Judgement
 of_cell head_floor last None = Err BadCell
 of_cell head_floor last (Some e) =
     if is_at_told head_floor e.1 then (if is_above last e.0 then Ok (e ∷ []) else Err CellOrder) else Err BadCell
 
--- the sightings of a record, or its fault; `last` is the key of the cell before it
+-- the `Judgement` of the record `bytes` in a file of this format; `last` is the key of the cell before it, if there is
+-- one
 abbrev pub judged : Format → Option Key → List ℕ → Judgement
 judged Reports last bytes = of_report (report_judged bytes)
 judged (Cells head_floor) last bytes = of_cell head_floor last (cell_of bytes)
 
--- the key of a record's cell; None for a report
+-- the key of the cell that a record spells; None for a report, or if the record spells no cell
 abbrev pub key_in : Format → List ℕ → Option Key
 key_in Reports bytes = None
 key_in (Cells head_floor) bytes = option_map (λ e. e.0) (cell_of bytes)
 
--- the key of the last record; `last` if there is no record
+-- the key in the last of some records (`key_in`); `last` if there is no record
 abbrev pub last_key : Format → Option Key → List (List ℕ) → Option Key
 last_key format last [] = last
 last_key format last (r ∷ rs) = last_key format (key_in format r) rs
 
--- the first n records of this size in the bytes
+-- the first `n` records of `size` bytes each in `bytes`
 abbrev pub first_records : ℕ → ℕ → List ℕ → List (List ℕ)
 first_records size zero bytes = []
 first_records size (suc n) bytes = take size bytes ∷ first_records size n (drop size bytes)
 
--- the whole records of the bytes
+-- the records of `size` bytes in `bytes`, without an incomplete one at the end
 unfoldable pub records : ℕ → List ℕ → List (List ℕ)
 records size bytes = first_records size (length bytes / size) bytes
 
--- the fault of the record at `index` if it is bad, and otherwise the later fault
+-- the fault of the record at `index` if it is bad, else `later`
 abbrev pub fault_or : ℕ → Judgement → Option FileFault → Option FileFault
 fault_or index (Ok sightings) later = later
 fault_or index (Err f) later = Some (f index)
 
--- the fault of the first bad record, or None if there is none; the records are numbered from `index`, and `last` is the
--- key before them
+-- the fault of the first bad record of a list; None if all are good; the records are numbered from `index`, and `last`
+-- is the key before them
 abbrev pub first_fault : Format → Option Key → ℕ → List (List ℕ) → Option FileFault
 first_fault format last index [] = None
 first_fault format last index (r ∷ rs) =
     fault_or index (judged format last r) (first_fault format (key_in format r) (index + 1) rs)
 
--- the sightings of a good record, and then the later ones; none after a bad record
+-- the sightings of a record and then `later`; none if the record is bad
 abbrev pub sightings_then : Judgement → List (Key × Cell Value) → List (Key × Cell Value)
 sightings_then (Ok sightings) later = sightings ++ later
 sightings_then (Err f) later = []
 
--- the sightings of the good records before the first bad one
+-- the sightings of the good records before the first bad one; `last` is the key before them
 abbrev pub sightings_by : Format → Option Key → List (List ℕ) → List (Key × Cell Value)
 sightings_by format last [] = []
 sightings_by format last (r ∷ rs) = sightings_then (judged format last r) (sightings_by format (key_in format r) rs)
 
--- whole records, each of them good after the ones before it
+-- each record has the size of the format, and is good after the ones before it; `last` is the key before them
 abbrev pub AreGoodRecords : Format → Option Key → List (List ℕ) → Type 0
 AreGoodRecords format last [] = Unit {0}
 AreGoodRecords format last (r ∷ rs) =
     (length r ≡ record_size format) × IsOk (judged format last r) × AreGoodRecords format (key_in format r) rs
 
--- the outcome of a file of this format with this many bytes and no bad record
+-- the outcome of a file of this format with `bytes` bytes and no bad record: `TooLong` from 2^40 bytes on, `Truncated`
+-- at the offset of an incomplete record, else accepted
 unfoldable pub ending : Format → ℕ → Result (Unit {0}) FileFault
 ending format bytes =
     let behind = bytes - head_size format in
@@ -101,46 +105,47 @@ ending format bytes =
     if nat_le (2 ^ 40) bytes then Err TooLong else
     (if behind % size == 0 then Ok tt else Err (Truncated (head_size format + size * (behind / size))))
 
--- the fault if there is one, and otherwise the other result
+-- the fault if there is one, else `otherwise`
 abbrev pub fault_first : Option FileFault → Result (Unit {0}) FileFault → Result (Unit {0}) FileFault
 fault_first None otherwise = otherwise
 fault_first (Some f) otherwise = Err f
 
--- the records that end within the first 2^40 bytes
+-- the complete records that end within the first 2^40 bytes
 abbrev pub records_in_reach : Format → List ℕ → List (List ℕ)
 records_in_reach format bytes = records (record_size format) (drop (head_size format) (take (2 ^ 40) bytes))
 
--- the fault of the first bad record of a file of this format; None if there is none
+-- the fault of the first bad record within the first 2^40 bytes; None if there is none
 abbrev pub fault_in : Format → List ℕ → Option FileFault
 fault_in format bytes = first_fault format None 0 (records_in_reach format bytes)
 
--- the outcome of reading the bytes, given the format in their head or its fault
+-- the outcome of reading `bytes`, given the format in their head or the head's fault
 abbrev pub outcome_as : Result Format FileFault → List ℕ → Result (Unit {0}) FileFault
 outcome_as (Err fault) bytes = Err fault
 outcome_as (Ok format) bytes = fault_first (fault_in format bytes) (ending format (length bytes))
 
--- the outcome of reading the bytes
+-- the outcome of reading `bytes` as a file: accepted, or the first fault
 unfoldable pub outcome : List ℕ → Result (Unit {0}) FileFault
 outcome bytes = outcome_as (format_in bytes) bytes
 
--- the sightings that are kept of the bytes, given the format in their head or its fault
+-- the sightings that reading `bytes` keeps, given the format in their head or the head's fault
 abbrev pub kept_as : Result Format FileFault → List ℕ → List (Key × Cell Value)
 kept_as (Err fault) bytes = []
 kept_as (Ok format) bytes = sightings_by format None (records_in_reach format bytes)
 
--- the sightings that reading the bytes keeps: those of the records before the first bad one
+-- the sightings that reading `bytes` keeps: those of the good records before the first bad one, within 2^40 bytes; none
+-- if the head has a fault
 unfoldable pub kept : List ℕ → List (Key × Cell Value)
 kept bytes = kept_as (format_in bytes) bytes
 
--- the floor of the format in a head; 1 if the head has a fault
+-- the floor of a format; 1 if there is the fault of a head instead
 abbrev pub floor_as : Result Format FileFault → ℕ
 floor_as (Err fault) = 1
 floor_as (Ok format) = floor_of format
 
--- the floor that reading the bytes raises: the floor of their header, or 1 if there is none
+-- the floor that reading `bytes` raises: that in their header; 1 if there is none or the head has a fault
 unfoldable pub floor_in : List ℕ → ℕ
 floor_in bytes = floor_as (format_in bytes)
 
--- the facts in the bytes: the view of the sightings that reading them keeps, at their floor
+-- the facts in `bytes`: the view of the sightings that reading them keeps, at their floor
 abbrev pub facts_in : List ℕ → Facts
 facts_in bytes = view_at (floor_in bytes) (kept bytes)

@@ -11,7 +11,7 @@ use Rattle.reply_facts.specs.declared.report_fault.ReportFault.{ReportFault}
 use Rattle.reply_facts.specs.declared.report_fault.ReportFault.TheVariants as fault
 use Rattle.reply_facts.specs.Report.{report_fault, sightings_of}
 
--- the context with this byte, port and GUID; None if there is none
+-- the context that a byte, a port and a GUID spell; None if they spell none
 abbrev pub context_of : ℕ → ℕ → ℕ → Option Context
 context_of byte port guid =
     if byte == 0 then (if (port == 0) && (guid == 0) then Some Start else None)
@@ -19,7 +19,7 @@ context_of byte port guid =
     else if (byte == 2) && (port == 0) then Some (About guid)
     else None
 
--- the byte of a context
+-- the byte for the kind of a context
 abbrev pub context_byte : Context → ℕ
 context_byte Start = 0
 context_byte (Via guid port) = 1
@@ -37,13 +37,14 @@ context_guid Start = 0
 context_guid (Via guid port) = guid
 context_guid (About guid) = guid
 
--- the record of a report
+-- the record of the report `r`
 abbrev pub report_bytes : Report → List ℕ
 report_bytes r =
     to_be_bytes w32 r.generation
     ++ (context_byte r.context ∷ context_port r.context ∷ 0 ∷ 0 ∷ (to_be_bytes w64 (context_guid r.context) ++ r.bytes))
 
--- the report that 272 bytes spell; None if they spell none
+-- the report that a record of 272 bytes spells; None if the zero bytes are not 0, or if byte, port and GUID spell no
+-- context
 unfoldable pub report_of : List ℕ → Option Report
 report_of bytes =
     if (slice_index bytes 6 == 0) && (slice_index bytes 7 == 0) then
@@ -56,16 +57,16 @@ report_of bytes =
     (context_of (slice_index bytes 4) (slice_index bytes 5) (from_be_bytes w64 (take 8 (drop 8 bytes))))
     else None
 
--- the sightings if there is no fault, and otherwise the fault
+-- `sightings` if there is no fault, else the fault
 abbrev pub unless_fault : Option ReportFault → List (Key × Cell Value) → Result (List (Key × Cell Value)) ReportFault
 unless_fault None sightings = Ok sightings
 unless_fault (Some f) sightings = Err f
 
--- the sightings of a report, or its fault; bytes that spell no report have the fault `Context`
+-- the sightings of a report, or its fault; `Context` if there is no report
 abbrev pub report_sightings : Option Report → Result (List (Key × Cell Value)) ReportFault
 report_sightings None = Err fault.Context
 report_sightings (Some r) = unless_fault (report_fault r) (sightings_of r)
 
--- the sightings of a record of a report, or its fault
+-- the sightings of the report that `bytes` spell, or its fault; `Context` if they spell none
 unfoldable pub report_judged : List ℕ → Result (List (Key × Cell Value)) ReportFault
 report_judged bytes = report_sightings (report_of bytes)

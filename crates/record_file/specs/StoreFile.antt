@@ -8,10 +8,10 @@ use Rattle.record_file.specs.declared.format.Format.TheVariants.{Cells}
 use Rattle.record_file.specs.CellRecord.{record_bytes}
 use Rattle.record_file.specs.Head.{head_bytes}
 
--- the store file of cells, with `head_floor` in its head if it is given
+-- the store file of `cells`, with `head_floor` in its head if one is given
 abbrev pub cells_file : Option ℕ → List (Key × Cell Value) → List ℕ
 cells_file head_floor cells = head_bytes (Cells head_floor) ++ flat_map record_bytes cells
 
--- the store file that `write_store` writes
+-- the store file of `cells` that `write_store` writes, with `floor` in its head
 abbrev pub store_bytes : ℕ → List (Key × Cell Value) → List ℕ
 store_bytes floor cells = cells_file (Some floor) cells

@@ -1,4 +1,4 @@
--- Laws of store files.
+-- Laws of store files: what is accepted, and that facts are read back.
 use Rattle.std.specs.Prelude.{◌≡◌, ◌↔◌, ℕ, ◌<◌, ◌^◌, true, nat_eq, List, Option, Some, Ok, length}
 use Rattle.std.specs.List.{starts_with}
 use Rattle.byte_io.specs.Source.{SourceState}
@@ -14,13 +14,13 @@ use Rattle.record_file.specs.Head.{IsFormat, floor_of, floored_magic, format_in}
 use Rattle.record_file.specs.RecordFile.{facts_in, kept, outcome}
 use Rattle.record_file.specs.StoreFile.{cells_file}
 
--- bytes spell a sighting exactly if they are its record
+-- bytes spell a sighting exactly if they are its record and it is in range
 abbrev pub RecordsAreSpellings : Type 0
 RecordsAreSpellings =
     (bytes : List ℕ) (e : Key × Cell Value) → (cell_of bytes ≡ Some e) ↔ (IsSighting e × (bytes ≡ record_bytes e))
 
--- the bytes are the store file of facts in range, in fewer than 2^40 bytes; its head has their floor, or may have none
--- if that is 1
+-- `bytes` are the store file of `facts` in range, and are fewer than 2^40 bytes; `head_floor` is the facts' floor, or
+-- may be None if that is 1
 pub record IsStoreFile (head_floor : Option ℕ) (bytes : List ℕ) (facts : Facts) : Type 0 where
   pub whole : bytes ≡ cells_file head_floor (cells_of facts)
   pub sound : IsFormat (Cells head_floor)
@@ -28,34 +28,35 @@ pub record IsStoreFile (head_floor : Option ℕ) (bytes : List ℕ) (facts : Fac
   pub in_range : AreInRange facts
   pub short : length bytes < 2 ^ 40
 
--- bytes with the head of a store file are accepted exactly if they are the store file of some facts
+-- bytes have the head of a store file and are accepted exactly if they are the store file of some facts (`IsStoreFile`)
 abbrev pub StoreFilesAreAccepted : Type 0
 StoreFilesAreAccepted =
     (head_floor : Option ℕ) (bytes : List ℕ) → ((format_in bytes ≡ Ok (Cells head_floor)) × (outcome bytes ≡ Ok tt))
     ↔ ((facts : Facts) × IsStoreFile head_floor bytes facts)
 
--- the file is accepted, keeps the cells of the facts, and contains these facts
+-- `bytes` are accepted, reading them keeps the cells of `facts`, and they contain these facts
 pub record IsReadBack (bytes : List ℕ) (facts : Facts) : Type 0 where
   pub accepted : outcome bytes ≡ Ok tt
   pub cells : kept bytes ≡ cells_of facts
   pub says : facts_in bytes ≡ facts
 
--- each store file is read back
+-- reading the store file of any facts gives these facts
 abbrev pub FactsAreReadBack : Type 0
 FactsAreReadBack = (head_floor : Option ℕ) (bytes : List ℕ) (facts : Facts) → IsStoreFile head_floor bytes facts
     → IsReadBack bytes facts
 
--- a file that is accepted, with a floor in its head
+-- `bytes` are accepted and have a floor in their head
 pub record IsFlooredFile (bytes : List ℕ) : Type 0 where
   pub accepted : outcome bytes ≡ Ok tt
   pub begins : starts_with nat_eq bytes floored_magic ≡ true
 
--- if two accepted files with a floor in their heads contain equal facts, they are equal
+-- two accepted files with floors in their heads are equal if they contain equal facts
 abbrev pub FactsHaveOneSpelling : Type 0
 FactsHaveOneSpelling = (bytes others : List ℕ) → IsFlooredFile bytes → IsFlooredFile others → facts_in bytes
     ≡ facts_in others → bytes ≡ others
 
--- if a source gives the whole store file of some facts, an empty store that absorbs it holds these facts
+-- if a source whose bytes are the store file of some facts is absorbed with `Ok` into an empty store, the store then
+-- holds these facts
 abbrev pub AbsorbingReadsBack : {S : Type 0} → (S → SourceState) → Type 0
 AbsorbingReadsBack {S} state =
     (source source' : S) (head_floor : Option ℕ) (bytes rest : List ℕ) (facts new : Facts)

@@ -5,20 +5,20 @@ use Rattle.byte_io.specs.Source.{SourceState}
 use Rattle.record_file.specs.declared.file_fault.FileFault.{FileFault}
 use Rattle.record_file.specs.declared.file_fault.FileFault.TheVariants.{Read, Memory, TooLong}
 
--- the source was read to its end, and gave these bytes
+-- the source was read to its end, no call failed, and it gave `bytes`, fewer than 2^40
 pub record IsReadWhole {S : Type 0} (state : S → SourceState) (old new : S) (bytes : List ℕ) : Type 0 where
   pub consumed : Consumes (state old).left (state new).left bytes
   pub at_end : IsAtEnd (state new).left
   pub works : (state new).has_failed ≡ false
   pub short : length bytes < 2 ^ 40
 
--- 2^40 bytes were taken, or 2^40 calls were made that took bytes or were interrupted
+-- `taken` has at least 2^40 bytes, or its bytes and the calls interrupted meanwhile are together at least 2^40
 abbrev pub IsTooLong : List ℕ → ℕ → ℕ → Type 0
 IsTooLong taken interruptions interruptions' =
     (2 ^ 40 ≤ length taken) ⊎ (2 ^ 40 + interruptions ≤ length taken + interruptions')
 
--- why a source is not read whole after the bytes `taken`: a call failed, the source is too long, or memory ran out
--- before that
+-- why reading stops after the bytes `taken`: `Read` if a call failed; `TooLong` if the source is too long; `Memory`
+-- before either; never for another fault
 abbrev pub IsReadFault : FileFault → List ℕ → Bool → ℕ → ℕ → Type 0
 IsReadFault Read taken has_failed interruptions interruptions' = IsTrue has_failed
 IsReadFault TooLong taken has_failed interruptions interruptions' =
@@ -27,7 +27,7 @@ IsReadFault Memory taken has_failed interruptions interruptions' =
     (has_failed ≡ false) × (length taken < 2 ^ 40) × (interruptions' < 2 ^ 40 + interruptions)
 IsReadFault fault taken has_failed interruptions interruptions' = ⊥
 
--- the source is not read whole, for this fault
+-- reading the source to its end fails with `fault`
 pub record FailsToRead {S : Type 0} (state : S → SourceState)
     (old new : S) (fault : FileFault) : Type 0 where
   pub taken : List ℕ

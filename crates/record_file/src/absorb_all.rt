@@ -10,10 +10,10 @@ use fact_store::Store;
 /// The number of bytes that `absorb` reads at a time.
 const READ_LEN: usize = 4096;
 
-/// Reads one file, of reports or of a store's cells, into the store, record by record, in constant memory of its own.
-/// The header of a store file raises the store's floor before the first record. After a fault, the store keeps the
-/// floor and the whole records before the fault. To add all or nothing, absorb the file into a new store and merge
-/// that.
+/// Reads one file, of reports or of a store's cells, from `source` into `store`, record by record. Allocates only what
+/// `store` needs. The header of a store file raises the store's floor before the first record. After a fault, the store
+/// keeps the floor, and the facts of the records before the fault. To add all or nothing, absorb the file into a new
+/// store and merge that.
 pub fn absorb<S: Source>(source: &mut S, store: &mut Store) -> Result<(), FileFault>
     ensures read { (result ≡ Err FileFault.Read) ↔ IsTrue (S.state source.new).has_failed }
     ensures absorbs { Absorbs S.state result
@@ -23,7 +23,7 @@ pub fn absorb<S: Source>(source: &mut S, store: &mut Store) -> Result<(), FileFa
     absorb_by::<READ_LEN, S>(source, store)
 }
 
-/// Reads one file into the store as `absorb` does, at most `N` bytes at a time.
+/// Reads one file into the store as `absorb` does, at most `N` bytes at a time. `N` must be from 1 to 4096.
 pub fn absorb_by<const N: usize, S: Source>(
     source: &mut S,
     store: &mut Store,

@@ -14,8 +14,8 @@ use std::marker::Model;
 /// The bytes of the awaited part that came with earlier pieces. No part is longer than a record of a report.
 type Part = ArrayVec<u8, RECORD_LEN>;
 
-/// Reads a file piece by piece. Judges each record once its last byte is there. Judges it in the piece if it is whole
-/// there, and otherwise puts it together first. Takes no memory of its own.
+/// Reads a file piece by piece. Judges each record once its last byte has come: in the piece if all of it is there, and
+/// otherwise after putting it together. Allocates only what the store needs.
 #[derive(Drop)]
 pub struct Absorber {
     awaited: Result<Awaited, FileFault>,
@@ -80,7 +80,7 @@ impl Absorber {
     }
 }
 
-/// Takes the bytes of a piece up to the file's 2^40th byte, and returns what is awaited after them.
+/// Takes the bytes of `piece` up to the file's 2^40th byte. Returns what is awaited after them, or the first fault.
 fn take_piece(
     awaited: Awaited,
     part: &mut Part,
@@ -107,7 +107,8 @@ fn take_piece(
     Ok(next)
 }
 
-/// Takes the bytes that belong to the awaited part. Returns what is awaited after them, and their number.
+/// Takes those of `bytes` that belong to the awaited part. Returns what is awaited after them, and their number, or the
+/// part's fault. There must be a byte, and `part` must not be complete.
 fn take_front(
     awaited: Awaited,
     part: &mut Part,

@@ -15,7 +15,7 @@ pub(crate) enum Awaited {
     Magic,
     /// The header after the magic of a store file that has a floor.
     Header,
-    /// The record at this index. `last` is the key of the cell before it.
+    /// The record at `index`. `last` is the key of the cell before it.
     Record {
         format: Format,
         index: u64,
@@ -38,7 +38,7 @@ impl Awaited {
         }
     }
 
-    /// Returns the offset of the part in the file.
+    /// Returns the offset of the part in the file, which must be less than 2^40.
     pub(crate) fn offset(&self) -> u64
         requires { offset_of self.now < 2 ^ 40 }
         ensures { result ≡ offset_of self.now }
@@ -65,7 +65,8 @@ impl Awaited {
         }
     }
 
-    /// Judges the part, adds what it contains to the store, and returns what is awaited after it.
+    /// Judges `bytes`, which must be all of the part, adds what they contain to `store`, and returns what is awaited
+    /// after them. Returns the part's fault if it has one.
     pub(crate) fn absorb(self, bytes: &[u8], store: &mut Store) -> Result<Awaited, FileFault>
         requires whole { length bytes.now ≡ awaited_size self }
         requires in_reach { offset_of self < 2 ^ 40 }
@@ -91,7 +92,7 @@ impl Awaited {
     }
 }
 
-/// Returns what is awaited after the magic `front`.
+/// Returns what is awaited after the first 8 bytes of a file, or the fault `Magic` if they are not a magic.
 fn behind_magic(front: &[u8]) -> Result<Awaited, FileFault>
     requires { length front.now ≡ 8 }
     ensures { result ≡ behind_magic_of (format_in front.now) }
@@ -107,8 +108,8 @@ fn behind_magic(front: &[u8]) -> Result<Awaited, FileFault>
     }
 }
 
-/// Raises the store's floor to the floor of a header, and returns what is awaited after the header. Returns `BadFloor`
-/// if the bytes are not a header.
+/// Raises the store's floor to the floor of the header `bytes`, and returns what is awaited after the header. Returns
+/// `BadFloor` if the bytes are not a header.
 fn absorb_header(bytes: &[u8], store: &mut Store) -> Result<Awaited, FileFault>
     requires { length bytes.now ≡ 8 }
     ensures takes { TakesAwaited Awaited.Header bytes.now result store.old store.new }
@@ -120,7 +121,7 @@ fn absorb_header(bytes: &[u8], store: &mut Store) -> Result<Awaited, FileFault>
     Ok(first_record(Format::Cells { floor: Some(floor) }))
 }
 
-/// Returns the first record of a file.
+/// Returns the first record of a file in `format`, as what is awaited.
 fn first_record(format: Format) -> Awaited
     ensures { result ≡ Awaited.Record format 0 None }
 {

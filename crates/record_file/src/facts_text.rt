@@ -11,7 +11,7 @@ use fact_join::Cell;
 use fact_store::{Key, Sighting, Store, Value};
 use smp_bytes::Generation;
 
-/// Writes the node or the port that a fact is about.
+/// Writes the node or the port that `key` is about.
 fn write_subject<W: Sink>(sink: &mut W, key: &Key) -> Result<(), WriteFault>
     ensures writes { Writes W.written W.has_failed result sink.old sink.new (subject_text key.now) }
 {
@@ -24,7 +24,7 @@ fn write_subject<W: Sink>(sink: &mut W, key: &Key) -> Result<(), WriteFault>
     }
 }
 
-/// Writes what a fact is about: `node`, `portguid`, `link`, `port`, `claim` or `cap`, and the node or the port.
+/// Writes what `key` is about: `node`, `portguid`, `link`, `port`, `claim` or `cap`, and the node or the port.
 fn write_key<W: Sink>(sink: &mut W, key: &Key) -> Result<(), WriteFault>
     ensures writes { Writes W.written W.has_failed result sink.old sink.new (key_text key.now) }
 {
@@ -33,7 +33,7 @@ fn write_key<W: Sink>(sink: &mut W, key: &Key) -> Result<(), WriteFault>
     write_subject(sink, key)
 }
 
-/// Writes the value of a fact.
+/// Writes `value` as text.
 fn write_value<W: Sink>(sink: &mut W, value: &Value) -> Result<(), WriteFault>
     ensures writes { Writes W.written W.has_failed result sink.old sink.new (value_text value.now) }
 {
@@ -52,7 +52,7 @@ fn write_value<W: Sink>(sink: &mut W, value: &Value) -> Result<(), WriteFault>
     }
 }
 
-/// Writes the value of a cell, or `disputed`, and its generation.
+/// Writes the value of `cell`, or `disputed`, and `@` with its generation.
 fn write_state<W: Sink>(sink: &mut W, cell: &Cell<Value>) -> Result<(), WriteFault>
     ensures writes { Writes W.written W.has_failed result sink.old sink.new (cell_text cell.now) }
 {
@@ -64,7 +64,7 @@ fn write_state<W: Sink>(sink: &mut W, cell: &Cell<Value>) -> Result<(), WriteFau
     write_number(sink, u64::from(cell.generation().number()))
 }
 
-/// Writes a key and its cell.
+/// Writes the key of `cell`, and its value or `disputed` with its generation.
 fn write_fact<W: Sink>(sink: &mut W, cell: &Sighting) -> Result<(), WriteFault>
     ensures writes { Writes W.written W.has_failed result sink.old sink.new (fact_text cell.now) }
 {
@@ -73,7 +73,7 @@ fn write_fact<W: Sink>(sink: &mut W, cell: &Sighting) -> Result<(), WriteFault>
     write_state(sink, &cell.cell())
 }
 
-/// Writes a key, its cell, and the end of a line.
+/// Writes `cell` as `write_fact` does, and the end of the line.
 fn write_line<W: Sink>(sink: &mut W, cell: &Sighting) -> Result<(), WriteFault>
     ensures writes { Writes W.written W.has_failed result sink.old sink.new (line_text cell.now) }
 {
@@ -93,7 +93,7 @@ pub fn write_cell<W: Sink>(sink: &mut W, cell: &Sighting) -> Result<(), WriteFau
     }
 }
 
-/// Writes the line of a floor over 1: `floor`, and its generation. Writes no bytes for floor 1.
+/// Writes the line of a floor over 1: `floor`, and its number. Writes no bytes for floor 1.
 fn write_floor<W: Sink>(sink: &mut W, floor: Generation) -> Result<(), WriteFault>
     ensures writes { Writes W.written W.has_failed result sink.old sink.new (floor_line floor) }
 {
@@ -106,8 +106,8 @@ fn write_floor<W: Sink>(sink: &mut W, floor: Generation) -> Result<(), WriteFaul
     sink.write(b"\n")
 }
 
-/// Writes the line of the floor, if it is over 1, and the line of each cell in the order of keys, and flushes. Takes no
-/// memory.
+/// Writes the line of the floor, if it is over 1, and the line of each cell in the order of keys, and flushes. Does not
+/// allocate.
 pub fn write_facts<W: Sink>(sink: &mut W, store: &Store) -> Result<(), WriteFault>
     ensures writes { Writes W.written W.has_failed result sink.old sink.new (facts_text store.now) }
     ensures flushed { OnOk result (IsTrue (W.is_flushed sink.new)) }

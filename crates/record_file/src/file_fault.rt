@@ -4,13 +4,13 @@ use byte_io::PieceFault;
 use fact_store::ReportFault;
 use thiserror::Error;
 
-/// Why a file was not read whole. Offsets count bytes, and indices count records, from 0.
+/// Why a file was rejected, or not read to its end. Offsets count bytes, and indices count records, from 0.
 #[derive(Clone, Copy, Debug, PartialEq, Eq, Error)]
 pub enum FileFault {
     /// There are fewer than 8 bytes, or the first 8 bytes are not a magic.
     #[error("bad magic")]
     Magic,
-    /// The input ends within the header or the record that begins at this offset.
+    /// The input ends within the header or the record that begins at `offset`.
     #[error("truncated at {offset}")]
     Truncated { offset: u64 },
     #[error("bad report {index}: {fault}")]
@@ -48,7 +48,7 @@ impl From<PieceFault> for FileFault {
 impl FileFault {
     ghost use Rattle.record_file.specs.FileFault.{fault_words, fault_number, fault_of_report, is_of_file};
 
-    /// Returns the fault's text up to its number, or the whole text if it has none.
+    /// Returns the fault's text up to its number, or all of it if it has none.
     pub fn words(&self) -> &'static str
         ensures { result.now ≡ fault_words self.now }
     {
@@ -88,7 +88,7 @@ impl FileFault {
         }
     }
 
-    /// Returns whether the fault lies with the file. This is `false` only for `Memory`.
+    /// Returns whether the fault lies with the file or its source. This is `false` only for `Memory`.
     pub fn is_of_file(&self) -> bool
         ensures { result ≡ is_of_file self.now }
     {

@@ -6,7 +6,7 @@ use smp_bytes::Generation;
 /// The format of a file, which determines its records.
 #[derive(Clone, Copy)]
 pub(crate) enum Format {
-    /// Reports, in order of arrival.
+    /// Reports, in any order.
     Reports,
     /// The cells of a store, in the order of keys. None is below the floor of the header, if there is one.
     Cells { floor: Option<Generation> },

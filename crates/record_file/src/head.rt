@@ -12,7 +12,7 @@ pub(crate) const MAGIC_LEN: usize = 8;
 /// The number of bytes of a header.
 pub(crate) const HEADER_LEN: usize = 8;
 
-/// Returns the head of a store file with this floor.
+/// Returns the head of a store file with `floor`.
 pub(crate) fn head_of(floor: Generation) -> [u8; MAGIC_LEN + HEADER_LEN]
     ensures { result ≡ head_bytes (Cells (Some floor)) }
 {
@@ -22,7 +22,7 @@ pub(crate) fn head_of(floor: Generation) -> [u8; MAGIC_LEN + HEADER_LEN]
     bytes
 }
 
-/// Returns the floor of a header, or `None` if the bytes are not a header.
+/// Returns the floor that the 8 `bytes` spell, or `None` if they are not a header.
 pub(crate) fn floor_told(bytes: &[u8]) -> Option<Generation>
     requires { length bytes.now ≡ 8 }
     ensures { result ≡ floor_in_header bytes.now }
@@ -35,7 +35,7 @@ pub(crate) fn floor_told(bytes: &[u8]) -> Option<Generation>
     }
 }
 
-/// Returns the header of a floor: the floor in four bytes, and four zero bytes.
+/// Returns the header of `floor`: the floor in four bytes, and four zero bytes.
 fn header_of(floor: Generation) -> [u8; HEADER_LEN]
     ensures { result ≡ header floor }
 {

@@ -55,7 +55,7 @@ pub fn facts_have_one_spelling()
     ensures { FactsHaveOneSpelling }
 {}
 
-/// An empty store that absorbs the store file of some facts holds these facts.
+/// If an empty store absorbs the store file of some facts without a fault, it holds these facts.
 pub fn absorbing_reads_back<S: Source>()
     ensures { AbsorbingReadsBack S.state }
 {}

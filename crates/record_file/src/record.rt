@@ -13,7 +13,8 @@ use fact_store::{Cell, IngestFault, Key, ReportFault, Store, Value};
 use smp_bytes::Generation;
 
 /// Adds the contents of the record `bytes` to `store`. Returns the key of the record's cell, or `None` if it is a
-/// report. `index` is the number of the record in its file, and `last` the key of the cell before it, if there is one.
+/// report. Returns the record's fault, with `index`, if it has one, and `Memory` if memory runs out. `index` is the
+/// number of the record in its file, and `last` the key of the cell before it, if there is one.
 pub(crate) fn absorb_record(
     format: Format,
     last: Option<Key>,
@@ -35,7 +36,8 @@ pub(crate) fn absorb_record(
     }
 }
 
-/// Adds the facts of a report's record.
+/// Adds the facts of the report that `bytes` spell. Returns `BadReport` if they spell none or the report has a fault,
+/// and `Memory` if memory runs out.
 fn absorb_report(bytes: &[u8], index: u64, store: &mut Store) -> Result<(), FileFault>
     requires { length bytes.now ≡ 272 }
     ensures judged { AbsorbsJudged (judged Reports None bytes.now) index result
@@ -54,8 +56,9 @@ fn absorb_report(bytes: &[u8], index: u64, store: &mut Store) -> Result<(), File
     }
 }
 
-/// Adds the cell of a record, and returns its key. The cell must not be below the floor of the header, and its key must
-/// come after `last`.
+/// Adds the cell that `bytes` spell, and returns its key. Returns `BadCell` if they spell none or the cell is below
+/// `floor`, the floor of the header; `CellOrder` if its key does not come after `last`; and `Memory` if memory runs
+/// out.
 fn absorb_cell(
     floor: Option<Generation>,
     last: Option<Key>,

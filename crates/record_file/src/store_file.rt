@@ -20,8 +20,8 @@ pub(crate) const RECORD_LEN: usize = 32;
 /// The number of value bytes of a record. The bytes after the value are 0. All are 0 for a disputed cell.
 const VALUE_LEN: usize = 16;
 
-/// Writes the store file of all that the store holds, which is its floor and a record for each cell in the order of
-/// keys, and flushes. Takes no memory of its own. If a write fails, how much was written is unspecified.
+/// Writes the store file of all that `store` holds, which is its floor and a record for each cell in the order of keys,
+/// and flushes. Does not allocate. If a write fails, how much was written is unspecified.
 pub fn write_store<W: Sink>(sink: &mut W, store: &Store) -> Result<(), WriteFault>
     ensures writes { Writes W.written W.has_failed result sink.old sink.new
         (store_bytes store.now.floor (cells_of store.now)) }
@@ -36,7 +36,7 @@ pub fn write_store<W: Sink>(sink: &mut W, store: &Store) -> Result<(), WriteFaul
     sink.flush()
 }
 
-/// Returns the record that spells a cell.
+/// Returns the record that spells `sighting`.
 pub(crate) fn record_of(sighting: &Sighting) -> [u8; RECORD_LEN]
     ensures { result ≡ record_bytes sighting.now }
 {
@@ -92,7 +92,7 @@ fn value_bytes(value: Value) -> [u8; VALUE_LEN]
     bytes
 }
 
-/// Returns the cell that a record spells, or `None` if it spells none.
+/// Returns the cell that the record `bytes` spells, or `None` if it spells none.
 #[tactic(auto, unfolding(crate::specs::CellRecord::cell_of))]
 pub(crate) fn cell_of(bytes: &[u8]) -> Option<Sighting>
     requires { length bytes.now ≡ 32 }
@@ -106,8 +106,8 @@ pub(crate) fn cell_of(bytes: &[u8]) -> Option<Sighting>
     }
 }
 
-/// Returns the cell that a record spells, or `None` if it spells none. Does not check the bytes that have to be 0, and
-/// takes each state byte other than 1 as disputed.
+/// Returns the cell of the record `bytes`, or `None` if its key, generation or value is out of range. Does not check
+/// the bytes that have to be 0, and takes each state byte other than 1 as disputed.
 fn sighting_in(bytes: &[u8]) -> Option<Sighting>
     requires { length bytes.now ≡ 32 }
     ensures { result ≡ option_and_then if_sighting (candidate bytes.now) }
@@ -122,7 +122,7 @@ fn sighting_in(bytes: &[u8]) -> Option<Sighting>
     Sighting::new(key, cell)
 }
 
-/// Returns the key with this kind byte, GUID and port, or `None` if there is no such kind.
+/// Returns the key with the kind byte `kind`, `guid` and `port`, or `None` if there is no such kind.
 fn key_of(kind: u8, guid: u64, port: u8) -> Option<Key>
     ensures { result ≡ key_with kind guid port }
 {
@@ -139,7 +139,7 @@ fn key_of(kind: u8, guid: u64, port: u8) -> Option<Key>
     }
 }
 
-/// Returns the value of the kind of `key` in these bytes, or `None` if they have a reserved node type.
+/// Returns the value of the kind of `key` in `bytes`, or `None` if `key` is of a node and the node type is reserved.
 fn value_of(key: &Key, bytes: &[u8]) -> Option<Value>
     requires { length bytes.now ≡ 16 }
     ensures { result ≡ value_in key.now bytes.now }

@@ -9,7 +9,7 @@ use std::alloc::Global;
 /// The number of bytes that are read at a time.
 const READ_LEN: usize = 4096;
 
-/// Reads a source to its end and returns its bytes.
+/// Reads `source` to its end and returns its bytes.
 ///
 /// # Errors
 ///

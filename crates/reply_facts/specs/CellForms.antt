@@ -1,4 +1,4 @@
--- A cell and its key, spelled as a form, two GUIDs, a generation, a number and a port.
+-- How numbers spell a key with its cell: a form, the key's GUID, another GUID, a generation, a number and a port.
 use Rattle.std.specs.Prelude.{◌≡◌, ℕ, true, false, refl}
 use Rattle.smp_bytes.specs.declared.node_type.NodeType.TheVariants.{Switch, ChannelAdapter, Router}
 use Rattle.fact_join.specs.declared.cell.Cell.{Cell}
@@ -12,7 +12,7 @@ use Rattle.reply_facts.specs.declared.value.Value.TheVariants.{Kind, Guid, Peer,
 use Rattle.fact_join.specs.Cell.{generation_of}
 use Rattle.reply_facts.specs.Key.{key_guid, key_kind, key_port}
 
--- the key that a form, a GUID and a port spell
+-- the key that a form, `guid` and `port` spell; a node and a table's room have no port
 abbrev pub key_in : CellForm → ℕ → ℕ → Key
 key_in SwitchNode guid port = Node guid
 key_in AdapterNode guid port = Node guid
@@ -30,7 +30,7 @@ key_in DisputedPort guid port = Port guid port
 key_in DisputedClaim guid port = Claim guid port
 key_in DisputedRoom guid port = Cap guid
 
--- the cell that a form, a generation, a GUID and a number spell
+-- the cell that a form, `generation`, a GUID `other` and `number` spell; a disputed one has only its generation
 abbrev pub cell_in : CellForm → ℕ → ℕ → ℕ → Cell Value
 cell_in SwitchNode generation other number = Known generation (Kind Switch number)
 cell_in AdapterNode generation other number = Known generation (Kind ChannelAdapter number)
@@ -48,11 +48,11 @@ cell_in DisputedPort generation other number = Disputed generation
 cell_in DisputedClaim generation other number = Disputed generation
 cell_in DisputedRoom generation other number = Disputed generation
 
--- the number of the key's kind
+-- the number of the kind of the keys that `form` spells
 abbrev pub form_kind : CellForm → ℕ
 form_kind form = key_kind (key_in form 0 0)
 
--- the form of a known value
+-- the form that spells a known cell with this value
 abbrev pub known_form : Value → CellForm
 known_form (Kind Switch ports) = SwitchNode
 known_form (Kind ChannelAdapter ports) = AdapterNode
@@ -64,7 +64,7 @@ known_form (Up false) = DownPort
 known_form (Lid lid) = ClaimedLid
 known_form (Count count) = RoomOfTable
 
--- the form of a disputed cell
+-- the form that spells a disputed cell of this key
 abbrev pub disputed_form : Key → CellForm
 disputed_form (Node guid) = DisputedNode
 disputed_form (PortGuid guid port) = DisputedGuid
@@ -73,12 +73,12 @@ disputed_form (Port guid port) = DisputedPort
 disputed_form (Claim guid port) = DisputedClaim
 disputed_form (Cap guid) = DisputedRoom
 
--- the form of a cell with its key
+-- the form that spells a cell of `key`
 abbrev pub form_of : Key → Cell Value → CellForm
 form_of key (Known generation value) = known_form value
 form_of key (Disputed generation) = disputed_form key
 
--- the GUID of a value; 0 if it has none
+-- the GUID in a value of a port's GUID or of a link; 0 for other values
 abbrev pub value_guid : Value → ℕ
 value_guid (Kind kind ports) = 0
 value_guid (Guid guid) = guid
@@ -87,7 +87,7 @@ value_guid (Up up) = 0
 value_guid (Lid lid) = 0
 value_guid (Count count) = 0
 
--- the number of a value besides a GUID; 0 if it has none
+-- the number of ports, the far port, the LID or the table room in a value; 0 if it has none of these
 abbrev pub value_number : Value → ℕ
 value_number (Kind kind ports) = ports
 value_number (Guid guid) = 0
@@ -96,23 +96,23 @@ value_number (Up up) = 0
 value_number (Lid lid) = lid
 value_number (Count count) = count
 
--- the GUID of a cell's value; 0 if it has none
+-- the GUID in the value of a cell; 0 if it has none, or if the cell is disputed
 abbrev pub other_of : Cell Value → ℕ
 other_of (Known generation value) = value_guid value
 other_of (Disputed generation) = 0
 
--- the number of a cell's value; 0 if it has none
+-- the number in the value of a cell (`value_number`); 0 if it has none, or if the cell is disputed
 abbrev pub number_of : Cell Value → ℕ
 number_of (Known generation value) = value_number value
 number_of (Disputed generation) = 0
 
--- the parts that the cell and the key do not have are 0, and thus a cell is spelled in only one way
+-- what `form` does not spell is 0, so that a key with its cell is spelled in only one way
 pub record IsSpelled (form : CellForm) (guid other generation number port : ℕ) : Type 0 where
   pub other_is : other_of (cell_in form generation other number) ≡ other
   pub number_is : number_of (cell_in form generation other number) ≡ number
   pub port_is : key_port (key_in form guid port) ≡ port
 
--- the GUID, the generation and the form are read back from the key and the cell that they spell
+-- the key that a form, `guid` and `port` spell has the GUID `guid`
 pub same_guid : (form : CellForm) (guid port : ℕ) → key_guid (key_in form guid port) ≡ guid
 same_guid SwitchNode guid port = refl
 same_guid AdapterNode guid port = refl
@@ -130,6 +130,7 @@ same_guid DisputedPort guid port = refl
 same_guid DisputedClaim guid port = refl
 same_guid DisputedRoom guid port = refl
 
+-- the cell that a form, `generation`, `other` and `number` spell has the generation `generation`
 pub same_generation : (form : CellForm) (generation other number : ℕ)
     → generation_of (cell_in form generation other number) ≡ generation
 same_generation SwitchNode generation other number = refl
@@ -148,6 +149,7 @@ same_generation DisputedPort generation other number = refl
 same_generation DisputedClaim generation other number = refl
 same_generation DisputedRoom generation other number = refl
 
+-- the form of the key and the cell that `form` spells is `form`
 pub same_form : (form : CellForm) (guid generation other number port : ℕ)
     → form_of (key_in form guid port) (cell_in form generation other number) ≡ form
 same_form SwitchNode guid generation other number port = refl

@@ -6,7 +6,7 @@ use Rattle.std.specs.Cmp.Lexicographic.{slice_cmp}
 use Rattle.reply_facts.specs.declared.key.Key.{Key}
 use Rattle.reply_facts.specs.declared.key.Key.TheVariants.{Node, PortGuid, Link, Port, Claim, Cap}
 
--- the number of the key's kind
+-- the number of the kind of a key, from 1 to 6
 abbrev pub key_kind : Key → ℕ
 key_kind (Node guid) = 1
 key_kind (PortGuid guid port) = 2
@@ -15,7 +15,7 @@ key_kind (Port guid port) = 4
 key_kind (Claim guid port) = 5
 key_kind (Cap guid) = 6
 
--- the word for the key's kind
+-- the word for the kind of a key
 abbrev pub kind_word : Key → List ℕ
 kind_word (Node guid) = codes "node"
 kind_word (PortGuid guid port) = codes "portguid"

@@ -1,4 +1,4 @@
--- The contents of a report: its first fault, or the facts about the node that answered. InfiniBand Architecture
+-- What a report says: its first fault, or the facts about the node that answered. InfiniBand Architecture
 -- Specification, Volume 1: subnet management, NodeInfo, PortInfo and SwitchInfo; directed route SMPs.
 use Rattle.std.specs.Prelude.{ℕ, Bool, false, ◌&&◌, ◌||◌, not, List, [], ◌∷◌, nat_lt, nat_le, ◌==◌, if◌then◌else◌, Option, Some, None, is_some, option_map}
 use Rattle.smp_bytes.specs.declared.node_type.NodeType.{NodeType}
@@ -26,12 +26,13 @@ use Rattle.reply_facts.specs.declared.value.Value.TheVariants.{Kind, Guid, Peer,
 
 -- faults ------------------------------------------------------------------------------
 
--- the first of two faults; None if there is none
+-- the first of two faults if it is there, else the second; None if neither is
 abbrev pub or_else : Option ReportFault → Option ReportFault → Option ReportFault
 or_else None next = next
 or_else (Some first) next = Some first
 
--- the first reason why the packet is not a successful answer on a directed route; None if it is one
+-- the first reason why `packet` is not a GetResp that has come back over a directed route with status 0; None if it is
+-- one
 abbrev pub answer_fault : List ℕ → Option ReportFault
 answer_fault packet =
     if not (is_directed packet) then Some fault.Class
@@ -40,27 +41,29 @@ answer_fault packet =
     else if not (status packet == done) then Some fault.Status
     else None
 
--- whether the context fits an answer of NodeInfo over `hops` hops: `Start` fits the sender's own node, over no hop, and
--- `Via` another node
+-- whether the context fits an answer of NodeInfo over `hops` hops: `Start` fits no hop, the sender's own node; `Via`
+-- fits one or more; `About` fits none
 abbrev pub fits_node_info : Context → ℕ → Bool
 fits_node_info Start hops = hops == 0
 fits_node_info (Via guid port) hops = nat_lt 0 hops
 fits_node_info (About guid) hops = false
 
--- whether a node of this type can be asked through this port; only the manager's own node can be asked through port 0,
--- and only if it is a switch
+-- whether a node of type `kind` can have been asked through `port`: through 0 only the manager's own node (`Start`), if
+-- it is a switch; after a port `via`, only if that is from 1 to 254
 abbrev pub may_be_asked_by : Context → NodeType → ℕ → Bool
 may_be_asked_by Start kind port = is_switch kind || nat_lt 0 port
 may_be_asked_by (Via guid via) kind port = nat_lt 0 port && is_cabled_port via
 may_be_asked_by (About guid) kind port = nat_lt 0 port
 
--- whether the ports in an answer of NodeInfo are in range
+-- whether the ports in `info` are in range: it has 1 to 254, the port that was asked is at most as great, and the node
+-- may be asked through it (`may_be_asked_by`)
 abbrev pub are_ports_in_range : Context → NodeType → NodeInfo → Bool
 are_ports_in_range context kind info =
     is_cabled_port info.num_ports && nat_le info.local_port_num info.num_ports
     && may_be_asked_by context kind info.local_port_num
 
--- the fault of an answer of NodeInfo: a reserved type, or a port out of range; None if it has none
+-- the fault of an answer of NodeInfo: a reserved type, which is None here, or a port out of range; None if it has
+-- neither
 abbrev pub kind_fault : Context → NodeInfo → Option NodeType → Option ReportFault
 kind_fault context info None = Some fault.NodeType
 kind_fault context info (Some kind) = if are_ports_in_range context kind info then None else Some fault.Port
@@ -69,35 +72,37 @@ kind_fault context info (Some kind) = if are_ports_in_range context kind info th
 abbrev pub node_info_of : List ℕ → NodeInfo
 node_info_of packet = node_info_in (bytes_in attribute_data packet)
 
--- the fault of an answer of NodeInfo; None if it has none
+-- the first fault of an answer of NodeInfo: a context that does not fit, a reserved type, or a port out of range; None
+-- if it has none
 abbrev pub node_info_fault : Context → List ℕ → Option ReportFault
 node_info_fault context packet =
     if not (fits_node_info context (number_in hop_count packet)) then Some fault.Context
     else kind_fault context (node_info_of packet) (type_of_number (node_info_of packet).node_type)
 
--- the node and the port that the request's path leaves last; None if the context has none
+-- the node and the port that the request's path left last; None unless the context is `Via`
 abbrev pub via_of : Context → Option (ℕ × ℕ)
 via_of Start = None
 via_of (Via guid port) = Some (guid, port)
 via_of (About guid) = None
 
--- the node that the reply is about; None if the context does not name it
+-- the node that the reply is about; None unless the context is `About`
 abbrev pub about_of : Context → Option ℕ
 about_of Start = None
 about_of (Via guid port) = None
 about_of (About guid) = Some guid
 
--- the fault if the context does not name the node, as PortInfo and SwitchInfo need
+-- `Context` if the context does not name the node, as an answer of PortInfo or SwitchInfo needs; else None
 abbrev pub about_fault : Context → Option ReportFault
 about_fault context = if is_some (about_of context) then None else Some fault.Context
 
--- the fault of an answer of PortInfo, whose modifier is the port; None if it has none
+-- the first fault of an answer of PortInfo: a context that does not name the node, or a port, which is the modifier,
+-- over 254; None if it has none
 abbrev pub port_info_fault : Context → List ℕ → Option ReportFault
 port_info_fault context packet =
     or_else (about_fault context) (if nat_lt 254 (number_in attribute_modifier packet) then Some fault.Modifier else
     None)
 
--- the fault of an answer, by the attribute that it carries; None if it has none
+-- the first fault of an answer by its attribute, which has to be NodeInfo, PortInfo or SwitchInfo; None if it has none
 abbrev pub attribute_fault : Context → List ℕ → Option ReportFault
 attribute_fault context packet =
     if number_in attribute_id packet == node_info then node_info_fault context packet
@@ -105,15 +110,15 @@ attribute_fault context packet =
     else if number_in attribute_id packet == switch_info then about_fault context
     else Some fault.Attribute
 
--- the first fault of the packet of an answer; None if it has none
+-- the first fault of the bytes of a reply, as a packet and then as an answer; None if they have none
 abbrev pub packet_fault : List ℕ → Option ReportFault
 packet_fault packet = or_else (option_map fault.Smp (fault_of packet)) (answer_fault packet)
 
--- the first fault of a packet that came as a reply; None if it has none
+-- the first fault of a reply, as an answer and then by its attribute, if `packet` is a packet; None if it has none
 abbrev pub reply_fault : Context → List ℕ → Option ReportFault
 reply_fault context packet = or_else (answer_fault packet) (attribute_fault context packet)
 
--- the first fault of a report; None if it has none
+-- the first fault of a report: generation 0, then a fault of its packet, then one by its attribute; None if it has none
 abbrev pub report_fault : Report → Option ReportFault
 report_fault report =
     if report.generation == 0 then Some fault.Generation
@@ -121,14 +126,16 @@ report_fault report =
 
 -- facts -------------------------------------------------------------------------------
 
+-- keys with cells, as they are said
 abbrev pub Sightings : Type 0
 Sightings = List (Key × Cell Value)
 
--- the port whose GUID is in NodeInfo: port 0 of a switch, and otherwise the port that was asked
+-- the port whose GUID is in NodeInfo: port 0 of a switch, and otherwise `local_port`, the port that was asked
 abbrev pub guid_port : NodeType → ℕ → ℕ
 guid_port kind local_port = if is_switch kind then 0 else local_port
 
--- the link between the port that was asked and the port before it on the path, in both directions
+-- the link between the port that was asked and the port before it on the path, in both directions; none unless the
+-- context is `Via`
 abbrev pub sightings_of_link : ℕ → Context → NodeInfo → Sightings
 sightings_of_link generation (Via peer port) info =
     (Link info.node_guid info.local_port_num, Known generation (Peer peer port)) ∷
@@ -136,7 +143,8 @@ sightings_of_link generation (Via peer port) info =
 sightings_of_link generation Start info = []
 sightings_of_link generation (About guid) info = []
 
--- the facts of NodeInfo about a node of this type; none if its type is reserved
+-- the facts of an answer `info` of NodeInfo: type and port count of the node, a port's GUID and, if the context is
+-- `Via`, the link; none if the type is reserved, which is None here
 abbrev pub sightings_of_kind : ℕ → Context → NodeInfo → Option NodeType → Sightings
 sightings_of_kind generation context info None = []
 sightings_of_kind generation context info (Some kind) =
@@ -144,20 +152,23 @@ sightings_of_kind generation context info (Some kind) =
     ∷ (PortGuid info.node_guid (guid_port kind info.local_port_num), Known generation (Guid info.port_guid))
     ∷ sightings_of_link generation context info
 
--- the facts of NodeInfo: a node's type and port count, a port's GUID, and the link over which the request came
+-- the facts of an answer of NodeInfo: type and port count of the node, a port's GUID and, if the context is `Via`, the
+-- link over which the request came; none if the type is reserved
 abbrev pub sightings_by_node_info : ℕ → Context → List ℕ → Sightings
 sightings_by_node_info generation context packet =
     sightings_of_kind generation context (node_info_of packet) (type_of_number (node_info_of packet).node_type)
 
--- whether a state is up; Initialize, Armed and Active are, and Down, NoChange and reserved numbers are not
+-- whether a port with this state number is up: Initialize, Armed and Active are, and Down, NoChange and reserved
+-- numbers are not
 abbrev pub is_up_state : ℕ → Bool
 is_up_state state = nat_le 2 state && nat_le state 4
 
--- the attribute's bytes
+-- the bytes of the attribute in `packet`
 abbrev pub payload_of : List ℕ → List ℕ
 payload_of packet = bytes_in attribute_data packet
 
--- the facts of PortInfo: whether a port of the node is up, and the LID that it claims
+-- the facts of an answer of PortInfo: whether a port of the node is up, and the LID that it claims; none unless the
+-- context is `About`
 abbrev pub sightings_by_port_info : ℕ → Context → List ℕ → Sightings
 sightings_by_port_info generation (About node) packet = (
   Port node (number_in attribute_modifier packet),
@@ -172,20 +183,21 @@ sightings_by_port_info generation (About node) packet = (
 sightings_by_port_info generation Start packet = []
 sightings_by_port_info generation (Via guid port) packet = []
 
--- the fact of SwitchInfo: how many LIDs the switch's forwarding table has room for
+-- the fact of an answer of SwitchInfo: how many LIDs the switch's forwarding table has room for; none unless the
+-- context is `About`
 abbrev pub sightings_by_switch_info : ℕ → Context → List ℕ → Sightings
 sightings_by_switch_info generation (About node) packet =
     (Cap node, Known generation (Count (number_in linear_fdb_cap (payload_of packet)))) ∷ []
 sightings_by_switch_info generation Start packet = []
 sightings_by_switch_info generation (Via guid port) packet = []
 
--- the facts of an answer, by the attribute that it carries
+-- the facts of an answer by its attribute: NodeInfo, PortInfo, and any other as SwitchInfo
 abbrev pub sightings_by_packet : ℕ → Context → List ℕ → Sightings
 sightings_by_packet generation context packet =
     if number_in attribute_id packet == node_info then sightings_by_node_info generation context packet
     else if number_in attribute_id packet == port_info then sightings_by_port_info generation context packet
     else sightings_by_switch_info generation context packet
 
--- the sightings of a report that has no fault
+-- the sightings of a report, if it has no fault
 abbrev pub sightings_of : Report → Sightings
 sightings_of report = sightings_by_packet report.generation report.context report.bytes

@@ -8,20 +8,20 @@ use Rattle.reply_facts.specs.declared.key.Key.TheVariants.{Node, PortGuid, Link,
 use Rattle.reply_facts.specs.declared.value.Value.{Value}
 use Rattle.reply_facts.specs.declared.value.Value.TheVariants.{Kind, Guid, Peer, Up, Lid, Count}
 
--- whether the number is that of a port that can have a cable, or a possible number of ports
+-- whether `port` is from 1 to 254, as a port that can have a cable is, and a node's number of ports
 abbrev pub is_cabled_port : ℕ → Bool
 is_cabled_port port = nat_le 1 port && nat_le port 254
 
--- whether the number is that of a port that can have a cable, or of a switch's management port
+-- whether `port` is at most 254, as any port is; 0 is the management port of a switch
 abbrev pub is_any_port : ℕ → Bool
 is_any_port port = nat_le port 254
 
--- whether the number has at most 64 bits, as a GUID does
+-- whether `guid` is less than 2^64
 abbrev pub is_guid : ℕ → Bool
 is_guid guid = nat_lt guid (2 ^ 64)
 
--- whether the key is in range: its GUID has 64 bits, and its port is from 1 to 254 for a link, and from 0 to 254 for
--- other keys
+-- whether a key is in range: its GUID is less than 2^64, and its port is from 1 to 254 for a link, and from 0 to 254
+-- for other keys that have one
 abbrev pub is_key : Key → Bool
 is_key (Node g) = is_guid g
 is_key (PortGuid g p) = is_guid g && is_any_port p
@@ -30,7 +30,8 @@ is_key (Port g p) = is_guid g && is_any_port p
 is_key (Claim g p) = is_guid g && is_any_port p
 is_key (Cap g) = is_guid g
 
--- whether the value is of the key's kind, with its parts in range; a LID and a table's room have 16 bits
+-- whether a value is of the key's kind and in range: 1 to 254 ports, a GUID less than 2^64, a far port from 1 to 254, a
+-- LID and a table's room less than 2^16
 abbrev pub is_value_of : Key → Value → Bool
 is_value_of (Node g) (Kind kind ports) = is_cabled_port ports
 is_value_of (PortGuid g p) (Guid guid) = is_guid guid
@@ -40,19 +41,19 @@ is_value_of (Claim g p) (Lid lid) = nat_lt lid (2 ^ 16)
 is_value_of (Cap g) (Count count) = nat_lt count (2 ^ 16)
 is_value_of _ _ = false
 
--- whether the cell fits the key: its value is of the key's kind, or it is disputed
+-- whether a cell fits `key`: it is disputed, or its value is of the key's kind and in range
 abbrev pub is_cell_of : Key → Cell Value → Bool
 is_cell_of key (Known generation value) = is_value_of key value
 is_cell_of key (Disputed generation) = true
 
--- whether the number is a generation: it is above 0 and has 32 bits
+-- whether `generation` is at least 1 and less than 2^32
 abbrev pub is_generation : ℕ → Bool
 is_generation generation = nat_le 1 generation && nat_lt generation (2 ^ 32)
 
--- whether the key and the generation are in range, and the cell fits the key
+-- whether the key and the generation of `s` are in range, and its cell fits its key
 abbrev pub is_sighting : Key × Cell Value → Bool
 is_sighting s = is_key s.0 && is_generation (generation_of s.1) && is_cell_of s.0 s.1
 
--- the key and the cell are a sighting, as a statement
+-- `s` is a sighting: its key and its generation are in range, and its cell fits its key
 abbrev pub IsSighting : Key × Cell Value → Type 0
 IsSighting s = IsTrue (is_sighting s)

@@ -1,4 +1,4 @@
--- When two values are equal.
+-- When two values, or two cells, are equal.
 use Rattle.std.specs.Prelude.{Bool, true, false, not, ◌==◌, ◌&&◌}
 use Rattle.smp_bytes.specs.declared.node_type.NodeType.{NodeType}
 use Rattle.smp_bytes.specs.declared.node_type.NodeType.TheVariants.{ChannelAdapter, Switch, Router}

@@ -1,4 +1,4 @@
-//! The form of a cell: the kind of its key, with the node type, the port's state, or that the cell is disputed.
+//! The form of a cell: one byte in which a sighting holds the kind of its key, and what its value adds to that.
 ghost use Rattle.std.specs.Prelude.{◌≡◌};
 ghost use Rattle.reply_facts.specs.CellForms.{disputed_form, form_kind, form_of, known_form};
 
@@ -28,7 +28,7 @@ pub(crate) enum CellForm {
 }
 
 impl CellForm {
-    /// Returns the number of the key's kind.
+    /// Returns the number of the key's kind, as `Key::kind` does.
     pub(crate) fn kind(self) -> u8
         ensures { result ≡ form_kind self }
     {
@@ -46,7 +46,7 @@ impl CellForm {
     }
 }
 
-/// Returns the form of a cell.
+/// Returns the form of `cell` under `key`.
 pub(crate) fn form_of(key: &Key, cell: &Cell<Value>) -> CellForm
     ensures { result ≡ form_of key.now cell.now }
 {
@@ -56,7 +56,7 @@ pub(crate) fn form_of(key: &Key, cell: &Cell<Value>) -> CellForm
     }
 }
 
-/// Returns the form of a known value.
+/// Returns the form of a known cell with `value`.
 fn known_form(value: &Value) -> CellForm
     ensures { result ≡ known_form value.now }
 {
@@ -73,7 +73,7 @@ fn known_form(value: &Value) -> CellForm
     }
 }
 
-/// Returns the form of a disputed cell.
+/// Returns the form of a disputed cell under `key`.
 fn disputed_form(key: &Key) -> CellForm
     ensures { result ≡ disputed_form key.now }
 {

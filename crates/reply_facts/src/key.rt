@@ -23,7 +23,8 @@ pub enum Key {
 impl Key {
     ghost use Rattle.reply_facts.specs.Key.{key_guid, key_kind, key_numbers, key_port, kind_word};
 
-    /// Returns the number of the key's kind, the GUID and the port. Keys are ordered by these.
+    /// Returns the number of the key's kind, the GUID, and the port, or 0 if the key has none. Keys are ordered by
+    /// these.
     pub(crate) fn sort_key(&self) -> [u64; 3]
         ensures { result ≡ key_numbers self.now }
     {

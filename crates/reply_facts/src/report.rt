@@ -3,8 +3,8 @@ ghost use Rattle.reply_facts.specs.Sighting.{is_guid};
 
 use smp_bytes::{Guid, PortNum};
 
-/// What a manager knows about the node that a reply came from. It is the manager's own node, or the node and port that
-/// the request's path leaves last are known, or the GUID of the node is known.
+/// What a manager knows about the node that a reply came from. `Start` says that it is the manager's own node. `Via`
+/// has the node and the port that the request's path leaves last. `About` has the node's own GUID.
 #[derive(Clone, Copy, Debug, PartialEq, Eq)]
 pub enum Context {
     Start,

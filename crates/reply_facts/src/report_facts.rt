@@ -20,7 +20,7 @@ use arrayvec::ArrayVec;
 use attr_codec::{Attribute, NodeInfo, PortInfo, PortState, SwitchInfo};
 use smp_bytes::{AttributeId, Generation, Method, NodeType, PortNum, Smp, SmpClass, Status};
 
-/// Returns the facts that a report contains.
+/// Returns the facts that `report` contains.
 ///
 /// # Errors
 ///
@@ -38,7 +38,7 @@ pub fn sightings(report: &Report) -> Result<ArrayVec<Sighting, 4>, ReportFault>
     }
 }
 
-/// Returns the facts that the packet of a reply contains.
+/// Returns the facts that `smp`, the packet of a reply, contains.
 ///
 /// # Errors
 ///
@@ -59,7 +59,7 @@ pub fn sightings_in(
     }
 }
 
-/// Returns the first reason why the packet is not a successful answer on a directed route, or `None` if it is one.
+/// Returns the first reason why `smp` is not a successful answer on a directed route, or `None` if it is one.
 pub fn answer_fault(smp: &Smp) -> Option<ReportFault>
     ensures { result ≡ answer_fault smp.now }
 {
@@ -76,7 +76,8 @@ pub fn answer_fault(smp: &Smp) -> Option<ReportFault>
     }
 }
 
-/// Returns the facts of an answer, by the attribute that it carries, or its fault.
+/// Returns the facts in `smp`, by the attribute that it carries, or the first fault. Does not judge whether `smp` is an
+/// answer.
 fn sightings_by_packet(
     generation: Generation,
     context: &Context,
@@ -95,7 +96,7 @@ fn sightings_by_packet(
     }
 }
 
-/// Returns the facts of an answer of NodeInfo, or its fault.
+/// Returns the facts of an answer of NodeInfo, or its first fault.
 fn sightings_by_node_info(
     generation: Generation,
     context: &Context,
@@ -120,7 +121,8 @@ fn sightings_by_node_info(
 }
 
 /// Returns the facts that an answer of NodeInfo contains about a node of type `kind`: its type and number of ports, a
-/// port GUID, and, if the context has its other end, the link over which the request came.
+/// port GUID, and, if the context is `Via`, both directions of the link over which the request came. The ports must be
+/// in range.
 fn sightings_of_kind(
     generation: Generation,
     context: &Context,
@@ -151,7 +153,7 @@ fn sightings_of_kind(
     sightings
 }
 
-/// Returns whether an answer of NodeInfo over `hops` hops can have this context.
+/// Returns whether an answer of NodeInfo over `hops` hops can have this `context`.
 fn fits_node_info(context: &Context, hops: u8) -> bool
     ensures { result ≡ fits_node_info context.now hops }
 {
@@ -162,6 +164,8 @@ fn fits_node_info(context: &Context, hops: u8) -> bool
     }
 }
 
+/// Returns whether the number of ports, the port that was asked, and the port in `context` are in range. Only the
+/// manager's own node can be asked through port 0, and only if it is a switch.
 fn are_ports_in_range(context: &Context, kind: NodeType, info: &NodeInfo) -> bool
     ensures { result ≡ are_ports_in_range context.now kind info.now }
 {
@@ -174,8 +178,8 @@ fn are_ports_in_range(context: &Context, kind: NodeType, info: &NodeInfo) -> boo
     is_cabled_port(info.num_ports) && asked_by <= info.num_ports && may_be_asked
 }
 
-/// Returns the facts of an answer of PortInfo, which are whether the port is up, and the LID that it claims. Returns
-/// the fault if it has one.
+/// Returns the facts of an answer of PortInfo, or its first fault. The facts are whether the port is up, and the LID
+/// that it claims.
 fn sightings_by_port_info(
     generation: Generation,
     context: &Context,
@@ -213,8 +217,8 @@ pub fn is_up(info: &PortInfo) -> bool
     }
 }
 
-/// Returns the fact of an answer of SwitchInfo, which is how many LIDs the switch's linear forwarding table has room
-/// for. Returns the fault if it has one.
+/// Returns the fact of an answer of SwitchInfo, or its fault. The fact is how many LIDs the switch's linear forwarding
+/// table has room for.
 fn sightings_by_switch_info(
     generation: Generation,
     context: &Context,

@@ -24,19 +24,19 @@ pub enum ReportFault {
     /// The agent rejected the request: the status is not 0.
     #[error("Status")]
     Status,
-    /// No facts are read from this attribute.
+    /// The attribute is not NodeInfo, PortInfo or SwitchInfo, and no facts are read from others.
     #[error("Attribute")]
     Attribute,
     /// The context does not fit the attribute or the number of hops.
     #[error("Context")]
     Context,
-    /// The attribute modifier names no port.
+    /// The attribute modifier of PortInfo is over 254, and thus names no port.
     #[error("Modifier")]
     Modifier,
     /// The node type is a reserved number.
     #[error("NodeType")]
     NodeType,
-    /// A port or a number of ports is out of range.
+    /// A port or the number of ports in NodeInfo is out of range, or the port in the context.
     #[error("Port")]
     Port,
 }

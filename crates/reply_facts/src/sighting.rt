@@ -12,7 +12,7 @@ use smp_bytes::{Generation, Guid, Lid, NodeType, PortNum};
 use std::cmp::Ordering;
 use std::marker::Model;
 
-/// A fact as it was once reported, or as disputed. Takes 24 bytes, since long lists hold and move sightings.
+/// A key with a cell, as a report says it or a store has it. Takes 24 bytes, since long lists hold and move sightings.
 #[derive(Clone, Copy, Debug)]
 pub struct Sighting {
     /// The GUID of the key.
@@ -66,7 +66,7 @@ impl Model for Sighting {
 impl Sighting {
     ghost use Rattle.reply_facts.specs.Sighting.{IsSighting};
 
-    /// Creates a sighting of a cell under a key. Returns `None` if the key's port is out of range, or if the value is
+    /// Creates a sighting of `cell` under `key`. Returns `None` if the key's port is out of range, or if the value is
     /// not of the key's kind or has a number out of range.
     pub fn new(key: Key, cell: Cell<Value>) -> Option<Self>
         ensures exact { IsSome result ↔ IsSighting (key, cell) }
@@ -79,7 +79,8 @@ impl Sighting {
         }
     }
 
-    /// Creates a sighting of a value that was reported at `generation`.
+    /// Creates a sighting of `value`, as reported at `generation`. `value` must be of the kind of `key`, with all
+    /// numbers in range.
     pub(crate) fn known(generation: Generation, key: Key, value: Value) -> Self
         requires { IsSighting (key, Known generation value) }
         ensures { result ≡ (key, Known generation value) }
@@ -87,7 +88,7 @@ impl Sighting {
         Sighting::of(&key, &Cell::Known(generation, value))
     }
 
-    /// Creates a sighting of a key and a cell that fit each other.
+    /// Creates a sighting of `cell` under `key`. The cell must fit the key, with all numbers in range.
     fn of(key: &Key, cell: &Cell<Value>) -> Self
         requires { IsSighting (key.now, cell.now) }
         ensures { result ≡ (key.now, cell.now) }
@@ -102,7 +103,7 @@ impl Sighting {
         }
     }
 
-    /// Returns the key: the subject of the fact.
+    /// Returns the key, which is the subject of the fact.
     pub fn key(&self) -> Key
         ensures value { result ≡ self.now.0 }
         ensures in_range { IsSighting self.now }
@@ -134,7 +135,7 @@ impl Sighting {
         sort_key.cmp(&other.sort_key())
     }
 
-    /// Returns the cell: the value that was reported or that it is disputed, and the generation.
+    /// Returns the cell: its generation, and the value that was reported or that it is disputed.
     pub fn cell(&self) -> Cell<Value>
         ensures value { result ≡ self.now.1 }
         ensures in_range { IsSighting self.now }
@@ -169,7 +170,7 @@ impl Sighting {
     }
 }
 
-/// Returns the value's GUID, or 0 if it has none.
+/// Returns the GUID of the value of `cell`, or 0 if it has none.
 fn other_of(cell: &Cell<Value>) -> Guid
     ensures { result ≡ other_of cell.now }
 {
@@ -179,7 +180,7 @@ fn other_of(cell: &Cell<Value>) -> Guid
     }
 }
 
-/// Returns the value's number of ports, port, LID or table room, or 0 if it has none.
+/// Returns the number of ports, port, LID or table room of the value of `cell`, or 0 if it has none of these.
 fn number_of(cell: &Cell<Value>) -> u16
     ensures { result ≡ number_of cell.now }
 {

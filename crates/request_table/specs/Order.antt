@@ -1,14 +1,14 @@
--- Lists in an order, and the index of an item in it.
+-- Lists in an order, and the index at which a test changes from true to false.
 use Rattle.std.specs.Prelude.{◌≡◌, ℕ, ◌≤◌, Bool, true, false, List, [], ◌∷◌, length}
 use Rattle.std.specs.List.{AllByRecursion}
 use Rattle.std.specs.List.Sorted.{IsPartitionPoint}
 
--- each item is related to all later ones
+-- each item stands in the relation `R` to all later ones
 abbrev pub AreOrdered : {T : Type 0} → (T → T → Type 0) → List T → Type 0
 AreOrdered R [] = Unit {0}
 AreOrdered R (x ∷ xs) = AllByRecursion (R x) xs × AreOrdered R xs
 
--- the test holds for all items before the index, and for none from it on
+-- the test is true of all items before `index`, and false of those from it on
 pub record IsIndex {T : Type 0} (test : T → Bool) (items : List T) (index : ℕ) : Type 0 where
   pub within : index ≤ length items
   pub parts : IsPartitionPoint (λ x. test x ≡ true) (λ x. test x ≡ false) items index

@@ -33,7 +33,7 @@ impl<T: Numbered> Model for RequestTable<T> {
 }
 
 impl<T: Numbered + Drop> RequestTable<T> {
-    /// Creates an empty table whose first request will have the number `first`. Takes no memory.
+    /// Creates an empty table whose first request will have the number `first`. Does not allocate.
     pub fn new(alloc: Global, first: u32) -> Self
         ensures next { result.next ≡ first }
         ensures requests { result.requests ≡ [] }
@@ -84,7 +84,8 @@ impl<T: Numbered + Drop> RequestTable<T> {
         self.requests.reserve(count)
     }
 
-    /// Adds a request, which has the next number. Takes no memory.
+    /// Adds `request`, which must have the next number. There must be room for it, and a number must be left. Does not
+    /// allocate.
     pub fn push(&mut self, request: T)
         requires room { 0 < self.old.room }
         requires number { T.number request ≡ self.old.next }
@@ -97,15 +98,15 @@ impl<T: Numbered + Drop> RequestTable<T> {
         self.next += 1;
     }
 
-    /// Returns the request at `index`, in the order of their numbers.
+    /// Returns the request at `index`, in the order of their numbers, or `None` if there is none.
     pub fn get(&self, index: usize) -> Option<&T>
         ensures { option_copied result ≡ slice_get self.now.requests index }
     {
         self.requests.get(index)
     }
 
-    /// Counts the requests with numbers below `number`. The count is the index of the request with this number, if
-    /// there is one. Takes a binary search.
+    /// Returns the number of requests whose numbers are below `number`. It is the index of the request with `number`,
+    /// if there is one. Takes a binary search.
     pub fn count_below(&self, number: u64) -> usize
         ensures index { IsIndex (λ r. nat_lt (T.number r) number) self.now.requests result }
         ensures numbered { AreNumbered T.number self.now.requests self.now.next }
@@ -114,7 +115,7 @@ impl<T: Numbered + Drop> RequestTable<T> {
             .partition_point(|request| u64::from(request.number()) < number)
     }
 
-    /// Returns the index of the request with this number, if there is one. Takes a binary search.
+    /// Returns the index of the request with `number`, or `None` if there is none. Takes a binary search.
     pub fn index_of(&self, number: u64) -> Option<usize>
         ensures { IsIndexFor (with_number T.number number self.now.requests)
             self.now.requests result }
@@ -128,7 +129,7 @@ impl<T: Numbered + Drop> RequestTable<T> {
         }
     }
 
-    /// Removes and returns the request at `index`. Moves the requests on one side of it.
+    /// Removes and returns the request at `index`, which must exist.
     pub fn end(&mut self, index: usize) -> T
         requires { index < length self.old.requests }
         ensures request { Some result ≡ slice_get self.old.requests index }

@@ -1,4 +1,4 @@
--- What a line says: nothing, or a root.
+-- What a line of a text of roots says: nothing, or a root.
 use Rattle.std.specs.Prelude.{ℕ, List, [], ◌∷◌, Option, None, Some, Result, Ok, Err, take, drop, length, codes, not, nat_le, ◌==◌, ◌&&◌, if◌then◌else◌}
 use Rattle.std.specs.Str.{bytes_eq}
 use Rattle.text_words.specs.Text.{words}
@@ -6,30 +6,31 @@ use Rattle.text_words.specs.Number.{number_of}
 use Rattle.roots_file.specs.declared.fault.RootsTextError.{RootsTextError}
 use Rattle.roots_file.specs.declared.fault.RootsTextError.TheVariants as wrong
 
--- the digits of a word: what follows '0x', if the word begins with that, and otherwise the word
+-- the digits of a word: what follows `0x` if it begins with that, else the word itself
 abbrev pub digits_of : List ℕ → List ℕ
 digits_of word = if bytes_eq (take 2 word) (codes "0x") then drop 2 word else word
 
--- a GUID has at most sixteen digits, and is not 0
+-- the root `n` with these hex digits; `Syntax` if they are no number, which is None here; `Guid` if there are over
+-- sixteen digits or `n` is 0
 abbrev pub guid_by : List ℕ → Option ℕ → Result ℕ RootsTextError
 guid_by digits None = Err wrong.Syntax
 guid_by digits (Some n) = if nat_le (length digits) 16 && not (n == 0) then Ok n else Err wrong.Guid
 
--- the root that a word names: hex digits, with or without '0x'
+-- the root that `word` names in hex digits, with or without `0x`; `Syntax` or `Guid` if it names none
 abbrev pub root_of : List ℕ → Result ℕ RootsTextError
 root_of word = guid_by (digits_of word) (number_of 16 (digits_of word))
 
--- what a line with this word alone says
+-- what a line with one word says, given what the word is read as: a root, or a fault
 abbrev pub on_line : Result ℕ RootsTextError → Result (Option ℕ) RootsTextError
 on_line (Ok root) = Ok (Some root)
 on_line (Err what) = Err what
 
--- the root that the words of a line name, if there is a word
+-- what the words of a line say: nothing if there is no word, a root if there is one; `Syntax` if there are more
 abbrev pub root_in : List (List ℕ) → Result (Option ℕ) RootsTextError
 root_in [] = Ok None
 root_in (word ∷ []) = on_line (root_of word)
 root_in _ = Err wrong.Syntax
 
--- what a line says
+-- what `line` says: nothing, a root, or a fault
 unfoldable pub root_on : List ℕ → Result (Option ℕ) RootsTextError
 root_on line = root_in (words line)

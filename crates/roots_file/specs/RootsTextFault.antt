@@ -1,4 +1,4 @@
--- The words for the faults of a text of roots, and what reading such a text returns.
+-- The faults of a text of roots: their words, and what reading such a text returns.
 use Rattle.std.specs.Prelude.{◌≡◌, ℕ, List, Result, Ok, Err, codes}
 use Rattle.text_words.specs.declared.fault.LineFault.{LineFault}
 use Rattle.text_words.specs.declared.fault.LinesFault.{LinesFault}
@@ -6,19 +6,21 @@ use Rattle.text_words.specs.declared.fault.LinesFault.TheVariants.{Line, Memory}
 use Rattle.roots_file.specs.declared.fault.RootsTextError.{RootsTextError}
 use Rattle.roots_file.specs.declared.fault.RootsTextError.TheVariants.{Syntax, Guid, Repeated}
 
+-- the fault of a line of a text of roots, with the line's number
 abbrev pub RootsLineFault : Type 0
 RootsLineFault = LineFault RootsTextError
 
+-- why a text of roots is not read: the fault of a line, or lack of memory
 abbrev pub RootsTextFault : Type 0
 RootsTextFault = LinesFault RootsTextError
 
--- the word for the fault
+-- the word for a fault of a line
 abbrev pub wrong_word : RootsTextError → List ℕ
 wrong_word Syntax = codes "syntax"
 wrong_word Guid = codes "guid"
 wrong_word Repeated = codes "repeated"
 
--- the result is what the text says, the roots or the first fault, unless memory ran out
+-- the result is what the text says, which is `told`: the roots or the first fault; `Memory` may come whatever it says
 abbrev pub Reads : Result (List ℕ) RootsTextFault → Result (List ℕ) RootsLineFault → Type 0
 Reads (Ok roots) told = told ≡ Ok roots
 Reads (Err (Line fault)) told = told ≡ Err fault

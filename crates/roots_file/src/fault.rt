@@ -3,7 +3,7 @@ use text_words::{LineError, LineFault, LinesFault};
 /// A fault of one line.
 #[derive(Clone, Copy, Debug, PartialEq, Eq)]
 pub enum RootsTextError {
-    /// It has more than one word, or a word that is not made of hex digits.
+    /// It has more than one word, or a word that is not hex digits, with or without `0x`.
     Syntax,
     /// The GUID is 0, or has more than 16 digits.
     Guid,

@@ -5,7 +5,7 @@ use crate::fault::RootsTextError;
 use smp_bytes::Guid;
 use text_words::{number, split_word};
 
-/// Returns the root that a line names, or `None` if the line is empty.
+/// Returns the root that `line` names, or `None` if it has no word. Returns the line's fault if it has one.
 #[tactic(auto, unfolding(crate::specs::Line::root_on))]
 pub(crate) fn root_on(line: &[u8]) -> Result<Option<Guid>, RootsTextError>
     ensures { result ≡ root_on line.now }
@@ -22,7 +22,8 @@ pub(crate) fn root_on(line: &[u8]) -> Result<Option<Guid>, RootsTextError>
     }
 }
 
-/// Parses a root: 1 to 16 hex digits, with or without `0x`.
+/// Parses a root: 1 to 16 hex digits, not all 0, with or without `0x`. Returns `Guid` if there are more digits or the
+/// number is 0, and `Syntax` if `word` is anything else.
 #[tactic(auto, using(crate::proofs::Guids::whole, crate::proofs::Guids::long, crate::proofs::Guids::zero_is_none, crate::proofs::Guids::no_digits))]
 fn root(word: &[u8]) -> Result<Guid, RootsTextError>
     ensures { result ≡ root_of word.now }
@@ -37,7 +38,7 @@ fn root(word: &[u8]) -> Result<Guid, RootsTextError>
     Ok(Guid::new(number))
 }
 
-/// Returns the digits of a word: what follows `0x`, if the word begins with that, and otherwise the word.
+/// Returns the digits of `word`: what follows `0x`, if it begins with that, and otherwise all of it.
 fn digits(word: &[u8]) -> &[u8]
     ensures { result.now ≡ digits_of word.now }
 {

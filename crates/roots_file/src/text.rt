@@ -24,8 +24,8 @@ use text_words::{LinesFault, split_line};
 /// 2c903000010b0
 /// ```
 ///
-/// Takes one step for each byte and a search for each line. If memory runs out, also takes a walk over the lines above
-/// for each line.
+/// Takes time linear in the number of bytes, and for each line logarithmic in the number of roots. If memory runs out,
+/// also takes a walk over the lines above for each line.
 ///
 /// # Errors
 ///
@@ -45,7 +45,7 @@ pub fn parse(alloc: Global, text: &[u8]) -> Result<Vec<Guid>, RootsTextFault>
     }
 }
 
-/// Returns the roots that the lines of a text name, or the first fault.
+/// Returns the roots that the lines of `text` name, or the first fault.
 #[tactic(auto, using(crate::proofs::Folds::reading))]
 fn read_lines(alloc: Global, text: &[u8]) -> Result<Roots, RootsTextFault>
     ensures { Reads result (roots_of text.now) }
@@ -75,7 +75,7 @@ fn with_line(roots: Roots, number: usize, line: &[u8]) -> Result<Roots, RootsTex
     }
 }
 
-/// Returns the first fault of a text. Takes no memory.
+/// Returns the first fault of the lines of `text`, or `None` if they have none. Does not allocate.
 #[tactic(auto, using(crate::proofs::Folds::judging))]
 fn first_fault(text: &[u8]) -> Option<RootsLineFault>
     ensures { result ≡ result_err (roots_of text.now) }
@@ -93,7 +93,7 @@ fn first_fault(text: &[u8]) -> Option<RootsLineFault>
     None
 }
 
-/// Returns the fault, if there is one, of a line below the first `above` lines of a text.
+/// Returns the fault, if there is one, of `line` below the first `above` lines of `text`.
 fn wrong_below(text: &[u8], above: usize, line: &[u8]) -> Option<RootsTextError>
     ensures { result ≡ wrong_below (take above (lines text.now)) (root_on line.now) }
 {
@@ -110,7 +110,7 @@ fn wrong_below(text: &[u8], above: usize, line: &[u8]) -> Option<RootsTextError>
     }
 }
 
-/// Returns whether one of the first `count` lines of a text names a root.
+/// Returns whether one of the first `count` lines of `text` names `root`.
 #[tactic(auto, using(crate::proofs::Folds::naming))]
 fn is_named(text: &[u8], count: usize, root: Guid) -> bool
     ensures { result ≡ list_any (names root) (take count (lines text.now)) }
@@ -128,7 +128,7 @@ fn is_named(text: &[u8], count: usize, root: Guid) -> bool
     false
 }
 
-/// Returns whether a line names a root.
+/// Returns whether `line` names `root`.
 fn names(line: &[u8], root: Guid) -> bool
     ensures { result ≡ names root line.now }
 {

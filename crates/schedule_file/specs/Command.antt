@@ -1,4 +1,4 @@
--- What a line says: nothing, a new manager, or a command with its names.
+-- What a line of a schedule says: nothing, a new manager, or a command with its names.
 use Rattle.std.specs.Prelude.{ℕ, ◌-◌, ◌^◌, List, [], ◌∷◌, Option, None, Some, option_map, option_and_then, codes, decimal, if◌then◌else◌}
 use Rattle.std.specs.Option.{option_map_or}
 use Rattle.std.specs.Str.{bytes_eq}
@@ -32,29 +32,29 @@ abbrev pub pair : List (List ℕ) → Option (List ℕ × List ℕ)
 pair (one ∷ other ∷ []) = Some (one, other)
 pair _ = None
 
--- a packet in flight: the packet sent last, or the packet with a serial number
+-- a packet in flight: the packet sent last, or the packet with a serial number; None if the word names neither
 abbrev pub which_of : List ℕ → Option Which
 which_of word = if bytes_eq word (codes "last") then Some Last else option_map Serial (number_up_to (2 ^ 64 - 1) word)
 
--- a port in brackets, up to 255
+-- the number of a port in brackets, up to 255; None for another word
 abbrev pub bracketed_number : List ℕ → Option ℕ
 bracketed_number word = option_and_then (number_up_to 255) (option_and_then alone (enclosed 91 93 word))
 
--- a node's name in quotes, directly followed by a port in brackets
+-- a node's name in quotes, directly followed by a port in brackets; None for another word
 abbrev pub port_name : List ℕ → Option PortName
 port_name word =
     option_and_then (λ x. option_and_then
     (λ name. option_map (λ port. record { node = name; port = port }) (bracketed_number x.1)) (name_in x.0))
     (enclosed 34 34 word)
 
--- what follows the priority of a new manager: nothing, or 'live' and an SM_Key
+-- what follows the priority of a new manager: nothing, or 'live' and an SM_Key; None for other words
 abbrev pub sm_key_in : List (List ℕ) → Option (Option ℕ)
 sm_key_in [] = Some None
 sm_key_in (word ∷ key ∷ []) =
     if bytes_eq word (codes "live") then option_map (λ k. Some k) (number_up_to (2 ^ 64 - 1) key) else None
 sm_key_in _ = None
 
--- a new manager: its name, its port, its priority and its SM_Key
+-- a new manager: its name, its port, its priority and its SM_Key; None if the words are others
 abbrev pub new_manager : List (List ℕ) → Option NewManager
 new_manager (name ∷ at ∷ priority ∷ more) =
     option_and_then (λ n. option_and_then (λ p. option_and_then
@@ -64,7 +64,7 @@ new_manager _ = None
 
 -- commands of one word -----------------------------------------------------------------------
 
--- the command of one word
+-- the command of the one word `word`; None if there is none
 abbrev pub bare_of : List ℕ → Option NamedCommand
 bare_of word =
     if bytes_eq word (codes "tables") then Some command.Tables
@@ -75,26 +75,26 @@ bare_of word =
 
 -- commands of two words --------------------------------------------------------------------------
 
--- the command that asks the manager `name` for something
+-- the command that asks the manager `name` for something; None if `name` is no name of a manager
 abbrev pub ask : Ask → List ℕ → Option NamedCommand
 ask what name = option_map (λ manager. command.Ask manager what) (manager_name_in name)
 
--- the command that shows something of the manager `name`
+-- the command that shows something of the manager `name`; None if `name` is no name of a manager
 abbrev pub show : Shown → List ℕ → Option NamedCommand
 show what name = option_map (λ manager. command.Show manager what) (manager_name_in name)
 
--- a command to one manager, by its first word
+-- a command to the manager `name`, by its first word; None if there is none
 abbrev pub to_manager : List ℕ → List ℕ → Option NamedCommand
 to_manager word name =
     option_map_or (λ what. ask what name) (asked_by word)
     (if bytes_eq word (codes "timeout") then option_map command.Timeout (manager_name_in name)
     else option_and_then (λ what. show what name) (shown_by word))
 
--- the command that delivers, loses or repeats a packet in flight
+-- the command that delivers, loses or repeats the packet in flight that a word names; None if it names none
 abbrev pub packet : Fate → List ℕ → Option NamedCommand
 packet fate which = option_map (λ w. command.Packet w fate) (which_of which)
 
--- any command of two words
+-- any command of the two words `word` and `arg`; None if there is none
 abbrev pub of_one : List ℕ → List ℕ → Option NamedCommand
 of_one word arg =
     if bytes_eq word (codes "deliver") then packet Deliver arg
@@ -106,24 +106,29 @@ of_one word arg =
 
 -- commands of three words ------------------------------------------------------------------------
 
+-- the command `merge` of two managers; None if one of the words is no manager's name
 abbrev pub merge : List ℕ → List ℕ → Option NamedCommand
 merge one other = option_and_then (λ m. option_map (command.Merge m) (manager_name_in other)) (manager_name_in one)
 
+-- `poll` with a manager and a LID; None if one of the words is wrong
 abbrev pub poll : List ℕ → List ℕ → Option NamedCommand
 poll name lid =
     option_and_then (λ m. option_map (λ n. command.Ask m (Poll (Some n))) (lid_of lid)) (manager_name_in name)
 
+-- `floor` with a manager and a generation; None if one of the words is wrong
 abbrev pub floor : List ℕ → List ℕ → Option NamedCommand
 floor name generation =
     option_and_then (λ m. option_map (command.Floor m) (generation_of generation)) (manager_name_in name)
 
+-- `plug` with two ports; None if one of the words is wrong
 abbrev pub plug : List ℕ → List ℕ → Option NamedCommand
 plug one other = option_and_then (λ p. option_map (command.Plug p) (port_name other)) (port_name one)
 
+-- `ping` with a port and a LID; None if one of the words is wrong
 abbrev pub ping : List ℕ → List ℕ → Option NamedCommand
 ping port lid = option_and_then (λ p. option_map (command.Ping p) (lid_of lid)) (port_name port)
 
--- any command of three words
+-- any command of three words; None if there is none
 abbrev pub of_two : List ℕ → List ℕ → List ℕ → Option NamedCommand
 of_two word one other =
     if bytes_eq word (codes "merge") then merge one other
@@ -139,15 +144,18 @@ of_two word one other =
 abbrev pub port_word : PortName → List ℕ
 port_word p = named_text p.node p.port
 
+-- the word for a packet in flight
 abbrev pub which_word : Which → List ℕ
 which_word Last = codes "last"
 which_word (Serial serial) = decimal serial
 
+-- the word for what becomes of a packet
 abbrev pub fate_word : Fate → List ℕ
 fate_word Deliver = codes "deliver"
 fate_word Lose = codes "lose"
 fate_word Repeat = codes "repeat"
 
+-- the word for what is shown of a manager
 abbrev pub shown_word : Shown → List ℕ
 shown_word Facts = codes "facts"
 shown_word Plan = codes "plan"
@@ -156,6 +164,7 @@ shown_word Silent = codes "silent"
 shown_word Written = codes "written"
 shown_word State = codes "state"
 
+-- the words of a request to the manager `name`
 abbrev pub ask_words : Ask → List ℕ → List (List ℕ)
 ask_words Sweep name = codes "sweep" ∷ name ∷ []
 ask_words Write name = codes "write" ∷ name ∷ []
@@ -188,20 +197,20 @@ named_words command.Flight = codes "flight" ∷ []
 
 -- lines ----------------------------------------------------------------------------------------
 
--- the command with these words
+-- the command of the word `word` and the words after it; None if there is none
 abbrev pub command_in : List ℕ → List (List ℕ) → Option NamedCommand
 command_in word [] = bare_of word
 command_in word (arg ∷ []) = of_one word arg
 command_in word (one ∷ other ∷ []) = of_two word one other
 command_in word _ = None
 
--- what a line with these words says
+-- what a line with these words says; None if the grammar has no such line
 abbrev pub line_in : List (List ℕ) → Option ScheduleLine
 line_in [] = Some line.Empty
 line_in (word ∷ args) =
     if bytes_eq word (codes "manager") then option_map line.Manager (new_manager args)
     else option_map line.Command (command_in word args)
 
--- what a line says
+-- what a line says; None if the grammar has no such line
 unfoldable pub line_of : List ℕ → Option ScheduleLine
 line_of line = line_in (words line)

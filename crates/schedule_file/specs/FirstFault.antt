@@ -1,4 +1,4 @@
--- The first fault of a text, found by keeping only the managers.
+-- The first fault of a schedule's text, found by keeping only the managers.
 use Rattle.std.specs.Prelude.{◌≡◌, ◌⊎◌, ◌<◌, ℕ, Bool, true, false, List, [], ◌∷◌, ◌++◌, Option, None, Some, Result, Ok, Err, length}
 use Rattle.topo_file.specs.declared.node.Node.{Node}
 use Rattle.schedule_file.specs.declared.fault.ScheduleFault.{ScheduleFault}
@@ -13,7 +13,7 @@ abbrev pub fault_of : {T : Type 0} → Result T ScheduleFault → Option Schedul
 fault_of (Ok value) = None
 fault_of (Err fault) = Some fault
 
--- up to some line, the lines have no fault and more than 64 managers
+-- up to some line, the lines have no fault and name more than 64 new managers
 pub record IsCrowded (nodes : List Node) (lines : List (List ℕ)) : Type 0 where
   pub front : List (List ℕ)
   pub back : List (List ℕ)
@@ -22,11 +22,11 @@ pub record IsCrowded (nodes : List Node) (lines : List (List ℕ)) : Type 0 wher
   pub told : schedule_of_lines nodes front ≡ Ok script
   pub many : 64 < length script.seats
 
--- the lines have no fault, or up to some line they have no fault and more than 64 managers
+-- the lines have no fault, or up to some line they have none and name more than 64 new managers
 abbrev pub IsSoundOrCrowded : List Node → List (List ℕ) → Type 0
 IsSoundOrCrowded nodes lines = (fault_of (schedule_of_lines nodes lines) ≡ None) ⊎ IsCrowded nodes lines
 
--- the managers, with the manager that the line adds, if it adds one, or the line's fault
+-- `seats`, the managers so far, with the one that the line `number` adds, if it adds one, or the line's fault
 abbrev pub seats_with : List Node → ℕ → List Seat → Option ScheduleLine → Result (List Seat) ScheduleFault
 seats_with nodes number seats None = Err (Syntax number)
 seats_with nodes number seats (Some line.Empty) = Ok seats
@@ -35,7 +35,8 @@ seats_with nodes number seats (Some (line.Manager new)) =
 seats_with nodes number seats (Some (line.Command named)) =
     where_known number (command_of nodes seats named) >>= λ command. Ok seats
 
--- a call left these managers, returned `false` because there are more than 64, or returned the fault
+-- a call that is to come to managers or a fault left those managers, returned `false` because there are more than 64,
+-- or returned that fault
 abbrev pub Leaves : Result (List Seat) ScheduleFault → Result Bool ScheduleFault → List Seat → Type 0
 Leaves (Ok now) (Ok true) new = new ≡ now
 Leaves (Ok now) (Ok false) new = 64 < length now

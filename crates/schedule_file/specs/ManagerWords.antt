@@ -27,14 +27,14 @@ shown_by word =
     else if bytes_eq word (codes "state") then Some State
     else None
 
--- a number in decimal, up to `most`
+-- the number that `word` writes in decimal, if it is at most `most`; otherwise None
 abbrev pub number_up_to : ℕ → List ℕ → Option ℕ
 number_up_to most word = option_and_then (λ n. if nat_le n most then Some n else None) (number_of 10 word)
 
--- a LID in decimal, up to 65,535
+-- the LID that `word` writes in decimal, up to 65,535; otherwise None
 abbrev pub lid_of : List ℕ → Option ℕ
 lid_of word = number_up_to 0xFFFF word
 
--- a generation in decimal, from 1 to 2^32 - 1
+-- the generation that `word` writes in decimal, from 1 to 2^32 - 1; otherwise None
 abbrev pub generation_of : List ℕ → Option ℕ
 generation_of word = option_and_then (λ n. if n == 0 then None else Some n) (number_up_to 0xFFFFFFFF word)

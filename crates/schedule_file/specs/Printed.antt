@@ -1,4 +1,4 @@
--- The text of a schedule.
+-- The text of a schedule, which is read as that schedule again.
 use Rattle.std.specs.Prelude.{◌≡◌, ℕ, List, [], ◌∷◌, Ok, codes, decimal, map, slice_get}
 use Rattle.std.specs.Option.{option_map_or}
 use Rattle.fabric_model.specs.declared.cable.NodePort.{NodePort}
@@ -11,7 +11,7 @@ use Rattle.schedule_file.specs.declared.schedule.Seat.{Seat}
 use Rattle.schedule_file.specs.Command.{named_words, port_word, sm_key_words}
 use Rattle.schedule_file.specs.Schedule.{Script, SeatCommand, schedule_of}
 
--- the name of the manager at an index, empty if there is none
+-- the name of the manager at the index `seat`; empty if there is none
 abbrev pub manager_at : List Seat → ℕ → List ℕ
 manager_at seats seat = option_map_or (λ s. s.name) (slice_get seats seat) []
 

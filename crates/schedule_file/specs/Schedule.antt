@@ -1,4 +1,4 @@
--- What a text says: a schedule, or its first fault.
+-- What a text of a schedule says: its managers and commands, or its first fault.
 use Rattle.std.specs.Prelude.{◌≡◌, ◌<◌, ℕ, ◌+◌, ◌&&◌, not, Bool, true, false, All, List, [], ◌∷◌, ◌++◌, Option, None, Some, Result, Ok, Err, length, is_some}
 use Rattle.std.specs.Prelude.{option_map, option_and_then, position, slice_get, if◌then◌else◌}
 use Rattle.std.specs.List.{list_any}
@@ -37,31 +37,31 @@ abbrev pub ◌>>=◌ : {A B : Type 0} → Result A ScheduleFault → (A → Resu
 (Ok value) >>= next = next value
 (Err fault) >>= next = Err fault
 
--- the index of the manager with this name; None if there is none
+-- the index of the manager with the name `name`; None if there is none
 abbrev pub seat_of : List Seat → List ℕ → Option ℕ
 seat_of seats name = position (λ seat. bytes_eq seat.name name) seats
 
--- a manager sits at the port
+-- a manager of `seats` sits at the port `p`
 abbrev pub is_taken : List Seat → NodePort → Bool
 is_taken seats p = list_any (λ seat. is_same_port seat.at p) seats
 
--- a manager may sit at this port of the node: the node has the port, and is not a switch
+-- a manager may sit at the port `port` of `node`: the node has the port, from 1 on, and is no switch
 abbrev pub may_seat : Node → ℕ → Bool
 may_seat node port = not (is_switch node.kind) && is_within port node.ports
 
--- a manager may sit at the port
+-- a manager may sit at the port `p`: one of an adapter of `nodes`
 abbrev pub is_seat : List Node → NodePort → Bool
 is_seat nodes p = option_map_or (λ node. may_seat node p.port) (slice_get nodes p.node) false
 
--- a manager may sit at the port, and none sits there
+-- a manager may sit at the port `p`, and none of `seats` sits there
 abbrev pub is_free : List Node → List Seat → NodePort → Bool
 is_free nodes seats p = is_seat nodes p && not (is_taken seats p)
 
--- the port with this name; None if no node has its node's name
+-- the port that `name` names; None if no node has its node's name; whether the node has the port is left open
 abbrev pub port_of : List Node → PortName → Option NodePort
 port_of nodes name = option_map (λ id. record { node = id; port = name.port }) (id_of nodes name.node)
 
--- the command with its names resolved; None if a name is unknown
+-- the command with its names resolved; None if a manager's or a node's name is unknown
 abbrev pub command_of : List Node → List Seat → NamedCommand → Option SeatCommand
 command_of nodes seats (command.Manager name) = option_map command.Manager (seat_of seats name)
 command_of nodes seats (command.Ask name what) = option_map (λ seat. command.Ask seat what) (seat_of seats name)
@@ -81,29 +81,31 @@ command_of nodes seats command.Resend = Some command.Resend
 command_of nodes seats command.Tables = Some command.Tables
 command_of nodes seats command.Flight = Some command.Flight
 
--- the command, or the fault of the line `number` if a name is unknown
+-- the command, or the fault of the line `number` if a name of it is unknown (None)
 abbrev pub where_known : ℕ → Option SeatCommand → Result SeatCommand ScheduleFault
 where_known number (Some command) = Ok command
 where_known number None = Err (fault.Name number)
 
--- the schedule with the command appended
+-- the schedule `before` with `command` appended
 abbrev pub with_command : Script → SeatCommand → Script
 with_command before command = record before { commands = before.commands ++ command ∷ [] }
 
--- the seat of a new manager at a port, if a manager may sit there and none does; otherwise the fault of line `number`
+-- the seat of the new manager `new` at a port, if a manager may sit there and none does; otherwise, or if the port is
+-- unknown (None), the fault of the line `number`
 abbrev pub seat_at : List Node → List Seat → ℕ → NewManager → Option NodePort → Result Seat ScheduleFault
 seat_at nodes seats number new (Some p) =
     if is_free nodes seats p then Ok (record { name = new.name; at = p; priority = new.priority; sm_key = new.sm_key })
     else Err (fault.Seat number)
 seat_at nodes seats number new None = Err (fault.Name number)
 
--- the seat of a new manager, or the fault of line `number`
+-- the seat of the new manager `new`, or the fault of the line `number`: its name is used, or its port is unknown, taken
+-- or no adapter's
 abbrev pub new_seat : List Node → List Seat → ℕ → NewManager → Result Seat ScheduleFault
 new_seat nodes seats number new =
     if is_some (seat_of seats new.name) then Err (fault.Name number)
     else seat_at nodes seats number new (port_of nodes new.at)
 
--- the schedule with the manager appended, and the command that adds it
+-- the schedule `before` with the manager `seat` and the command that adds it
 abbrev pub with_seat : Script → Seat → Script
 with_seat before seat =
     record {
@@ -112,7 +114,7 @@ with_seat before seat =
           ∷ [];
     }
 
--- the schedule before, with what the line `number` adds, or its fault
+-- `before`, the schedule so far, with what the line `number` adds, or its fault
 abbrev pub with_line : List Node → ℕ → Script → Option ScheduleLine → Result Script ScheduleFault
 with_line nodes number before None = Err (fault.Syntax number)
 with_line nodes number before (Some line.Empty) = Ok before
@@ -121,13 +123,13 @@ with_line nodes number before (Some (line.Manager new)) =
 with_line nodes number before (Some (line.Command named)) =
     where_known number (command_of nodes before.seats named) >>= λ command. Ok (with_command before command)
 
--- the schedule before, with what the lines add, or the first fault; the first line has the number `number`
+-- `before`, the schedule so far, with what the lines add, or the first fault; the first line has the number `number`
 abbrev pub with_lines : List Node → ℕ → Script → List (List ℕ) → Result Script ScheduleFault
 with_lines nodes number before [] = Ok before
 with_lines nodes number before (line ∷ later) =
     with_line nodes number before (line_of line) >>= λ now. with_lines nodes (number + 1) now later
 
--- the schedule that the lines say, or their first fault
+-- the schedule that the lines say, for a fabric with `nodes`, or their first fault
 abbrev pub schedule_of_lines : List Node → List (List ℕ) → Result Script ScheduleFault
 schedule_of_lines nodes lines = with_lines nodes 1 (record { seats = []; commands = [] }) lines
 
@@ -137,7 +139,7 @@ schedule_of nodes text = schedule_of_lines nodes (lines text)
 
 -- what holds of each schedule ---------------------------------------------------------------
 
--- the command names only managers with an index below `count`
+-- the managers that the command names have indices below `count`
 abbrev pub NamesManagers : ℕ → SeatCommand → Type 0
 NamesManagers count (command.Manager seat) = seat < count
 NamesManagers count (command.Ask seat what) = seat < count
@@ -147,7 +149,7 @@ NamesManagers count (command.Merge seat other) = (seat < count) × (other < coun
 NamesManagers count (command.Show seat what) = seat < count
 NamesManagers count _ = Unit {0}
 
--- the managers sit at ports of the fabric's adapters, and the commands name no other managers
+-- the managers of `script` sit at ports of adapters of `nodes`, and its commands name no other managers
 pub record IsScript (nodes : List Node) (script : Script) : Type 0 where
   pub seats : All (λ seat. is_seat nodes seat.at ≡ true) script.seats
   pub commands : All (NamesManagers (length script.seats)) script.commands

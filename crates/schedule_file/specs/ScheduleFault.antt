@@ -3,12 +3,12 @@ use Rattle.std.specs.Prelude.{◌≡◌, ℕ, List, Option, None, Some, Result, 
 use Rattle.schedule_file.specs.declared.fault.ScheduleFault.{ScheduleFault}
 use Rattle.schedule_file.specs.declared.fault.ScheduleFault.TheVariants.{Syntax, Name, Seat, Memory}
 
--- the fault is the fault in `told`, or lack of memory
+-- a call is refused for a fault: that in `told`, or lack of memory
 abbrev pub IsRefused : {T : Type 0} → ScheduleFault → Result T ScheduleFault → Type 0
 IsRefused Memory told = Unit {0}
 IsRefused fault told = told ≡ Err fault
 
--- the result is `told`, a value or the first fault, unless memory ran out
+-- the result of a call is `told`, a value or the first fault, unless memory ran out
 abbrev pub Reads : {T : Type 0} → Result T ScheduleFault → Result T ScheduleFault → Type 0
 Reads (Ok value) told = told ≡ Ok value
 Reads (Err fault) told = IsRefused fault told
@@ -27,7 +27,7 @@ fault_line (Name line) = Some line
 fault_line (Seat line) = Some line
 fault_line Memory = None
 
--- what `{}` writes for a fault: its line, if there is one, and the word
+-- a fault's word, after its line if there is one
 abbrev pub said_at : Option ℕ → List ℕ → List ℕ
 said_at None word = word
 said_at (Some line) word = codes "line " ++ decimal line ++ codes ": " ++ word

@@ -13,7 +13,7 @@ pub enum Command<M, P> {
     Timeout(M),
     /// Makes a manager forget what is older than the generation.
     Floor(M, Generation),
-    /// Gives the records of the second manager to the first.
+    /// Merges the facts of the second manager into those of the first.
     Merge(M, M),
     /// Shows something of a manager.
     Show(M, Shown),
@@ -44,7 +44,7 @@ pub enum Ask {
     Sweep,
     /// A write of the plan that follows from what it knows.
     Write,
-    /// A handover to the greatest manager that wins over it.
+    /// A handover to its successor among the managers that its last sweep saw.
     Handover,
     /// A poll of the manager at the LID or, without a LID, of a manager that its last sweep saw.
     Poll(Option<Lid>),
@@ -59,9 +59,9 @@ pub enum Shown {
     Plan,
     /// The progress of its sweep.
     Progress,
-    /// The number of managers that did not answer its sweep.
+    /// The number of requests for SMInfo in its last sweep that were not answered.
     Silent,
-    /// Whether its plan is written.
+    /// Whether the plan that it wrote last is written.
     Written,
     /// Its state.
     State,
@@ -78,10 +78,10 @@ pub enum Fate {
     Repeat,
 }
 
-/// A packet in flight.
+/// Which packet in flight is meant.
 #[derive(Clone, Copy, PartialEq, Eq)]
 pub enum Which {
-    /// The packet sent last.
+    /// The packet in flight that was sent last.
     Last,
     /// The packet with the serial number.
     Serial(u64),

@@ -17,7 +17,6 @@ use topo_file::Topology;
 type Seats = ArrayVec<Seat, 64>;
 
 /// Returns the first fault of a text. Returns `None` if there is none, or if more than 64 managers come before it.
-/// Takes a search and a walk over the managers for each line.
 pub(crate) fn first_fault(topology: &Topology, text: &[u8]) -> Option<ScheduleFault>
     ensures found { IfSome result (λ fault.
         fault_of (schedule_of_lines topology.now.nodes (lines text.now)) ≡ Some fault) }
@@ -37,8 +36,8 @@ pub(crate) fn first_fault(topology: &Topology, text: &[u8]) -> Option<ScheduleFa
     None
 }
 
-/// Checks a line, given the managers above, and adds its manager, if it has one. Returns `false` if there is no room
-/// for the manager.
+/// Checks the line `number`, given the managers above, and adds its manager, if it has one. Returns the line's fault if
+/// it has one, and `false` if there is no room for the manager.
 fn judge_line(
     topology: &Topology,
     seats: &mut Seats,

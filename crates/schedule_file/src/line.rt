@@ -42,7 +42,7 @@ pub(crate) fn read_line(line: &[u8]) -> Option<ScheduleLine>
     }
 }
 
-/// Parses the line of a new manager, without its first word.
+/// Parses the line of a new manager, without its first word. Returns `None` if the grammar has no such line.
 fn new_manager(line: &[u8]) -> Option<NewManager>
     ensures { result ≡ new_manager (words line.now) }
 {
@@ -57,7 +57,8 @@ fn new_manager(line: &[u8]) -> Option<NewManager>
     })
 }
 
-/// Parses what follows the priority of a new manager: nothing, or `live` and an SM_Key in decimal.
+/// Parses what follows the priority of a new manager: nothing, or `live` and an SM_Key in decimal. The inner value is
+/// `None` if nothing follows. Returns `None` for anything else.
 fn sm_key_in(line: &[u8]) -> Option<Option<u64>>
     ensures { result ≡ sm_key_in (words line.now) }
 {
@@ -72,7 +73,7 @@ fn sm_key_in(line: &[u8]) -> Option<Option<u64>>
     }
 }
 
-/// Parses a priority up to 15, in decimal.
+/// Parses a priority in decimal. Returns `None` if `word` is none, or is over 15.
 fn priority_of(word: &[u8]) -> Option<Priority>
     ensures { result ≡ number_up_to 15 word.now }
 {

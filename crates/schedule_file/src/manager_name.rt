@@ -25,7 +25,7 @@ impl Model for ManagerName {
 }
 
 impl ManagerName {
-    /// Returns the bytes as a name, or `None` if they are not one.
+    /// Returns `name` as a manager's name, or `None` if it is not one.
     pub fn new(name: &[u8]) -> Option<Self>
         ensures { result ≡ manager_name_in name.now }
     {
@@ -59,7 +59,7 @@ impl Default for ManagerName {
     }
 }
 
-/// Returns whether the bytes are a name: 1 to 16 ASCII letters and digits.
+/// Returns whether `name` is a manager's name: 1 to 16 ASCII letters and digits.
 fn is_manager_name(name: &[u8]) -> bool
     ensures { result ≡ is_manager_name name.now }
 {
@@ -73,7 +73,7 @@ fn are_letters_and_digits(bytes: &[u8]) -> bool
     bytes.iter().all(|byte| byte.is_ascii_alphanumeric())
 }
 
-/// Returns the text of a name.
+/// Returns the text of `name`, which must be a manager's name.
 fn text(name: &[u8]) -> ArrayString<16>
     requires { IsTrue (is_manager_name name.now) }
     ensures { result.bytes ≡ name.now }

@@ -45,14 +45,14 @@ pub fn shown_by(word: &[u8]) -> Option<Shown>
     }
 }
 
-/// Parses a LID up to 65,535, in decimal.
+/// Parses a LID in decimal. Returns `None` if `word` is none, or is over 65,535.
 pub fn lid_of(word: &[u8]) -> Option<Lid>
     ensures { result ≡ lid_of word.now }
 {
     Some(Lid::new(number_up_to(word, 0xFFFF)? as u16))
 }
 
-/// Parses a generation from 1 to 4,294,967,295, in decimal.
+/// Parses a generation in decimal. Returns `None` if `word` is none, or is not from 1 to 4,294,967,295.
 pub fn generation_of(word: &[u8]) -> Option<Generation>
     ensures { result ≡ generation_of word.now }
 {

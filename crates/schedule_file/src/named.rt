@@ -22,7 +22,7 @@ pub(crate) struct PortName {
 /// A command as its line gives it. A `manager` line says more, and becomes a command when its seat is found.
 pub(crate) type NamedCommand = Command<ManagerName, PortName>;
 
-/// Parses a command from its word and the rest of its line.
+/// Parses a command from its first word and the rest of its line. Returns `None` if the grammar has no such command.
 pub(crate) fn named_command(word: &[u8], line: &[u8]) -> Option<NamedCommand>
     ensures { result ≡ command_in word.now (words line.now) }
 {
@@ -38,7 +38,7 @@ pub(crate) fn named_command(word: &[u8], line: &[u8]) -> Option<NamedCommand>
     of_two(word, one, other)
 }
 
-/// Parses a command of one word.
+/// Parses a command of one word, other than `manager`.
 fn bare(word: &[u8]) -> Option<NamedCommand>
     ensures { result ≡ bare_of word.now }
 {
@@ -55,7 +55,7 @@ fn bare(word: &[u8]) -> Option<NamedCommand>
     }
 }
 
-/// Parses a command of two words.
+/// Parses a command of two words: the first, `word`, and `arg`.
 fn of_one(word: &[u8], arg: &[u8]) -> Option<NamedCommand>
     ensures { result ≡ of_one word.now arg.now }
 {
@@ -74,7 +74,7 @@ fn of_one(word: &[u8], arg: &[u8]) -> Option<NamedCommand>
     }
 }
 
-/// Parses a command to one manager.
+/// Parses a command of two words to one manager: the first, `word`, and the manager's name.
 fn to_manager(word: &[u8], name: &[u8]) -> Option<NamedCommand>
     ensures { result ≡ to_manager word.now name.now }
 {
@@ -87,7 +87,7 @@ fn to_manager(word: &[u8], name: &[u8]) -> Option<NamedCommand>
     }
 }
 
-/// Parses a command of three words.
+/// Parses a command of three words, other than `manager`.
 fn of_two(word: &[u8], one: &[u8], other: &[u8]) -> Option<NamedCommand>
     ensures { result ≡ of_two word.now one.now other.now }
 {
@@ -170,7 +170,8 @@ fn which(word: &[u8]) -> Option<Which>
     }
 }
 
-/// Parses a node's name in quotes, directly followed by a port up to 255 in brackets.
+/// Parses a node's name in quotes, directly followed by a port in brackets, up to 255. Returns `None` for anything
+/// else.
 pub(crate) fn port_name(word: &[u8]) -> Option<PortName>
     ensures { result ≡ port_name word.now }
 {
@@ -180,7 +181,7 @@ pub(crate) fn port_name(word: &[u8]) -> Option<PortName>
     Some(PortName { node, port })
 }
 
-/// Parses a number up to 255 in brackets.
+/// Parses a number in brackets, up to 255. Returns `None` for anything else.
 fn bracketed_number(word: &[u8]) -> Option<u8>
     ensures { result ≡ bracketed_number word.now }
 {

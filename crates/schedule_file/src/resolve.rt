@@ -15,7 +15,7 @@ use topo_file::{Node, Topology};
 /// A command as it is run: managers by the indices of their seats, from 0, and nodes by their indices.
 pub type SeatCommand = Command<usize, NodePort>;
 
-/// Resolves the names in a command.
+/// Resolves the names in the command of the line `line`.
 ///
 /// # Errors
 ///
@@ -63,14 +63,16 @@ fn command_of(topology: &Topology, seats: &[Seat], command: NamedCommand) -> Opt
     })
 }
 
-/// Returns the index of the manager with this name, or `None` if there is none. Walks the seats.
+/// Returns the index of the manager with the name `name`, or `None` if there is none. Takes time linear in the number
+/// of managers.
 pub(crate) fn seat(seats: &[Seat], name: &ManagerName) -> Option<usize>
     ensures { result ≡ seat_of seats.now name.now }
 {
     seats.iter().position(|seat| seat.name.is(name))
 }
 
-/// Returns the port with this name, or `None` if no node has its node's name. Takes a search.
+/// Returns the port with the name `name`, or `None` if no node has the name of its node. The node need not have the
+/// port.
 pub(crate) fn port(topology: &Topology, name: &PortName) -> Option<NodePort>
     ensures { result ≡ port_of topology.now.nodes name.now }
 {
@@ -80,21 +82,21 @@ pub(crate) fn port(topology: &Topology, name: &PortName) -> Option<NodePort>
     })
 }
 
-/// Returns whether a manager may sit at the port, and none does. Walks the seats.
+/// Returns whether a manager may sit at `port`, and none does. Takes time linear in the number of managers.
 pub(crate) fn is_free(topology: &Topology, seats: &[Seat], port: &NodePort) -> bool
     ensures { result ≡ is_free topology.now.nodes seats.now port.now }
 {
     is_seat(topology, port) && !is_taken(seats, port)
 }
 
-/// Returns whether a manager sits at the port. Walks the seats.
+/// Returns whether a manager sits at `port`. Takes time linear in the number of managers.
 fn is_taken(seats: &[Seat], port: &NodePort) -> bool
     ensures { result ≡ is_taken seats.now port.now }
 {
     seats.iter().any(|seat| seat.at == *port)
 }
 
-/// Returns whether a manager may sit at the port.
+/// Returns whether `port` is from 1 to the port count of an adapter, so that a manager may sit there.
 fn is_seat(topology: &Topology, port: &NodePort) -> bool
     ensures { result ≡ is_seat topology.now.nodes port.now }
 {
@@ -104,7 +106,7 @@ fn is_seat(topology: &Topology, port: &NodePort) -> bool
     }
 }
 
-/// Returns whether a manager may sit at port `port` of the node.
+/// Returns whether `node` is an adapter, and `port` is from 1 to its port count.
 fn may_seat(node: &Node, port: PortNum) -> bool
     ensures { result ≡ may_seat node.now port }
 {

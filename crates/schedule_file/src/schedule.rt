@@ -19,7 +19,7 @@ use std::marker::Model;
 use text_words::split_line;
 use topo_file::Topology;
 
-/// A subnet manager of the fabric.
+/// A subnet manager as its line adds it.
 #[derive(Drop)]
 pub struct Seat {
     pub name: ManagerName,
@@ -68,7 +68,7 @@ impl Schedule {
         &self.seats
     }
 
-    /// Returns the commands in their order.
+    /// Returns the commands in the order of their lines.
     pub fn commands(&self) -> &[SeatCommand]
         ensures { result.now ≡ self.now.commands }
     {
@@ -85,7 +85,7 @@ impl Schedule {
         }
     }
 
-    /// Adds the next line, whose number is `number`.
+    /// Adds the next line, whose number is `number`, or returns its fault.
     fn with(self, topology: &Topology, number: usize, line: &[u8]) -> Result<Self, ScheduleFault>
         ensures { Reads result (with_line topology.now.nodes number self (line_of line.now)) }
     {
@@ -109,7 +109,7 @@ impl Schedule {
     }
 }
 
-/// Appends `item` to `items`.
+/// Appends `item` to `items`. Returns `Memory` if memory runs out.
 fn and_one<T: Drop>(items: Vec<T>, item: T) -> Result<Vec<T>, ScheduleFault>
     ensures grown { IfOk result (λ now. now.items ≡ items.items ++ item ∷ []) }
     ensures memory { OnErr result (result ≡ Err ScheduleFault.Memory) }
@@ -119,7 +119,8 @@ fn and_one<T: Drop>(items: Vec<T>, item: T) -> Result<Vec<T>, ScheduleFault>
     Ok(items)
 }
 
-/// Builds the seat of a new manager, or returns the line's fault. Takes a search, and a walk over the seats.
+/// Builds the seat of the new manager of the line `line`. Returns `Name` if its name is taken or no node has the name
+/// of its node, and `Seat` if no manager may sit at its port, or one does.
 pub(crate) fn new_seat(
     topology: &Topology,
     seats: &[Seat],
@@ -176,11 +177,11 @@ pub(crate) fn new_seat(
 /// | `traps`, `resend`, `tables`, `flight` | |
 ///
 /// A manager sits at an adapter's port, and has a name of 1 to 16 ASCII letters and digits, known from its line on.
-/// Takes a search and a walk over the managers for each line.
+/// Takes time linear in the number of managers for each line, besides the time to find its nodes.
 ///
 /// # Errors
 ///
-/// Returns the first fault. Returns `Memory` if memory runs out and no line has a fault, or if more than 64 managers
+/// Returns the first fault. Returns `Memory` only if memory runs out, and no line has a fault or more than 64 managers
 /// come before the first fault: the lines are then checked again without memory, and only 64 managers can be stored.
 #[tactic(auto, using(crate::proofs::Scripts::told_is_script), unfolding(crate::specs::Schedule::schedule_of))]
 pub fn parse(alloc: Global, text: &str, topology: &Topology) -> Result<Schedule, ScheduleFault>
@@ -199,7 +200,7 @@ pub fn parse(alloc: Global, text: &str, topology: &Topology) -> Result<Schedule,
     }
 }
 
-/// Parses the lines of a text.
+/// Parses the lines of a text, or returns the first fault.
 fn read_lines(alloc: Global, text: &[u8], topology: &Topology) -> Result<Schedule, ScheduleFault>
     ensures { Reads result (schedule_of_lines topology.now.nodes (lines text.now)) }
 {

@@ -19,14 +19,14 @@ use Rattle.sm_manager.specs.declared.fault.ManagerFault.{ManagerFault}
 use Rattle.schedule_lines.specs.Lines.{progress_line, silent_line, state_line, written_line}
 use Rattle.schedule_lines.specs.Refusals.{refusal_line}
 
--- why a manager refuses the request `sweep`, `write`, `handover` or `poll`; None if it does not
+-- the fault for which a manager refuses the request `sweep`, `write`, `handover` or `poll`; None if it does not
 abbrev pub asked_fault : Ask → Manager → Option ManagerFault
 asked_fault Sweep m = begin_fault m
 asked_fault Write m = writing_fault m
 asked_fault Handover m = handover_fault m
 asked_fault (Poll lid) m = poll_fault m lid
 
--- the manager after a request that it does not refuse
+-- the manager after `sweep`, `write`, `handover` or `poll`, if it does not refuse the request
 abbrev pub after_asked : Ask → Manager → Manager
 after_asked Sweep m = after_begin_sweep m
 after_asked Write m = after_write_steps m
@@ -41,7 +41,7 @@ emptied m = record m { outgoing = [] }
 abbrev pub manager_line : ManagerFault → List ℕ
 manager_line fault = refusal_line (manager_fault_name fault)
 
--- the text of the plan, or the line of the fault if there is none
+-- the text of the plan by `planning`, or the line of the fault for which there is none
 abbrev pub plan_or_refusal : Planning → Cells → Option ManagerFault → List ℕ
 plan_or_refusal planning cells None = plan_text (plan_of planning.rule planning.lmc cells)
 plan_or_refusal planning cells (Some fault) = manager_line fault

@@ -21,7 +21,7 @@ count_text words count = words ++ decimal count
 unfoldable pub counts_text : ℕ → ℕ → List ℕ
 counts_text unanswered too_far = count_text (codes " unanswered ") unanswered ++ count_text (codes " toofar ") too_far
 
--- how far a sweep is
+-- how far a sweep is, with the counts of requests without an answer and of ports that lead too far, if it has begun
 abbrev pub stage_text : Progress → List ℕ
 stage_text Never = codes " never"
 stage_text (Running unanswered too_far) = codes " running" ++ counts_text unanswered too_far
@@ -44,7 +44,7 @@ end_word word = codes " " ++ word ++ codes "\n"
 abbrev pub progress_line : Option (List ℕ) → Progress → List ℕ
 progress_line manager progress = head_text (codes "progress") manager ++ stage_text progress ++ codes "\n"
 
--- how many managers did not answer a sweep, or that there was no sweep
+-- how many managers did not answer a sweep; for None, that there was no sweep
 abbrev pub silent_text : Option ℕ → List ℕ
 silent_text None = codes " never"
 silent_text (Some silent) = count_text (codes " ") silent
@@ -53,6 +53,7 @@ silent_text (Some silent) = count_text (codes " ") silent
 abbrev pub silent_line : Option (List ℕ) → Option ℕ → List ℕ
 silent_line manager silent = head_text (codes "silent") manager ++ silent_text silent ++ codes "\n"
 
+-- `yes` or `no`
 abbrev pub answer_word : Bool → List ℕ
 answer_word true = codes "yes"
 answer_word false = codes "no"
@@ -65,11 +66,11 @@ written_line manager written = head_text (codes "written") manager ++ end_word (
 abbrev pub state_line : Option (List ℕ) → SmState → List ℕ
 state_line manager state = head_text (codes "state") manager ++ end_word (state_word state)
 
--- the line of a manager that repressed a trap that a port with this LID issued
+-- the line of a manager that repressed a trap that a port with the LID `issuer` issued
 abbrev pub trap_line : Option (List ℕ) → ℕ → List ℕ
 trap_line manager issuer = head_text (codes "trap") manager ++ count_text (codes " ") issuer ++ codes "\n"
 
--- the line of the trap that was repressed; empty if none was
+-- the line of the trap that was repressed; empty for None
 abbrev pub trap_text : Option (List ℕ) → Option Trap → List ℕ
 trap_text manager None = []
 trap_text manager (Some trap) = trap_line manager trap.issuer

@@ -1,7 +1,7 @@
 -- What commands leave, and the lines that they print.
 use Rattle.std.specs.Prelude.{ℕ, List, [], ◌++◌}
 
--- the fabric or the world that is left, and the lines that were printed
+-- the fabric or the world after commands, and the lines that they printed
 pub record Outcome (S : Type 0) : Type 0 where
   pub now : S
   pub text : List ℕ
@@ -14,6 +14,6 @@ quiet s = record { now = s; text = [] }
 abbrev pub shows : {S : Type 0} → List ℕ → S → Outcome S
 shows text s = record { now = s; text = text }
 
--- the outcome, and then what `next` does and prints
+-- what `outcome` does and prints, and then what `next` does and prints
 abbrev pub and_then : {S : Type 0} → Outcome S → (S → Outcome S) → Outcome S
 and_then outcome next = record { now = (next outcome.now).now; text = outcome.text ++ (next outcome.now).text }

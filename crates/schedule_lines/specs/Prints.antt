@@ -18,8 +18,8 @@ pub record PrintsSome {W : Type 0} (written : W → Option (List ℕ)) (has_fail
   pub parts : front ++ rest ≡ text
   pub prints : Prints written has_failed old new front
 
--- a call prints the text; if it ends for lack of memory, it prints a beginning of the text; otherwise the output has
--- failed
+-- by its result, a call prints `text`; if it ended for lack of memory, it printed a beginning of `text`; if for a
+-- failed write, the output has failed
 abbrev pub PrintsUnless : {W T : Type 0} → (W → Option (List ℕ)) → (W → Bool) → Result T RunFault → W → W → List ℕ
     → Type 0
 PrintsUnless written has_failed (Ok value) old new text = Prints written has_failed old new text

@@ -1,4 +1,4 @@
--- The line of a refused call.
+-- The line that a refused call prints.
 use Rattle.std.specs.Prelude.{ℕ, List, ◌++◌, codes}
 
 -- the line of a refusal for the fault `name`

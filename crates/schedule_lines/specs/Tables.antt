@@ -9,12 +9,12 @@ use Rattle.fabric_sim.specs.Simulation.{Simulation}
 
 -- an order ---------------------------------------------------------------------------------------------
 
--- the list with `x` inserted before the first item that does not come before it
+-- the list with `x` inserted before the first item that `before` does not put before it
 abbrev pub put_in_order : {X : Type 0} → (X → X → Bool) → X → List X → List X
 put_in_order before x [] = x ∷ []
 put_in_order before x (y ∷ ys) = if before y x then y ∷ put_in_order before x ys else x ∷ y ∷ ys
 
--- the items sorted; items that tie keep their order
+-- the items of a list sorted by `before`; items that tie keep their order
 abbrev pub in_order : {X : Type 0} → (X → X → Bool) → List X → List X
 in_order before [] = []
 in_order before (x ∷ xs) = put_in_order before x (in_order before xs)
@@ -25,12 +25,12 @@ in_order before (x ∷ xs) = put_in_order before x (in_order before xs)
 abbrev pub Held : Type 0
 Held = ℕ × ℕ × ℕ × ℕ
 
--- the LIDs that a node's ports hold, from port 0 on
+-- the LIDs other than 0 that a node's ports hold, from port 0 on
 abbrev pub held_by : Agent → List Held
 held_by a = filter (λ x. not (x.0 == 0))
     (map (λ port. (base_lid_at a port, a.node.guid, port, lmc_at a port)) (range_with_len 0 (a.node.ports + 1)))
 
--- the order by LID, GUID and port
+-- the order of three numbers, LID, GUID and port, one after the other
 abbrev pub key_cmp : ℕ × ℕ × ℕ → ℕ × ℕ × ℕ → Ordering
 key_cmp x y = ordering_then (ordering_then (nat_cmp x.0 y.0) (nat_cmp x.1 y.1)) (nat_cmp x.2 y.2)
 
@@ -42,17 +42,17 @@ held_cmp x y = key_cmp (x.0, x.1, x.2) (y.0, y.1, y.2)
 abbrev pub all_held : List Agent → List Held
 all_held agents = in_order (λ x y. is_lt (held_cmp x y)) (flat_map held_by agents)
 
--- the line of a LID
+-- the line of a LID, its LMC and the port that holds it
 abbrev pub held_line : Held → List ℕ
 held_line x = lid_line (x.0, x.3, record { node = x.1; port = x.2 })
 
 -- tables -----------------------------------------------------------------------------------------------
 
--- a block of a switch
+-- the 64 entries of the block `b` of a switch
 abbrev pub block_at : Agent → ℕ → List ℕ
 block_at a b = map (λ i. entry_at a (64 * b + i)) (range_with_len 0 64)
 
--- the line of a block
+-- the line of the block `b` of a switch
 abbrev pub block_shown : Agent → ℕ → List ℕ
 block_shown a b = block_line (b, block_at a b)
 
@@ -68,10 +68,10 @@ blocks_text a = flat_map (block_shown a) (blocks_to a.top)
 unfoldable pub table_text : Agent → List ℕ
 table_text a = switch_line a.top a.node.guid ++ blocks_text a
 
--- the switches by GUID, and for equal GUIDs by node number
+-- the agents of switches by GUID, and for equal GUIDs by node number
 abbrev pub switches : List Agent → List Agent
 switches agents = in_order (λ a b. is_lt (nat_cmp a.node.guid b.node.guid)) (filter is_switch agents)
 
--- the lines of the LIDs, and then the tables of the switches
+-- the lines of the LIDs that ports hold, and then those of the tables of the switches
 unfoldable pub tables_text : Simulation → List ℕ
 tables_text fabric = flat_map held_line (all_held fabric.agents) ++ flat_map table_text (switches fabric.agents)

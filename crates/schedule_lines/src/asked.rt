@@ -9,7 +9,8 @@ use schedule_file::Ask;
 use sm_manager::{Manager, ManagerFault};
 use std::alloc::{AllocError, Global};
 
-/// Makes the request `what` to `manager`. A refusal leaves the manager unchanged.
+/// Makes the request `what` to `manager`, or returns why the manager refuses it. A refusal leaves the manager
+/// unchanged.
 pub fn ask_manager(manager: &mut Manager, what: Ask) -> Result<(), ManagerFault>
     ensures judged { JudgesButFor is_memory result (asked_fault what manager.old) }
     ensures ok { OnOk result (manager.new ≡ after_asked what manager.old) }
@@ -23,7 +24,7 @@ pub fn ask_manager(manager: &mut Manager, what: Ask) -> Result<(), ManagerFault>
     }
 }
 
-/// Returns the TransactionIDs of the requests whose answers a manager waits for, in rising order.
+/// Returns the TransactionIDs of the requests whose answers `manager` waits for, in rising order.
 pub fn waiting(alloc: Global, manager: &Manager) -> Result<Vec<u64>, AllocError>
     ensures { IfOk result (λ waiting. waiting.items ≡ outstanding manager.now) }
 {

@@ -57,7 +57,8 @@ fn write_stage<W: Sink>(sink: &mut W, progress: Progress) -> Result<(), WriteFau
     }
 }
 
-/// Prints how many managers did not answer a manager's last sweep, with the manager's name if there is one.
+/// Prints how many managers did not answer a manager's last sweep, or that there was no sweep if `silent` is `None`.
+/// The line has the manager's name if there is one.
 pub fn write_silent<W: Sink>(
     sink: &mut W,
     manager: Option<&str>,
@@ -119,8 +120,8 @@ pub fn write_state<W: Sink>(
     write_end_word(sink, state.word())
 }
 
-/// Prints that a manager repressed a trap, with the manager's name if there is one. A port with the LID `issuer` issued
-/// the trap.
+/// Prints that a manager repressed a trap that a port with the LID `issuer` issued, with the manager's name if there is
+/// one.
 pub(crate) fn write_trap<W: Sink>(
     sink: &mut W,
     manager: Option<&str>,
@@ -134,7 +135,8 @@ pub(crate) fn write_trap<W: Sink>(
     sink.write(b"\n")
 }
 
-/// Prints how many requests were not answered, and how many ports lead to a node that is too far away.
+/// Prints ` unanswered `, the number of requests that were not answered, ` toofar `, and the number of ports by which
+/// the sweep did not go on.
 #[tactic(auto, unfolding(crate::specs::Lines::counts_text))]
 fn write_counts<W: Sink>(sink: &mut W, unanswered: u64, too_far: u64) -> Result<(), WriteFault>
     ensures writes { Writes W.written W.has_failed result sink.old sink.new

@@ -22,7 +22,8 @@ fn name_at(topology: &Topology, node: NodeId) -> &str
     }
 }
 
-/// Prints the line of a packet from the port `from` to `lid`, with the port or node where it ends.
+/// Prints the line of a packet from the port `from` to `lid`: where it is sent from, its LID, and the port where it
+/// ends or the node where it is lost.
 pub fn write_ping<W: Sink>(
     sink: &mut W,
     topology: &Topology,
@@ -38,7 +39,7 @@ pub fn write_ping<W: Sink>(
     sink.write(b"\n")
 }
 
-/// Prints `from`, the port that the packet is sent from, and its LID.
+/// Prints `ping`, the port `from` that a packet is sent from, and the LID `lid` that it is for.
 fn write_start<W: Sink>(
     sink: &mut W,
     topology: &Topology,
@@ -53,7 +54,7 @@ fn write_start<W: Sink>(
     write_count(sink, b" ", u64::from(lid.number()))
 }
 
-/// Prints the port where a packet ends, or the node where it is lost.
+/// Prints the port where a packet ends, and over how many wires, or the node where it is lost.
 fn write_end<W: Sink>(sink: &mut W, topology: &Topology, ping: &Ping) -> Result<(), WriteFault>
     ensures writes { Writes W.written W.has_failed result sink.old sink.new
         (end_text topology.now.nodes ping.now) }
@@ -71,7 +72,7 @@ fn write_end<W: Sink>(sink: &mut W, topology: &Topology, ping: &Ping) -> Result<
     }
 }
 
-/// Prints a port: its node's name in quotes, and its number in brackets.
+/// Prints `port`: its node's name in quotes, and its number in brackets.
 fn write_port<W: Sink>(sink: &mut W, topology: &Topology, port: &NodePort) -> Result<(), WriteFault>
     ensures writes { Writes W.written W.has_failed result sink.old sink.new
         (port_text topology.now.nodes port.now) }
@@ -81,7 +82,7 @@ fn write_port<W: Sink>(sink: &mut W, topology: &Topology, port: &NodePort) -> Re
     sink.write(b"]")
 }
 
-/// Prints a name in quotes.
+/// Prints `name` in quotes.
 fn write_name<W: Sink>(sink: &mut W, name: &str) -> Result<(), WriteFault>
     ensures writes { Writes W.written W.has_failed result sink.old sink.new (quoted_text name.now) }
 {

@@ -12,7 +12,8 @@ use byte_io::{Sink, WriteFault};
 use fabric_sim::FabricFault;
 use sm_manager::ManagerFault;
 
-/// Prints that the fabric refused a call. Lack of memory is not printed but returned as an error, which ends the run.
+/// Prints that the fabric refused a call with `fault`. If `fault` is `Memory`, prints nothing and returns `Memory`,
+/// which ends the run.
 pub fn refuse_fabric<W: Sink>(sink: &mut W, fault: FabricFault) -> Result<(), RunFault>
     ensures prints { PrintsUnless W.written W.has_failed result sink.old sink.new
         (refusal_line (fabric_fault_name fault)) }
@@ -26,7 +27,8 @@ pub fn refuse_fabric<W: Sink>(sink: &mut W, fault: FabricFault) -> Result<(), Ru
     Ok(())
 }
 
-/// Prints that a manager refused a call. Lack of memory is not printed but returned as an error, which ends the run.
+/// Prints that a manager refused a call with `fault`. If `fault` is `Memory`, prints nothing and returns `Memory`,
+/// which ends the run.
 pub fn refuse_manager<W: Sink>(sink: &mut W, fault: ManagerFault) -> Result<(), RunFault>
     ensures prints { PrintsUnless W.written W.has_failed result sink.old sink.new
         (refusal_line (manager_fault_name fault)) }

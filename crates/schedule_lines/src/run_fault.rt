@@ -1,7 +1,7 @@
 use byte_io::WriteFault;
 use std::alloc::{AllocError, AllocFailed};
 
-/// Why a run ends before its schedule.
+/// Why a run ends before its schedule does.
 #[derive(Clone, Copy, Debug, PartialEq, Eq)]
 pub enum RunFault {
     /// A write to the output failed.

@@ -30,7 +30,7 @@ pub fn show_tables<W: Sink>(alloc: Global, fabric: &Fabric, sink: &mut W) -> Res
 /// A LID, with the GUID of the node and the number of the port that hold it, and its LMC.
 type AgentLid = (Lid, Guid, PortNum, Lmc);
 
-/// Prints the lines of LIDs, with the node and port that hold each.
+/// Prints a line for each of `lids`, with the node and port that hold it.
 fn write_held<W: Sink>(sink: &mut W, lids: &[AgentLid]) -> Result<(), RunFault>
     ensures prints { PrintsUnless W.written W.has_failed result sink.old sink.new
         (flat_map held_line lids.now) }
@@ -57,7 +57,7 @@ fn held_lids(alloc: Global, fabric: &Fabric) -> Result<Vec<AgentLid>, AllocError
     Ok(held)
 }
 
-/// Appends the LIDs that the ports of a node hold.
+/// Appends the LIDs that the ports of `agent` hold, from port 0 on. LID 0 is none.
 fn hold_lids(held: &mut Vec<AgentLid>, agent: &Agent) -> Result<(), AllocError>
     ensures { OnOk result (held.new.items ≡ held.old.items ++ held_by agent.now) }
 {
@@ -98,7 +98,7 @@ fn write_tables<W: Sink>(sink: &mut W, switches: &[&Agent]) -> Result<(), RunFau
     Ok(())
 }
 
-/// Prints a switch's GUID, the top of its table, and its blocks up to the block of the top.
+/// Prints the lines of a switch: its GUID with the top of its table, and its blocks up to the block of the top.
 fn write_table<W: Sink>(sink: &mut W, agent: &Agent) -> Result<(), RunFault>
     ensures prints { PrintsUnless W.written W.has_failed result sink.old sink.new
         (table_text agent.now) }
@@ -118,7 +118,7 @@ fn write_blocks<W: Sink>(sink: &mut W, agent: &Agent) -> Result<(), RunFault>
     Ok(())
 }
 
-/// Returns block `b` of the table of a switch.
+/// Returns block `b` of the table of `agent`. `b` must be below 1024.
 fn block(agent: &Agent, b: usize) -> [u8; 64]
     requires { b < 1024 }
     ensures { result ≡ block_at agent.now b }

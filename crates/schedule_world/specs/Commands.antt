@@ -62,13 +62,13 @@ after_merge_line w seat other =
 unfoldable pub after_floor_line : WorldValue → ℕ → ℕ → Outcome WorldValue
 after_floor_line w seat floor = at_seat w seat (λ s. quiet (with_manager w seat s (after_raise_floor s.manager floor)))
 
--- the manager of a seat gives up the request with this TransactionID
+-- the manager of a seat gives up the request with the TransactionID `transaction`, or refuses to
 unfoldable pub after_give_up : WorldValue → ℕ → ℕ → Outcome WorldValue
 after_give_up w seat transaction =
     after_ask quiet w seat (λ m. (manager.after_timeout m transaction).fault)
     (λ m. (manager.after_timeout m transaction).manager)
 
--- the manager of a seat gives up requests, one after the other
+-- the manager of a seat gives up the requests of a list of TransactionIDs, one after the other
 abbrev pub after_giving_up : WorldValue → ℕ → List ℕ → Outcome WorldValue
 after_giving_up w seat [] = quiet w
 after_giving_up w seat (transaction ∷ later) =
@@ -93,7 +93,7 @@ after_take w seat packet =
     after_ask (shows (heard_text w seat packet)) w seat (λ m. (manager.after_packet m packet.bytes (Some packet.slid)).fault)
     (λ m. (manager.after_packet m packet.bytes (Some packet.slid)).manager)
 
--- the manager of a seat takes in a packet, or refuses it, and then sends the packets that it has queued
+-- the manager of a seat takes in a packet, or refuses it, and then the packets that it has queued are sent
 unfoldable pub after_take_and_send : WorldValue → ℕ → Packet → Outcome WorldValue
 after_take_and_send w seat packet = and_then (after_take w seat packet) (λ now. after_send now seat)
 
@@ -105,7 +105,8 @@ seat_at w p = if is_seat_at w.fabric p then position (λ s. is_same_port s.at p)
 unfoldable pub after_hand_up : WorldValue → NodePort → Packet → Outcome WorldValue
 after_hand_up w p packet = option_map_or (λ seat. after_take_and_send w seat packet) (seat_at w p) (quiet w)
 
--- the outcome of a delivery: a packet that is handed up goes to the manager at the port
+-- the outcome of a delivery: a packet that is handed up goes to the manager at the port; any other delivery leaves the
+-- world as it is
 abbrev pub after_arrival : WorldValue → Result Delivered FabricFault → Outcome WorldValue
 after_arrival w (Ok (delivered_is.ToManager p packet)) = after_hand_up w p packet
 after_arrival w (Ok (delivered_is.Moved serial)) = quiet w
@@ -113,12 +114,13 @@ after_arrival w (Ok (delivered_is.Answered serial)) = quiet w
 after_arrival w (Ok (delivered_is.Discarded reason)) = quiet w
 after_arrival w (Err fault) = quiet w
 
--- the packet with this serial number takes one step
+-- the packet with the number `serial` takes one step, and if it is handed up, the manager there takes it in; or the
+-- fabric refuses
 unfoldable pub after_step : WorldValue → ℕ → Outcome WorldValue
 after_step w serial = let called =
     after_deliver w.fabric serial in and_then (after_fabric_call w called) (λ now. after_arrival now called.result)
 
--- the packet with this serial number takes one step, is lost or is repeated, by `deliver`, `lose` or `repeat`
+-- the packet with the number `serial` takes one step, is lost or is repeated, by `deliver`, `lose` or `repeat`
 abbrev pub after_fate : WorldValue → Fate → ℕ → Outcome WorldValue
 after_fate w Deliver serial = after_step w serial
 after_fate w Lose serial = after_fabric_call w (after_lose w.fabric serial)
@@ -148,7 +150,7 @@ flights_text nodes flights = flat_map (flight_shown nodes) flights
 
 -- cables and ports -----------------------------------------------------------------------------------
 
--- the state of a port of a node has changed, and the node's agent is informed
+-- the state of a port of the node `id` has changed, and its agent is informed
 abbrev pub after_tell : WorldValue → ℕ → Outcome WorldValue
 after_tell w id = after_fabric_call w (after_port_change w.fabric id)
 
@@ -157,7 +159,7 @@ unfoldable pub after_tell_ends : WorldValue → NodePort → NodePort → Outcom
 after_tell_ends w p q =
     and_then (after_tell w p.node) (λ now. if q.node == p.node then quiet now else after_tell now q.node)
 
--- if the cable was plugged in, the agents at both ends are informed
+-- if a cable was plugged in between `p` and `q`, the agents at both ends are informed
 abbrev pub after_change : WorldValue → NodePort → NodePort → Result (Unit {0}) FabricFault → Outcome WorldValue
 after_change w p q (Ok done) = after_tell_ends w p q
 after_change w p q (Err fault) = quiet w
@@ -183,11 +185,11 @@ after_plug_line w p q = let called =
 unfoldable pub after_traps_line : WorldValue → Outcome WorldValue
 after_traps_line w = after_fabric_call w (after_begin_traps w.fabric)
 
--- the trap that waits at a node is sent again
+-- the trap that waits at the node `id`, if one does, is sent again
 abbrev pub after_resend : WorldValue → ℕ → Outcome WorldValue
 after_resend w id = after_fabric_call w (after_send_trap w.fabric id)
 
--- the traps that wait at `left` nodes are sent again, from the node `id` on
+-- the traps that wait at `left` nodes, from the node `id` on, are sent again
 abbrev pub after_resends : WorldValue → ℕ → ℕ → Outcome WorldValue
 after_resends w id zero = quiet w
 after_resends w id (suc left) = and_then (after_resend w id) (λ now. after_resends now (id + 1) left)
@@ -201,7 +203,7 @@ abbrev pub ping_text : List Node → Simulation → NodePort → ℕ → Option 
 ping_text nodes fabric source lid None = ping_line nodes source lid (ping (fabric_of fabric) lid source)
 ping_text nodes fabric source lid (Some fault) = refusal_line (fabric_fault_name fault)
 
--- what `ping "n"[p] L` prints
+-- what `ping "n"[p] L` prints in the world `w`: where the packet ends, or why it cannot be sent
 unfoldable pub ping_shown : List Node → WorldValue → NodePort → ℕ → List ℕ
 ping_shown nodes w source lid = ping_text nodes w.fabric source lid (ping_fault w.fabric source)
 
@@ -211,13 +213,13 @@ ping_shown nodes w source lid = ping_text nodes w.fabric source lid (ping_fault 
 abbrev pub shown_at : Shown → SeatedValue → List ℕ
 shown_at what s = text_of what (Some s.name) s.manager
 
--- what is shown about the manager of a seat; empty if there is none
+-- what is shown about the manager of a seat; empty if there is no such manager
 unfoldable pub shown_of : WorldValue → ℕ → Shown → List ℕ
 shown_of w seat what = option_map_or (shown_at what) (slice_get w.managers seat) []
 
 -- all commands -----------------------------------------------------------------------------------------
 
--- what a line does and prints, in a fabric with `nodes`
+-- what a line of a schedule does and prints, in a fabric with `nodes`
 abbrev pub after_command : List Node → WorldValue → SeatCommand → Outcome WorldValue
 after_command nodes w (command.Manager seat) = after_manager_line w seat
 after_command nodes w (command.Ask seat what) = after_ask_line w seat what
@@ -235,14 +237,14 @@ after_command nodes w command.Resend = after_resend_line w
 after_command nodes w command.Tables = shows (tables_text w.fabric) w
 after_command nodes w command.Flight = shows (flights_text nodes w.fabric.flights) w
 
--- what the lines do and print, one after the other
+-- what lines of a schedule do and print, one after the other
 abbrev pub after_commands : List Node → WorldValue → List SeatCommand → Outcome WorldValue
 after_commands nodes w [] = quiet w
 after_commands nodes w (command ∷ later) =
     and_then (after_command nodes w command) (λ now. after_commands nodes now later)
 
 -- The manager of a seat, which plans by `planning`. It is live if the seat has an SM_Key. The GUID of an adapter's port
--- is its node's GUID plus the port's number
+-- is its node's GUID plus the port's number.
 abbrev pub new_seated : Planning → List Node → Seat → SeatedValue
 new_seated planning nodes seat =
     let guid = option_map_or (λ node. node.guid + seat.at.port) (slice_get nodes seat.at.node) 0 in
@@ -263,12 +265,12 @@ unfoldable pub script_text : Planning → Layout → Script → List ℕ
 script_text planning topology script =
     (after_commands topology.nodes (world_of planning topology script.seats) script.commands).text
 
--- what the run of a schedule prints; nothing if the schedule is refused
+-- what the run of a schedule prints in the fabric of `topology`; nothing if the schedule is refused
 abbrev pub schedule_text : Planning → Layout → Result Script ScheduleFault → List ℕ
 schedule_text planning topology (Ok script) = script_text planning topology script
 schedule_text planning topology (Err fault) = []
 
--- what the run of a schedule prints in the fabric of a topology; nothing if one of them is refused
+-- what the run of a schedule's text prints in the fabric of a topology; nothing if one of them is refused
 abbrev pub topology_text : Planning → Result Layout TopoFault → List ℕ → List ℕ
 topology_text planning (Ok topology) schedule = schedule_text planning topology (schedule_of topology.nodes schedule)
 topology_text planning (Err fault) schedule = []

@@ -9,17 +9,18 @@ use Rattle.fabric_sim.specs.declared.flight.Flight.{Flight}
 use Rattle.schedule_file.specs.declared.command.Which.{Which}
 use Rattle.schedule_file.specs.declared.command.Which.TheVariants.{Last, Serial}
 
--- the serial number of the packet that is named; None if the last packet is named and none is in flight
+-- the serial number of the packet that is named, whether or not it is in flight; None if the last packet is named and
+-- none is in flight
 abbrev pub serial_of : List Flight → Which → Option ℕ
 serial_of flights Last = option_map (λ flight. flight.serial) (slice_get flights (length flights - 1))
 serial_of flights (Serial serial) = Some serial
 
--- the packet that is sent: to a LID, or on a directed route with the permissive LID at both ends
+-- the packet in flight that a manager sends: to a LID, or on a directed route with the permissive LID at both ends
 abbrev pub packet_out : Outgoing → Packet
 packet_out outgoing =
     record { bytes = outgoing.packet; slid = 0xFFFF; dlid = option_map_or (λ lid. lid) outgoing.to 0xFFFF }
 
--- the fabric without the packet with this serial number, if one is given
+-- the fabric without the packet with the serial number that is given, if there is such a packet
 abbrev pub without : Simulation → Option ℕ → Simulation
 without fabric None = fabric
 without fabric (Some serial) = (after_lose fabric serial).fabric

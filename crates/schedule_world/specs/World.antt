@@ -32,11 +32,11 @@ pub record WorldValue : Type 0 where
   pub fabric : Simulation
   pub managers : List SeatedValue
 
--- the value of a manager with its seat
+-- the manager of the code's world with its seat, as a value
 abbrev pub seated_value : Seated → SeatedValue
 seated_value s = record { name = s.seat.now.name; at = s.seat.now.at; manager = s.manager }
 
--- the value of a world of the code
+-- the code's world as a value
 abbrev pub value_of : World → WorldValue
 value_of w = record { fabric = w.fabric; managers = map seated_value w.managers.items }
 
@@ -47,19 +47,19 @@ abbrev pub fabric_line : {R : Type 0} → Result R FabricFault → List ℕ
 fabric_line (Ok value) = []
 fabric_line (Err fault) = refusal_line (fabric_fault_name fault)
 
--- what a call of the fabric leaves and prints
+-- the fabric that a call on it leaves, and the line of a refusal, if it is refused
 abbrev pub after_fabric : {R : Type 0} → Called R → Outcome Simulation
 after_fabric called = record { now = called.fabric; text = fabric_line called.result }
 
--- what an outcome of the fabric leaves and prints in a world
+-- the world `w` with the fabric that `outcome` leaves, and the text of `outcome`
 abbrev pub in_fabric : WorldValue → Outcome Simulation → Outcome WorldValue
 in_fabric w outcome = record { now = record w { fabric = outcome.now }; text = outcome.text }
 
--- what a call of the fabric leaves and prints in a world
+-- the world `w` with the fabric that a call on it leaves, and the line of a refusal, if it is refused
 abbrev pub after_fabric_call : {R : Type 0} → WorldValue → Called R → Outcome WorldValue
 after_fabric_call w called = in_fabric w (after_fabric called)
 
--- the packets are sent from a port, in their order
+-- the packets are sent from the port `at`, in their order; the line of each that the fabric refuses is printed
 abbrev pub after_inject_all : Simulation → NodePort → List Outgoing → Outcome Simulation
 after_inject_all fabric at [] = quiet fabric
 after_inject_all fabric at (out ∷ later) =
@@ -71,12 +71,12 @@ after_inject_all fabric at (out ∷ later) =
 abbrev pub at_seat : WorldValue → ℕ → (SeatedValue → Outcome WorldValue) → Outcome WorldValue
 at_seat w seat run = option_map_or run (slice_get w.managers seat) (quiet w)
 
--- the world with `manager` at a seat
+-- the world with `manager` in place of that of `s`, at a seat
 abbrev pub with_manager : WorldValue → ℕ → SeatedValue → Manager → WorldValue
 with_manager w seat s manager = record w { managers = slice_set w.managers seat (record s { manager = manager }) }
 
--- what a call of a manager leaves and prints: if it is refused, a line; otherwise it leaves `manager`, and `next`
--- follows
+-- what a call on the manager of a seat leaves and prints: if it is refused, the world `w` and a line that says why;
+-- otherwise what `next` leaves and prints, from the world with `manager` at the seat
 abbrev pub after_manager_call : (WorldValue → Outcome WorldValue) → WorldValue → ℕ → SeatedValue → Option ManagerFault
     → Manager → Outcome WorldValue
 after_manager_call next w seat s None manager = next (with_manager w seat s manager)
@@ -89,7 +89,7 @@ abbrev pub after_ask : (WorldValue → Outcome WorldValue) → WorldValue → �
 after_ask next w seat fault after =
     at_seat w seat (λ s. after_manager_call next w seat s (fault s.manager) (after s.manager))
 
--- the world once all packets that the manager of a seat has queued are sent
+-- the world once all packets that the manager `s` of a seat has queued are sent
 abbrev pub after_send_by : WorldValue → ℕ → SeatedValue → Outcome WorldValue
 after_send_by w seat s =
     in_fabric (with_manager w seat s (emptied s.manager)) (after_inject_all w.fabric s.at s.manager.outgoing)
@@ -100,9 +100,9 @@ after_send w seat = at_seat w seat (after_send_by w seat)
 
 -- calls --------------------------------------------------------------------------------------------
 
--- A call on a world does what `outcome` says: it leaves the outcome's world with as many managers as before, and prints
--- the outcome's text. If it fails, the world may be any world with as many managers, and either a beginning of the text
--- was printed or the output has failed
+-- A call on a world does what `outcome` says: it leaves the world of `outcome`, with as many managers as before, and
+-- prints its text. If it fails, the world may be any with as many managers, and either a beginning of the text was
+-- printed or the output has failed.
 pub record Does {W : Type 0} (written : W → Option (List ℕ)) (has_failed : W → Bool) (old new : World)
     (result : Result (Unit {0}) RunFault) (sink sink' : W) (outcome : Outcome WorldValue) : Type 0 where
   pub managers : length new.managers.items ≡ length old.managers.items

@@ -12,7 +12,7 @@ use smp_bytes::Generation;
 use std::alloc::Global;
 
 impl World<'_> {
-    /// Seats the manager at index `seat` at its port. If the fabric refuses it, prints the refusal.
+    /// Seats the manager at index `seat`, which must exist, at its port. If the fabric refuses it, prints the refusal.
     pub(crate) fn seat<W: Sink>(&mut self, seat: usize, sink: &mut W) -> Result<(), RunFault>
         requires { seat < length self.old.managers.items }
         ensures does { Does W.written W.has_failed self.old self.new result sink.old sink.new
@@ -24,8 +24,8 @@ impl World<'_> {
         }
     }
 
-    /// Makes the request `what` to the manager at index `seat`, and sends the packets that it then has queued. If the
-    /// manager refuses it, prints the refusal.
+    /// Makes the request `what` to the manager at index `seat`, which must exist. Sends the packets that the manager
+    /// then has queued or, if it refuses the request, prints the refusal.
     pub(crate) fn ask<W: Sink>(
         &mut self,
         seat: usize,
@@ -42,7 +42,7 @@ impl World<'_> {
         self.send(seat, sink)
     }
 
-    /// Makes the manager at index `seat` forget facts that are older than `floor`.
+    /// Makes the manager at index `seat`, which must exist, forget facts that are older than `floor`.
     pub(crate) fn raise_floor(&mut self, seat: usize, floor: Generation)
         requires { seat < length self.old.managers.items }
         ensures managers { length self.new.managers.items ≡ length self.old.managers.items }
@@ -51,8 +51,8 @@ impl World<'_> {
         self.managers[seat].manager.raise_floor(floor);
     }
 
-    /// Times out all requests that the manager at index `seat` waits for when the call begins, and then sends the
-    /// packets that it has queued. Prints what the manager refuses.
+    /// Times out all requests that the manager at index `seat`, which must exist, waits for when the call begins, and
+    /// then sends the packets that it has queued. Prints a line for each timeout that the manager refuses.
     pub(crate) fn time_out<W: Sink>(
         &mut self,
         alloc: Global,
@@ -70,7 +70,8 @@ impl World<'_> {
         self.send(seat, sink)
     }
 
-    /// Times out one request of the manager at index `seat`. If the manager refuses it, prints the refusal.
+    /// Times out the request of the manager at index `seat`, which must exist, with the TransactionID `transaction`. If
+    /// the manager refuses it, prints the refusal.
     fn give_up<W: Sink>(
         &mut self,
         seat: usize,

@@ -91,7 +91,7 @@ impl World<'_> {
         }
     }
 
-    /// Resends each waiting trap, in the order of the nodes.
+    /// Resends each waiting trap, in the order of the nodes. A trap that cannot leave is not sent.
     pub(crate) fn resend<W: Sink>(&mut self, sink: &mut W) -> Result<(), RunFault>
         ensures does { Does W.written W.has_failed self.old self.new result sink.old sink.new
             (after_resend_line (value_of self.old)) }
@@ -103,7 +103,7 @@ impl World<'_> {
         Ok(())
     }
 
-    /// Resends the trap that waits at `node`, if there is one.
+    /// Resends the trap that waits at `node`, if there is one and it can leave.
     fn resend_one<W: Sink>(&mut self, node: NodeId, sink: &mut W) -> Result<(), RunFault>
         ensures does { Does W.written W.has_failed self.old self.new result sink.old sink.new
             (after_resend (value_of self.old) node) }

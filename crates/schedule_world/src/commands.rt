@@ -14,12 +14,14 @@ use std::alloc::Global;
 use topo_file::Topology;
 
 /// Runs the commands of a schedule in the fabric of its topology, with managers that plan by `planning`, and flushes.
+/// The managers of `schedule` must sit at ports of adapters of `topology`, and its commands name no others.
 ///
 /// If the fabric or a manager refuses a call, prints a line and goes on.
 ///
 /// # Errors
 ///
-/// Returns `Memory` if memory runs out after a beginning of the text was printed. Returns `Write` if the output failed.
+/// Returns `Memory` if memory runs out, after a beginning of the text was printed. Returns `Write` if the output
+/// failed.
 pub fn run_commands<W: Sink>(
     alloc: Global,
     topology: &Topology,
@@ -42,7 +44,7 @@ pub fn run_commands<W: Sink>(
 }
 
 impl World<'_> {
-    /// Runs one command.
+    /// Runs `command`, whose managers must exist.
     fn execute<W: Sink>(
         &mut self,
         alloc: Global,

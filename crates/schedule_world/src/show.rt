@@ -12,7 +12,7 @@ use smp_bytes::Lid;
 use topo_file::Topology;
 
 impl World<'_> {
-    /// Prints what `what` asks about the manager at index `seat`.
+    /// Prints what `what` asks about the manager at index `seat`, which must exist.
     pub(crate) fn show<W: Sink>(
         &self,
         seat: usize,

@@ -41,7 +41,8 @@ pub(crate) struct World<'s> {
 }
 
 impl<'s> World<'s> {
-    /// Builds the fabric of `topology`, and for each of `seats` a manager that plans by `planning`.
+    /// Builds the fabric of `topology`, and for each of `seats` a manager that plans by `planning`. Each seat must be
+    /// at a port of an adapter of `topology`.
     pub(crate) fn of(
         alloc: Global,
         topology: &Topology,
@@ -63,7 +64,8 @@ impl<'s> World<'s> {
         Ok(World { fabric, managers })
     }
 
-    /// Sends all packets that the manager at index `seat` has queued.
+    /// Sends all packets that the manager at index `seat`, which must exist, has queued. Prints a line for each one
+    /// that the fabric refuses.
     #[tactic(auto, using(crate::proofs::Seats::sits), unfolding(crate::specs::World::after_send))]
     pub(crate) fn send<W: Sink>(&mut self, seat: usize, sink: &mut W) -> Result<(), RunFault>
         requires { seat < length self.old.managers.items }
@@ -91,7 +93,8 @@ impl<'s> World<'s> {
     }
 }
 
-/// Sends all packets that `manager` has queued from the port `from`, in their order.
+/// Sends all packets that `manager` has queued from the port `from`, in their order. Prints a line for each one that
+/// the fabric refuses.
 fn send_outgoing<W: Sink>(
     fabric: &mut Fabric,
     from: &NodePort,
@@ -109,7 +112,7 @@ fn send_outgoing<W: Sink>(
     Ok(())
 }
 
-/// Sends a packet from the port `from`. If the fabric refuses it, prints the refusal.
+/// Sends `outgoing` from the port `from`. If the fabric refuses it, prints the refusal.
 fn send_one<W: Sink>(
     fabric: &mut Fabric,
     from: &NodePort,
@@ -127,7 +130,8 @@ fn send_one<W: Sink>(
     }
 }
 
-/// Returns the packet as a manager sends it: to its LID or, for a directed route, with the permissive LID.
+/// Returns `outgoing` as it is sent: to its LID or, for a directed route, to the permissive LID. Its SLID is the
+/// permissive LID, which the fabric replaces if switches forward the packet by LIDs.
 fn packet(outgoing: &Outgoing) -> Packet
     ensures { result ≡ packet_out outgoing.now }
 {
@@ -139,7 +143,7 @@ fn packet(outgoing: &Outgoing) -> Packet
     }
 }
 
-/// Returns the GUID of `port`, a port of an adapter.
+/// Returns the GUID of `port`, which must be a port of an adapter of `topology`.
 #[tactic(auto, using(crate::proofs::Ports::guid_fits))]
 fn port_guid(topology: &Topology, port: &NodePort) -> Guid
     requires { is_seat topology.now.nodes port.now ≡ true }

@@ -1,4 +1,4 @@
--- The meaning of a line to a manager.
+-- What a line says to a manager: words as a request, a packet, a timeout, or what to show.
 use Rattle.std.specs.Prelude.{ℕ, List, [], ◌∷◌, ◌++◌, length, Option, None, Some, codes, nat_lt, ◌==◌, ◌&&◌, map, if◌then◌else◌}
 use Rattle.std.specs.Prelude.{option_map, option_and_then}
 use Rattle.std.specs.Option.{option_map_or}
@@ -46,7 +46,7 @@ of_one word arg =
     else if bytes_eq word (codes "timeout") then option_map Timeout (transaction_of arg)
     else None
 
--- the meaning of a line of four words, a packet and the LID that it came from; None if the grammar has no such line
+-- the meaning of the four words `packet`, a packet, `from` and the LID that it came from; None if they are others
 abbrev pub packet_in : List ℕ → List ℕ → List ℕ → List ℕ → Option ServeLine
 packet_in word hex between lid =
     if bytes_eq word (codes "packet") && bytes_eq between (codes "from")
@@ -68,7 +68,7 @@ line_in (word ∷ hex ∷ between ∷ lid ∷ more ∷ rest) = None
 abbrev pub most_bytes : ℕ
 most_bytes = 600
 
--- the meaning of a line; a line of more than `most_bytes` is wrong
+-- the meaning of a line; wrong if it has more than `most_bytes` bytes, or the grammar has no such line
 unfoldable pub line_of : List ℕ → ServeLine
 line_of line =
     if nat_lt most_bytes (length line) then Wrong else option_map_or (λ said. said) (line_in (words line)) Wrong
@@ -86,6 +86,6 @@ abbrev pub begun_by : List ℕ → List ℕ → List ℕ
 begun_by begun [] = begun
 begun_by begun (b ∷ bytes) = if b == 10 then begun_by [] bytes else begun_by (begun ++ b ∷ []) bytes
 
--- the meanings of the lines that end in these bytes, of which the first begins with the bytes `begun`
+-- what the lines say that end in these bytes, of which the first begins with the bytes `begun`
 abbrev pub lines_told : List ℕ → List ℕ → List ServeLine
 lines_told begun bytes = map line_of (lines_ended begun bytes)

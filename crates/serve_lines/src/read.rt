@@ -11,8 +11,8 @@ use text_words::{is_word, number, split_word};
 /// The greatest number of bytes of a line, without its line feed.
 pub const MOST_BYTES: usize = 600;
 
-/// Parses `line`, which has no line feed. A line of more than `MOST_BYTES` bytes, or one that the grammar lacks, is
-/// `Wrong`.
+/// Parses `line`, a line without its line feed. A line of more than `MOST_BYTES` bytes, or one that the grammar lacks,
+/// is `Wrong`.
 #[tactic(auto, unfolding(crate::specs::ServeLine::line_of))]
 pub fn read_line(line: &[u8]) -> ServeLine
     ensures { result ≡ line_of line.now }
@@ -83,8 +83,8 @@ fn of_one(word: &[u8], arg: &[u8]) -> Option<ServeLine>
     }
 }
 
-/// Parses a line of four words: a packet, and the LID that it came from. Returns `None` if the grammar has no such
-/// line.
+/// Parses a line of four words: `packet`, the packet in hex digits, `from`, and the LID that it came from. Returns
+/// `None` if the grammar has no such line.
 fn packet_in(word: &[u8], hex: &[u8], between: &[u8], lid: &[u8]) -> Option<ServeLine>
     ensures { result ≡ packet_in word.now hex.now between.now lid.now }
 {

@@ -10,7 +10,7 @@ pub record ServerValue : Type 0 where
   pub manager : Manager
   pub begun : List ℕ
 
--- `begun` with the byte `b`, unless the line is already too long
+-- `begun` with the byte `b`; `begun` itself, if it is already longer than a line may be
 abbrev pub kept_with : List ℕ → ℕ → List ℕ
 kept_with begun b = if nat_le (length begun) most_bytes then begun ++ b ∷ [] else begun
 
@@ -18,7 +18,7 @@ kept_with begun b = if nat_le (length begun) most_bytes then begun ++ b ∷ [] e
 abbrev pub after_kept : Outcome Manager → Outcome ServerValue
 after_kept o = record { now = record { manager = o.now; begun = [] }; text = o.text }
 
--- the outcome of the byte `b`, which ends the line that has begun or continues it
+-- the outcome of the byte `b`: a line feed ends the line that has begun, which is handled; any other byte continues it
 abbrev pub after_byte : ServerValue → ℕ → Outcome ServerValue
 after_byte s b =
     if b == 10 then after_kept (served s.manager (line_of s.begun))

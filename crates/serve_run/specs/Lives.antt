@@ -1,4 +1,4 @@
--- The promise of a call of the server.
+-- What a call of the server does: it leaves and prints an outcome, or fails.
 use Rattle.std.specs.Prelude.{◌≡◌, ℕ, Bool, List, Option, Result, OnOk}
 use Rattle.schedule_lines.specs.Outcome.{Outcome}
 use Rattle.schedule_lines.specs.Prints.{PrintsUnless}

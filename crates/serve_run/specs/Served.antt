@@ -31,7 +31,7 @@ to_text (Some lid) = codes " to " ++ decimal lid
 unfoldable pub send_line : Outgoing → List ℕ
 send_line out = codes "send " ++ encode_lower out.packet ++ to_text out.to ++ codes "\n"
 
--- the line that ends an answer
+-- the line that ends an answer: a dot
 abbrev pub end_line : List ℕ
 end_line = codes ".\n"
 
@@ -64,30 +64,30 @@ fault_text fault = heard_text None fault
 
 -- lines ------------------------------------------------------------------------------------------
 
--- the manager that a call leaves, and the line of its refusal
+-- the manager that a call leaves, and the line of its refusal, if it is refused
 abbrev pub after_called : Called → Outcome Manager
 after_called c = record { now = c.manager; text = fault_text c.fault }
 
--- the manager that a packet leaves, and the line of its refusal or of the trap that was repressed
+-- the manager that a packet leaves, and the line of its refusal or of the trap that was repressed, if there is one
 abbrev pub after_heard : Called → Option Trap → Outcome Manager
 after_heard c trap = record { now = c.manager; text = heard_text trap c.fault }
 
--- the outcome of a request to a manager: a refusal if there is a fault, and otherwise the manager `after`
+-- what a request to the manager `m` comes to: if there is a fault, a refusal for it, and otherwise the manager `after`
 abbrev pub asked_with : Manager → Option ManagerFault → Manager → Called
 asked_with m None after = done after
 asked_with m (Some fault) after = refused m fault
 
--- the outcome of a request to a manager
+-- what the request `what` to the manager `m` comes to: the manager after it, or a refusal
 abbrev pub asked : Manager → Asking → Called
 asked m what = asked_with m (asked_fault what m) (after_asked what m)
 
--- the outcome of giving up each request of the list in turn
+-- the outcome of giving up the requests of a list of TransactionIDs, in turn
 abbrev pub after_giving_up : Manager → List ℕ → Outcome Manager
 after_giving_up m [] = quiet m
 after_giving_up m (transaction ∷ later) =
     and_then (after_called (after_timeout m transaction)) (λ now. after_giving_up now later)
 
--- the outcome of a line, before any packet is sent
+-- the outcome of a line for the manager `m`, before any packet is given out
 abbrev pub after_line : Manager → ServeLine → Outcome Manager
 after_line m (Ask what) = after_called (asked m what)
 after_line m (Floor floor) = quiet (after_raise_floor m floor)
@@ -99,7 +99,7 @@ after_line m Managers = shows (flat_map seen_line m.seen) m
 after_line m Empty = quiet m
 after_line m Wrong = shows (codes "syntax\n") m
 
--- the outcome once the lines of all queued packets are printed after it
+-- the outcome `o`, after which the lines of all queued packets are printed, and none is queued
 abbrev pub given_out : Outcome Manager → Outcome Manager
 given_out o = record { now = emptied o.now; text = o.text ++ flat_map send_line o.now.outgoing }
 
@@ -107,7 +107,7 @@ given_out o = record { now = emptied o.now; text = o.text ++ flat_map send_line 
 unfoldable pub served : Manager → ServeLine → Outcome Manager
 served m line = and_then (given_out (after_line m line)) (shows end_line)
 
--- the outcome of serving each line in turn
+-- the outcome of serving each of the lines in turn
 abbrev pub served_all : Manager → List ServeLine → Outcome Manager
 served_all m [] = quiet m
 served_all m (line ∷ later) = and_then (served m line) (λ now. served_all now later)

@@ -1,4 +1,4 @@
--- How serving a manager ends, depending on what is read.
+-- How serving a manager by lines ends: at the end of what is read, or with a fault.
 use Rattle.std.specs.Prelude.{◌≡◌, ◌⊎◌, ◌≤◌, ◌+◌, ◌^◌, ◌-◌, ℕ, Bool, true, false, List, [], length, Option, Result, Ok, Err, IsTrue}
 use Rattle.std.specs.Io.KnownBytes.{Consumes, IsAtEnd}
 use Rattle.byte_io.specs.Source.{SourceState}
@@ -12,7 +12,7 @@ use Rattle.serve_run.specs.declared.serve_fault.ServeFault.TheVariants.{Read, Wr
 use Rattle.serve_run.specs.Kept.{ServerValue, after_bytes}
 use Rattle.serve_run.specs.Served.{served_by}
 
--- the value of a server of the code
+-- the code's server as a value
 abbrev pub value_of : Server → ServerValue
 value_of s = record { manager = s.manager; begun = s.begun.items }
 
@@ -46,20 +46,21 @@ abbrev pub CannotBeRead : SourceState → SourceState → ℕ → Type 0
 CannotBeRead old new count =
     IsTrue new.has_failed ⊎ (2 ^ 64 - 1 + old.interruptions ≤ count + new.interruptions)
 
--- what was read was answered, and no more could be read
+-- what was read was answered, as `prints` says, and no more could be read
 pub record FailsToRead {S : Type 0} (state : S → SourceState) (old new : S) (m : Manager)
     (prints : List ℕ → Type 0) : Type 0 where
   pub served : HasServedSome state old new m prints
   pub why : CannotBeRead (state old) (state new) (length served.bytes)
 
--- why serving stops: if memory is refused, `some` holds of what is printed; if no more can be read, `whole` does
+-- serving stops for a fault: if memory is refused, `some` holds of what is printed; if no more can be read, `whole`
+-- does; or a write failed
 abbrev pub StopsServing : {S : Type 0} → (S → SourceState) → S → S → Manager → (List ℕ → Type 0) → (List ℕ → Type 0)
     → Bool → ServeFault → Type 0
 StopsServing state old new m some whole sink_failed Read = FailsToRead state old new m whole
 StopsServing state old new m some whole sink_failed Memory = HasServedSome state old new m some
 StopsServing state old new m some whole sink_failed Write = IsTrue sink_failed
 
--- the result of a run that stopped
+-- the result of a call that stopped for `fault`
 abbrev pub stopped : RunFault → Result (Unit {0}) RunFault
 stopped fault = Err fault
 
@@ -88,14 +89,15 @@ pub record Unread {S W : Type 0} (state : S → SourceState) (old new : S) (sink
   pub failed : IsTrue (state new).has_failed
   pub same_sink : sink' ≡ sink
 
--- one read gives bytes, and handling the lines that end in them stops with the fault
+-- one read gives bytes, and handling the lines that end in them stops for `fault`
 pub record StopsWithin {S W : Type 0} (state : S → SourceState) (written : W → Option (List ℕ)) (has_failed : W → Bool)
     (old new : S) (server : ServerValue) (sink sink' : W) (fault : RunFault) : Type 0 where
   pub bytes : List ℕ
   pub read : Consumes (state old).left (state new).left bytes
   pub prints : PrintsUnless written has_failed (stopped fault) sink sink' (after_bytes server bytes).text
 
--- what serving the next piece does, by its result
+-- what serving the next piece does, by its result: it goes on (true), is over (false), cannot read, or stops as it
+-- handles lines
 abbrev pub ServesPiece : {S W : Type 0} → (S → SourceState) → (W → Option (List ℕ)) → (W → Bool) → S → S → ServerValue
     → ServerValue → W → W → Result Bool ServeFault → Type 0
 ServesPiece state written has_failed old new server server' sink sink' (Ok true) =

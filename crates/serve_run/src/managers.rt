@@ -9,7 +9,7 @@ use byte_io::{Sink, WriteFault, write_guid, write_number, write_port};
 use schedule_lines::RunFault;
 use sm_state::{SeenManager, SmState};
 
-/// Prints a line for each of the managers that a sweep saw, in their order.
+/// Prints a line for each of `managers`, which a sweep saw, in their order.
 pub(crate) fn show_managers<W: Sink>(sink: &mut W, managers: &[SeenManager]) -> Result<(), RunFault>
     ensures prints { PrintsUnless W.written W.has_failed result sink.old sink.new
         (flat_map seen_line managers.now) }
@@ -20,7 +20,7 @@ pub(crate) fn show_managers<W: Sink>(sink: &mut W, managers: &[SeenManager]) -> 
     Ok(())
 }
 
-/// Writes the line of a manager that a sweep saw.
+/// Writes the line of `seen`, a manager that a sweep saw.
 #[tactic(auto, unfolding(crate::specs::Served::seen_line))]
 fn write_seen<W: Sink>(sink: &mut W, seen: &SeenManager) -> Result<(), WriteFault>
     ensures writes { Writes W.written W.has_failed result sink.old sink.new (seen_line seen.now) }
@@ -39,7 +39,7 @@ fn write_where<W: Sink>(sink: &mut W, seen: &SeenManager) -> Result<(), WriteFau
     write_guid(sink, seen.info.guid)
 }
 
-/// Writes the priority, the SM_Key and the state that a manager reported, and ends the line.
+/// Writes the priority, the SM_Key and the state in `info`, which a manager reported, and ends the line.
 fn write_told<W: Sink>(sink: &mut W, info: &SmInfo) -> Result<(), WriteFault>
     ensures writes { Writes W.written W.has_failed result sink.old sink.new (told_text info.now) }
 {
@@ -52,7 +52,7 @@ fn write_told<W: Sink>(sink: &mut W, info: &SmInfo) -> Result<(), WriteFault>
     sink.write(b"\n")
 }
 
-/// Writes the word of the state with this number, or `number` itself if no state has it.
+/// Writes the word of the state with the number `number`, or `number` itself if no state has it.
 fn write_told_state<W: Sink>(sink: &mut W, number: SmStateNumber) -> Result<(), WriteFault>
     ensures writes { Writes W.written W.has_failed result sink.old sink.new (told_state number) }
 {

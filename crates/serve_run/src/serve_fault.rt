@@ -4,7 +4,7 @@ use schedule_lines::RunFault;
 /// Why serving stopped before the lines ended.
 #[derive(Clone, Copy, Debug, PartialEq, Eq)]
 pub enum ServeFault {
-    /// The lines cannot be read.
+    /// No more lines can be read, though they have not ended.
     Read,
     /// A write to the output failed.
     Write,

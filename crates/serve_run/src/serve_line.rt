@@ -79,7 +79,7 @@ fn do_line<W: Sink>(
     }
 }
 
-/// Makes the request `what` to `manager`. If it refuses, prints the refusal.
+/// Makes the request `what` to `manager`. If the manager refuses it, prints the refusal.
 fn ask<W: Sink>(manager: &mut Manager, what: Ask, sink: &mut W) -> Result<(), RunFault>
     ensures does { Lives W.written W.has_failed manager.new result sink.old sink.new
         (after_called (asked manager.old what)) }
@@ -90,8 +90,8 @@ fn ask<W: Sink>(manager: &mut Manager, what: Ask, sink: &mut W) -> Result<(), Ru
     }
 }
 
-/// Hands `manager` a packet that came to its port from the LID `from`. Prints the refusal if it refuses the packet, or
-/// the trap that it repressed.
+/// Hands `manager` a packet that came to its port from the LID `from`. Prints the refusal if the manager refuses the
+/// packet, or the trap if it repressed one.
 fn take_in<W: Sink>(
     manager: &mut Manager,
     bytes: &[u8; 256],
@@ -107,8 +107,8 @@ fn take_in<W: Sink>(
     }
 }
 
-/// Informs `manager` that the request with the TransactionID `transaction` timed out. If it refuses, prints the
-/// refusal.
+/// Informs `manager` that the request with the TransactionID `transaction` timed out. If the manager refuses it, prints
+/// the refusal.
 fn time_out<W: Sink>(manager: &mut Manager, transaction: u64, sink: &mut W) -> Result<(), RunFault>
     ensures does { Lives W.written W.has_failed manager.new result sink.old sink.new
         (after_called (after_timeout manager.old transaction)) }
@@ -119,7 +119,8 @@ fn time_out<W: Sink>(manager: &mut Manager, transaction: u64, sink: &mut W) -> R
     }
 }
 
-/// Times out all requests that `manager` waits for when the call begins, by rising TransactionID.
+/// Times out all requests that `manager` waits for when the call begins, by rising TransactionID. Prints a line for
+/// each timeout that the manager refuses.
 fn give_up<W: Sink>(alloc: Global, manager: &mut Manager, sink: &mut W) -> Result<(), RunFault>
     ensures does { Lives W.written W.has_failed manager.new result sink.old sink.new
         (after_giving_up manager.old (outstanding manager.old)) }

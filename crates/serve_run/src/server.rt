@@ -26,8 +26,8 @@ pub(crate) struct Server {
 
 /// Serves a manager by lines until they end. Answers each line, and flushes the answer, before it reads more.
 ///
-/// Writes `served_by` of all bytes that were read. Bytes after the last line feed are not a line. Takes the memory of
-/// the manager, and 601 bytes for the line that has begun.
+/// Writes `served_by` of all bytes that were read. Bytes after the last line feed are not a line. At most 601 bytes are
+/// kept of the line that has begun.
 ///
 /// # Errors
 ///
@@ -62,8 +62,8 @@ pub fn serve<S: Source, W: Sink>(
 }
 
 impl Server {
-    /// Reads some bytes, and handles the lines that end in them. No output is held back while it reads. Returns whether
-    /// more bytes may come.
+    /// Reads some bytes, and handles the lines that end in them. `sink` must be flushed, so that no output is held back
+    /// while bytes are read. Returns whether more bytes may come.
     fn serve_piece<S: Source, W: Sink>(
         &mut self,
         alloc: Global,
@@ -87,7 +87,7 @@ impl Server {
         }
     }
 
-    /// Handles the lines that end in `bytes`.
+    /// Handles the lines that end in `bytes`. `sink` must be flushed.
     fn serve_bytes<W: Sink>(
         &mut self,
         alloc: Global,
@@ -105,7 +105,8 @@ impl Server {
         Ok(())
     }
 
-    /// Handles the line that has begun if `byte` ends it, and otherwise adds `byte` to the line.
+    /// Handles the line that has begun if `byte` ends it, and otherwise adds `byte` to the line. `sink` must be
+    /// flushed.
     fn serve_byte<W: Sink>(&mut self, alloc: Global, byte: u8, sink: &mut W) -> Result<(), RunFault>
         requires { IsTrue (W.is_flushed sink.old) }
         ensures serves { Lives W.written W.has_failed (value_of self.new) result sink.old sink.new

@@ -33,11 +33,12 @@ pub struct Serving {
     pub rule: RuleAsked,
 }
 
-/// Serves a manager by lines, as `serve` does. The manager begins without facts. The inputs are the text that its rule
-/// takes, if it takes one, and the lines. The text is read first.
+/// Serves a manager by lines, as `serve` does. The manager begins without facts. The inputs must be the text that its
+/// rule takes, if it takes one, and the lines. The text is read first.
 ///
-/// Writes `served_by` of that manager and the lines. Writes nothing if the text is refused. Roots may be any GUIDs,
-/// since no switch is known yet.
+/// Writes `served_by` of that manager and the lines. Writes nothing if the text is refused. If memory is refused or a
+/// write fails while it serves, how much was written is as `serve` says. Roots may be any GUIDs, since no switch is
+/// known yet.
 pub fn run_serve<S: Source, W: Sink>(
     alloc: Global,
     inputs: &mut [S],
@@ -77,7 +78,7 @@ pub fn run_serve<S: Source, W: Sink>(
     }
 }
 
-/// Returns the fault of serving as a fault of the program. `lines` is the input that the lines come from.
+/// Returns `fault`, that of serving, as a fault of the program. `lines` is the index of the input that has the lines.
 fn fault_of_serving(lines: usize, fault: ServeFault) -> Fault
     ensures { result ≡ fault_of_serving lines fault }
 {

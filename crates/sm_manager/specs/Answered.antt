@@ -1,4 +1,4 @@
--- The steps of a writing that were answered as done, call by call.
+-- Which steps of a writing were answered as done, call by call; a plan is written if all that count were.
 use Rattle.std.specs.Prelude.{◌≡◌, ◌≢◌, ◌↔◌, ℕ, ◌+◌, Bool, true, false, ◌&&◌, List, [], ◌∷◌, length, ◌==◌, if◌then◌else◌, Option, Some, None, is_none}
 use Rattle.smp_bytes.specs.Header.{done}
 use Rattle.smp_bytes.specs.Packet.{fault_of, status}
@@ -15,13 +15,15 @@ use Rattle.sm_manager.specs.ManagerRequests.{counts}
 use Rattle.sm_manager.specs.Traps.{represses}
 use Rattle.sm_manager.specs.Writing.{is_written, phases_by, after_write_steps}
 
--- the request that the packet answers is a step that counts, the status of the answer is 0, and the manager accepts it
+-- whether the packet, which answers the given request, does a step that counts: its status is 0, and the manager
+-- accepts it; false if there is no request
 abbrev pub does_request : Manager → List ℕ → Option Pending → Bool
 does_request m packet None = false
 does_request m packet (Some p) =
     counts p && (status packet == done && is_none (request_answered m packet (Some p)).fault)
 
--- whether a step that counts was answered as done by this packet; bytes that are not a packet answer none
+-- whether a step that counts was answered as done by these bytes, given the fault that they have as a packet; false if
+-- they have one
 abbrev pub does_by_packet : Manager → List ℕ → Option SmpFault → Bool
 does_by_packet m packet (Some why) = false
 does_by_packet m packet None =
@@ -42,32 +44,33 @@ does_step m (Merge floor sightings) = false
 does_step m (Poll lid) = false
 does_step m Handover = false
 
+-- 1 if the flag is set, else 0
 abbrev pub one_if : Bool → ℕ
 one_if true = 1
 one_if false = 0
 
--- the number of steps that were answered as done by these calls
+-- how many steps that count were answered as done by these calls, in turn
 abbrev pub steps_done : List Call → Manager → ℕ
 steps_done [] m = 0
 steps_done (call ∷ calls) m = one_if (does_step m call) + steps_done calls (after_call m call)
 
--- the call begins no writing
+-- the call begins no writing: it asks for none, or the manager refuses it
 abbrev pub BeginsNone : Manager → Call → Type 0
 BeginsNone m WriteSteps = writing_fault m ≢ None
 BeginsNone m call = Unit {0}
 
--- no call of the list begins a writing
+-- none of the calls, in turn, begins a writing
 abbrev pub BeginNone : List Call → Manager → Type 0
 BeginNone [] m = Unit {0}
 BeginNone (call ∷ calls) m = BeginsNone m call × BeginNone calls (after_call m call)
 
--- the number of steps in the phases that count: LIDs, blocks and tops
+-- the number of steps in those of the phases that count
 abbrev pub counting_in : List Phase → ℕ
 counting_in [] = 0
 counting_in (p ∷ phases) = (if p.counts then length p.steps else 0) + counting_in phases
 
--- if a writing begins after any calls and no other writing follows, the plan is written exactly if each of its steps
--- that count was answered as done
+-- if a writing begins after any calls on a new manager, and none begins after it, the plan is written exactly if as
+-- many steps that count were answered as done as the writing has
 abbrev pub WrittenIsEachStepDone : Type 0
 WrittenIsEachStepDone =
     (port_guid port priority : ℕ) (conduct : Conduct) (planning : Planning) (before after : List Call)

@@ -1,4 +1,4 @@
--- The life of a manager: a list of calls.
+-- The life of a manager: a list of calls, and what they take in.
 use Rattle.std.specs.Prelude.{◌≡◌, ℕ, List, [], ◌∷◌, ◌++◌, Option, Some, None, Result, Ok, Err, if◌then◌else◌, is_none, max}
 use Rattle.reply_facts.specs.Report.{Sightings}
 use Rattle.fact_store.specs.Seen.{HaveSameMembers}
@@ -34,8 +34,7 @@ pub data Call : Type 0 where
   Poll : (lid : Option ℕ) → Call
   Handover : Call
 
--- the manager after a call; a refused call leaves it as it is, and so does a call that is refused memory, which counts
--- as not made
+-- the manager after a call; one that is refused leaves it as it is; one that is refused memory counts as not made
 abbrev pub after_call : Manager → Call → Manager
 after_call m BeginSweep = if is_none (begin_fault m) then after_begin_sweep m else m
 after_call m WriteSteps = if is_none (writing_fault m) then after_write_steps m else m
@@ -47,24 +46,25 @@ after_call m (Merge floor sightings) = after_merge m (view_at floor sightings)
 after_call m (Poll lid) = if is_none (poll_fault m lid) then after_poll m lid else m
 after_call m Handover = if is_none (handover_fault m) then after_handover m else m
 
--- the manager after these calls, in turn
+-- the manager after these calls, one after the other
 abbrev pub after_calls : List Call → Manager → Manager
 after_calls [] m = m
 after_calls (call ∷ calls) m = after_calls calls (after_call m call)
 
 -- what a call takes in --------------------------------------------------------------------------
 
--- the sightings of the answer; none if there is none
+-- the sightings of an answer; none if the reply was refused
 abbrev pub sightings_if : Result Answer SweepFault → Sightings
 sightings_if (Ok answer) = sightings_by answer
 sightings_if (Err why) = []
 
--- the sightings of a reply to a sweep
+-- the sightings of a reply to a sweep; none if no sweep was begun
 abbrev pub sightings_of_reply : List ℕ → Option Sweep → Sightings
 sightings_of_reply bytes None = []
 sightings_of_reply bytes (Some s) = sightings_if (judged s bytes)
 
--- the sightings that a packet brings in: those of a reply to the sweep
+-- the sightings that bytes bring in, given the fault that they have as a packet: those of a reply to the sweep, else
+-- none
 abbrev pub sightings_of_packet : Manager → List ℕ → Option SmpFault → Sightings
 sightings_of_packet m bytes (Some why) = []
 sightings_of_packet m bytes None =
@@ -73,7 +73,7 @@ sightings_of_packet m bytes None =
     else if is_for_sweep bytes then sightings_of_reply bytes m.sweep
     else []
 
--- the sightings of the report that a call accepts, or of the store that it merges
+-- the sightings that a call brings in: those of a reply to the sweep that it accepts, or of the store that it merges
 abbrev pub sightings_of_call : Manager → Call → Sightings
 sightings_of_call m BeginSweep = []
 sightings_of_call m WriteSteps = []
@@ -85,7 +85,7 @@ sightings_of_call m (Merge floor sightings) = sightings
 sightings_of_call m (Poll lid) = []
 sightings_of_call m Handover = []
 
--- all sightings that a manager took in by these calls
+-- all sightings that a manager took in by these calls, in turn
 abbrev pub taken_in : List Call → Manager → Sightings
 taken_in [] m = []
 taken_in (call ∷ calls) m = sightings_of_call m call ++ taken_in calls (after_call m call)
@@ -102,21 +102,20 @@ floor_in (Merge floor sightings) = floor
 floor_in (Poll lid) = 1
 floor_in Handover = 1
 
--- the greatest floor of the calls; 1 if there is none
+-- the greatest floor that these calls raise or merge, at least 1
 abbrev pub greatest_floor : List Call → ℕ
 greatest_floor [] = 1
 greatest_floor (call ∷ calls) = max (floor_in call) (greatest_floor calls)
 
--- the facts of a manager are the view of all sightings that it took in, at the greatest floor, whatever else was asked
--- of it
+-- the facts of a new manager after any calls are the view of all sightings that it took in, at the greatest floor of
+-- these calls
 abbrev pub KnowsWhatItTookIn : Type 0
 KnowsWhatItTookIn = (port_guid port priority : ℕ) (conduct : Conduct) (planning : Planning) (calls : List Call) →
     (after_calls calls (new_manager port_guid port priority conduct planning)).store
     ≡ view_at (greatest_floor calls) (taken_in calls (new_manager port_guid port priority conduct planning))
 
--- Two managers have equal facts and equal plans if they took in the same sightings, in any order and each any number of
--- times, and have the same greatest floor, LMC and rule of routing. If the plan has room and is in force in the part
--- that an end port is joined to, each packet from an end port of the part for a LID of the plan arrives
+-- two managers have equal facts and equal plans; if the first one's plan has room and is in force in a part, every
+-- packet arrives there
 pub record KnowTheSame (one other : Manager) : Type 0 where
   pub facts : one.store ≡ other.store
   pub plan : plan_of one.planning.rule one.planning.lmc (cells_of one.store)
@@ -125,7 +124,8 @@ pub record KnowTheSame (one other : Manager) : Type 0 where
       → EveryPacketArrives one.planning.rule (cells_of one.store)
       (plan_of one.planning.rule one.planning.lmc (cells_of one.store))
 
--- managers that took in the same sightings, at the same greatest floor, and plan alike know the same
+-- managers that took in the same sightings, in any order and number, have the same greatest floor, and plan by the same
+-- LMC and rule, know the same (`KnowTheSame`)
 abbrev pub SameTakenInSamePlan : Type 0
 SameTakenInSamePlan =
     (guid port priority guid' port' priority' : ℕ) (conduct conduct' : Conduct) (planning : Planning)

@@ -1,4 +1,4 @@
--- The coding of a manager as numbers, which lets it be the value of a struct.
+-- The coding of managers as numbers, so that a manager can be the value of a struct.
 use Rattle.std.specs.Prelude.{ℕ, Bool, List, Option, refl}
 use Rattle.std.specs.Coded.{Coded, code_by, coded×, coded_ℕ, coded_bool, coded_list, coded_option}
 use Rattle.fact_store.specs.View.{Facts}
@@ -18,7 +18,7 @@ use Rattle.plan_steps.specs.contracts.phase.Phase as phase
 use Rattle.sm_manager.specs.Manager.{Manager, Writing}
 use Rattle.lft_blocks.specs.Planning.{Planning, planning_code}
 
--- the code of a writing, made of the codes of its parts
+-- a code of writings, made of the codes of their parts
 abbrev pub writing_code : Coded Writing
 writing_code =
     code_by (List Phase × Bool)
@@ -27,7 +27,7 @@ writing_code =
     (λ p. record { later = p.0; has_failed = p.1 })
     (λ _. refl)
 
--- the code of a manager, made of the codes of its parts
+-- a code of managers, made of the codes of their parts
 abbrev pub manager_code : Coded Manager
 manager_code =
     code_by ((Standing × ((ℕ × Planning) × Facts))

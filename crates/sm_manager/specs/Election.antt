@@ -1,5 +1,5 @@
--- What a manager sends to other managers: polls, and controls as it hands over or takes over.
--- InfiniBand Architecture Specification, Volume 1: subnet management, subnet manager (polling, handover); SMInfo.
+-- What a manager sends to other managers: polls, and controls when it hands over or takes over. InfiniBand Architecture
+-- Specification, Volume 1: subnet management, subnet manager (polling, handover); SMInfo.
 use Rattle.std.specs.Prelude.{ℕ, ◌+◌, Bool, false, ◌&&◌, List, [], ◌∷◌, ◌++◌, length, replicate, is_none, nat_lt, ◌==◌, if◌then◌else◌, Option, Some, None, option_and_then}
 use Rattle.smp_bytes.specs.Header.{get, set, sm_info}
 use Rattle.smp_bytes.specs.Packet.{max_hops}
@@ -33,25 +33,25 @@ use Rattle.sm_state.specs.Standing.{info_of, info_with, is_in, moved_to}
 
 -- requests for SMInfo ---------------------------------------------------------------------------
 
--- a request by LIDs that waits for its answer, with its number
+-- a request for SMInfo by LIDs that waits for its answer, with the number `number`
 abbrev pub info_pending : ℕ → Purpose → ℕ → Pending
 info_pending number purpose modifier =
     record { number = number; purpose = purpose; attribute = sm_info; modifier = modifier; path = None }
 
--- a poll that waits for its answer: over a path or, if there is none, by LIDs
+-- a poll that waits for its answer, with the number `number`: over `path` or, if there is none, by LIDs
 abbrev pub poll_pending : ℕ → Option (List ℕ) → Pending
 poll_pending number path = record (info_pending number purpose.Poll 0) { path = path }
 
--- a poll: a Get with no data
+-- the packet of a poll, a Get of SMInfo with no data: over a path or, if there is none, by LIDs
 abbrev pub poll_packet : ℕ → Option (List ℕ) → List ℕ
 poll_packet number None = lid_routed get sm_info 0 number (replicate 64 0)
 poll_packet number (Some path) = directed get sm_info 0 number path (replicate 64 0)
 
--- the packet of a poll to the LID, or over the path
+-- the packet of a poll to be sent, over `path` if there is one, else to the LID `lid`
 abbrev pub poll_out : ℕ → Option ℕ → Option (List ℕ) → Outgoing
 poll_out number lid path = record { packet = poll_packet number path; to = lid }
 
--- a control: a Set that carries the sender's SMInfo
+-- a control to be sent to the LID `lid`: a Set that carries the sender's SMInfo
 abbrev pub control_out : Standing → ℕ → ℕ → Control → Outgoing
 control_out s number lid control =
     record {
@@ -60,37 +60,37 @@ control_out s number lid control =
           Some lid;
     }
 
--- the manager once a request is sent under the next number and waits for its answer
+-- the manager once a request is queued under its next number, and waits for its answer
 abbrev pub asked : Manager → Pending → Outgoing → Manager
 asked m waits out =
     record m { counter = m.counter + 1; pending = m.pending ++ waits ∷ []; outgoing = m.outgoing ++ out ∷ [] }
 
--- the manager once a control is sent
+-- the manager once a control to the LID `lid` is queued, and waits for its answer
 abbrev pub control_sent : Manager → ℕ → Control → Manager
 control_sent m lid control =
     asked m (info_pending m.counter purpose.Control (modifier_of_control control))
     (control_out m.standing m.counter lid control)
 
--- the number of requests for a message: 0 if there is no message or no LID to send it to, and otherwise 1
+-- how many requests a message takes: 1 if there are a message and a LID to send it to, else 0
 abbrev pub message_count : Option ℕ → Option Message → ℕ
 message_count None message = 0
 message_count (Some lid) None = 0
 message_count (Some lid) (Some message) = 1
 
--- the request of a message, which waits for its answer; empty if there is no message or no LID
+-- the request of a message, which waits for its answer; none if there is no message or no LID
 abbrev pub message_pending : ℕ → Option ℕ → Option Message → List Pending
 message_pending counter None message = []
 message_pending counter (Some lid) None = []
 message_pending counter (Some lid) (Some message) =
     info_pending counter purpose.Control (modifier_of_control (control_of_message message)) ∷ []
 
--- the packet of a message; empty if there is no message or no LID
+-- the packet of a message to be sent; none if there is no message or no LID
 abbrev pub message_out : Standing → ℕ → Option ℕ → Option Message → List Outgoing
 message_out s counter None message = []
 message_out s counter (Some lid) None = []
 message_out s counter (Some lid) (Some message) = control_out s counter lid (control_of_message message) ∷ []
 
--- the manager once a message is sent as a control, if there are a message and a LID
+-- the manager once a message is queued as a control; unchanged if there is no message or no LID
 abbrev pub after_message : Manager → Option ℕ → Option Message → Manager
 after_message m None message = m
 after_message m (Some lid) None = m
@@ -98,97 +98,100 @@ after_message m (Some lid) (Some message) = control_sent m lid (control_of_messa
 
 -- polls -----------------------------------------------------------------------------------------
 
--- the path leaves by `port` and has at most 63 hops, as every path of a manager's sweeps does
+-- whether a path leaves by `port` and has at most 63 hops, as every path of a manager's sweeps does
 abbrev pub is_way_out : ℕ → List ℕ → Bool
 is_way_out port [] = false
 is_way_out port (first ∷ path) = first == port && nat_lt (length path) max_hops
 
--- the path if it is a way out, and otherwise None
+-- the path if it is there and leaves by `port` within 63 hops, else None
 abbrev pub if_way_out : ℕ → Option (List ℕ) → Option (List ℕ)
 if_way_out port None = None
 if_way_out port (Some path) = if is_way_out port path then Some path else None
 
--- the path by which the last sweep first reached the port where a manager was seen, over which it asked for SMInfo
+-- the path by which the last sweep first reached the port where the manager `s` was seen; None if there was no sweep,
+-- or it did not reach it
 abbrev pub path_seen : Option Sweep → SeenManager → Option (List ℕ)
 path_seen None s = None
 path_seen (Some sweep) s = path_to sweep s.guid s.port
 
--- the manager seen by the last sweep that a poll without a LID goes to
+-- the manager that a poll without a LID goes to, of those that the last sweep saw; None if there is none
 abbrev pub polled : Manager → Option SeenManager
 polled m = polled_of (info_of m.standing) m.seen
 
--- the path of a poll without a LID; None if there is none
+-- the path of a poll without a LID; None if there is no manager to poll, or no path to it
 abbrev pub polled_path : Manager → Option (List ℕ)
 polled_path m = if_way_out m.port (option_and_then (path_seen m.sweep) (polled m))
 
--- the path of a poll; None if it goes to a LID
+-- the path of a poll; None if it goes to a LID, or has neither
 abbrev pub poll_path : Manager → Option ℕ → Option (List ℕ)
 poll_path m (Some lid) = None
 poll_path m None = polled_path m
 
--- `Nobody` if there is neither a LID nor a path
+-- `Nobody` if a poll has neither a LID nor a path, else None
 abbrev pub unless_way : Option ℕ → Option (List ℕ) → Option ManagerFault
 unless_way (Some lid) path = None
 unless_way None (Some path) = None
 unless_way None None = Some fault.Nobody
 
--- why no poll is sent, except for lack of memory; a poll goes to the LID or, without one, over the path to a manager
--- that the last sweep saw
+-- why no poll is sent, except for lack of memory: the manager is not standby, there is neither a LID nor a path to a
+-- manager that the last sweep saw, or no number is left; None if one may be
 abbrev pub poll_fault : Manager → Option ℕ → Option ManagerFault
 poll_fault m lid =
     if is_in Standby m.standing then or_else (unless_way lid (polled_path m)) (number_fault (m.counter + 1))
     else Some fault.NotStandby
 
--- the manager once a poll is sent
+-- the manager once a poll is queued: to the LID `lid` or, if there is none, over the path to a manager that the last
+-- sweep saw
 abbrev pub after_poll : Manager → Option ℕ → Manager
 after_poll m lid =
     asked m (poll_pending m.counter (poll_path m lid)) (poll_out m.counter lid (poll_path m lid))
 
 -- handing over ----------------------------------------------------------------------------------
 
--- the move of the table of states when another manager is to be master
+-- how the state of manager `m` moves if another manager is to be master
 abbrev pub handover_move : Manager → Transition
 handover_move m = stepped m.standing.conduct m.standing.state HandoverWanted
 
--- the manager, among those that the last sweep saw, that is to take over
+-- the manager that is to take over, of those that the last sweep saw; None if there is none
 abbrev pub successor : Manager → Option SeenManager
 successor m = successor_of (info_of m.standing) m.seen
 
--- the port where a manager was seen; None if it is not known to be an end port
+-- the end port where the manager `s` was seen; None if that is not known to be an end port
 abbrev pub port_seen : Cells → SeenManager → Option EndPort
 port_seen cells s = if is_end_port cells s.guid s.port then Some (record { node = s.guid; port = s.port }) else None
 
--- the port where the successor was seen; None if there is no successor or the port is not known to be an end port
+-- the end port where the successor was seen; None if there is no successor, or that is not known to be an end port
 abbrev pub successor_port : Manager → Option EndPort
 successor_port m = option_and_then (port_seen (cells_of m.store)) (successor m)
 
--- the LID that the plan gives to the successor's port; None if there is none
+-- the LID that the plan gives to the successor's end port; None if there is none
 abbrev pub successor_lid : Manager → Option ℕ
 successor_lid m = option_and_then (lid_of (lids m.planning.lmc (cells_of m.store))) (successor_port m)
 
--- `Nobody` if there is no LID to send to
+-- `Nobody` if there is no LID to send to, else None
 abbrev pub unless_lid : Option ℕ → Option ManagerFault
 unless_lid None = Some fault.Nobody
 unless_lid (Some lid) = None
 
 -- why a master does not hand over, except for lack of memory: there is no successor, the plan has no room, it gives the
--- successor's port no LID, or no number is left
+-- successor's port no LID, or no number is left; None if it may
 abbrev pub successor_fault : Manager → Option ManagerFault
 successor_fault m =
     if is_none (successor m) then Some fault.Nobody
     else or_else (plan_fault m.planning.lmc (cells_of m.store))
     (or_else (unless_lid (successor_lid m)) (number_fault (m.counter + 1)))
 
--- why a manager does not hand over: it is not master if the table of states has no message for a successor, and
--- otherwise there is a fault with the successor
+-- why a manager does not hand over, except for lack of memory: it is not master, or there is a fault with the
+-- successor; None if it may
 abbrev pub handover_fault : Manager → Option ManagerFault
 handover_fault m = if is_none (handover_move m).message then Some fault.NotMaster else successor_fault m
 
--- the manager once it has told the successor to take over; its state moves again when the successor acknowledges
+-- the manager once HANDOVER to the LID `lid` is queued and its state has moved by `handover_move`; no HANDOVER if there
+-- is no LID
 abbrev pub handed_to : Manager → Option ℕ → Manager
 handed_to m lid =
     after_message (record m { standing = moved_to (handover_move m).state m.standing }) lid (handover_move m).message
 
--- the manager once it has told its successor to take over
+-- the manager once HANDOVER to its successor is queued
 abbrev pub after_handover : Manager → Manager
 after_handover m = handed_to m (successor_lid m)

@@ -1,4 +1,4 @@
--- The law of handovers.
+-- The law of handovers: one of the two managers is master afterwards.
 use Rattle.std.specs.Prelude.{◌≡◌, ◌⊎◌, true, Some}
 use Rattle.sm_state.specs.declared.event.Event.TheVariants as event
 use Rattle.sm_state.specs.declared.standing.Standing.{Standing}
@@ -8,12 +8,12 @@ use Rattle.sm_state.specs.Transitions.{status_of, stepped}
 use Rattle.sm_manager.specs.declared.pending.Pending.{Pending}
 use Rattle.sm_manager.specs.Packets.{after_control_end, is_handover, is_relieved}
 
--- the move of a manager with the standing `other` on the control
+-- how a manager with the standing `other` moves by the control
 abbrev pub move_of : Standing → Pending → Transition
 move_of other control = stepped other.conduct other.state (event.Control control.modifier)
 
--- once a master knows how its handover was answered, it or the other manager is master, if nothing else moves either of
--- them meanwhile
+-- once a master's HANDOVER is answered with the status that the other manager's move gives it, that manager is master,
+-- or the first stays it, if nothing else moves either of them meanwhile
 abbrev pub HandoversLeaveAMaster : Type 0
 HandoversLeaveAMaster =
     (own other : Standing) (control : Pending) → own.state ≡ Master → is_handover control ≡ true

@@ -43,7 +43,7 @@ pub record Manager : Type 0 where
   pub pending : List Pending
   pub outgoing : List Outgoing
 
--- a manager without facts, sweeps, requests and packets
+-- a manager at the port `port` with the GUID `port_guid` before any call: without facts, sweeps, requests and packets
 abbrev pub new_manager : ℕ → ℕ → ℕ → Conduct → Planning → Manager
 new_manager port_guid port priority conduct planning =
     record {
@@ -61,15 +61,15 @@ new_manager port_guid port priority conduct planning =
 
 -- what a sweep asks for goes out --------------------------------------------------------------
 
--- the packets of requests, which go by their paths
+-- the packets of requests to be sent, over their paths
 abbrev pub requests_out : ℕ → List Request → List Outgoing
 requests_out generation requests = map (λ r. record { packet = packet_of generation r; to = None }) requests
 
--- the sweep once all its queued requests are sent and wait for their replies
+-- the sweep `s` once all its queued requests wait for their replies
 abbrev pub with_all_sent : Sweep → Sweep
 with_all_sent s = record s { queued = []; outstanding = s.outstanding ++ s.queued }
 
--- the manager with this sweep, whose queued requests are all sent
+-- the manager with the sweep `s`, whose queued requests are all put among the packets to be sent
 abbrev pub with_sweep : Manager → Sweep → Manager
 with_sweep m s =
     record m {
@@ -77,47 +77,47 @@ with_sweep m s =
       outgoing = m.outgoing ++ requests_out s.generation s.queued;
     }
 
--- the sweep, if there is one, has nothing queued
+-- the sweep, if there is one, has no queued requests
 abbrev pub IsSentWhole : Option Sweep → Type 0
 IsSentWhole None = Unit {0}
 IsSentWhole (Some s) = s.queued ≡ []
 
 -- beginning a sweep ------------------------------------------------------------------------------
 
--- a sweep was begun and is not done
+-- whether a sweep was begun and is not done
 abbrev pub is_running : Option Sweep → Bool
 is_running None = false
 is_running (Some s) = not (is_done s)
 
--- a sweep was begun and is done
+-- whether a sweep was begun and is done
 abbrev pub is_over : Option Sweep → Bool
 is_over None = false
 is_over (Some s) = is_done s
 
--- the standing after a sweep that saw the managers `seen`
+-- the standing `s` at the end of a sweep that saw the managers `seen`
 abbrev pub after_verdict : List SeenManager → Standing → Standing
 after_verdict seen s = moved_by (sweep_verdict (info_of s) seen) s
 
--- the manager once the sweep has changed; if the sweep is done, this change ended it, since replies and timeouts come
--- only while it runs
+-- the manager once its sweep has changed: if the sweep is now done, its state moves by what the sweep saw
 abbrev pub after_sweep : Manager → Manager
 after_sweep m = record m { standing = if is_over m.sweep then after_verdict m.seen m.standing else m.standing }
 
--- the greatest generation of a fact; 0 if there is none
+-- the greatest generation of a cell of `facts`; 0 if there is none
 abbrev pub newest_held : Facts → ℕ
 newest_held facts = newest_of (map (λ e. e.1) (cells_of facts))
 
--- the generation of the next sweep: greater than all generations of the facts, and at least the floor
+-- the generation of the next sweep: one more than the greatest of the facts, but at least the floor
 abbrev pub next_generation : Facts → ℕ
 next_generation facts = max (newest_held facts + 1) facts.floor
 
--- why no sweep begins: a sweep runs, or the newest generation is the greatest possible one
+-- why no sweep begins, except for lack of memory: one runs, or the facts have the greatest possible generation; None if
+-- one may
 abbrev pub begin_fault : Manager → Option ManagerFault
 begin_fault m = if is_running m.sweep then Some SweepRunning else
     (if newest_held m.store == 2 ^ 32 - 1 then Some GenerationsSpent else None)
 
--- the manager once a sweep has begun at its own port, in the next generation; the sweep has seen no manager yet, and
--- keeps what it reads if the manager is live
+-- the manager once a sweep has begun at its own port, in the next generation, having seen no manager yet; it keeps
+-- images if the conduct is live
 abbrev pub after_begin_sweep : Manager → Manager
 after_begin_sweep m =
     with_sweep (record m {
@@ -128,44 +128,44 @@ after_begin_sweep m =
 
 -- other calls ------------------------------------------------------------------------------------
 
--- the manager once the facts of another store are merged with its own
+-- the manager once `facts` are merged with its own
 abbrev pub after_merge : Manager → Facts → Manager
 after_merge m facts = record m { store = merge m.store facts }
 
--- the manager once it has forgotten what is below `floor`
+-- the manager once the floor of its facts is raised to `floor`, if that is greater
 abbrev pub after_raise_floor : Manager → ℕ → Manager
 after_raise_floor m floor = record m { store = raised m.store floor }
 
--- a manager whose first queued packet was removed, and that packet; None if none was queued
+-- a manager once its first queued packet was removed, and that packet; None if none was queued
 pub record Taken : Type 0 where
   pub manager : Manager
   pub packet : Option Outgoing
 
--- a manager without the first of these packets, and that packet; None if there is none
+-- the manager without the first of its queued packets, and that packet; None if none is queued
 abbrev pub taken_of : Manager → List Outgoing → Taken
 taken_of m [] = record { manager = m; packet = None }
 taken_of m (packet ∷ later) = record { manager = record m { outgoing = later }; packet = Some packet }
 
--- the manager once its first queued packet was removed, and that packet
+-- the manager once its first queued packet was removed, and that packet; None if none was queued
 abbrev pub after_take_outgoing : Manager → Taken
 after_take_outgoing m = taken_of m m.outgoing
 
--- the TransactionIDs that a sweep waits for, in rising order
+-- the TransactionIDs of the requests of a sweep that wait, rising
 abbrev pub transactions_of : Option Sweep → List ℕ
 transactions_of None = []
 transactions_of (Some s) = map (λ r. transaction_of s.generation r.number) s.outstanding
 
--- the TransactionIDs that a manager waits for, in rising order: those of a sweep have the generation in the high half,
--- and the others 0
+-- the TransactionIDs of all requests that wait, rising: those of a sweep have its generation in the high half, others 0
 abbrev pub outstanding : Manager → List ℕ
 outstanding m = map (λ p. p.number) m.pending ++ transactions_of m.sweep
 
--- the number of a sweep's requests for SMInfo that were not answered; None if no sweep was begun
+-- how many requests of a sweep for SMInfo timed out; None if no sweep was begun
 abbrev pub silent_in : Option Sweep → Option ℕ
 silent_in None = None
 silent_in (Some s) = Some s.silent_managers
 
--- how far the last sweep is
+-- how far the last sweep is: never begun, running, or done; with the requests that timed out and the ports that lead
+-- too far
 abbrev pub progress_of : Option Sweep → Progress
 progress_of None = Never
 progress_of (Some s) = if is_done s then Done s.unanswered s.too_far else Running s.unanswered s.too_far

@@ -5,14 +5,14 @@ use Rattle.sm_manager.specs.declared.pending.Pending.{Pending}
 use Rattle.sm_manager.specs.declared.pending.Purpose.{Purpose}
 use Rattle.sm_manager.specs.declared.pending.Purpose.TheVariants as purpose
 
--- the number of the next request, the requests that wait for their answers, and the number of further requests that
--- there is memory for
+-- the number of the next request outside sweeps, the requests that wait for their answers, and for how many more there
+-- is memory
 pub record ManagerRequests : Type 0 where
   pub counter : ℕ
   pub pending : List Pending
   pub room : ℕ
 
--- the numbers fit 32 bits, rise, and are below `counter`
+-- the numbers of the requests fit 32 bits, rise, and are below `counter`
 abbrev pub AreNumbered : ℕ → List Pending → Type 0
 AreNumbered counter pending = numbers.AreNumbered (λ (p : Pending). p.number) pending counter
 
@@ -26,39 +26,39 @@ without_number number pending = numbers.without_number (λ (p : Pending). p.numb
 
 -- what requests are for --------------------------------------------------------------------------
 
--- whether the purpose is a step of a writing
+-- whether a request for this purpose is a step of a writing
 abbrev pub is_for_step : Purpose → Bool
 is_for_step purpose.Poll = false
 is_for_step purpose.Control = false
 is_for_step (purpose.Step counts) = true
 
--- whether the request is a step of the last writing
+-- whether the request `p` is a step of a writing
 abbrev pub is_step : Pending → Bool
 is_step p = is_for_step p.purpose
 
--- whether the purpose is a step that has to be done for the plan to be written
+-- whether a request for this purpose is a step that counts, so one that has to be done for the plan to be written
 abbrev pub counts_as : Purpose → Bool
 counts_as purpose.Poll = false
 counts_as purpose.Control = false
 counts_as (purpose.Step counts) = counts
 
--- whether the request is a step that has to be done for the plan to be written
+-- whether the request `p` is a step that counts, so one that has to be done for the plan to be written
 abbrev pub counts : Pending → Bool
 counts p = counts_as p.purpose
 
--- the number of requests that pass a test
+-- how many of the requests pass the test
 abbrev pub how_many : (Pending → Bool) → List Pending → ℕ
 how_many test pending = length (filter test pending)
 
--- whether no step of the last writing waits
+-- whether none of the requests is a step of a writing
 abbrev pub no_step_waits : List Pending → Bool
 no_step_waits pending = how_many is_step pending == 0
 
--- whether no step waits that has to be done for the plan to be written
+-- whether none of the requests is a step that counts
 abbrev pub none_counts : List Pending → Bool
 none_counts pending = how_many counts pending == 0
 
--- `steps` of the requests are steps, and `counting` of them count
+-- `steps` of the requests are steps of a writing, and `counting` of them count
 pub record AreCounted (pending : List Pending) (steps counting : ℕ) : Type 0 where
   pub steps_are : steps ≡ how_many is_step pending
   pub counting_are : counting ≡ how_many counts pending

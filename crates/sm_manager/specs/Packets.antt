@@ -39,18 +39,18 @@ pub record Called : Type 0 where
   pub manager : Manager
   pub fault : Option ManagerFault
 
--- a call that is refused and changes nothing
+-- the outcome of a call that is refused for `why` and changes nothing
 abbrev pub refused : Manager → ManagerFault → Called
 refused m why = record { manager = m; fault = Some why }
 
--- a call that is not refused, and leaves this manager
+-- the outcome of a call that is not refused, and leaves the manager `m`
 abbrev pub done : Manager → Called
 done m = record { manager = m; fault = None }
 
 -- packets -------------------------------------------------------------------------------------
 
--- the manager once the facts of an answer are merged, a manager that it shows is noted, and the requests that it causes
--- are sent
+-- the manager once its sweep `s` took a reply: the facts are merged, a manager that the reply shows is noted, the
+-- requests that follow are to be sent, and if the sweep is done the state moves
 abbrev pub with_answer : Manager → Sweep → List ℕ → Answer → Manager
 with_answer m s packet answer =
     after_sweep (with_sweep (record m {
@@ -59,80 +59,83 @@ with_answer m s packet answer =
           with_seen answer m.seen;
     }) (after_reply s packet))
 
--- the outcome of a reply to a sweep, given the sweep's verdict on it
+-- the outcome of a reply to the sweep `s`, given the answer in it or why the sweep refuses it
 abbrev pub answered_by : Manager → Sweep → List ℕ → Result Answer SweepFault → Called
 answered_by m s packet (Ok answer) = done (with_answer m s packet answer)
 answered_by m s packet (Err why) = refused m (fault.Sweep why)
 
--- the outcome of a reply to a sweep; if no sweep was begun, it is refused as not asked for
+-- the outcome of a reply to a sweep; `Unasked` if no sweep was begun
 abbrev pub sweep_answered : Manager → List ℕ → Option Sweep → Called
 sweep_answered m packet None = refused m fault.Unasked
 sweep_answered m packet (Some s) = answered_by m s packet (judged s packet)
 
--- whether the packet is an answer over a directed route with a generation in the high half of its TransactionID
+-- whether `packet` is a GetResp over a directed route with a TransactionID of 2^32 or more, as the requests of sweeps
+-- have
 abbrev pub is_for_sweep : List ℕ → Bool
 is_for_sweep packet =
     number_in method packet == get_resp && (is_directed packet && nat_le (2 ^ 32) (number_in transaction_id packet))
 
--- whether the packet is an answer to the request `p`
+-- whether `packet` is a GetResp that answers the request `p`
 abbrev pub answers : List ℕ → Pending → Bool
 answers packet p = number_in method packet == get_resp && smp.answers packet p.number p.attribute p.modifier p.path
 
--- the request that waits for the answer `packet`; None if there is none
+-- the request outside sweeps that `packet` answers; None if there is none
 abbrev pub pending_for : Manager → List ℕ → Option Pending
 pending_for m packet = find (answers packet) m.pending
 
--- the outcome `after`, or a refusal if it has used more numbers than there are
+-- the outcome of a call that leaves the manager `after`; refused with `SequenceSpent` if that has used numbers over 32
+-- bits
 abbrev pub unless_spent : Manager → Manager → Called
 unless_spent m after = if is_spent after then refused m fault.SequenceSpent else done after
 
--- the standing once a poll was answered or lost
+-- the standing `s` once a poll was answered, if the flag is set, or lost
 abbrev pub after_poll_end : Bool → Standing → Standing
 after_poll_end true s = poll_answered s
 after_poll_end false s = poll_lost s
 
--- whether the request is a handover
+-- whether the request `p` has the modifier of a HANDOVER
 abbrev pub is_handover : Pending → Bool
 is_handover p = p.modifier == modifier_of_control control.Handover
 
--- whether the answer relieves the manager: by the live conduct, if it says that the other manager took over
+-- whether the answer to the request `p` relieves a manager: its conduct is live, and the answer to its HANDOVER has
+-- status 0
 abbrev pub is_relieved : Standing → Pending → Option ℕ → Bool
 is_relieved s p answer = is_live s.conduct && (is_handover p && is_done_by answer)
 
--- the standing once a control has ended; a manager that is relieved moves as by an acknowledgement
+-- the standing `s` once a control was answered or timed out; if that relieves the manager, it moves as by ACKNOWLEDGE
 abbrev pub after_control_end : Bool → Standing → Standing
 after_control_end is_relieved s =
     if is_relieved then moved_by (event.Control (modifier_of_control control.Acknowledge)) s else s
 
--- the number of a status; None if there is no status
+-- the number of a status; None if there is none
 abbrev pub status_number : Option Status → Option ℕ
 status_number status = option_map (λ s. s.0) status
 
--- the outcome of the end of a request; `answer` is the status of its answer, or None if it timed out; if the request
--- was a step, the next phase may be sent
+-- the outcome of the end of the request `p`; `answer` is the status of its answer, or None if it timed out; if it was a
+-- step, the next phase may be sent
 abbrev pub after_request : Manager → Pending → Option ℕ → Purpose → Called
 after_request m p answer Poll = done (record (without m p) { standing = after_poll_end (is_some answer) m.standing })
 after_request m p answer Control =
     done (record (without m p) { standing = after_control_end (is_relieved m.standing p answer) m.standing })
 after_request m p answer (Step counts) = unless_spent m (after_step m p (is_done_by answer))
 
--- the outcome of an answer to a request outside sweeps; if there is no request, it is refused as not asked for
+-- the outcome of an answer to a request outside sweeps; `Unasked` if there is no such request
 abbrev pub request_answered : Manager → List ℕ → Option Pending → Called
 request_answered m packet None = refused m fault.Unasked
 request_answered m packet (Some p) = after_request m p (Some (status packet)) p.purpose
 
 -- requests of other managers --------------------------------------------------------------------
 
--- if the packet came by LIDs, the sender's LID is known
+-- if the bytes are a packet by LIDs, the LID `from` of its sender is known
 abbrev pub HasSender : List ℕ → Option ℕ → Type 0
 HasSender packet from = fault_of packet ≡ None → is_lid_routed packet ≡ true → IsSome from
 
--- whether the packet is a request for SMInfo
+-- whether `packet` is no response, and asks for SMInfo or sets it
 abbrev pub is_info_request : List ℕ → Bool
 is_info_request packet = not (is_response packet) && number_in attribute_id packet == sm_info
 
--- the outcome of a packet; bytes that are not a packet are refused with their fault, and a packet that answers nothing
--- as not asked for
+-- the outcome of bytes that reach the manager's port, given the fault that they have as a packet, with which they are
+-- refused; a packet that answers nothing is refused as `Unasked`
 abbrev pub packet_taken : Manager → List ℕ → Option ℕ → Option SmpFault → Called
 packet_taken m packet from (Some why) = refused m (fault.Sweep (Bad (Smp why)))
 packet_taken m packet from None =
@@ -141,41 +144,41 @@ packet_taken m packet from None =
     else if is_for_sweep packet then sweep_answered m packet m.sweep
     else request_answered m packet (pending_for m packet)
 
--- the outcome of a packet that reaches the manager's port, from the LID `from`
+-- the outcome of bytes that reach the manager's port, from the LID `from`
 abbrev pub after_packet : Manager → List ℕ → Option ℕ → Called
 after_packet m packet from = packet_taken m packet from (fault_of packet)
 
--- the content of the trap that the manager represses; None if the packet is not such a trap
+-- the content of `packet` if it is a trap that the manager represses, else None
 abbrev pub trap_told : Manager → List ℕ → Option Trap
 trap_told m packet = if not (is_info_request packet) && represses m packet then Some (trap_in packet) else None
 
 -- timeouts --------------------------------------------------------------------------------------
 
--- the outcome of the timeout of a sweep's request; if it does not wait, it is refused as not asked for
+-- the outcome of the timeout of a request of the sweep `s`; `Unasked` if the request does not wait
 abbrev pub sweep_timed_out : Manager → Sweep → ℕ → Option SweepFault → Called
 sweep_timed_out m s transaction (Some why) = refused m fault.Unasked
 sweep_timed_out m s transaction None =
     done (after_sweep (record m { sweep = Some (sweep_after_timeout s transaction) }))
 
--- the outcome of the timeout of a request of the last sweep; if no sweep was begun, it is refused as not asked for
+-- the outcome of the timeout of a request of the last sweep; `Unasked` if no sweep was begun, or the request does not
+-- wait
 abbrev pub sweep_gave_up : Manager → ℕ → Option Sweep → Called
 sweep_gave_up m transaction None = refused m fault.Unasked
 sweep_gave_up m transaction (Some s) = sweep_timed_out m s transaction (timeout_fault s transaction)
 
--- the outcome of the timeout of a request outside sweeps; if there is none, it is refused as not asked for
+-- the outcome of the timeout of a request outside sweeps; `Unasked` if there is no such request
 abbrev pub request_gave_up : Manager → Option Pending → Called
 request_gave_up m None = refused m fault.Unasked
 request_gave_up m (Some p) = after_request m p None p.purpose
 
--- the outcome of a request's timeout: a request of the sweep has its generation in the high half of the TransactionID,
--- another request has 0 there
+-- the outcome of the timeout of a request by its TransactionID, which is 2^32 or more for a request of a sweep
 abbrev pub after_timeout : Manager → ℕ → Called
 after_timeout m transaction =
     if nat_le (2 ^ 32) transaction then sweep_gave_up m transaction m.sweep
     else request_gave_up m (with_number transaction m.pending)
 
--- the fault if there is no memory for what a reply may cause: the sweep's refusal, or lack of memory if the sweep
--- accepts the reply
+-- the fault of a reply if there is no memory for what it may cause: `Memory` if the sweep accepts it, else the sweep's
+-- refusal
 abbrev pub IsFaultWithoutRoom : Result Answer SweepFault → ManagerFault → Type 0
 IsFaultWithoutRoom (Ok answer) given = given ≡ fault.Memory
 IsFaultWithoutRoom (Err why) given = given ≡ fault.Sweep why

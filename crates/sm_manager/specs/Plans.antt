@@ -1,4 +1,4 @@
--- When a manager has no plan, and when it begins no writing.
+-- When a manager has no plan for lack of room, and why it begins no writing.
 use Rattle.std.specs.Prelude.{ℕ, Bool, ◌+◌, ◌^◌, nat_lt, if◌then◌else◌, Option, Some, None}
 use Rattle.fact_store.specs.View.{cells_of}
 use Rattle.subnet_view.specs.Reading.{Cells}
@@ -10,30 +10,30 @@ use Rattle.sm_manager.specs.declared.fault.ManagerFault.TheVariants as fault
 use Rattle.sm_manager.specs.Manager.{Manager}
 use Rattle.sm_manager.specs.Writing.{write_fault}
 
--- the manager's fault if the LIDs have no room; None if they have
+-- `NoRoom` if there is no room for LIDs, else None
 abbrev pub room_fault : Option NoRoom → Option ManagerFault
 room_fault None = None
 room_fault (Some why) = Some (fault.NoRoom why)
 
--- why there is no plan; None if there is one
+-- `NoRoom` if the view has no plan under the LMC `lmc`, else None
 abbrev pub plan_fault : ℕ → Cells → Option ManagerFault
 plan_fault lmc cells = room_fault (no_room lmc cells)
 
--- the first fault if there is one, and otherwise the other
+-- the first fault if there is one, else the second
 abbrev pub or_else : Option ManagerFault → Option ManagerFault → Option ManagerFault
 or_else None other = other
 or_else (Some why) other = Some why
 
--- the fault if a number does not fit 32 bits
+-- `SequenceSpent` if `counter`, one more than the greatest number needed, is over 2^32; else None
 abbrev pub number_fault : ℕ → Option ManagerFault
 number_fault counter = if nat_lt (2 ^ 32) counter then Some fault.SequenceSpent else None
 
--- the fault if too few numbers are left
+-- `SequenceSpent` if too few numbers are left, else None
 abbrev pub unless_numbers : Bool → Option ManagerFault
 unless_numbers are_numbers = if are_numbers then None else Some fault.SequenceSpent
 
--- why no writing begins, except for lack of memory: a sweep or a writing runs, the manager is not master, there is no
--- plan, or a phase could need a number that does not fit 32 bits
+-- why no writing begins, except for lack of memory: the manager is not master, a sweep or a writing runs, there is no
+-- plan, or a phase could need numbers over 32 bits; None if one may
 abbrev pub writing_fault : Manager → Option ManagerFault
 writing_fault m =
     or_else (write_fault m)

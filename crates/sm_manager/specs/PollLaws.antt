@@ -1,16 +1,17 @@
--- How an answer to a poll is taken.
+-- The law of polls: an answer to a poll is taken as that.
 use Rattle.std.specs.Prelude.{◌≡◌, ℕ, ◌<◌, ◌≤◌, ◌^◌, true, false, List, length, IfSome, Option}
 use Rattle.smp_bytes.specs.Packet.{max_hops}
 use Rattle.smp_bytes.specs.Requests.{answer_packet}
 use Rattle.sm_manager.specs.Election.{poll_packet, poll_pending}
 use Rattle.sm_manager.specs.Packets.{answers, is_for_sweep}
 
--- the packet is taken as the answer to the poll that waits, and not as a reply to a sweep
+-- `packet` answers the poll with the number `number` over `path` (by LIDs if None), and is not taken for a reply to a
+-- sweep
 pub record IsTakenForPoll (packet : List ℕ) (number : ℕ) (path : Option (List ℕ)) : Type 0 where
   pub answers : answers packet (poll_pending number path) ≡ true
   pub no_sweep : is_for_sweep packet ≡ false
 
--- each answer to a poll, by LIDs or over a path, is taken as the answer to that poll
+-- each answer to a poll, by LIDs or over a path of at most 63 hops, is taken as the answer to that poll
 abbrev pub AnswersReachPolls : Type 0
 AnswersReachPolls =
     (number : ℕ) (path : Option (List ℕ)) (status : ℕ) (payload : List ℕ) → number < 2 ^ 32

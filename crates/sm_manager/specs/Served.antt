@@ -18,11 +18,11 @@ use Rattle.sm_state.specs.Standing.{after_request_heard, info_of, moved_to}
 
 -- answers ---------------------------------------------------------------------------------------
 
--- the data of an answer: the manager's SMInfo if the status is done, and otherwise the data of the request
+-- the data of an answer: the manager's SMInfo if the status is done, else the data of the request
 abbrev pub answer_data : Standing → List ℕ → ℕ → List ℕ
 answer_data s packet status = if status == done then sm_info_bytes (info_of s) else bytes_in attribute_data packet
 
--- the packet of an answer: by the request's path if it is directed, and otherwise to the LID of its sender
+-- an answer to be sent: back over its path if the request is directed, else to the LID of its sender
 abbrev pub answer_out : Standing → List ℕ → Option ℕ → ℕ → Outgoing
 answer_out s packet from status =
     record {
@@ -31,32 +31,32 @@ answer_out s packet from status =
           if is_directed packet then None else from;
     }
 
--- the manager once the answer to a request is sent
+-- the manager once the answer to the request `packet` is queued
 abbrev pub answering : Manager → List ℕ → Option ℕ → ℕ → Manager
 answering m packet from status = record m { outgoing = m.outgoing ++ answer_out m.standing packet from status ∷ [] }
 
--- the manager once a request is counted, before it is answered
+-- the manager once a request for SMInfo is counted, before it is answered
 abbrev pub request_counted : Manager → Manager
 request_counted m = record m { standing = after_request_heard m.standing }
 
 -- controls ----------------------------------------------------------------------------------------
 
--- whether the packet may be a control that is obeyed: a Set by LIDs or, by the live conduct, any Set
+-- whether `packet`, a request for SMInfo, may be a control: it is a Set by LIDs or, by the live conduct, any Set
 abbrev pub is_control : Standing → List ℕ → Bool
 is_control s packet = number_in method packet == set && (is_live s.conduct || not (is_directed packet))
 
--- the LID to which a control is acknowledged: the sender's; None if it came over a directed route
+-- the LID to which a control is acknowledged: the sender's; None if it came over a directed route, and so is not
 abbrev pub acknowledged_at : List ℕ → Option ℕ → Option ℕ
 acknowledged_at packet from = if is_directed packet then None else from
 
--- the manager once its state has moved and the answer is queued; then the message of the transition, if it has one and
--- the packet came by LIDs
+-- the manager once its state has moved and the answer is queued, and after it the message of the move, if it has one
+-- and the packet came by LIDs
 abbrev pub moved_on : Manager → List ℕ → Option ℕ → Transition → Manager
 moved_on m packet from move =
     after_message (answering (record m { standing = moved_to move.state m.standing }) packet from (status_of move))
     (acknowledged_at packet from) move.message
 
--- the manager once its state has moved by the table of states, and the control is answered
+-- the manager once its state has moved by the control in `packet`, and that is answered
 abbrev pub controlled : Manager → List ℕ → Option ℕ → Manager
 controlled m packet from =
     moved_on (request_counted m) packet from
@@ -64,18 +64,18 @@ controlled m packet from =
 
 -- any request for SMInfo --------------------------------------------------------------------------
 
--- the status of the answer to a request that is not a control: done for a Get, and otherwise a refusal
+-- the status of the answer to a request for SMInfo that is no control: done for a Get, else a refusal
 abbrev pub status_for : List ℕ → ℕ
 status_for packet =
     if number_in method packet == get then done
     else if number_in method packet == set then invalid_field
     else method_not_supported
 
--- the manager once a request that is not a control is answered
+-- the manager once a request for SMInfo that is no control is answered
 abbrev pub replying : Manager → List ℕ → Option ℕ → Manager
 replying m packet from = answering (request_counted m) packet from (status_for packet)
 
--- the manager once a request for SMInfo is answered or, if it is a control, obeyed or refused
+-- the manager once a request for SMInfo is answered and, if it is a control, obeyed or refused
 abbrev pub served : Manager → List ℕ → Option ℕ → Manager
 served m packet from =
     if is_control m.standing packet then controlled m packet from else replying m packet from

@@ -1,4 +1,4 @@
--- Traps, and how a manager by the live conduct answers them. After its answer the agent does not repeat the trap.
+-- Traps, and how a manager by the live conduct represses them: after its answer the agent does not repeat the trap.
 -- InfiniBand Architecture Specification, Volume 1: subnet management, traps; management methods (TrapRepress).
 use Rattle.std.specs.Prelude.{ℕ, Bool, ◌&&◌, not, List, [], ◌∷◌, ◌++◌, ◌==◌, Option}
 use Rattle.smp_bytes.specs.Field.{Field, bytes_in, number_in}
@@ -9,17 +9,20 @@ use Rattle.sm_manager.specs.declared.traps.Trap.{Trap}
 use Rattle.sm_manager.specs.Manager.{Manager}
 use Rattle.sm_state.specs.Conducts.{is_live}
 
+-- the method Trap
 abbrev pub trap : ℕ
 trap = 0x05
 
+-- the method TrapRepress
 abbrev pub trap_repress : ℕ
 trap_repress = 0x07
 
--- whether the manager represses the packet: by the live conduct, if it is a trap that came by LIDs
+-- whether the manager represses `packet`: its conduct is live, and the packet is a Trap by LIDs
 abbrev pub represses : Manager → List ℕ → Bool
 represses m packet = is_live m.standing.conduct && (number_in method packet == trap && not (is_directed packet))
 
--- the answer to a trap, with its attribute, modifier, TransactionID and data, to the LID of its sender
+-- the TrapRepress for the trap `packet`, with its attribute, modifier, TransactionID and data, to be sent to the LID of
+-- its sender
 abbrev pub repress_out : List ℕ → Option ℕ → Outgoing
 repress_out packet from =
     record {
@@ -28,14 +31,14 @@ repress_out packet from =
       to = from;
     }
 
--- where a packet with a trap has the LID of the port that issued the notice
+-- the field of a packet with a trap that has the LID of the port that issued the notice
 abbrev pub issuer_lid : Field
 issuer_lid = record { at = 70; len = 2 }
 
--- the content of a trap
+-- the content of the trap in `packet`
 abbrev pub trap_in : List ℕ → Trap
 trap_in packet = record { issuer = number_in issuer_lid packet }
 
--- the manager once the answer to a trap is sent
+-- the manager once the TrapRepress for `packet` is queued
 abbrev pub repressing : Manager → List ℕ → Option ℕ → Manager
 repressing m packet from = record m { outgoing = m.outgoing ++ repress_out packet from ∷ [] }

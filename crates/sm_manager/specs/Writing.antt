@@ -1,4 +1,4 @@
--- Writing a plan: its steps are sent phase by phase, each phase once no step of the phase before waits. InfiniBand
+-- Writing a plan: its steps are sent phase by phase, each phase once no step of the one before waits. InfiniBand
 -- Architecture Specification, Volume 1: subnet initialization; linear forwarding tables; port states.
 use Rattle.std.specs.Prelude.{ℕ, suc, ◌+◌, ◌^◌, Bool, false, ◌&&◌, ◌||◌, not, List, [], ◌∷◌, ◌++◌, length, drop, nat_lt, ◌==◌, if◌then◌else◌, Option, Some, None}
 use Rattle.std.specs.List.{list_any}
@@ -21,7 +21,7 @@ use Rattle.sm_manager.specs.ManagerRequests.{counts, how_many, is_step, no_step_
 
 -- a phase goes out --------------------------------------------------------------------------------
 
--- a step as a request with the number `number`
+-- the step `s` as a request that waits, with the number `number`
 abbrev pub pending_step : ℕ → Bool → Step → Pending
 pending_step number counts s =
     record {
@@ -33,31 +33,31 @@ pending_step number counts s =
           Some s.path;
     }
 
--- the steps of a phase as requests, with rising numbers from `number` on
+-- the steps of a phase as requests that wait, with numbers that rise from `number`
 abbrev pub numbered : Bool → ℕ → List Step → List Pending
 numbered counts number [] = []
 numbered counts number (s ∷ steps) = pending_step number counts s ∷ numbered counts (suc number) steps
 
--- the packets of steps, which go by their paths
+-- the packets of steps to be sent, over their paths, with numbers that rise from `number`
 abbrev pub steps_out : ℕ → List Step → List Outgoing
 steps_out number [] = []
 steps_out number (s ∷ steps) = record { packet = set_packet number s; to = None } ∷ steps_out (suc number) steps
 
--- the phases without the leading phases that have no steps
+-- the phases from the first one that has steps on
 abbrev pub without_empty_phases : List Phase → List Phase
 without_empty_phases [] = []
 without_empty_phases (p ∷ phases) = if length p.steps == 0 then without_empty_phases phases else p ∷ phases
 
--- the first phase; a phase without steps if none is left
+-- the first of the phases; one without steps if there is none
 abbrev pub next_phase : List Phase → Phase
 next_phase [] = record { counts = false; steps = [] }
 next_phase (p ∷ phases) = p
 
--- the steps of the next phase as requests, with numbers from `number` on
+-- the steps of the next phase as requests that wait, with numbers that rise from `number`
 abbrev pub next_pending : ℕ → List Phase → List Pending
 next_pending number phases = numbered (next_phase phases).counts number (next_phase phases).steps
 
--- the manager once the next phase is sent as a whole
+-- the manager once the steps of the next phase are all queued, and wait
 abbrev pub phase_sent : Manager → Writing → Manager
 phase_sent m w =
     record m {
@@ -67,22 +67,23 @@ phase_sent m w =
       outgoing = m.outgoing ++ steps_out m.counter (next_phase w.later).steps;
     }
 
--- the manager once the next phase is sent, if no step of the phase before waits
+-- the manager once the next phase of the given writing is queued, if there is one and no step waits; else unchanged
 abbrev pub went_on_with : Manager → Option Writing → Manager
 went_on_with m None = m
 went_on_with m (Some w) = if no_step_waits m.pending then phase_sent m w else m
 
--- the manager once the next phase of its writing is sent, if no step of the phase before waits
+-- the manager once the next phase of its writing is queued, if it has one and no step waits; else unchanged
 abbrev pub went_on : Manager → Manager
 went_on m = went_on_with m m.writing
 
--- whether a number is used that does not fit 32 bits
+-- whether the manager has used a number that does not fit 32 bits
 abbrev pub is_spent : Manager → Bool
 is_spent m = nat_lt (2 ^ 32) m.counter
 
 -- beginning a writing -----------------------------------------------------------------------------
 
--- why a manager with this last sweep does not write; None if it may
+-- why the manager does not write, given its last sweep: it is not master, the sweep runs, or a step of a writing waits;
+-- `NotMaster` without a sweep; None if it may
 abbrev pub write_fault_with : Manager → Option Sweep → Option ManagerFault
 write_fault_with m None = Some NotMaster
 write_fault_with m (Some s) =
@@ -91,61 +92,64 @@ write_fault_with m (Some s) =
     else if not (no_step_waits m.pending) then Some WritingRunning
     else None
 
--- why a manager does not write: it is not master, or its sweep or a writing runs; without a sweep it is not master
+-- why the manager does not write: it is not master, its sweep runs, or a step of a writing waits; `NotMaster` without a
+-- sweep; None if it may
 abbrev pub write_fault : Manager → Option ManagerFault
 write_fault m = write_fault_with m m.sweep
 
--- the phases of the plan of what the manager knows, over the paths of its last sweep; none without a sweep
+-- the phases of the plan of the manager's facts, over the paths of its last sweep; none without a sweep
 abbrev pub phases_by : Manager → Option Sweep → List Phase
 phases_by m None = []
 phases_by m (Some s) =
     phases_of (plan_of m.planning.rule m.planning.lmc (cells_of m.store)) (cells_of m.store) s m.standing.guid m.port
 
--- the manager once the first of the phases is sent
+-- the manager once a writing of these phases has begun, and its first phase with steps is queued
 abbrev pub begun_with : Manager → List Phase → Manager
 begun_with m phases = phase_sent m (record { later = without_empty_phases phases; has_failed = false })
 
--- the manager once a writing of its plan has begun
+-- the manager once a writing of its plan has begun, and its first phase with steps is queued
 abbrev pub after_write_steps : Manager → Manager
 after_write_steps m = begun_with m (phases_by m m.sweep)
 
 -- a plan is written ----------------------------------------------------------------------------------
 
+-- whether a writing was begun, no step of it that counts failed, and none waits or is still to be sent
 abbrev pub is_written_by : List Pending → Option Writing → Bool
 is_written_by pending None = false
 is_written_by pending (Some w) =
     not w.has_failed && (not (list_any (λ p. p.counts) w.later) && none_counts pending)
 
--- whether a writing was begun, and each of its steps that count was done
+-- whether the plan of the last writing is written: one was begun, and each of its steps that count was answered with
+-- status 0
 abbrev pub is_written : Manager → Bool
 is_written m = is_written_by m.pending m.writing
 
 -- a step is over --------------------------------------------------------------------------------------
 
--- the writing once it is noted whether a step was done
+-- the writing, with whether a step was done noted if the step counts; None if there is none
 abbrev pub noted : Bool → Bool → Option Writing → Option Writing
 noted counts was_done None = None
 noted counts was_done (Some w) = Some (record w { has_failed = w.has_failed || (counts && not was_done) })
 
--- the manager once a request no longer waits
+-- the manager once the request `p` no longer waits
 abbrev pub without : Manager → Pending → Manager
 without m p = record m { pending = without_number p.number m.pending }
 
--- whether the status of an answer says that a step was done; None stands for a timeout
+-- whether the status of an answer says that a step was done; false for a timeout, which is None
 abbrev pub is_done_by : Option ℕ → Bool
 is_done_by None = false
 is_done_by (Some status) = status == done
 
--- the manager once a step no longer waits; if it was the last of its phase, the next phase is sent
+-- the manager once the step `p` no longer waits; if no other step waits, the next phase is queued
 abbrev pub after_step : Manager → Pending → Bool → Manager
 after_step m p was_done =
     went_on (record m { pending = without_number p.number m.pending; writing = noted (counts p) was_done m.writing })
 
--- the number of steps that are sent if a waiting step ends: those of the next phase, if no other step waits
+-- how many steps are sent when a waiting step ends: those of the next phase, if only that one waits; else 0
 abbrev pub count_with : List Pending → Option Writing → ℕ
 count_with pending None = 0
 count_with pending (Some w) = if nat_lt 1 (how_many is_step pending) then 0 else length (next_phase w.later).steps
 
--- the number of steps that are sent if a waiting step of the manager ends
+-- how many steps the manager sends when a waiting step ends
 abbrev pub count_after : Manager → ℕ
 count_after m = count_with m.pending m.writing

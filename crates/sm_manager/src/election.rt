@@ -33,7 +33,7 @@ use smp_bytes::{Lid, Method, Path, PortNum};
 use std::collections::VecDeque;
 use subnet_view::{EndPort, is_end_port};
 
-/// Moves the state by the verdict of a sweep that saw the managers `seen`.
+/// Moves the state at the end of a sweep that saw the managers `seen`.
 pub(crate) fn end_sweep(standing: &mut Standing, seen: &[SeenManager])
     ensures { standing.new ≡ after_verdict seen.now standing.old }
 {
@@ -42,15 +42,15 @@ pub(crate) fn end_sweep(standing: &mut Standing, seen: &[SeenManager])
 }
 
 impl Manager {
-    /// Sends a poll to the manager at `lid`. If `lid` is `None`, polls a manager that the last sweep saw. That is the
+    /// Queues a poll to the manager at `lid` or, if `lid` is `None`, to a manager that the last sweep saw. That is the
     /// first master that this manager hears. If there is none, it is the greatest manager that outranks this one, and
-    /// of equals the first. That poll goes over the path by which the sweep asked the manager for SMInfo. The answer or
-    /// its timeout is counted when it comes. Walks the managers that the sweep saw.
+    /// of equals the first. A poll without `lid` goes over the path by which the sweep asked that manager for SMInfo.
+    /// The answer or its timeout is counted when it comes.
     ///
     /// # Errors
     ///
     /// Returns the first of these that applies: `NotStandby`; `Nobody` if `lid` is `None` and the sweep saw no manager
-    /// to poll; `SequenceSpent`; `Memory`.
+    /// to poll, or has no path to it; `SequenceSpent`; `Memory`.
     pub fn poll(&mut self, lid: Option<Lid>) -> Result<(), ManagerFault>
         ensures judged { JudgesButFor is_memory result (poll_fault self.old lid) }
         ensures ok { OnOk result (self.new ≡ after_poll self.old lid) }
@@ -65,8 +65,8 @@ impl Manager {
         Ok(())
     }
 
-    /// Returns the path of a poll, or `None` if it goes to `lid`. Returns `Nobody` if there is neither a LID nor a
-    /// manager to poll.
+    /// Returns the path of a poll, or `None` if it goes to `lid`. Returns `Nobody` if `lid` is `None` and there is no
+    /// path to a manager to poll.
     fn poll_path(&self, lid: &Option<Lid>) -> Result<Option<Path<63>>, ManagerFault>
         ensures judged { Judges result (unless_way lid.now (polled_path self.now)) }
         ensures path { IfOk result (λ path. path ≡ poll_path self.now lid.now) }
@@ -80,7 +80,8 @@ impl Manager {
         }
     }
 
-    /// Returns the path to the manager that a poll without a LID goes to, or `None` if there is none.
+    /// Returns the path of a poll without a LID. Returns `None` if the last sweep saw no manager to poll, or has no
+    /// path to it that leaves by the manager's port and has at most 63 hops.
     fn polled_path(&self) -> Option<&Path<63>>
         ensures { option_copied result ≡ polled_path self.now }
     {
@@ -104,10 +105,10 @@ impl Manager {
         }
     }
 
-    /// Tells the successor to take over. The successor is the greatest manager that the last sweep saw in Standby or
-    /// Master and that wins over this one, and of equals the first. Sends a HANDOVER to the LID that the plan gives to
-    /// the port where the successor was seen. This manager stays Master until the successor acknowledges or, by the
-    /// live conduct, answers that it took over. Plans LIDs, and walks the managers that the sweep saw.
+    /// Tells the successor to take over. The successor is the greatest manager that this one hears, that the last sweep
+    /// saw in Standby or Master, and that wins over this one, and of equals the first. Queues a HANDOVER to the LID
+    /// that the plan gives to the port where the successor was seen. This manager stays Master until the successor
+    /// acknowledges or, by the live conduct, answers with status 0. Plans the LIDs anew.
     ///
     /// # Errors
     ///
@@ -139,8 +140,9 @@ impl Manager {
         Ok(())
     }
 
-    /// Returns the LID that the plan gives to the successor's port. Returns `SequenceSpent` if no number is left for
-    /// the request.
+    /// Returns the LID that the plan gives to the successor's port. Returns the first of these that applies: `Nobody`
+    /// if there is no successor; `NoRoom`; `Nobody` if the successor's port is not a known end port; `SequenceSpent` if
+    /// no number is left for the request; `Memory`.
     fn successor_lid(&self) -> Result<Lid, ManagerFault>
         ensures judged { JudgesButFor is_memory result (successor_fault self.now) }
         ensures lid { IfOk result (λ lid. successor_lid self.now ≡ Some lid) }
@@ -156,7 +158,7 @@ impl Manager {
     }
 
     /// Returns why nothing can be sent to a port that is not a known end port: `NoRoom` if there is no plan, and
-    /// otherwise `Nobody`. Takes no memory.
+    /// otherwise `Nobody`. Does not allocate.
     fn lidless_fault(&self) -> ManagerFault
         ensures { Some result
             ≡ or_else (plan_fault self.now.planning.lmc (cells_of self.now.store)) (Some ManagerFault.Nobody) }
@@ -167,7 +169,8 @@ impl Manager {
         }
     }
 
-    /// Returns the LID that the plan gives to `port`.
+    /// Returns the LID that the plan gives to `port`, which must be an end port of the facts. Returns `NoRoom` if the
+    /// LIDs have no room, and otherwise `Memory` if memory runs out.
     fn planned_lid(&self, port: EndPort) -> Result<Lid, ManagerFault>
         requires { is_end_port (cells_of self.now.store) port.node port.port ≡ true }
         ensures judged { JudgesButFor is_memory result (plan_fault self.now.planning.lmc (cells_of self.now.store)) }
@@ -178,7 +181,7 @@ impl Manager {
         Ok(lids.lid_of(port).unwrap())
     }
 
-    /// Returns the LIDs of the plan.
+    /// Returns the LIDs of the plan. Returns `NoRoom` if they have no room, and otherwise `Memory` if memory runs out.
     fn plan_lids(&self) -> Result<LidMap, ManagerFault>
         ensures judged { JudgesButFor is_memory result (plan_fault self.now.planning.lmc (cells_of self.now.store)) }
         ensures lids { IfOk result (λ map. map ≡ lids self.now.planning.lmc (cells_of self.now.store)) }
@@ -191,7 +194,7 @@ impl Manager {
     }
 }
 
-/// Returns the port where the manager `seen` was seen, or `None` if it is not a known end port.
+/// Returns the port where the manager `seen` was seen, or `None` if the facts do not say that it is an end port.
 fn port_seen(store: &Store, seen: &SeenManager) -> Option<EndPort>
     ensures { result ≡ port_seen (cells_of store.now) seen.now }
 {
@@ -214,7 +217,8 @@ fn is_way_out(port: PortNum, path: &Path<63>) -> bool
     }
 }
 
-/// Queues a poll over `path` or, if there is none, to `lid`. Takes no memory.
+/// Queues a poll over `path` or, if `path` is `None`, by LIDs. The packet is addressed to `lid`. There must be room and
+/// a number for it. Does not allocate.
 fn send_poll(
     lid: Option<Lid>,
     path: Option<Path<63>>,
@@ -234,7 +238,8 @@ fn send_poll(
     outgoing.push_back_reserved(Outgoing { packet, to: lid });
 }
 
-/// Queues `message` as a control to the LID `to`. Does nothing if either is `None`. Takes no memory.
+/// Queues `message` as a control to the LID `to`. Does nothing if either is `None`. Otherwise there must be room and a
+/// number for it. Does not allocate.
 pub(crate) fn send_message(
     to: &Option<Lid>,
     message: &Option<Message>,
@@ -260,7 +265,7 @@ pub(crate) fn send_message(
     }
 }
 
-/// Queues `control` to the LID `to`. Takes no memory.
+/// Queues `control` to the LID `to`. There must be room and a number for it. Does not allocate.
 fn send_control(
     to: Lid,
     control: Control,

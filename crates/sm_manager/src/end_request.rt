@@ -15,7 +15,8 @@ use sm_state::{Control, Event, Standing};
 use smp_bytes::{Smp, Status};
 
 impl Manager {
-    /// Takes an answer to a request outside sweeps, and ends the request. Returns `Unasked` if the packet answers none.
+    /// Takes `smp` as the answer to a request outside sweeps, and ends that request. Returns `Unasked` if `smp` answers
+    /// none. Returns `SequenceSpent` or `Memory` if the next phase of a writing is due and cannot be sent.
     pub(crate) fn take_answer(&mut self, smp: &Smp) -> Result<(), ManagerFault>
         ensures judged { JudgesButFor is_memory result
             (request_answered self.old smp.now (pending_for self.old smp.now)).fault }
@@ -29,7 +30,8 @@ impl Manager {
         }
     }
 
-    /// Ends the request at `index`. `answer` is the status of its answer, or `None` if it timed out.
+    /// Ends the request at `index`, which must wait. `answer` is the status of its answer, or `None` if it timed out.
+    /// Returns `SequenceSpent` or `Memory` if the next phase of a writing is due and cannot be sent.
     pub(crate) fn end_request(
         &mut self,
         index: usize,
@@ -61,7 +63,7 @@ impl Manager {
     }
 }
 
-/// Returns whether `answer` says that a step was done. `None` stands for a timeout.
+/// Returns whether `answer` is status 0, by which a step is done. `None` stands for a timeout.
 fn is_done_by(answer: Option<Status>) -> bool
     ensures { result ≡ is_done_by (status_number answer) }
 {
@@ -71,7 +73,7 @@ fn is_done_by(answer: Option<Status>) -> bool
     }
 }
 
-/// Counts a poll as answered or as lost.
+/// Resets the count of lost polls if the poll was answered, and otherwise counts it as lost.
 fn end_poll(standing: &mut Standing, was_answered: bool)
     ensures { standing.new ≡ after_poll_end was_answered standing.old }
 {
@@ -82,22 +84,22 @@ fn end_poll(standing: &mut Standing, was_answered: bool)
     }
 }
 
-/// Returns whether the end of the request `ended` relieves the manager: by the live conduct, if it was a handover that
-/// was answered with status 0.
+/// Returns whether the end of the control `ended` relieves the manager. It does by the live conduct, if the control is
+/// a HANDOVER and `answer` is status 0. `None` stands for a timeout.
 fn is_relieved(standing: &Standing, ended: &Pending, answer: Option<Status>) -> bool
     ensures { result ≡ is_relieved standing.now ended.now (status_number answer) }
 {
     standing.conduct.is_live() && is_handover(ended) && is_done_by(answer)
 }
 
-/// Returns whether the request `ended` is a handover.
+/// Returns whether `ended` has the modifier of a HANDOVER. Its purpose is not looked at.
 fn is_handover(ended: &Pending) -> bool
     ensures { result ≡ is_handover ended.now }
 {
     ended.modifier == Control::Handover.modifier()
 }
 
-/// Ends a control. If `is_relieved`, the manager moves as if it had received an ACKNOWLEDGE.
+/// Moves the manager as an ACKNOWLEDGE would if `is_relieved`, and otherwise does nothing.
 fn end_control(standing: &mut Standing, is_relieved: bool)
     ensures { standing.new ≡ after_control_end is_relieved standing.old }
 {

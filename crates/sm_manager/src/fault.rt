@@ -5,7 +5,7 @@ use std::alloc::AllocError;
 use sweep::SweepFault;
 use thiserror::Error;
 
-/// Why a manager refuses a call. A refused call leaves it as it was.
+/// Why a manager refuses a call. A refused call leaves the manager as it was.
 #[derive(Clone, Copy, Debug, PartialEq, Eq, Error)]
 pub enum ManagerFault {
     /// The newest generation in the store is the greatest possible one.
@@ -14,29 +14,29 @@ pub enum ManagerFault {
     /// A sweep was begun and is not done.
     #[error("SweepRunning")]
     SweepRunning,
-    /// The manager is not in the state Master.
+    /// The manager is not in the state Master, or has begun no sweep.
     #[error("NotMaster")]
     NotMaster,
-    /// A plan is being written.
+    /// A step of a writing waits for its answer.
     #[error("WritingRunning")]
     WritingRunning,
     /// The manager is not in the state Standby.
     #[error("NotStandby")]
     NotStandby,
-    /// No manager seen by the last sweep can take over, or the plan has no LID for the port where the successor was
-    /// seen.
+    /// The last sweep saw no manager to poll or to hand over to, there is no path to the manager to poll, or the plan
+    /// has no LID for the port where the successor was seen.
     #[error("Nobody")]
     Nobody,
-    /// A request needs a number of more than 32 bits.
+    /// A request needs, or could need, a number of more than 32 bits.
     #[error("SequenceSpent")]
     SequenceSpent,
     /// There is no room for the LIDs of the plan.
     #[error("NoRoom")]
     NoRoom(NoRoom),
-    /// The sweep refuses the reply, for a reason other than lack of memory.
+    /// The bytes are not a packet, or the sweep refuses the reply for a reason other than lack of memory.
     #[error("{0}")]
     Sweep(SweepFault),
-    /// The packet answers no request, or the request that timed out does not wait.
+    /// The packet answers no request that waits, or the request that timed out does not wait.
     #[error("Unasked")]
     Unasked,
     /// The memory that the call needs was refused.
@@ -47,7 +47,7 @@ pub enum ManagerFault {
 impl ManagerFault {
     ghost use Rattle.sm_manager.specs.Fault.{manager_fault_name};
 
-    /// Returns the name that `{}` writes. For a fault of the sweep, this is the sweep's name of it.
+    /// Returns the name that `{}` writes. If the fault is `Sweep`, this is the name of the sweep's fault.
     pub fn name(self) -> &'static str
         ensures { result.now ≡ manager_fault_name self }
     {

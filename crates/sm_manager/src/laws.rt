@@ -13,9 +13,9 @@ pub fn knows_what_it_took_in()
 {}
 
 /// If two managers took in the same sightings, have the same greatest floor, and plan by the same rule and LMC, they
-/// hold equal facts and plan equal LIDs and forwarding blocks, whatever else happened to them. If these facts describe
-/// exactly the part that an end port is joined to, and that part holds the plan, each packet from an end port of the
-/// part for a LID of the plan arrives at the end port that owns the LID.
+/// hold equal facts and plan equal LIDs and forwarding blocks, whatever else happened to them. If the LIDs have room,
+/// these facts describe exactly the part that an end port is joined to, and that part holds the plan, each packet from
+/// an end port of the part for a LID of the plan arrives at the end port that owns the LID.
 #[tactic(auto, using(crate::proofs::Lives::same_taken_in_same_plan))]
 pub fn same_taken_in_same_plan()
     ensures { SameTakenInSamePlan }
@@ -35,8 +35,8 @@ pub fn handovers_leave_a_master()
     ensures { HandoversLeaveAMaster }
 {}
 
-/// An answer to a poll with its number, by LIDs or over the path, is taken as the answer to that poll, and not as a
-/// reply to a sweep, whatever else it contains.
+/// A response to a poll, by LIDs or over a path of at most 63 hops, with any status and data, is taken as the answer to
+/// that poll, and not as a reply to a sweep.
 #[tactic(auto, using(crate::proofs::PollAnswers::answers_reach_polls))]
 pub fn answers_reach_polls()
     ensures { AnswersReachPolls }

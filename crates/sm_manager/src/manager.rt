@@ -25,8 +25,8 @@ use std::collections::VecDeque;
 use std::marker::Model;
 use sweep::Sweep;
 
-/// A subnet manager at an adapter's port: its state, what it knows of the subnet, its last sweep, and the packets that
-/// it has queued. Contracts see each of these.
+/// A subnet manager at an adapter's port: its standing, how it plans, the facts that it holds, its last sweep, its last
+/// writing, the requests that wait outside sweeps, and the packets that it has queued.
 #[derive(Drop)]
 pub struct Manager {
     pub(crate) alloc: Global,
@@ -36,7 +36,7 @@ pub struct Manager {
     pub(crate) planning: Planning,
     pub(crate) store: Store,
     pub(crate) sweep: Option<Sweep>,
-    /// The managers that the last sweep saw.
+    /// The managers that the last sweep saw, in the order in which it saw them.
     pub(crate) seen: Vec<SeenManager>,
     pub(crate) writing: Option<Writing>,
     pub(crate) requests: ManagerRequests,
@@ -68,8 +68,8 @@ impl Model for Manager {
 }
 
 impl Manager {
-    /// Creates a manager without facts at the port `port`, whose GUID is `port_guid`. Its state is Discovering. Takes
-    /// no memory.
+    /// Creates a manager without facts at the port `port`, whose GUID is `port_guid`. Its state is Discovering. Does
+    /// not allocate.
     pub fn new(
         alloc: Global,
         port_guid: Guid,
@@ -95,9 +95,9 @@ impl Manager {
     }
 
     /// Begins a sweep, and queues its first request. The sweep's generation is the one after the newest in the store,
-    /// or the floor if that is greater. Forgets the managers that the previous sweep saw. Walks the store once. By the
-    /// live conduct, the sweep keeps the 64 bytes that it reads of each port and each switch, and a later writing
-    /// carries them.
+    /// or the floor if that is greater. Forgets the managers that the previous sweep saw. By the live conduct, the
+    /// sweep keeps the 64 bytes that it reads of each port and each switch, and a later writing carries them. Takes
+    /// time linear in the number of facts.
     ///
     /// # Errors
     ///
@@ -123,7 +123,7 @@ impl Manager {
         Ok(())
     }
 
-    /// Removes the first queued packet and returns it, or returns `None` if none is queued. Takes no memory.
+    /// Removes the first queued packet and returns it, or returns `None` if none is queued. Does not allocate.
     pub fn take_outgoing(&mut self) -> Option<Outgoing>
         ensures packet { result ≡ (after_take_outgoing self.old).packet }
         ensures manager { self.new ≡ (after_take_outgoing self.old).manager }
@@ -131,16 +131,16 @@ impl Manager {
         self.outgoing.pop_front()
     }
 
-    /// Forgets facts older than `floor`, and ignores them if they come again. A running sweep goes on: its replies are
-    /// accepted, but their facts are ignored if its generation is below `floor`. The generation of the next sweep is at
-    /// least `floor`. Takes no memory. Walks the store if `floor` is greater than its floor.
+    /// Forgets the facts of generations below `floor`, and ignores them if they come again. Does nothing if `floor` is
+    /// at most the store's floor. A running sweep goes on: its replies are accepted, but their facts are ignored if its
+    /// generation is below `floor`. The generation of the next sweep is at least `floor`. Does not allocate.
     pub fn raise_floor(&mut self, floor: Generation)
         ensures { self.new ≡ after_raise_floor self.old floor }
     {
         self.store.raise_floor(floor);
     }
 
-    /// Merges the facts and the floor of another store. Walks both stores.
+    /// Merges the facts and the floor of `other` into the manager's. If memory runs out, nothing changes.
     ///
     /// # Errors
     ///
@@ -157,10 +157,11 @@ impl Manager {
     }
 
     /// Returns the plan of what is known: the LID of each end port, and the forwarding blocks of each usable switch.
+    /// Where the facts describe a part exactly and the part holds the plan, every packet arrives.
     ///
     /// # Errors
     ///
-    /// Returns `NoRoom` if the LIDs have no room. Returns `Memory` only if they have.
+    /// Returns `NoRoom` if the LIDs have no room. Returns `Memory` only if they have, and memory runs out.
     pub fn plan(&self) -> Result<Plan, ManagerFault>
         ensures judged { JudgesButFor is_memory result (plan_fault self.now.planning.lmc (cells_of self.now.store)) }
         ensures plan { IfOk result (λ plan.
@@ -175,8 +176,8 @@ impl Manager {
         }
     }
 
-    /// Returns the TransactionID of the `i`-th request that waits for its answer, in rising order and counted from 0.
-    /// Returns `None` if fewer requests wait.
+    /// Returns the `i`-th of the TransactionIDs of the requests that wait, in rising order and counted from 0. Returns
+    /// `None` if fewer requests wait.
     pub fn outstanding(&self, i: usize) -> Option<u64>
         ensures { result ≡ slice_get (outstanding self.now) i }
     {
@@ -192,7 +193,7 @@ impl Manager {
         }
     }
 
-    /// Returns all facts that the manager took in.
+    /// Returns the facts that the manager holds.
     pub fn store(&self) -> &Store
         ensures { result.now ≡ self.now.store }
     {
@@ -206,7 +207,8 @@ impl Manager {
         self.standing.state
     }
 
-    /// Returns how far the last sweep is.
+    /// Returns how far the last sweep is: whether it was begun and is done, how many of its requests timed out, and by
+    /// how many ports it did not go on because of the length of the path.
     pub fn progress(&self) -> Progress
         ensures { result ≡ progress_of self.now.sweep }
     {
@@ -230,8 +232,8 @@ impl Manager {
         }
     }
 
-    /// Returns how many of the last sweep's requests for SMInfo were not answered. Each was sent to a port that reports
-    /// a manager, which was silent. Returns `None` if no sweep was begun.
+    /// Returns how many of the last sweep's requests for SMInfo timed out. Each went to a port that reports a manager,
+    /// which was silent. Returns `None` if no sweep was begun.
     pub fn silent_managers(&self) -> Option<u64>
         ensures { result ≡ silent_in self.now.sweep }
     {

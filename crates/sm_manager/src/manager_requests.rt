@@ -47,7 +47,7 @@ impl Model for ManagerRequests {
 }
 
 impl ManagerRequests {
-    /// Creates an empty table. Takes no memory.
+    /// Creates an empty table, whose next number is 1. Does not allocate.
     pub(crate) fn new(alloc: Global) -> Self
         ensures counter { result.counter ≡ 1 }
         ensures pending { result.pending ≡ [] }
@@ -80,7 +80,7 @@ impl ManagerRequests {
         self.steps == 0
     }
 
-    /// Returns whether numbers are left for `count` more requests.
+    /// Returns whether `count` more requests can have numbers that fit 32 bits.
     pub(crate) fn has_numbers(&self, count: usize) -> bool
         ensures enough { result ≡ nat_le (self.now.counter + count) (2 ^ 32) }
         ensures numbered { AreNumbered self.now.counter self.now.pending }
@@ -97,8 +97,8 @@ impl ManagerRequests {
         self.table.reserve(count)
     }
 
-    /// Adds a request for `step` under the next number, and returns its packet. `counts` says whether the plan is
-    /// written only if the step is done. Takes no memory.
+    /// Adds a request for `step` under the next number, and returns its packet. If `counts`, the plan is written only
+    /// if the step is done. There must be room and a number for the request. Does not allocate.
     pub(crate) fn send(&mut self, counts: bool, step: Step) -> Smp
         requires room { 0 < self.old.room }
         requires number { self.old.counter < 2 ^ 32 }
@@ -124,7 +124,8 @@ impl ManagerRequests {
         packet
     }
 
-    /// Adds a request for SMInfo by LIDs under the next number, and returns its packet. Takes no memory.
+    /// Adds a request for SMInfo by LIDs under the next number, and returns its packet. `purpose` must not be a step,
+    /// and there must be room and a number for the request. Does not allocate.
     pub(crate) fn send_info(
         &mut self,
         purpose: Purpose,
@@ -152,8 +153,8 @@ impl ManagerRequests {
         Smp::lid_routed(method, AttributeId::SM_INFO, modifier, number, payload)
     }
 
-    /// Adds a poll under the next number, over `path` or, if it is `None`, by LIDs. Returns its packet. Takes no
-    /// memory.
+    /// Adds a poll under the next number, and returns its packet. The poll goes over `path` or, if `path` is `None`, by
+    /// LIDs. There must be room and a number for it. Does not allocate.
     pub(crate) fn send_poll(&mut self, path: Option<Path<63>>) -> Smp
         requires room { 0 < self.old.room }
         requires number { self.old.counter < 2 ^ 32 }
@@ -174,14 +175,14 @@ impl ManagerRequests {
         packet
     }
 
-    /// Returns the request at `index`, in the order of numbers, or `None` if there is none.
+    /// Returns the request at `index`, by rising numbers, or `None` if fewer wait.
     pub(crate) fn get(&self, index: usize) -> Option<&Pending>
         ensures { option_copied result ≡ slice_get self.now.pending index }
     {
         self.table.get(index)
     }
 
-    /// Returns the purpose of the request at `index`.
+    /// Returns the purpose of the request at `index`, which must wait.
     pub(crate) fn purpose(&self, index: usize) -> Purpose
         requires { index < length self.now.pending }
         ensures { Some result
@@ -197,14 +198,16 @@ impl ManagerRequests {
         self.counting == 0
     }
 
-    /// Returns the index of the request with this TransactionID, or `None` if there is none. Takes a search.
+    /// Returns the index of the request with the TransactionID `transaction`, or `None` if none waits. Takes a binary
+    /// search among the requests that wait.
     pub(crate) fn index_of(&self, transaction: u64) -> Option<usize>
         ensures { IsIndexFor (with_number transaction self.now.pending) self.now.pending result }
     {
         self.table.index_of(transaction)
     }
 
-    /// Returns the index of the request that the packet answers, or `None` if there is none. Takes a search.
+    /// Returns the index of the request that `smp` answers, or `None` if it answers none. Takes a binary search among
+    /// the requests that wait.
     pub(crate) fn index_for(&self, smp: &Smp) -> Option<usize>
         ensures { IsIndexFor (find (answers smp.now) self.now.pending) self.now.pending result }
     {
@@ -217,7 +220,7 @@ impl ManagerRequests {
         }
     }
 
-    /// Removes the request at `index` and returns it. Moves the requests on one side of it.
+    /// Removes the request at `index`, which must wait, and returns it.
     pub(crate) fn end(&mut self, index: usize) -> Pending
         requires { index < length self.old.pending }
         ensures request { Some result ≡ slice_get self.old.pending index }
@@ -236,7 +239,8 @@ impl ManagerRequests {
     }
 }
 
-/// Returns the packet of a poll over `path` or, if it is `None`, by LIDs.
+/// Returns the packet of the poll `number`, which must fit 32 bits. The poll goes over `path` or, if `path` is `None`,
+/// by LIDs.
 fn poll_packet(number: u64, path: &Option<Path<63>>) -> Smp
     requires { number < 2 ^ 32 }
     ensures { result ≡ poll_packet number path.now }
@@ -248,7 +252,7 @@ fn poll_packet(number: u64, path: &Option<Path<63>>) -> Smp
 }
 
 /// Reserves memory for `count` more requests and for `packets` more packets. Returns `SequenceSpent` if too few numbers
-/// are left for the requests.
+/// are left for the requests, and otherwise `Memory` if memory runs out.
 pub(crate) fn make_room(
     count: usize,
     packets: usize,

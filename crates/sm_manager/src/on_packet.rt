@@ -21,18 +21,16 @@ impl Manager {
     ///
     /// A reply to the sweep adds its facts, or notes another manager, and queues the next requests. If that ends the
     /// sweep, the state changes by what the sweep saw. An answer to a poll, a control or a step of a writing ends that
-    /// request. The last answer of a phase queues the next phase. A request for SMInfo is answered, and a control is
-    /// obeyed if the table of states has a move for it. By the live conduct, a trap by LIDs is repressed, and its
-    /// content is returned.
-    ///
-    /// The work does not grow with what is known, except for searches and, at the end of a sweep, for the managers that
-    /// it saw.
+    /// request. If no other step of the phase waits, the next phase is queued. A request for SMInfo is answered, and a
+    /// control is obeyed if the table of states has a move for it. By the live conduct, a trap by LIDs is repressed,
+    /// and its content is returned.
     ///
     /// # Errors
     ///
-    /// Returns `Sweep` with the fault of the bytes if they are not a packet. Returns `Unasked` if the packet answers no
-    /// request, is not a request for SMInfo and is not repressed. Returns `Sweep` if the sweep refuses the reply.
-    /// Returns `SequenceSpent` if no numbers are left for what is to be sent, and `Memory` if memory runs out.
+    /// Returns `Sweep` with the fault of the bytes if they are not a packet, and `Sweep` with the sweep's fault if the
+    /// sweep refuses the reply. Returns `Unasked` if the packet looks like a reply to a sweep and none was begun, or if
+    /// it is neither such a reply, nor a request for SMInfo, nor a trap that is repressed, and answers no request that
+    /// waits. Returns `SequenceSpent` if no numbers are left for what is to be sent, and `Memory` if memory runs out.
     pub fn on_packet(
         &mut self,
         bytes: &[u8; 256],
@@ -57,7 +55,7 @@ impl Manager {
         }
     }
 
-    /// Handles the packet `smp`. `from` is the LID of its sender. A packet that came by LIDs must have one.
+    /// Handles the packet `smp`. `from` is the LID of its sender. If `smp` came by LIDs, `from` must not be `None`.
     fn take(&mut self, smp: &Smp, from: Option<Lid>) -> Result<(), ManagerFault>
         requires { HasSender smp.now from }
         ensures judged { JudgesButFor is_memory result (packet_taken self.old smp.now from None).fault }
@@ -75,7 +73,7 @@ impl Manager {
         }
     }
 
-    /// Returns the content of the trap that the manager represses, or `None` if the packet is not such a trap.
+    /// Returns the content of the trap `smp`, or `None` if `smp` is not a trap that the manager represses.
     fn trap_told(&self, smp: &Smp) -> Option<Trap>
         ensures { result ≡ trap_told self.now smp.now }
     {
@@ -86,8 +84,8 @@ impl Manager {
         }
     }
 
-    /// Takes a reply to the sweep: adds what it shows and queues the next requests. Returns `Unasked` if no sweep was
-    /// begun.
+    /// Takes a reply to the sweep: adds what it shows, and queues the next requests. Returns `Unasked` if no sweep was
+    /// begun, `Sweep` if the sweep refuses the reply, and `Memory` if memory runs out.
     fn take_reply(&mut self, smp: &Smp) -> Result<(), ManagerFault>
         ensures judged { JudgesButFor is_memory result
             (sweep_answered self.old smp.now self.old.sweep).fault }
@@ -115,7 +113,7 @@ impl Manager {
     }
 }
 
-/// Returns the manager's fault for a refusal by the sweep.
+/// Returns the manager's fault for a refusal by the sweep: `Memory` for the sweep's `Memory`, and otherwise `Sweep`.
 fn refusal_of(fault: SweepFault) -> ManagerFault
     ensures { result ≡ refusal_of fault }
 {
@@ -138,15 +136,15 @@ fn fault_without_room(sweep: &Sweep, smp: &Smp) -> ManagerFault
     }
 }
 
-/// Returns whether a packet is a request for SMInfo.
+/// Returns whether `smp` is a request for SMInfo.
 fn is_info_request(smp: &Smp) -> bool
     ensures { result ≡ is_info_request smp.now }
 {
     !smp.is_response() && smp.attribute_id() == AttributeId::SM_INFO
 }
 
-/// Returns whether a packet is an answer to a request of a sweep: it came over a directed route, and the high half of
-/// its TransactionID is not 0.
+/// Returns whether `smp` is a GetResp over a directed route, and the high half of its TransactionID is not 0. Answers
+/// to the requests of a sweep are such packets.
 fn is_for_sweep(smp: &Smp) -> bool
     ensures { result ≡ is_for_sweep smp.now }
 {

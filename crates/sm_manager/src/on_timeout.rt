@@ -9,14 +9,14 @@ use crate::fault::ManagerFault;
 use crate::manager::Manager;
 
 impl Manager {
-    /// Handles the timeout of the request with this TransactionID. The request no longer waits. The third lost poll in
-    /// a row changes the state. If the timeout ends the sweep, the state changes by what the sweep saw. Takes memory
-    /// only if the timeout ends a phase of a writing.
+    /// Handles the timeout of the request with the TransactionID `transaction`. The request no longer waits. The third
+    /// lost poll in a row moves a standby to Discovering. If the timeout ends the sweep, the state changes by what the
+    /// sweep saw. If the timeout ends a phase of a writing, the next phase is queued.
     ///
     /// # Errors
     ///
-    /// Returns `Unasked` if no request with this TransactionID waits. Returns `SequenceSpent` and `Memory` only if the
-    /// next phase would be sent.
+    /// Returns `Unasked` if no request with the TransactionID `transaction` waits. Returns `SequenceSpent` or `Memory`
+    /// only if the next phase of a writing is due and cannot be sent.
     pub fn on_timeout(&mut self, transaction: u64) -> Result<(), ManagerFault>
         ensures judged { JudgesButFor is_memory result (after_timeout self.old transaction).fault }
         ensures ok { OnOk result (self.new ≡ (after_timeout self.old transaction).manager) }
@@ -31,7 +31,8 @@ impl Manager {
         }
     }
 
-    /// Handles the timeout of a request of the sweep.
+    /// Handles the timeout of a request of the sweep. Returns `Unasked` if no such request waits, or no sweep was
+    /// begun.
     fn give_up(&mut self, transaction: u64) -> Result<(), ManagerFault>
         ensures judged { JudgesButFor is_memory result
             (sweep_gave_up self.old transaction self.old.sweep).fault }

@@ -62,7 +62,7 @@ impl Pending {
         }
     }
 
-    /// Returns whether the packet is the answer to the request.
+    /// Returns whether `smp` is an answer to the request.
     pub(crate) fn is_answered_by(&self, smp: &Smp) -> bool
         ensures { result ≡ answers smp.now self.now }
     {

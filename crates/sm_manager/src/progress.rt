@@ -6,7 +6,8 @@ pub enum Progress {
     Running {
         /// The number of requests that were not answered.
         unanswered: u64,
-        /// The number of ports that lead to a node more than 63 hops away.
+        /// The number of ports through which the sweep did not go on, since the path would have been longer than 63
+        /// hops.
         too_far: u64,
     },
     Done {

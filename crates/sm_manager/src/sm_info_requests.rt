@@ -1,4 +1,4 @@
-//! The answers to requests of other managers.
+//! The answers to requests that other managers send.
 ghost use Rattle.std.specs.Prelude.{◌≡◌, ◌<◌, ◌^◌, OnOk, OnErr};
 ghost use Rattle.smp_bytes.specs.Judges.{JudgesButFor};
 ghost use Rattle.sm_manager.specs.Election.{message_count};
@@ -22,8 +22,10 @@ use std::alloc::AllocError;
 use std::collections::VecDeque;
 
 impl Manager {
-    /// Answers a request for SMInfo. The answer goes by the request's path if it came over a directed route, and
-    /// otherwise to `from`, the LID of its sender.
+    /// Answers the request `smp` for SMInfo. A control that the table of states has a move for is also obeyed. The
+    /// answer goes by the request's path if that came over a directed route, and otherwise to `from`, the LID of its
+    /// sender. Returns `SequenceSpent` if an acknowledgement is due and no number is left for it, and `Memory` if
+    /// memory runs out.
     pub(crate) fn serve(&mut self, smp: &Smp, from: Option<Lid>) -> Result<(), ManagerFault>
         ensures judged { JudgesButFor is_memory result
             (unless_spent self.old (served self.old smp.now from)).fault }
@@ -38,7 +40,7 @@ impl Manager {
         }
     }
 
-    /// Answers a request that is not a control.
+    /// Queues the answer to the request `smp`, which is not taken as a control.
     fn reply(&mut self, smp: &Smp, from: Option<Lid>) -> Result<(), ManagerFault>
         ensures judged { JudgesButFor is_memory result
             (unless_spent self.old (replying self.old smp.now from)).fault }
@@ -54,7 +56,8 @@ impl Manager {
     }
 
     /// Moves the state by the table of states, and queues the answer to the control `smp`. If the transition has a
-    /// message and the control came by LIDs, queues the message to `from`.
+    /// message and the control came by LIDs, also queues the message to `from`. Returns `SequenceSpent` if no number is
+    /// left for the message.
     fn answer_control(&mut self, smp: &Smp, from: Option<Lid>) -> Result<(), ManagerFault>
         ensures judged { JudgesButFor is_memory result
             (unless_spent self.old (controlled self.old smp.now from)).fault }
@@ -85,7 +88,7 @@ impl Manager {
     }
 }
 
-/// Moves the state, and returns the answer to the control. The answer contains the new state.
+/// Moves `standing` by `transition`, and returns the answer to the control `smp`. The answer has the new state.
 fn move_on(
     transition: &Transition,
     smp: &Smp,
@@ -100,8 +103,8 @@ fn move_on(
     answer(smp, from, transition.status(), standing)
 }
 
-/// Builds the answer to a request. It goes by the request's path if it came over a directed route, and otherwise to
-/// `from`, the LID of its sender.
+/// Builds the answer to `smp` with `status`, which must be below 2^15. The answer goes by the path of `smp` if that
+/// came over a directed route, and otherwise to `from`.
 fn answer(smp: &Smp, from: &Option<Lid>, status: Status, standing: &Standing) -> Outgoing
     requires { status.0 < 2 ^ 15 }
     ensures { result ≡ answer_out standing.now smp.now from.now status.0 }
@@ -114,7 +117,7 @@ fn answer(smp: &Smp, from: &Option<Lid>, status: Status, standing: &Standing) ->
     Outgoing { packet, to }
 }
 
-/// Returns the LID to which a control is acknowledged: `from`, or `None` if the control came over a directed route.
+/// Returns the LID to which the control `smp` is acknowledged: `from`, or `None` if `smp` came over a directed route.
 fn acknowledged_at(smp: &Smp, from: Option<Lid>) -> Option<Lid>
     ensures { result ≡ acknowledged_at smp.now from }
 {
@@ -124,7 +127,7 @@ fn acknowledged_at(smp: &Smp, from: Option<Lid>) -> Option<Lid>
     }
 }
 
-/// Returns the data of an answer: the manager's SMInfo if `status` is 0, and otherwise the data of the request.
+/// Returns the data of the answer to `smp`: the manager's SMInfo if `status` is 0, and otherwise the data of `smp`.
 fn answer_data(smp: &Smp, status: Status, standing: &Standing) -> [u8; 64]
     ensures { result ≡ answer_data standing.now smp.now status.0 }
 {
@@ -135,7 +138,7 @@ fn answer_data(smp: &Smp, status: Status, standing: &Standing) -> [u8; 64]
     }
 }
 
-/// Returns whether a request may be a control that is obeyed: a Set by LIDs or, by the live conduct, any Set.
+/// Returns whether `smp` is taken as a control: a Set by LIDs or, by the live conduct, any Set.
 fn is_control(standing: &Standing, smp: &Smp) -> bool
     ensures { result ≡ is_control standing.now smp.now }
 {
@@ -143,7 +146,8 @@ fn is_control(standing: &Standing, smp: &Smp) -> bool
         && (standing.conduct.is_live() || smp.class() == SmpClass::LidRouted)
 }
 
-/// Returns the status of the answer to a request that is not a control.
+/// Returns the status of the answer to a request that is not taken as a control: 0 for a Get, invalid field for a Set,
+/// and method not supported for any other.
 fn status_for(smp: &Smp) -> Status
     ensures status { result.0 ≡ status_for smp.now }
     ensures small { result.0 < 2 ^ 15 }
@@ -158,7 +162,7 @@ fn status_for(smp: &Smp) -> Status
     }
 }
 
-/// Returns the number of requests that are sent for a message: 1 if there are both a message and a LID to send it to,
+/// Returns the number of requests that are sent for `message`: 1 if there are both a message and a LID to send it to,
 /// and otherwise 0.
 fn message_count(to: &Option<Lid>, message: &Option<Message>) -> usize
     ensures { result ≡ message_count to.now message.now }

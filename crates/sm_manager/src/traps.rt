@@ -25,7 +25,7 @@ pub struct Trap {
 }
 
 impl Trap {
-    /// Reads the content of a trap.
+    /// Reads the content of the trap `smp`. Whether it is a trap is not looked at.
     pub(crate) fn of(smp: &Smp) -> Trap
         ensures { result ≡ trap_in smp.now }
     {
@@ -36,7 +36,7 @@ impl Trap {
 }
 
 impl Manager {
-    /// Returns whether a packet is a trap that the manager represses: by the live conduct, a trap that came by LIDs.
+    /// Returns whether the manager represses `smp`: by the live conduct, a trap that came by LIDs.
     pub(crate) fn represses(&self, smp: &Smp) -> bool
         ensures { result ≡ represses self.now smp.now }
     {
@@ -45,8 +45,8 @@ impl Manager {
             && smp.class() == SmpClass::LidRouted
     }
 
-    /// Queues the answer to a trap for the sender's LID `from`. After that answer the sender no longer repeats the
-    /// trap.
+    /// Queues the answer to the trap `smp` for the sender's LID `from`. The sender does not repeat the trap once it has
+    /// that answer. Returns `Memory` if memory runs out.
     pub(crate) fn repress(&mut self, smp: &Smp, from: Option<Lid>) -> Result<(), ManagerFault>
         ensures ok { OnOk result (self.new ≡ repressing self.old smp.now from) }
         ensures err { OnErr result (self.new ≡ self.old) }
@@ -58,7 +58,8 @@ impl Manager {
     }
 }
 
-/// Builds the answer to a trap. It returns the attribute, the modifier, the TransactionID and the data to the sender.
+/// Builds the answer to the trap `smp` for the LID `from`. It has the attribute, the modifier, the TransactionID and
+/// the data of the trap.
 fn repress_out(smp: &Smp, from: Option<Lid>) -> Outgoing
     ensures { result ≡ repress_out smp.now from }
 {

@@ -20,13 +20,13 @@ use sweep::Sweep;
 
 impl Manager {
     /// Begins to write the plan of what is known, over the paths of the last sweep: the LID of each end port, the
-    /// forwarding blocks of each switch and their top, and then the states of ports on wires. Each phase is sent as a
-    /// whole. The next phase follows once each step was answered or timed out.
+    /// forwarding blocks of each usable switch and its top, and then the states of ports on wires. Each phase is queued
+    /// as a whole. The next phase follows once each step was answered or timed out.
     ///
     /// # Errors
     ///
-    /// Returns the first of these that applies: `NotMaster`; `SweepRunning`; `WritingRunning`; `NoRoom`;
-    /// `SequenceSpent` if fewer numbers are left than a phase could need; `Memory`.
+    /// Returns the first of these that applies: `NotMaster`, also if no sweep was begun; `SweepRunning`;
+    /// `WritingRunning`; `NoRoom`; `SequenceSpent` if fewer numbers are left than a phase could need; `Memory`.
     pub fn write_steps(&mut self) -> Result<(), ManagerFault>
         ensures judged { JudgesButFor is_memory result (writing_fault self.old) }
         ensures ok { OnOk result (self.new ≡ after_write_steps self.old) }
@@ -40,7 +40,7 @@ impl Manager {
         Ok(())
     }
 
-    /// Returns a writing of the plan of what is known. None of its steps is sent yet.
+    /// Returns a writing of the plan of what is known. None of its steps is sent yet. Fails as `write_steps` does.
     fn planned(&self) -> Result<Writing, ManagerFault>
         ensures judged { JudgesButFor is_memory result (writing_fault self.now) }
         ensures writing { IfOk result (λ w. w
@@ -65,7 +65,7 @@ impl Manager {
     /// # Errors
     ///
     /// Returns the first of these that applies: `NotMaster`, also if no sweep was begun; `SweepRunning` if the sweep is
-    /// not done; `WritingRunning`.
+    /// not done; `WritingRunning` if a step of a writing waits.
     fn last_sweep(&self) -> Result<&Sweep, ManagerFault>
         ensures judged { Judges result (write_fault self.now) }
         ensures sweep { IfOk result (λ s. self.now.sweep ≡ Some s.now) }
@@ -85,7 +85,8 @@ impl Manager {
         Ok(sweep)
     }
 
-    /// Ends the step at `index`. If it was the last of its phase, queues the next phase.
+    /// Ends the step at `index`, which must wait. If it was the last of its phase to wait, queues the next phase.
+    /// Returns `SequenceSpent` or `Memory` if that phase cannot be sent.
     pub(crate) fn end_step(&mut self, index: usize, was_done: bool) -> Result<(), ManagerFault>
         requires within { index < length self.old.pending }
         requires step { (p : Pending) → slice_get self.old.pending index ≡ Some p
@@ -109,8 +110,8 @@ impl Manager {
         Ok(())
     }
 
-    /// Returns the number of steps that are sent when a waiting step ends: those of the next phase if it is the only
-    /// one that waits, and otherwise 0.
+    /// Returns the number of steps that are sent when a waiting step ends: 0 if two or more steps wait, and otherwise
+    /// the number of steps of the next phase.
     fn count_after(&self) -> usize
         ensures { result ≡ count_after self.now }
     {

@@ -11,7 +11,7 @@ use plan_steps::{Phase, Step, phases};
 use std::collections::VecDeque;
 use std::marker::Model;
 
-/// A plan that is being written, or was.
+/// A plan that is being written, or was written last.
 #[derive(Drop)]
 pub(crate) struct Writing {
     /// The phases that have not been sent, in their order. The first of them has steps.
@@ -29,7 +29,7 @@ impl Model for Writing {
 }
 
 impl Writing {
-    /// Creates a writing of `phases`. None of their steps is sent yet.
+    /// Creates a writing of `phases`, without the empty ones at their front. None of their steps is sent yet.
     pub(crate) fn new(phases: VecDeque<Phase>) -> Self
         ensures { result ≡ record { later = without_empty_phases phases.items; has_failed = false } }
     {
@@ -51,7 +51,7 @@ impl Writing {
         }
     }
 
-    /// Notes whether a step was done. `counts` says whether the plan is written only if that step is done.
+    /// Notes whether a step was done. If `counts`, the plan is written only if that step is done.
     pub(crate) fn note(&mut self, counts: bool, was_done: bool)
         ensures later { self.new.later ≡ self.old.later }
         ensures failed { self.new.has_failed ≡ self.old.has_failed || (counts && not was_done) }
@@ -59,7 +59,9 @@ impl Writing {
         self.has_failed = self.has_failed || (counts && !was_done);
     }
 
-    /// Queues the steps of the next phase, which then wait for their answers. Takes no memory.
+    /// Takes the next phase off the writing and queues its steps, which then wait for their answers. Does nothing if no
+    /// phase is left. `requests` must have room and numbers for these steps, and `outgoing` must have room for them.
+    /// Does not allocate.
     pub(crate) fn send_next(
         &mut self,
         requests: &mut ManagerRequests,
@@ -84,7 +86,7 @@ impl Writing {
         }
     }
 
-    /// Returns whether every step that counts was sent, and none of them failed.
+    /// Returns whether every phase that counts was sent, and no step that counts has failed so far.
     pub(crate) fn is_sent(&self) -> bool
         ensures { result ≡ not self.now.has_failed && not (list_any (λ p. p.counts) self.now.later) }
     {
@@ -99,7 +101,7 @@ impl Writing {
     }
 }
 
-/// Removes phases without steps from the front.
+/// Removes the phases without steps from the front of `later`.
 fn pass(later: &mut VecDeque<Phase>)
     ensures { later.new.items ≡ without_empty_phases later.old.items }
 {
@@ -111,7 +113,7 @@ fn pass(later: &mut VecDeque<Phase>)
     }
 }
 
-/// Queues the steps of a phase, which then wait for their answers. Takes no memory.
+/// Queues `steps`, which then wait for their answers. There must be room and numbers for them. Does not allocate.
 fn send_steps(
     counts: bool,
     steps: Vec<Step>,
@@ -134,8 +136,8 @@ fn send_steps(
 }
 
 impl Manager {
-    /// Returns whether a writing was begun, and each of its steps that sets a LID, a block or a top was answered as
-    /// done.
+    /// Returns whether a writing was begun, and each step of the last one that sets a LID, a block or a top was
+    /// answered with status 0.
     pub fn written(&self) -> bool
         ensures { result ≡ is_written self.now }
     {

@@ -5,20 +5,21 @@ use Rattle.attr_codec.specs.declared.sm_info.SmInfo.{SmInfo}
 use Rattle.sm_state.specs.declared.conduct.Conduct.{Conduct}
 use Rattle.sm_state.specs.declared.conduct.Conduct.TheVariants.{Plain, Live}
 
--- the live conduct with an SM_Key, or the plain conduct if there is no key
+-- the live conduct with an SM_Key; the plain conduct if there is no key
 abbrev pub conduct_with : Option ℕ → Conduct
 conduct_with None = Plain
 conduct_with (Some key) = Live key
 
--- the SM_Key that a manager reports
+-- the SM_Key that a manager of this conduct reports; 0 by the plain one
 abbrev pub key_of : Conduct → ℕ
 key_of Plain = 0
 key_of (Live key) = key
 
+-- whether the conduct is the live one
 abbrev pub is_live : Conduct → Bool
 is_live Plain = false
 is_live (Live key) = true
 
--- the manager `own` takes `other` for a manager of its subnet: `own` has SM_Key 0, or `other` has the same SM_Key
+-- whether the manager `own` hears the manager `other`: its own SM_Key is 0, or both have the same
 abbrev pub is_heard : SmInfo → SmInfo → Bool
 is_heard own other = own.sm_key == 0 || other.sm_key == own.sm_key

@@ -6,6 +6,7 @@ use Rattle.sm_state.specs.declared.control.Control.TheVariants.{Handover, Acknow
 use Rattle.sm_state.specs.declared.event.Message.{Message}
 use Rattle.sm_state.specs.declared.event.Message.TheVariants as message
 
+-- the attribute modifier of a control
 abbrev pub modifier_of_control : Control → ℕ
 modifier_of_control Handover = 1
 modifier_of_control Acknowledge = 2
@@ -13,10 +14,11 @@ modifier_of_control Disable = 3
 modifier_of_control Standby = 4
 modifier_of_control Discover = 5
 
+-- all controls, by rising modifiers
 abbrev pub controls : List Control
 controls = Handover ∷ Acknowledge ∷ Disable ∷ Standby ∷ Discover ∷ []
 
--- the control with this modifier; None if there is none
+-- the control with the attribute modifier `modifier`; None if it is reserved
 abbrev pub control_of_modifier : ℕ → Option Control
 control_of_modifier modifier = find (λ control. modifier == modifier_of_control control) controls
 

@@ -3,14 +3,15 @@
 use Rattle.std.specs.Prelude.{◌≡◌, ◌⊎◌, Bool, true, false, ◌&&◌, ◌||◌, ◌==◌, nat_lt}
 use Rattle.attr_codec.specs.declared.sm_info.SmInfo.{SmInfo}
 
--- `a` has the greater priority or, at equal priority, the lesser GUID
+-- whether the manager `a` wins over `b`: it has the greater priority or, at equal priority, the lesser GUID
 abbrev pub wins : SmInfo → SmInfo → Bool
 wins a b = nat_lt b.priority a.priority || (a.priority == b.priority && nat_lt a.guid b.guid)
 
+-- the managers have equal priority and equal GUID
 abbrev pub HasSameRank : SmInfo → SmInfo → Type 0
 HasSameRank a b = (a.priority ≡ b.priority) × (a.guid ≡ b.guid)
 
--- `wins` is a strict order, and total on priorities and GUIDs
+-- `wins` is a strict order, and of two managers that differ in priority or GUID one wins
 pub record WinsIsAnOrder : Type 0 where
   pub not_itself : (a : SmInfo) → wins a a ≡ false
   pub in_turn : (a b c : SmInfo) → wins a b ≡ true → wins b c ≡ true → wins a c ≡ true

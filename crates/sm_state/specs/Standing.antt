@@ -15,7 +15,7 @@ use Rattle.sm_state.specs.States.{number_of_state}
 use Rattle.sm_state.specs.Transitions.{stepped}
 use Rattle.sm_state.specs.declared.standing.Standing.{Standing}
 
--- a manager at the port with this GUID, before it did anything
+-- a manager at the port with the GUID `guid`, before it did anything: Discovering
 abbrev pub new_standing : ℕ → ℕ → Conduct → Standing
 new_standing guid priority conduct =
     record {
@@ -27,7 +27,7 @@ new_standing guid priority conduct =
       polls_lost = 0;
     }
 
--- the SMInfo that the manager answers with
+-- the SMInfo that the manager `s` reports
 abbrev pub info_of : Standing → SmInfo
 info_of s = record {
   guid = s.guid;
@@ -38,15 +38,17 @@ info_of s = record {
       number_of_state s.state;
 }
 
+-- whether a control is ACKNOWLEDGE
 abbrev pub is_acknowledge : Control → Bool
 is_acknowledge control = modifier_of_control control == modifier_of_control Acknowledge
 
--- the SMInfo that the manager sends with a control; by the live conduct, an acknowledgement reports Standby
+-- the SMInfo that the manager `s` sends with a control: its own, but by the live conduct an ACKNOWLEDGE reports Standby
 abbrev pub info_with : Control → Standing → SmInfo
 info_with control s =
     if is_live s.conduct && is_acknowledge control then record (info_of s) { state = number_of_state Standby }
     else info_of s
 
+-- whether the manager `s` is in `state`
 abbrev pub is_in : SmState → Standing → Bool
 is_in state s = number_of_state s.state == number_of_state state
 
@@ -54,34 +56,34 @@ is_in state s = number_of_state s.state == number_of_state state
 abbrev pub one_more : ℕ → ℕ
 one_more n = min (n + 1) (2 ^ 32 - 1)
 
--- the manager after it began a sweep or answered a request
+-- the manager `s` with its activity counted once more, up to 2^32 - 1
 abbrev pub active_once_more : Standing → Standing
 active_once_more s = record s { act_count = one_more s.act_count }
 
--- the manager after it answered a request for SMInfo: by the live conduct, this counts like a sweep
+-- the manager `s` after it answered a request for SMInfo, which by the live conduct counts as activity
 abbrev pub after_request_heard : Standing → Standing
 after_request_heard s = if is_live s.conduct then active_once_more s else s
 
 -- how the state moves --------------------------------------------------------------------------
 
--- the manager after it entered `state`; a change of state resets the count of lost polls
+-- the manager `s` after it entered `state`; a change of state resets the count of lost polls
 abbrev pub moved_to : SmState → Standing → Standing
 moved_to state s = if is_in state s then s else record s { state = state; polls_lost = 0 }
 
--- the manager after an event, by the table of states
+-- the manager `s` after the event `e`, by the table of states
 abbrev pub moved_by : Event → Standing → Standing
 moved_by e s = moved_to (stepped s.conduct s.state e).state s
 
 -- polls -----------------------------------------------------------------------------------------
 
--- the manager after a poll was answered
+-- the manager `s` after a poll was answered, which resets the count of lost polls
 abbrev pub poll_answered : Standing → Standing
 poll_answered s = record s { polls_lost = 0 }
 
--- the manager, which leaves its state if three or more polls in a row were lost
+-- the manager `s`, which moves by the table of states if three or more polls in a row were lost
 abbrev pub three_lost : Standing → Standing
 three_lost s = if nat_le 3 s.polls_lost then moved_by PollsUnanswered s else s
 
--- the manager after a poll was lost
+-- the manager `s` after one more poll was lost
 abbrev pub poll_lost : Standing → Standing
 poll_lost s = three_lost (record s { polls_lost = one_more s.polls_lost })

@@ -1,4 +1,4 @@
--- The laws of the moves of managers.
+-- Laws of the moves of managers between states.
 use Rattle.std.specs.Prelude.{◌≡◌, ◌⊎◌, ℕ, Some, None}
 use Rattle.sm_state.specs.declared.conduct.Conduct.{Conduct}
 use Rattle.sm_state.specs.declared.control.Control.{Control}
@@ -17,7 +17,8 @@ use Rattle.sm_state.specs.Transitions.{status_of, stepped}
 abbrev pub Is : Control → Event → Type 0
 Is which e = (modifier : ℕ) × (e ≡ event.Control modifier) × (control_of_modifier modifier ≡ Some which)
 
--- the table has a row for the event in this state
+-- the event `e` moves a manager in this state, or makes it send a message: the table of states has a row for it, other
+-- than that of a late ACKNOWLEDGE
 abbrev pub IsNamed : SmState → Event → Type 0
 IsNamed Discovering e = (e ≡ event.Outranked) ⊎ (e ≡ event.Unrivalled)
 IsNamed Standby e =
@@ -26,31 +27,31 @@ IsNamed NotActive e = Is control.Standby e
 IsNamed Master e =
     Is control.Handover e ⊎ (Is control.Acknowledge e ⊎ (Is control.Discover e ⊎ (e ≡ event.HandoverWanted)))
 
--- an event for which the table has no row changes nothing
+-- an event that `IsNamed` does not name changes no state and sends nothing, by either conduct
 abbrev pub NothingElseMoves : Type 0
 NothingElseMoves =
     (conduct : Conduct) (state : SmState) (e : Event) → (IsNamed state e → ⊥)
     → ((stepped conduct state e).state ≡ state) × ((stepped conduct state e).message ≡ None)
 
--- a master steps down only for an acknowledgement and for the control to discover
+-- a master leaves its state only for Standby by ACKNOWLEDGE, or for Discovering by DISCOVER
 abbrev pub MastersStay : Type 0
 MastersStay =
     (conduct : Conduct) (e : Event) → ((stepped conduct Master e).state ≡ Master → ⊥)
     → (Is control.Acknowledge e × ((stepped conduct Master e).state ≡ Standby))
     ⊎ (Is control.Discover e × ((stepped conduct Master e).state ≡ Discovering))
 
--- a manager that sends an acknowledgement has received a handover, and is then master
+-- a manager sends ACKNOWLEDGE only for a HANDOVER, and is then master
 abbrev pub OthersAreTold : Type 0
 OthersAreTold =
     (conduct : Conduct) (state : SmState) (e : Event) → (stepped conduct state e).message ≡ Some message.Acknowledge
     → Is control.Handover e × ((stepped conduct state e).state ≡ Master)
 
--- a manager that answers a handover with status 0 is then master
+-- a manager that answers a HANDOVER with status 0 is then master
 abbrev pub HandoversAreTaken : Type 0
 HandoversAreTaken =
     (conduct : Conduct) (state : SmState) (e : Event) → Is control.Handover e → status_of (stepped conduct state e) ≡ done
     → (stepped conduct state e).state ≡ Master
 
--- a state's number is read as that state
+-- the number of a state is read as that state
 abbrev pub StatesAreNumbered : Type 0
 StatesAreNumbered = (state : SmState) → state_of_number (number_of_state state) ≡ Some state

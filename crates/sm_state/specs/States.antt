@@ -4,19 +4,22 @@ use Rattle.std.specs.Prelude.{ℕ, List, [], ◌∷◌, codes, find, ◌==◌, O
 use Rattle.sm_state.specs.declared.state.SmState.{SmState}
 use Rattle.sm_state.specs.declared.state.SmState.TheVariants.{NotActive, Discovering, Standby, Master}
 
+-- the number of a state in SMInfo
 abbrev pub number_of_state : SmState → ℕ
 number_of_state NotActive = 0
 number_of_state Discovering = 1
 number_of_state Standby = 2
 number_of_state Master = 3
 
+-- all states, by rising numbers
 abbrev pub states : List SmState
 states = NotActive ∷ Discovering ∷ Standby ∷ Master ∷ []
 
--- the state with this number; None if it is reserved
+-- the state with the number `number`; None if it is reserved
 abbrev pub state_of_number : ℕ → Option SmState
 state_of_number number = find (λ state. number == number_of_state state) states
 
+-- the word for a state
 abbrev pub state_word : SmState → List ℕ
 state_word NotActive = codes "not-active"
 state_word Discovering = codes "discovering"

@@ -15,21 +15,21 @@ use Rattle.sm_state.specs.declared.state.SmState.TheVariants.{NotActive, Discove
 use Rattle.sm_state.specs.declared.transition.Transition.{Transition}
 use Rattle.sm_state.specs.Controls.{control_of_modifier}
 
--- the move to `state` that sends `sends`
+-- the move to `state` that sends `sends`, if that is a message, and is not refused
 abbrev pub to : SmState → Option Message → Transition
 to state sends = record { state = state; message = sends; is_refused = false }
 
--- a control that has no move from the state changes nothing, and is refused
+-- the move of a control that is refused: the state stays
 abbrev pub refused : SmState → Transition
 refused state = record { state = state; message = None; is_refused = true }
 
--- what a standby does about an acknowledgement: by the live conduct nothing, since the answer to its handover has
--- already made it a standby; by the plain conduct it is refused
+-- the move of a standby by ACKNOWLEDGE: by the live conduct the state stays, since the answer to its HANDOVER has
+-- already made it standby; by the plain conduct it is refused
 abbrev pub acknowledged_late : Conduct → Transition
 acknowledged_late Plain = refused Standby
 acknowledged_late (Live key) = to Standby None
 
--- what a manager in the state does about a control
+-- the move of a manager in a state by a control, or by a reserved modifier, which is None
 abbrev pub after_control : Conduct → SmState → Option Control → Transition
 after_control conduct Standby (Some control.Handover) = to Master (Some message.Acknowledge)
 after_control conduct Standby (Some control.Acknowledge) = acknowledged_late conduct
@@ -41,7 +41,7 @@ after_control conduct Master (Some control.Handover) = to Master (Some message.A
 after_control conduct Master (Some control.Discover) = to Discovering None
 after_control conduct state other = refused state
 
--- what a manager in the state does about an event
+-- the move of a manager in a state by an event, by the table of states
 abbrev pub stepped : Conduct → SmState → Event → Transition
 stepped conduct state (event.Control modifier) = after_control conduct state (control_of_modifier modifier)
 stepped conduct Discovering event.Outranked = to Standby None
@@ -50,6 +50,6 @@ stepped conduct Standby event.PollsUnanswered = to Discovering None
 stepped conduct Master event.HandoverWanted = to Master (Some message.Handover)
 stepped conduct state other = to state None
 
--- the status of the answer to a control
+-- the status of the answer to a control: that of an invalid field if the move is refused, else done
 abbrev pub status_of : Transition → ℕ
 status_of move = if move.is_refused then invalid_field else done

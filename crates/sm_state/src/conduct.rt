@@ -14,7 +14,7 @@ pub enum Conduct {
 }
 
 impl Conduct {
-    /// Returns the live conduct with an SM_Key, or the plain conduct if there is no key.
+    /// Returns the live conduct with the SM_Key `sm_key`, or the plain conduct if `sm_key` is `None`.
     pub fn with(sm_key: Option<u64>) -> Self
         ensures { result ≡ conduct_with sm_key }
     {
@@ -24,7 +24,7 @@ impl Conduct {
         }
     }
 
-    /// Returns the SM_Key, 0 for the plain conduct.
+    /// Returns the SM_Key, which is 0 for the plain conduct.
     pub fn sm_key(self) -> u64
         ensures { result ≡ key_of self }
     {

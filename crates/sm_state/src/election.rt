@@ -13,13 +13,13 @@ use smp_bytes::{Guid, PortNum};
 pub struct SeenManager {
     /// The GUID of its node.
     pub guid: Guid,
-    /// The port of the node that the sweep asked for.
+    /// The port of that node at which the sweep asked for SMInfo.
     pub port: PortNum,
     /// The SMInfo that it answered.
     pub info: SmInfo,
 }
 
-/// Returns the event for the manager whose SMInfo is `own` at the end of a sweep that saw the managers `seen`.
+/// Returns `Outranked` if one of `seen` outranks the manager whose SMInfo is `own`, and otherwise `Unrivalled`.
 pub fn sweep_verdict(own: &SmInfo, seen: &[SeenManager]) -> Event
     ensures { result ≡ sweep_verdict own.now seen.now }
 {
@@ -36,8 +36,9 @@ fn any_outranks(own: &SmInfo, seen: &[SeenManager]) -> bool
     seen.iter().any(|other| outranks(own, &other.info))
 }
 
-/// Returns the manager to hand over to: the greatest manager that is heard, reports Standby or Master, and wins over
-/// `own`; the first of equals. Returns `None` if there is none. Walks all of `seen`.
+/// Returns the manager to hand over to: the greatest of `seen` that `own` hears, that reports Standby or Master, and
+/// that wins over `own`; the first of equals. Returns `None` if there is none. Takes time linear in the length of
+/// `seen`.
 pub fn successor(own: &SmInfo, seen: &[SeenManager]) -> Option<SeenManager>
     ensures { result ≡ successor_of own.now seen.now }
 {
@@ -48,15 +49,15 @@ pub fn successor(own: &SmInfo, seen: &[SeenManager]) -> Option<SeenManager>
     best
 }
 
-/// Returns the manager to poll: the first master that is heard; if there is none, the greatest manager that outranks
-/// `own`, the first of equals. Returns `None` if there is none. Walks all of `seen`.
+/// Returns the manager to poll: the first master in `seen` that `own` hears; if there is none, the greatest that
+/// outranks `own`, the first of equals. Returns `None` if there is none. Takes time linear in the length of `seen`.
 pub fn polled(own: &SmInfo, seen: &[SeenManager]) -> Option<SeenManager>
     ensures { result ≡ polled_of own.now seen.now }
 {
     first_master(own, seen).or(greatest_above(own, seen))
 }
 
-/// Returns the first master that is heard, or `None` if there is none.
+/// Returns the first master in `seen` that `own` hears, or `None` if there is none.
 fn first_master(own: &SmInfo, seen: &[SeenManager]) -> Option<SeenManager>
     ensures { result ≡ find (is_heard_master own.now) seen.now }
 {
@@ -65,7 +66,7 @@ fn first_master(own: &SmInfo, seen: &[SeenManager]) -> Option<SeenManager>
         .find(|other| is_heard_master(own, other))
 }
 
-/// Returns the greatest manager that outranks `own`, the first of equals, or `None` if there is none.
+/// Returns the greatest manager in `seen` that outranks `own`, the first of equals, or `None` if there is none.
 fn greatest_above(own: &SmInfo, seen: &[SeenManager]) -> Option<SeenManager>
     ensures { result ≡ greatest_of (is_above own.now) seen.now }
 {
@@ -76,7 +77,7 @@ fn greatest_above(own: &SmInfo, seen: &[SeenManager]) -> Option<SeenManager>
     best
 }
 
-/// Returns the better of `best` and `other` if `other` passes, and otherwise `best`.
+/// Returns the better of `best` and `other` if `passes`, and otherwise `best`.
 fn next_best(passes: bool, best: Option<SeenManager>, other: SeenManager) -> Option<SeenManager>
     ensures { result ≡ next_best passes best other }
 {
@@ -87,7 +88,7 @@ fn next_best(passes: bool, best: Option<SeenManager>, other: SeenManager) -> Opt
     }
 }
 
-/// Returns `other` if there is no `best` or `other` wins over it, and otherwise `best`.
+/// Returns `other` if `best` is `None` or `other` wins over it, and otherwise `best`.
 fn better(best: Option<SeenManager>, other: SeenManager) -> SeenManager
     ensures { result ≡ better best other }
 {
@@ -103,8 +104,8 @@ fn better(best: Option<SeenManager>, other: SeenManager) -> SeenManager
     }
 }
 
-/// Returns whether the manager whose SMInfo is `own` may hand over to `other`: `other` is heard, reports Standby or
-/// Master, and wins over `own`.
+/// Returns whether the manager whose SMInfo is `own` may hand over to `other`: it hears `other`, and `other` reports
+/// Standby or Master and wins over `own`.
 fn is_candidate(own: &SmInfo, other: &SeenManager) -> bool
     ensures { result ≡ is_candidate own.now other.now }
 {
@@ -112,14 +113,15 @@ fn is_candidate(own: &SmInfo, other: &SeenManager) -> bool
     is_heard(own, &other.info) && is_ready && wins(&other.info, own)
 }
 
-/// Returns whether `other` is heard, and is a master.
+/// Returns whether the manager whose SMInfo is `own` hears `other`, and `other` reports Master.
 fn is_heard_master(own: &SmInfo, other: &SeenManager) -> bool
     ensures { result ≡ is_heard_master own.now other.now }
 {
     is_heard(own, &other.info) && says(SmState::Master, &other.info)
 }
 
-/// Returns whether `other` is heard, and is a master, or wins over `own` and is not inactive.
+/// Returns whether the manager whose SMInfo is `own` hears `other`, and `other` is a master, or wins over `own` and is
+/// not inactive.
 fn outranks(own: &SmInfo, other: &SmInfo) -> bool
     ensures { result ≡ outranks own.now other.now }
 {
@@ -135,7 +137,7 @@ fn is_heard(own: &SmInfo, other: &SmInfo) -> bool
     own.sm_key == 0 || other.sm_key == own.sm_key
 }
 
-/// Returns whether a manager reports that it is in `state`. A reserved number is none of the states.
+/// Returns whether `info` reports `state`. A reserved number reports none of the states.
 fn says(state: SmState, info: &SmInfo) -> bool
     ensures { result ≡ says state info.now }
 {

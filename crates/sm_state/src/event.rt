@@ -8,9 +8,9 @@ use crate::control::Control;
 #[derive(Clone, Copy, Debug, PartialEq, Eq)]
 pub enum Event {
     Control(u32),
-    /// A sweep is done, and saw a master, or a manager that wins and is not inactive.
+    /// A sweep is done, and saw a manager that outranks this one.
     Outranked,
-    /// A sweep is done, and saw neither a master nor a manager that wins and is not inactive.
+    /// A sweep is done, and saw no manager that outranks this one.
     Unrivalled,
     /// Three polls in a row were not answered.
     PollsUnanswered,

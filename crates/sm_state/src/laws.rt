@@ -21,7 +21,7 @@ pub fn masters_stay()
     ensures { MastersStay }
 {}
 
-/// A manager that sends an acknowledgement is then master, since another manager handed over to it.
+/// A manager sends an acknowledgement only after it received a handover, and is then master.
 pub fn others_are_told()
     ensures { OthersAreTold }
 {}
@@ -37,15 +37,15 @@ pub fn states_are_numbered()
     ensures { StatesAreNumbered }
 {}
 
-/// The successor of a master wins over each candidate that was seen before it, and no candidate that was seen after it
+/// The successor of a manager wins over each candidate that was seen before it, and no candidate that was seen after it
 /// wins over it. If there is no successor, there is no candidate.
 #[tactic(auto, using(crate::proofs::Successors::successor_law))]
 pub fn successor_is_the_first_of_the_greatest()
     ensures { SuccessorLaw }
 {}
 
-/// The manager to poll was seen, and outranks the manager that polls. There is none only if no seen manager outranks
-/// it.
+/// The manager to poll was seen, and outranks the manager that polls. There is no manager to poll only if no manager
+/// that was seen outranks the one that polls.
 #[tactic(auto, using(crate::proofs::WhomToPoll::polled_law))]
 pub fn polled_managers_outrank()
     ensures { PolledLaw }

@@ -7,7 +7,7 @@ use crate::{Conduct, Control, Event, SmState, step};
 use attr_codec::{Priority, SmInfo};
 use smp_bytes::Guid;
 
-/// A subnet manager's identity and state.
+/// A subnet manager among the managers of its subnet: who it is, and what its state is.
 #[derive(Clone, Copy, Debug)]
 pub struct Standing {
     /// The GUID of the port at which it sits.
@@ -78,7 +78,7 @@ impl Standing {
         self.act_count = self.act_count.saturating_add(1);
     }
 
-    /// Counts a request for SMInfo that is answered. By the plain conduct, does nothing.
+    /// Counts a request for SMInfo that is answered, if the conduct is live, and otherwise does nothing.
     pub fn count_request(&mut self)
         ensures { self.new ≡ after_request_heard self.old }
     {
@@ -87,7 +87,7 @@ impl Standing {
         }
     }
 
-    /// Enters `state`. A change of state resets the count of lost polls.
+    /// Enters `state`, and resets the count of lost polls. Does nothing if the manager is in `state` already.
     pub fn move_to(&mut self, state: SmState)
         ensures { self.new ≡ moved_to state self.old }
     {
@@ -97,21 +97,21 @@ impl Standing {
         }
     }
 
-    /// Changes the state after `event`, by the table of states.
+    /// Moves the state after `event` by the table of states.
     pub fn move_by(&mut self, event: Event)
         ensures { self.new ≡ moved_by event self.old }
     {
         self.move_to(step(self.conduct, self.state, event).state);
     }
 
-    /// Notes that a poll was answered.
+    /// Resets the count of lost polls, since a poll was answered.
     pub fn hear_poll(&mut self)
         ensures { self.new ≡ poll_answered self.old }
     {
         self.polls_lost = 0;
     }
 
-    /// Notes that a poll timed out. The third lost poll in a row changes the state.
+    /// Counts a poll that timed out. If three or more in a row were lost, a standby moves to Discovering.
     pub fn lose_poll(&mut self)
         ensures { self.new ≡ poll_lost self.old }
     {
@@ -122,7 +122,7 @@ impl Standing {
     }
 }
 
-/// Returns whether a control is an acknowledgement.
+/// Returns whether `control` is an acknowledgement.
 fn is_acknowledge(control: Control) -> bool
     ensures { result ≡ is_acknowledge control }
 {

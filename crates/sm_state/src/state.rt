@@ -21,7 +21,7 @@ const STATES: [SmState; 4] = [
 ];
 
 impl SmState {
-    /// Returns the state with this number, or `None` for the reserved numbers, 4 and above.
+    /// Returns the state with the number `number`, or `None` for the reserved numbers, 4 and above.
     pub fn from_number(number: SmStateNumber) -> Option<Self>
         ensures { result ≡ state_of_number number }
     {

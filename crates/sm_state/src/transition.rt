@@ -17,7 +17,7 @@ pub struct Transition {
 }
 
 impl Transition {
-    /// Returns the status of the answer, if the event was a request.
+    /// Returns the status of the answer to a control: invalid field if the control is refused, and otherwise 0.
     pub fn status(self) -> Status
         ensures { result.0 ≡ status_of self }
     {

@@ -29,8 +29,8 @@ fn refuses(state: SmState) -> Transition
     }
 }
 
-/// Returns what a manager in `state` does about `event` (subnet management, SMInfo states). An event without a move
-/// from the state changes nothing; if it is a control, it is refused.
+/// Returns what a manager in `state` does about `event` (subnet management, SMInfo states). If the table has no move
+/// for `event` from `state`, nothing changes. A control without a move is refused.
 pub fn step(conduct: Conduct, state: SmState, event: Event) -> Transition
     ensures { result ≡ stepped conduct state event }
 {
@@ -48,7 +48,7 @@ pub fn step(conduct: Conduct, state: SmState, event: Event) -> Transition
     }
 }
 
-/// Returns what a manager in `state` does about `control`, which is `None` if the modifier is no control's.
+/// Returns what a manager in `state` does about `control`, which is `None` if the modifier is that of no control.
 fn after_control(conduct: Conduct, state: SmState, control: Option<Control>) -> Transition
     ensures { result ≡ after_control conduct state control }
 {
@@ -67,8 +67,9 @@ fn after_control(conduct: Conduct, state: SmState, control: Option<Control>) -> 
     }
 }
 
-/// Returns what a standby does about an acknowledgement. By the live conduct nothing changes, since the answer to its
-/// handover has already made it a standby. By the plain conduct the acknowledgement is refused.
+/// Returns what a standby does about an acknowledgement. By the live conduct nothing changes, and the acknowledgement
+/// is not refused, since the answer to its handover has already made it a standby. By the plain conduct the
+/// acknowledgement is refused.
 fn acknowledged_late(conduct: Conduct) -> Transition
     ensures { result ≡ acknowledged_late conduct }
 {

@@ -4,25 +4,24 @@ use Rattle.std.specs.Prelude.{ℕ, ◌+◌, Bool, true, ◌&&◌, not, List, [],
 use Rattle.smp_bytes.specs.Field.{number_in}
 use Rattle.smp_bytes.specs.Packet.{transaction_id, attribute_id, attribute_modifier, hop_count, initial_path, is_directed}
 
--- whether the packet's InitialPath has these ports from index i on
+-- whether InitialPath of `packet` has these ports from index `i` on
 abbrev pub has_ports : List ℕ → ℕ → List ℕ → Bool
 has_ports packet i [] = true
 has_ports packet i (port ∷ ports) = number_in (initial_path i) packet == port && has_ports packet (i + 1) ports
 
--- whether the packet is directed over the path or, if there is no path, LID routed
+-- whether `packet` is directed over `path` or, if there is none, LID routed
 abbrev pub goes_by : List ℕ → Option (List ℕ) → Bool
 goes_by packet None = not (is_directed packet)
 goes_by packet (Some path) =
     is_directed packet && (number_in hop_count packet == length path && has_ports packet 1 path)
 
--- whether the packet has this attribute and modifier, and goes by this path or, if there is no path, by LID
+-- whether `packet` has this attribute and modifier, and goes by `path` or, if there is none, by LIDs
 abbrev pub is_of : List ℕ → ℕ → ℕ → Option (List ℕ) → Bool
 is_of packet attribute modifier path =
     number_in attribute_id packet == attribute
     && (number_in attribute_modifier packet == modifier && goes_by packet path)
 
--- whether the packet has this TransactionID, attribute and modifier, and goes by this path or, if there is no path, by
--- LID
+-- whether `packet` has this TransactionID, attribute and modifier, and goes by `path` or, if there is none, by LIDs
 abbrev pub answers : List ℕ → ℕ → ℕ → ℕ → Option (List ℕ) → Bool
 answers packet transaction attribute modifier path =
     transaction == number_in transaction_id packet && is_of packet attribute modifier path

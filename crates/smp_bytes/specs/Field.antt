@@ -13,19 +13,19 @@ pub record Bits : Type 0 where
   pub shift : ℕ
   pub width : ℕ
 
--- the number in a field, most significant byte first
+-- the number that `bytes` have in a field, most significant byte first
 abbrev pub number_in : Field → List ℕ → ℕ
 number_in field bytes = big_number field.len (drop field.at bytes)
 
--- the number in the bits
+-- the number that `bytes` have in some bits of one byte
 abbrev pub bits_in : Bits → List ℕ → ℕ
 bits_in bits bytes = slice_index bytes bits.at / 2 ^ bits.shift % 2 ^ bits.width
 
--- the bytes of a field
+-- the bytes of a field of `bytes`
 abbrev pub bytes_in : Field → List ℕ → List ℕ
 bytes_in field bytes = take field.len (drop field.at bytes)
 
--- `bytes`, overwritten by `written` from `at` on
+-- `bytes`, overwritten by `written` from offset `at` on
 unfoldable pub with_bytes : ℕ → List ℕ → List ℕ → List ℕ
 with_bytes at written bytes = take at bytes ++ (written ++ drop (at + length written) bytes)
 
@@ -33,34 +33,34 @@ with_bytes at written bytes = take at bytes ++ (written ++ drop (at + length wri
 abbrev pub with_number : Field → ℕ → List ℕ → List ℕ
 with_number field number bytes = with_bytes field.at (big_bytes field.len number) bytes
 
--- whether one field ends before the other begins
+-- whether one of two fields ends before the other begins
 abbrev pub are_apart : Field → Field → Bool
 are_apart a b = nat_le (a.at + a.len) b.at || nat_le (b.at + b.len) a.at
 
--- whether the field ends within the first `count` bytes
+-- whether a field ends within the first `count` bytes
 abbrev pub ends_within : ℕ → Field → Bool
 ends_within count field = nat_le (field.at + field.len) count
 
--- a field and the number that it is to hold
+-- a field, and the number that it is to hold
 pub record Entry : Type 0 where
   pub field : Field
   pub number : ℕ
 
--- `bytes`, with each entry written in turn
+-- `bytes`, with each entry written, one after the other
 abbrev pub with_numbers : List Entry → List ℕ → List ℕ
 with_numbers [] bytes = bytes
 with_numbers (e ∷ entries) bytes = with_numbers entries (with_number e.field e.number bytes)
 
--- a byte with `number` written into these bits; the bits above and below stay
+-- `byte` with `number` written into some bits; the bits above and below stay
 abbrev pub replaced : Bits → ℕ → ℕ → ℕ
 replaced bits number byte =
     (byte / 2 ^ (bits.shift + bits.width) * 2 ^ bits.width + number) * 2 ^ bits.shift + byte % 2 ^ bits.shift
 
--- `bytes`, with `number` written into these bits of one byte
+-- `bytes`, with `number` written into some bits of one byte
 abbrev pub with_bits : Bits → ℕ → List ℕ → List ℕ
 with_bits bits number bytes =
     with_number (record { at = bits.at; len = 1 }) (replaced bits number (slice_index bytes bits.at)) bytes
 
--- whether the bits are in different bytes, or all bits of one are above all bits of the other
+-- whether the bits `a` and `b` are in different bytes, or all of one are above all of the other
 abbrev pub are_bits_apart : Bits → Bits → Bool
 are_bits_apart a b = not (a.at == b.at) || (nat_le (a.shift + a.width) b.shift || nat_le (b.shift + b.width) a.shift)

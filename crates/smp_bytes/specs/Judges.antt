@@ -1,12 +1,12 @@
--- The result of a call that may reject its input.
+-- The result of a call that may refuse its input.
 use Rattle.std.specs.Prelude.{◌≡◌, Bool, if◌then◌else◌, Option, None, Some, Result, Ok, Err}
 
--- the call returns Ok if there is no fault, and otherwise the first fault
+-- the result is `Ok` if there is no `fault`, else `Err` with it
 abbrev pub Judges : {T F : Type 0} → Result T F → Option F → Type 0
 Judges (Ok value) fault = fault ≡ None
 Judges (Err first) fault = fault ≡ Some first
 
--- the call returns Ok or out of memory if there is no fault, and otherwise the first fault
+-- the result is `Ok` or lack of memory if there is no `fault`, else `Err` with the fault
 abbrev pub JudgesButFor : {T F : Type 0} → (F → Bool) → Result T F → Option F → Type 0
 JudgesButFor is_memory (Ok value) fault = fault ≡ None
 JudgesButFor is_memory (Err first) fault = fault ≡ (if is_memory first then None else Some first)

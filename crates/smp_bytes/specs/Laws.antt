@@ -1,72 +1,73 @@
--- The effect of a write into a field, or into bits of a byte: what was written is read, and all else stays.
+-- Laws of writes into a field, or into bits of a byte: what was written is read, and all else stays.
 use Rattle.std.specs.Prelude.{◌≡◌, ◌≢◌, ℕ, ◌+◌, ◌^◌, ◌<◌, ◌≤◌, ◌⊎◌, List, All, length, slice_index, true}
 use Rattle.smp_bytes.specs.Field.{Field, Bits, number_in, bits_in, with_number, with_bits, are_apart, are_bits_apart}
 
 -- whole bytes --------------------------------------------------------------------------
 
--- the field lies within the bytes
+-- the field lies within `bytes`
 abbrev pub LiesIn : Field → List ℕ → Type 0
 LiesIn field bytes = field.at + field.len ≤ length bytes
 
--- a number that is written into a field is read from it
+-- a number that fits a field within the bytes, and is written into it, is read from it
 abbrev pub NumberIsRead : Type 0
 NumberIsRead = (field : Field) (number : ℕ) (bytes : List ℕ) → LiesIn field bytes → number < 256 ^ field.len
     → number_in field (with_number field number bytes) ≡ number
 
--- a field apart from the written one keeps its number
+-- a write into a field within the bytes leaves the number in a field apart from it
 abbrev pub FieldApartStays : Type 0
 FieldApartStays =
     (other field : Field) (number : ℕ) (bytes : List ℕ) → LiesIn field bytes → are_apart other field ≡ true
     → number_in other (with_number field number bytes) ≡ number_in other bytes
 
--- the length stays, and so does each byte outside the field
+-- `new` is as long as `old`, and has its bytes outside the field
 pub record KeepsBytesOutside (field : Field) (old new : List ℕ) : Type 0 where
   pub count : length new ≡ length old
   pub outside : (offset : ℕ) → (offset < field.at) ⊎ (field.at + field.len ≤ offset) → slice_index new offset
       ≡ slice_index old offset
 
--- a write into a field keeps the bytes outside it
+-- a write into a field within the bytes keeps the length and the bytes outside the field
 abbrev pub BytesOutsideStay : Type 0
 BytesOutsideStay = (field : Field) (number : ℕ) (bytes : List ℕ) → LiesIn field bytes
     → KeepsBytesOutside field bytes (with_number field number bytes)
 
--- only `with_number` gives bytes that hold the number in the field and are otherwise as they were
+-- bytes below 256 that hold the number in a field within them, and are otherwise as before, are those that
+-- `with_number` gives
 abbrev pub WriteIsUnique : Type 0
 WriteIsUnique =
     (field : Field) (number : ℕ) (old new : List ℕ) → LiesIn field old → All (λ byte. byte < 256) new
     → KeepsBytesOutside field old new → number_in field new ≡ number → new ≡ with_number field number old
 
--- of two writes into one field, only the last one has an effect
+-- of two writes into one field within the bytes, only the later has an effect
 abbrev pub LastWriteStands : Type 0
 LastWriteStands = (field : Field) (number before : ℕ) (bytes : List ℕ) → LiesIn field bytes
     → with_number field number (with_number field before bytes) ≡ with_number field number bytes
 
 -- some bits of a byte ------------------------------------------------------------------
 
--- the bits lie within one byte of `bytes`
+-- the bits lie within one byte of `bytes`, which is below 256
 pub record AreBitsIn (bits : Bits) (bytes : List ℕ) : Type 0 where
   pub offset : bits.at < length bytes
   pub byte : slice_index bytes bits.at < 256
   pub within : bits.shift + bits.width ≤ 8
 
--- a number that is written into bits is read from them
+-- a number that fits some bits of a byte, and is written into them, is read from them
 abbrev pub BitsAreRead : Type 0
 BitsAreRead = (bits : Bits) (number : ℕ) (bytes : List ℕ) → AreBitsIn bits bytes → number < 2 ^ bits.width
     → bits_in bits (with_bits bits number bytes) ≡ number
 
--- bits apart from the written ones keep their number
+-- a write of a number that fits some bits of a byte leaves the number in bits apart from them
 abbrev pub BitsApartStay : Type 0
 BitsApartStay = (other bits : Bits) (number : ℕ) (bytes : List ℕ) → AreBitsIn bits bytes → number < 2 ^ bits.width
     → are_bits_apart other bits ≡ true
     → bits_in other (with_bits bits number bytes) ≡ bits_in other bytes
 
--- the length stays, and so does each other byte; the byte with the bits stays below 256
+-- `new` is as long as `old`, and has its bytes except the one with the bits, which is below 256
 pub record KeepsOtherBytes (bits : Bits) (old new : List ℕ) : Type 0 where
   pub count : length new ≡ length old
   pub byte : slice_index new bits.at < 256
   pub others : (offset : ℕ) → offset ≢ bits.at → slice_index new offset ≡ slice_index old offset
 
--- a write into bits keeps the other bytes
+-- a write of a number that fits some bits of a byte keeps the length and all other bytes
 abbrev pub OtherBytesStay : Type 0
 OtherBytesStay = (bits : Bits) (number : ℕ) (bytes : List ℕ) → AreBitsIn bits bytes → number < 2 ^ bits.width
     → KeepsOtherBytes bits bytes (with_bits bits number bytes)

@@ -11,98 +11,111 @@ use Rattle.smp_bytes.specs.declared.smp_fault.SmpFault.TheVariants.{BaseVersion,
 
 -- the fields of both classes
 
+-- BaseVersion, a field of both classes
 abbrev pub base_version : Field
 base_version = record { at = 0; len = 1 }
 
+-- MgmtClass, a field of both classes
 abbrev pub mgmt_class : Field
 mgmt_class = record { at = 1; len = 1 }
 
+-- ClassVersion, a field of both classes
 abbrev pub class_version : Field
 class_version = record { at = 2; len = 1 }
 
--- the R bit and the seven bits of the method
+-- the R bit and the seven bits of the method, in one field
 abbrev pub method : Field
 method = record { at = 3; len = 1 }
 
+-- the R bit, which is set in answers
 abbrev pub response_bit : Bits
 response_bit = record { at = 3; shift = 7; width = 1 }
 
--- the status; in the directed class its highest bit is the direction
+-- the status as a field; in the directed class its highest bit is the D bit
 abbrev pub status_word : Field
 status_word = record { at = 4; len = 2 }
 
+-- the D bit, which is set on the way back; only in the directed class
 abbrev pub direction_bit : Bits
 direction_bit = record { at = 4; shift = 7; width = 1 }
 
+-- TransactionID, a field of both classes
 abbrev pub transaction_id : Field
 transaction_id = record { at = 8; len = 8 }
 
+-- AttributeID, a field of both classes
 abbrev pub attribute_id : Field
 attribute_id = record { at = 16; len = 2 }
 
+-- AttributeModifier, a field of both classes
 abbrev pub attribute_modifier : Field
 attribute_modifier = record { at = 20; len = 4 }
 
+-- M_Key, a field of both classes
 abbrev pub m_key : Field
 m_key = record { at = 24; len = 8 }
 
--- the attribute
+-- the 64 bytes of the attribute
 abbrev pub attribute_data : Field
 attribute_data = record { at = 64; len = 64 }
 
 -- the fields of the directed class only
 
+-- HopPointer, a field of the directed class
 abbrev pub hop_pointer : Field
 hop_pointer = record { at = 6; len = 1 }
 
+-- HopCount, a field of the directed class
 abbrev pub hop_count : Field
 hop_count = record { at = 7; len = 1 }
 
+-- DrSLID, a field of the directed class
 abbrev pub dr_slid : Field
 dr_slid = record { at = 32; len = 2 }
 
+-- DrDLID, a field of the directed class
 abbrev pub dr_dlid : Field
 dr_dlid = record { at = 34; len = 2 }
 
--- the port by which the packet leaves at its i-th step; index 0 is not used
+-- the port by which a directed packet leaves at its step `i`; index 0 is not used
 abbrev pub initial_path : ℕ → Field
 initial_path i = record { at = 128 + i; len = 1 }
 
--- the port by which the answer leaves at its i-th step
+-- the port by which the answer to a directed packet leaves at step `i`
 abbrev pub return_path : ℕ → Field
 return_path i = record { at = 192 + i; len = 1 }
 
 -- what the fields say -----------------------------------------------------------------
 
--- whether the packet is LID routed
+-- whether `packet` has the class of LID-routed packets
 abbrev pub is_lid_routed : List ℕ → Bool
 is_lid_routed packet = number_in mgmt_class packet == lid_routed_class
 
--- whether the packet is directed
+-- whether `packet` has the class of packets on directed routes
 abbrev pub is_directed : List ℕ → Bool
 is_directed packet = number_in mgmt_class packet == directed_class
 
--- whether the R bit is set: the packet is an answer, or another packet that asks for no answer
+-- whether the R bit is set: `packet` is an answer, or another packet that asks for none
 abbrev pub is_response : List ℕ → Bool
 is_response packet = bits_in response_bit packet == 1
 
--- whether the D bit is set: a directed packet is on its way back
+-- whether the D bit is set: a directed `packet` is on its way back
 abbrev pub is_returning : List ℕ → Bool
 is_returning packet = bits_in direction_bit packet == 1
 
--- the status, without the D bit in the directed class
+-- the status of `packet`, without the D bit in the directed class
 abbrev pub status : List ℕ → ℕ
 status packet = if is_directed packet then number_in status_word packet % 2 ^ 15 else number_in status_word packet
 
--- the permissive LID, which means "no LID-routed part"
+-- the permissive LID: in DrSLID or DrDLID it says that the packet has no LID-routed part at that end
 abbrev pub permissive_lid : ℕ
 permissive_lid = 0xFFFF
 
--- the greatest number of hops of a path
+-- the greatest number of hops of a directed path
 abbrev pub max_hops : ℕ
 max_hops = 63
 
--- the first fault of the fields that only the directed class has; None if there is none
+-- the first fault in the fields that only the directed class has; None if there is none
 abbrev pub directed_fault_of : List ℕ → Option SmpFault
 directed_fault_of packet =
     if nat_lt max_hops (number_in hop_count packet) then Some HopCount

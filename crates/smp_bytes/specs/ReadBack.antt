@@ -1,16 +1,17 @@
--- The contents of built packets, and of a packet after its status is written. InfiniBand Architecture Specification,
--- Volume 1: SMP formats; management methods; directed route SMPs.
+-- What built packets hold: requests, answers, and a packet after its status is written. InfiniBand Architecture
+-- Specification, Volume 1: SMP formats; management methods; directed route SMPs.
 use Rattle.std.specs.Prelude.{◌≡◌, ℕ, ◌+◌, ◌^◌, ◌<◌, ◌≤◌, ◌⊎◌, List, All, length, slice_index, None, true}
 use Rattle.smp_bytes.specs.Field.{Field, number_in, bytes_in, with_number}
 use Rattle.smp_bytes.specs.Packet.{base_version, mgmt_class, class_version, method, status_word, transaction_id, attribute_id, attribute_modifier, m_key, attribute_data, hop_pointer, hop_count, dr_slid, dr_dlid, initial_path, return_path, permissive_lid, max_hops, is_directed, is_response, is_returning, status, fault_of}
 use Rattle.smp_bytes.specs.Header.{lid_routed_class, directed_class, get_resp}
 use Rattle.smp_bytes.specs.Requests.{directed, lid_routed, answer_packet, word_with_status}
 
--- the reserved bytes after the attribute ID
+-- the reserved bytes after AttributeID
 abbrev pub reserved_after_attribute_id : Field
 reserved_after_attribute_id = record { at = 18; len = 2 }
 
--- the fields of a request of either class
+-- `packet` is 256 bytes without a fault, with the fields that requests of both classes have: as given, with status and
+-- M_Key 0
 pub record HoldsRequest (packet : List ℕ) (method_number attribute modifier tid : ℕ) (payload : List ℕ) : Type 0 where
   pub count : length packet ≡ 256
   pub parses : fault_of packet ≡ None
@@ -25,7 +26,8 @@ pub record HoldsRequest (packet : List ℕ) (method_number attribute modifier ti
   pub m_key : number_in m_key packet ≡ 0
   pub attribute_data : bytes_in attribute_data packet ≡ payload
 
--- the further fields of a directed request: no hop is made, and InitialPath is 0 except for the ports of the path
+-- `packet` is directed over `path`, with no LID-routed part: no hop is made, InitialPath is 0 except for the ports of
+-- `path`, and ReturnPath is 0
 pub record HoldsPath (packet path : List ℕ) : Type 0 where
   pub class : number_in mgmt_class packet ≡ directed_class
   pub hop_pointer : number_in hop_pointer packet ≡ 0
@@ -38,14 +40,14 @@ pub record HoldsPath (packet path : List ℕ) : Type 0 where
   pub behind : (i : ℕ) → length path < i → i < 64 → number_in (initial_path i) packet ≡ 0
   pub return_path : (i : ℕ) → i < 64 → number_in (return_path i) packet ≡ 0
 
--- the further fields of a LID-routed request
+-- `packet` is LID routed, and 0 in the bytes that only directed packets use
 pub record HoldsNoPath (packet : List ℕ) : Type 0 where
   pub class : number_in mgmt_class packet ≡ lid_routed_class
   pub no_hops : number_in (record { at = 6; len = 2 }) packet ≡ 0
   pub reserved_before : number_in (record { at = 32; len = 32 }) packet ≡ 0
   pub reserved_behind : number_in (record { at = 128; len = 128 }) packet ≡ 0
 
--- each given number fits its field, and the attribute has 64 bytes
+-- each given number fits its field of a request, and the attribute has 64 bytes
 pub record FitsRequest (method_number attribute modifier tid : ℕ) (payload : List ℕ) : Type 0 where
   pub method : method_number < 2 ^ 8
   pub attribute_id : attribute < 2 ^ 16
@@ -53,7 +55,7 @@ pub record FitsRequest (method_number attribute modifier tid : ℕ) (payload : L
   pub transaction_id : tid < 2 ^ 64
   pub attribute_data : length payload ≡ 64
 
--- a directed request holds what was given
+-- if what is given fits, and the path has at most 63 ports, a directed request holds what was given
 abbrev pub DirectedReadsBack : Type 0
 DirectedReadsBack =
     (method_number attribute modifier tid : ℕ) (path payload : List ℕ)
@@ -62,7 +64,7 @@ DirectedReadsBack =
     payload
     × HoldsPath (directed method_number attribute modifier tid path payload) path
 
--- a LID-routed request holds what was given
+-- if what is given fits, a LID-routed request holds what was given
 abbrev pub LidRoutedReadsBack : Type 0
 LidRoutedReadsBack =
     (method_number attribute modifier tid : ℕ) (payload : List ℕ)
@@ -71,12 +73,12 @@ LidRoutedReadsBack =
     payload
     × HoldsNoPath (lid_routed method_number attribute modifier tid payload)
 
--- the byte at `offset` belongs to none of the method, the status and the attribute
+-- the byte at `offset` is outside the fields of method, status and attribute
 abbrev pub IsKeptInAnswer : ℕ → Type 0
 IsKeptInAnswer offset = (offset < 3) ⊎ (((6 ≤ offset) × (offset < 64)) ⊎ (128 ≤ offset))
 
--- the fields of an answer: the method GetResp, the D bit if it is directed, the status and the attribute that were
--- given, and all else as in the request
+-- `answer` is a packet of the class of `request`, with the method GetResp, the D bit if it is directed, the given
+-- status and attribute, and all else as in `request`
 pub record HoldsAnswer (request answer : List ℕ) (given : ℕ) (payload : List ℕ) : Type 0 where
   pub count : length answer ≡ 256
   pub parses : fault_of answer ≡ None
@@ -88,7 +90,8 @@ pub record HoldsAnswer (request answer : List ℕ) (given : ℕ) (payload : List
   pub attribute_data : bytes_in attribute_data answer ≡ payload
   pub kept : (offset : ℕ) → IsKeptInAnswer offset → slice_index answer offset ≡ slice_index request offset
 
--- an answer holds what was given; the status of a directed answer must leave the highest bit to the direction
+-- if `request` is a packet, the attribute has 64 bytes and the status fits beside the D bit, the answer holds what was
+-- given
 abbrev pub AnswerReadsBack : Type 0
 AnswerReadsBack =
     (request : List ℕ) (given : ℕ) (payload : List ℕ) → length request ≡ 256 → fault_of request ≡ None → length payload
@@ -96,13 +99,13 @@ AnswerReadsBack =
     → given < 2 ^ 16 → (is_directed request ≡ true → given < 2 ^ 15)
     → HoldsAnswer request (answer_packet request given payload) given payload
 
--- the fields of a packet after its status is written: its class stays, and so does the direction of a directed packet
+-- `new` has the status `given`, the class of `old` and, if that is directed, its direction
 pub record HoldsStatus (old new : List ℕ) (given : ℕ) : Type 0 where
   pub class : is_directed new ≡ is_directed old
   pub status : status new ≡ given
   pub returning : is_directed old ≡ true → is_returning new ≡ is_returning old
 
--- a status that is written is read
+-- if a status fits beside the D bit and is written into a packet, the packet holds it
 abbrev pub StatusReadsBack : Type 0
 StatusReadsBack =
     (packet : List ℕ) (given : ℕ) → length packet ≡ 256 → All (λ byte. byte < 256) packet

@@ -3,6 +3,7 @@ use Rattle.std.specs.Prelude.{ℕ, List, codes}
 use Rattle.smp_bytes.specs.declared.smp_fault.SmpFault.{SmpFault}
 use Rattle.smp_bytes.specs.declared.smp_fault.SmpFault.TheVariants.{BaseVersion, Class, ClassVersion, HopCount, HopPointer, DrLid}
 
+-- the name of a packet's fault
 abbrev pub smp_fault_name : SmpFault → List ℕ
 smp_fault_name BaseVersion = codes "BaseVersion"
 smp_fault_name Class = codes "Class"

@@ -4,20 +4,20 @@ use Rattle.std.specs.Fmt.{digit_glyph}
 use Rattle.smp_bytes.specs.declared.node_type.NodeType.{NodeType}
 use Rattle.smp_bytes.specs.declared.node_type.NodeType.TheVariants.{ChannelAdapter, Switch, Router}
 
--- the lowest `digits` hex digits of `n` in lower case, with leading zeros
+-- the lowest hex digits of `n`, as many as asked for, in lower case, with leading zeros
 unfoldable pub hex_text : ℕ → ℕ → List ℕ
 hex_text zero n = []
 hex_text (suc digits) n = hex_text digits (n / 16) ++ digit_glyph false (n % 16) ∷ []
 
--- a node's GUID
+-- the text of a GUID: sixteen hex digits
 abbrev pub guid_text : ℕ → List ℕ
 guid_text guid = hex_text 16 guid
 
--- a node's GUID and a port
+-- the text of a port: its node's GUID, a slash and its number
 abbrev pub port_text : ℕ → ℕ → List ℕ
 port_text guid port = guid_text guid ++ codes "/" ++ decimal port
 
--- a node type as one word
+-- the word for a node type
 abbrev pub type_word : NodeType → List ℕ
 type_word ChannelAdapter = codes "ca"
 type_word Switch = codes "switch"

@@ -9,7 +9,7 @@ ghost use Rattle.smp_bytes.specs.ReadBack.{DirectedReadsBack, LidRoutedReadsBack
 
 use crate::header::{AttributeId, Method, Status};
 
-/// A number that is written into a field is read from it.
+/// A number that fits a field and is written into it is read from it.
 pub fn written_number_is_read()
     ensures { NumberIsRead }
 {}
@@ -34,7 +34,7 @@ pub fn last_write_stands()
     ensures { LastWriteStands }
 {}
 
-/// A number that is written into some bits of a byte is read from them.
+/// A number that fits some bits of a byte and is written into them is read from them.
 pub fn written_bits_are_read()
     ensures { BitsAreRead }
 {}

@@ -39,7 +39,7 @@ impl<const MAX: usize> Path<MAX> {
         }
     }
 
-    /// Appends a port.
+    /// Appends `port`. There must be room for another port.
     pub fn push(&mut self, port: PortNum)
         requires { length self.old < MAX }
         ensures { self.new ≡ self.old ++ port ∷ [] }

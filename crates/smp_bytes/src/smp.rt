@@ -19,7 +19,7 @@ mod answers;
 mod requests;
 mod writers;
 
-/// A subnet management packet: 256 bytes that passed `parse`. Contracts see its bytes.
+/// A subnet management packet: 256 bytes without any of the faults that `SmpFault` lists. Contracts see its bytes.
 #[derive(Clone, Copy, Debug)]
 pub struct Smp {
     pub(crate) bytes: [u8; 256],
@@ -51,8 +51,7 @@ pub const PERMISSIVE_LID: u16 = 0xFFFF;
 const MAX_HOPS: u8 = 63;
 
 impl Smp {
-    /// Parses 256 bytes as a packet: base version and class version 1, and one of the two classes. Keeps the bytes as
-    /// they are.
+    /// Parses 256 bytes as a packet, and keeps them as they are.
     ///
     /// # Errors
     ///
@@ -82,7 +81,7 @@ impl Smp {
         u8_at(&self.bytes, field::BASE_VERSION)
     }
 
-    /// Returns MgmtClass.
+    /// Returns the class, by MgmtClass.
     pub fn class(&self) -> SmpClass
         ensures { result ≡ (if is_directed self.now then DirectedRoute else LidRouted) }
     {
@@ -191,6 +190,7 @@ impl Smp {
     }
 
     /// Returns entry `i` of InitialPath: the port by which a directed packet leaves at step `i`. Index 0 is not used.
+    /// `i` must be less than 64.
     pub fn initial_path(&self, i: usize) -> PortNum
         requires { i < 64 }
         ensures { result ≡ number_in (initial_path i) self.now }
@@ -199,7 +199,7 @@ impl Smp {
     }
 
     /// Returns entry `i` of ReturnPath: the port by which the answer to a directed packet leaves at step `i`. Index 0
-    /// is not used.
+    /// is not used. `i` must be less than 64.
     pub fn return_path(&self, i: usize) -> PortNum
         requires { i < 64 }
         ensures { result ≡ number_in (return_path i) self.now }
@@ -217,7 +217,7 @@ impl Smp {
     }
 }
 
-/// Returns the first fault of 256 bytes, or `None` if they are a packet.
+/// Returns the first fault of `bytes`, or `None` if they are a packet.
 fn fault_of(bytes: &[u8; 256]) -> Option<SmpFault>
     ensures { result ≡ fault_of bytes.now }
 {
@@ -235,7 +235,7 @@ fn fault_of(bytes: &[u8; 256]) -> Option<SmpFault>
     }
 }
 
-/// Returns the first fault of the fields that only the directed class has.
+/// Returns the first fault of the fields that only the directed class has, or `None` if there is none.
 fn directed_fault_of(bytes: &[u8; 256]) -> Option<SmpFault>
     ensures { result ≡ directed_fault_of bytes.now }
 {

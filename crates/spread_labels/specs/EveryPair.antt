@@ -1,4 +1,4 @@
--- In the grown order each vertex has a way to every other vertex of its component, whatever candidates are picked.
+-- In the grown order each vertex has a way to each vertex of its component, whatever candidates are picked.
 use Rattle.std.specs.Prelude.{◌≡◌, ◌<◌, ℕ, Bool, List, length, Some}
 use Rattle.port_graph.specs.declared.edge.Edge.{Edge}
 use Rattle.port_graph.specs.Walks.{Walk}
@@ -9,18 +9,20 @@ use Rattle.spread_labels.specs.LabelLaws.{IsSymmetric}
 use Rattle.spread_labels.specs.Ways.{Way, PicksCandidates}
 use Rattle.spread_labels.specs.Orders.{order, position_of, by_position}
 
--- vertex s has a label at a cost less than the number of vertices, and a way to t over as many edges
+-- vertex `s` has a label towards vertex `t`, at a cost less than the number of vertices, and a way to `t` by the picked
+-- edges over as many
 pub record HasWay (edges : List (List Edge)) (pick : ℕ → Edge) (t s : ℕ) : Type 0 where
   pub mark : Mark
   pub labelled : marks edges t s ≡ Some mark
   pub bounded : mark.cost < length edges
   pub way : Way edges pick t s mark.cost
 
--- the graph with its vertices numbered by their positions in the grown order
+-- the graph with its vertices numbered by their positions in the order that grows by `before`
 abbrev pub grown : List (List Edge) → (ℕ → ℕ → Bool) → List (List Edge)
 grown edges before = by_position edges (order edges before)
 
--- in the grown order each vertex of the component of a LID's home has a way to it, whatever candidates are picked
+-- if edges go both ways, in the grown order each vertex of the component of a LID's home has a way to the home,
+-- whatever candidates are picked
 abbrev pub EveryPairLaw : Type 0
 EveryPairLaw = (edges : List (List Edge)) (before : ℕ → ℕ → Bool) → LeadToVertices edges → IsSymmetric edges
     → (home : ℕ → ℕ) (pick : ℕ → ℕ → Edge) → PicksCandidates (grown edges before) home pick

@@ -9,44 +9,44 @@ use Rattle.spread_labels.specs.Keys.{before_by}
 use Rattle.spread_labels.specs.Orders.{numbers_from}
 use Rattle.spread_labels.specs.Stages.{earliest_of}
 
--- the distances from vertex s to each vertex
+-- the distances from vertex `s` to each vertex; None where no walk leads
 abbrev pub distances_from : List (List Edge) → ℕ → List (Option ℕ)
 distances_from edges s = map (distance edges s) (numbers_from 0 (length edges))
 
--- keys that have only the distance class
+-- keys with these distance classes, all of distance 0
 abbrev pub by_distance_class : List ℕ → List VertexKey
 by_distance_class distance_classes = map (λ c. record { distance_class = c; distance = 0 }) distance_classes
 
--- the earliest of the vertices that have a distance
+-- the earliest by `keys` of the vertices that have a distance; None if none has
 abbrev pub first_among : List VertexKey → List (Option ℕ) → Option ℕ
 first_among keys distances =
     earliest_of (before_by keys)
     (filter (λ a. is_some (slice_index_or distances a None)) (numbers_from 0 (length keys)))
 
--- the distance of the earliest of the vertices that have a distance; 0 if there is none
+-- the distance of the earliest by `keys` of the vertices that have a distance; 0 if none has
 abbrev pub from_first : List VertexKey → List (Option ℕ) → ℕ
 from_first keys distances =
     unwrap_or (option_and_then (λ a. slice_index_or distances a None) (first_among keys distances)) 0
 
--- the first vertex of the component of vertex s
+-- the first vertex, by `keys`, of the component of vertex `s`
 abbrev pub first_at : List (List Edge) → List VertexKey → ℕ → ℕ
 first_at edges keys s = unwrap_or (first_among keys (distances_from edges s)) s
 
--- each distance in `far` is that of the vertex from the first vertex of its component, and each of the first `count`
--- vertices has a distance
+-- each distance in `far` is that of its vertex from the first vertex of its component, and at least the first `count`
+-- vertices have one
 pub record AreFar (edges : List (List Edge)) (keys : List VertexKey) (count : ℕ) (far : List (Option ℕ)) : Type 0 where
   pub all : length far ≡ length edges
   pub right : (s d : ℕ) → s < length edges → slice_index_or far s None ≡ Some d
       → from_first keys (distances_from edges s) ≡ d
   pub known : (s : ℕ) → s < count → is_some (slice_index_or far s None) ≡ true
 
--- each vertex without a distance gets the distance that was found, if there is one; the other distances stay
+-- `new` is `far` with the distance in `found`, if there is one, for each vertex that had none
 abbrev pub FillsIn : List (Option ℕ) → List (Option ℕ) → List (Option ℕ) → Type 0
 FillsIn far found new =
     EachIndex new (λ k. slice_index_or new k None ≡ option_or (slice_index_or far k None) (slice_index_or found k None))
 
--- the key of vertex s: its distance class, and its distance from the first vertex of its component, by distance class
--- and then by number
+-- the key of vertex `s`: its distance class, and its distance from the first vertex of its component, which is the one
+-- of least distance class, and of those the least
 abbrev pub key_of : List (List Edge) → List ℕ → ℕ → VertexKey
 key_of edges distance_classes s =
     record {
@@ -55,6 +55,6 @@ key_of edges distance_classes s =
           from_first (by_distance_class distance_classes) (distances_from edges s);
     }
 
--- the key of each vertex
+-- the key of each vertex, from the distance classes
 abbrev pub keys_of : List (List Edge) → List ℕ → List VertexKey
 keys_of edges distance_classes = map (key_of edges distance_classes) (numbers_from 0 (length edges))

@@ -1,4 +1,4 @@
--- The properties of labels, costs and candidates at each vertex.
+-- Laws of labels, costs and candidates at each vertex.
 use Rattle.std.specs.Prelude.{◌≡◌, ◌≢◌, ◌<◌, ◌≤◌, ◌⊎◌, ℕ, suc, List, length, Contains, None, Some}
 use Rattle.port_graph.specs.declared.edge.Edge.{Edge}
 use Rattle.port_graph.specs.Walks.{Walk}
@@ -8,15 +8,16 @@ use Rattle.spread_labels.specs.declared.label.Label.TheVariants.{Up, Down}
 use Rattle.spread_labels.specs.declared.label.Mark.{Mark}
 use Rattle.spread_labels.specs.Labels.{Marks, marks, candidates}
 
--- edge e of s leads to a vertex of this cost and gives s a label: it leads up, or the vertex is labeled Down
+-- edge `e` of vertex `s` leads to a vertex of cost `cost` and gives `s` a label: it leads up, or that vertex is labeled
+-- Down
 pub record Gives (edges : List (List Edge)) (marks : Marks) (s : ℕ) (e : Edge) (cost : ℕ) : Type 0 where
   pub edge : Contains (edges_at edges s) e
   pub label : Label
   pub labelled : marks e.to ≡ Some (record { cost = cost; label = label })
   pub up_or_down : (e.to < s) ⊎ (label ≡ Down)
 
--- an edge gives s a label from cost `round`, and none from a lesser cost; the label is Up exactly if an edge that gives
--- from this cost leads up
+-- an edge gives vertex `s` a label from cost `round`, and none from a lesser cost; `label` is Up if such an edge leads
+-- up, else Down
 pub record IsGiven (edges : List (List Edge)) (marks : Marks) (s round : ℕ) (label : Label) : Type 0 where
   pub edge : Edge
   pub given : Gives edges marks s edge round
@@ -24,51 +25,53 @@ pub record IsGiven (edges : List (List Edge)) (marks : Marks) (s round : ℕ) (l
   pub when_up : label ≡ Up → edge.to < s
   pub when_down : label ≡ Down → (e : Edge) → Gives edges marks s e round → s ≤ e.to
 
--- the labels and costs towards target t: t is Down at cost 0; each other vertex with a label has it from its edges, at
--- a cost one more than the least that gives; no edge gives a label to a vertex without a label
+-- `marks` are labels and costs towards vertex `t`: `t` is Down at cost 0; each other vertex with a mark has the label
+-- that its edges give, at one more than the least cost that gives one; no edge gives a label to a vertex without a mark
 pub record AreMarks (edges : List (List Edge)) (t : ℕ) (marks : Marks) : Type 0 where
   pub target : marks t ≡ Some (record { cost = 0; label = Down })
   pub other : (s : ℕ) (m : Mark) → s ≢ t → marks s ≡ Some m → (round : ℕ) × (m.cost ≡ suc round)
       × IsGiven edges marks s round m.label
   pub without : (s : ℕ) → marks s ≡ None → (e : Edge) (cost : ℕ) → Gives edges marks s e cost → ⊥
 
--- the labels that the rounds compute satisfy `AreMarks`
+-- the labels and costs from rounds towards a vertex of the graph satisfy `AreMarks`
 abbrev pub LabelledLaw : Type 0
 LabelledLaw = (edges : List (List Edge)) (t : ℕ) → LeadToVertices edges → t < length edges
     → AreMarks edges t (marks edges t)
 
--- no other labels and costs satisfy `AreMarks`
+-- any two labels and costs that satisfy `AreMarks` are equal
 abbrev pub UniqueLaw : Type 0
 UniqueLaw = (edges : List (List Edge)) (t : ℕ) (one other : Marks) → AreMarks edges t one → AreMarks edges t other
     → (s : ℕ) → one s ≡ other s
 
--- if a has an edge to b, b has an edge to a
+-- if an edge leads from `a` to `b`, one leads from `b` to `a`
 abbrev pub IsSymmetric : List (List Edge) → Type 0
 IsSymmetric edges = (a b : ℕ) → Contains (heads edges a) b → Contains (heads edges b) a
 
--- each vertex except the first of its component has an edge to a lesser one
+-- each vertex from which a walk leads to a lesser vertex has an edge to a lesser one
 abbrev pub IsGrown : List (List Edge) → Type 0
 IsGrown edges = (a b n : ℕ) → Walk (heads edges) a b n → b < a → (e : Edge) × Contains (edges_at edges a) e × (e.to < a)
 
--- a graph in a grown order
+-- the graph is numbered in a grown order: its edges lead to vertices and go both ways, and each vertex except the first
+-- of its component has an edge to a lesser one
 pub record IsGrownGraph (edges : List (List Edge)) : Type 0 where
   pub lead : LeadToVertices edges
   pub symmetric : IsSymmetric edges
   pub grown : IsGrown edges
 
--- exactly the vertices of the target's component have labels, and each cost is the length of a walk and less than the
--- number of vertices
+-- exactly the vertices from which a walk leads to vertex `t` have labels towards it; each cost is the length of a walk,
+-- and less than the number of vertices
 pub record AreReached (edges : List (List Edge)) (t : ℕ) : Type 0 where
   pub component : (s n : ℕ) → Walk (heads edges) s t n → (m : Mark) × (marks edges t s ≡ Some m)
   pub no_other : (s : ℕ) (m : Mark) → marks edges t s ≡ Some m → Walk (heads edges) s t m.cost
   pub bounded : (s : ℕ) (m : Mark) → marks edges t s ≡ Some m → m.cost < length edges
 
--- in a graph in a grown order, exactly the vertices of the target's component have labels
+-- in a graph that is numbered in a grown order, exactly the vertices of the target's component have labels
+-- (`AreReached`)
 abbrev pub ReachedLaw : Type 0
 ReachedLaw = (edges : List (List Edge)) (t : ℕ) → IsGrownGraph edges → t < length edges → AreReached edges t
 
--- an edge from a vertex with mark m to a vertex of a cost one less; it leads up, or down to a vertex labeled Down; if m
--- is Down, it leads down to such a vertex
+-- edge `e` leads from vertex `s`, which has the mark `m`, to a vertex of a cost one less: up, or down to a vertex
+-- labeled Down; down to such a vertex if `s` is labeled Down
 pub record IsStep (edges : List (List Edge)) (t s : ℕ) (m : Mark) (e : Edge) : Type 0 where
   pub edge : Contains (edges_at edges s) e
   pub to : Mark
@@ -77,14 +80,14 @@ pub record IsStep (edges : List (List Edge)) (t s : ℕ) (m : Mark) (e : Edge) :
   pub up_or_down : (e.to < s) ⊎ ((s < e.to) × (to.label ≡ Down))
   pub from_down : m.label ≡ Down → (s < e.to) × (to.label ≡ Down)
 
--- a labeled vertex except the target has candidates; each candidate is a step; each edge that gives from a cost one
--- less is a candidate
+-- vertex `s`, with the mark `m`, has a candidate unless it is the target; each candidate is a step (`IsStep`); each
+-- edge that gives a label from a cost one less is a candidate
 pub record AreCandidates (edges : List (List Edge)) (t s : ℕ) (m : Mark) : Type 0 where
   pub some : s ≢ t → (e : Edge) × Contains (candidates edges t s) e
   pub steps : (e : Edge) → Contains (candidates edges t s) e → IsStep edges t s m e
   pub all : (e : Edge) (cost : ℕ) → m.cost ≡ suc cost → Gives edges (marks edges t) s e cost
       → Contains (candidates edges t s) e
 
--- the candidates of each labeled vertex satisfy `AreCandidates`
+-- the candidates of each vertex with a mark satisfy `AreCandidates`
 abbrev pub CandidatesLaw : Type 0
 CandidatesLaw = (edges : List (List Edge)) (t s : ℕ) (m : Mark) → marks edges t s ≡ Some m → AreCandidates edges t s m

@@ -1,5 +1,5 @@
--- Labels towards a target, in rounds. Vertices are numbered by their positions in an order. An edge leads up if it
--- leads to a lesser number, and down if it leads to a greater one.
+-- Labels towards a target, given in rounds, and candidates, the edges that gave them. Vertices are numbered by their
+-- positions in an order. An edge leads up if it leads to a lesser number, and down if it leads to a greater one.
 use Rattle.std.specs.Prelude.{ℕ, zero, suc, Bool, true, false, ◌||◌, ◌==◌, nat_lt}
 use Rattle.std.specs.Prelude.{List, [], ◌∷◌, filter, length, Option, None, Some, if◌then◌else◌}
 use Rattle.std.specs.List.{list_any}
@@ -14,58 +14,60 @@ abbrev pub is_down : Label → Bool
 is_down Up = false
 is_down Down = true
 
--- the mark of each vertex
+-- the mark of each vertex, which is its label and cost; None if it has none
 abbrev pub Marks : Type 0
 Marks = ℕ → Option Mark
 
--- whether edge e gives s a label: it leads up to a vertex with mark m, or down to one labeled Down
+-- whether edge `e` of vertex `s` gives it a label, given the mark of the vertex that it leads to: it leads up, or that
+-- vertex is labeled Down; false if that vertex has none
 abbrev pub gives_from : ℕ → Edge → Option Mark → Bool
 gives_from s e None = false
 gives_from s e (Some m) = nat_lt e.to s || is_down m.label
 
--- whether edge e gives s a label, by these marks
+-- whether edge `e` of vertex `s` gives it a label, by `marks`
 abbrev pub gives : Marks → ℕ → Edge → Bool
 gives marks s e = gives_from s e (marks e.to)
 
--- the edges of a vertex that give it a label
+-- the edges of vertex `s` that give it a label, by `marks`
 abbrev pub givers : List (List Edge) → Marks → ℕ → List Edge
 givers edges marks s = filter (gives marks s) (edges_at edges s)
 
--- whether one of the edges leads up
+-- whether one of the edges of vertex `s` leads up
 abbrev pub leads_up : ℕ → List Edge → Bool
 leads_up s es = list_any (λ e. nat_lt e.to s) es
 
--- the mark that the edges give: Up if one of them leads up, and Down otherwise; None if there are no edges
+-- the mark that edges give vertex `s` in round `round`: Up if one of them leads up, else Down; None if there are no
+-- edges
 abbrev pub mark_by : ℕ → ℕ → List Edge → Option Mark
 mark_by round s [] = None
 mark_by round s (e ∷ es) = Some (record { cost = round; label = if leads_up s (e ∷ es) then Up else Down })
 
--- the first mark if there is one, and the other otherwise
+-- the first mark if there is one, else the second
 abbrev pub mark_or : Option Mark → Option Mark → Option Mark
 mark_or None other = other
 mark_or (Some m) other = Some m
 
--- the label of s after `round` rounds: at first only the target has a label, Down; in each round a vertex without a
--- label gets one from the edges that give, by the labels of the round before
+-- the mark of vertex `s` after some rounds: at first only the target `t` has one, Down at cost 0; in each round a
+-- vertex without a mark gets one if an edge gives it, by the marks of the round before
 abbrev pub marks_after : List (List Edge) → ℕ → ℕ → ℕ → Option Mark
 marks_after edges t zero s = if s == t then Some (record { cost = 0; label = Down }) else None
 marks_after edges t (suc round) s =
     mark_or (marks_after edges t round s) (mark_by (suc round) s (givers edges (marks_after edges t round) s))
 
--- the labels after as many rounds as there are vertices
+-- the mark of vertex `s` towards vertex `t`, after as many rounds as there are vertices
 abbrev pub marks : List (List Edge) → ℕ → ℕ → Option Mark
 marks edges t s = marks_after edges t (length edges) s
 
--- the edges that give s its label in round `round + 1`, by the labels after `round` rounds
+-- the edges that give vertex `s` a label in the given round, by the marks of the round before; none in round 0
 abbrev pub givers_before : List (List Edge) → ℕ → ℕ → ℕ → List Edge
 givers_before edges t s zero = []
 givers_before edges t s (suc round) = givers edges (marks_after edges t round) s
 
--- the edges that gave s this mark; none if there is no mark
+-- the edges that gave vertex `s` this mark; none if there is no mark
 abbrev pub candidates_by : List (List Edge) → ℕ → ℕ → Option Mark → List Edge
 candidates_by edges t s None = []
 candidates_by edges t s (Some m) = givers_before edges t s m.cost
 
--- the candidates of s towards target t: the edges that gave s its label
+-- the candidates of vertex `s` towards vertex `t`: the edges that gave it its label
 abbrev pub candidates : List (List Edge) → ℕ → ℕ → List Edge
 candidates edges t s = candidates_by edges t s (marks edges t s)

@@ -1,4 +1,4 @@
--- The grown order. The next vertex is the earliest of those that have an edge to a placed one; if there is none, the
+-- The grown order: next comes the earliest of the vertices that have an edge to a placed one or, if there is none, the
 -- earliest of all that are left.
 use Rattle.std.specs.Prelude.{◌≡◌, ◌≢◌, true, false, ◌<◌, ℕ, zero, suc, Bool, not}
 use Rattle.std.specs.Prelude.{◌==◌, List, [], ◌∷◌, map, filter, length, Contains, slice_index_or, if◌then◌else◌}
@@ -8,34 +8,36 @@ use Rattle.port_graph.specs.Walks.{Walk}
 use Rattle.port_graph.specs.Heads.{edges_at, heads, LeadToVertices}
 use Rattle.spread_labels.specs.LabelLaws.{IsSymmetric, IsGrownGraph}
 
--- the n numbers from k on
+-- the `n` numbers from `k` on
 abbrev pub numbers_from : ℕ → ℕ → List ℕ
 numbers_from k zero = []
 numbers_from k (suc n) = k ∷ numbers_from (suc k) n
 
--- the earliest of x and the list, by a test of keys
+-- the earliest of `x` and the vertices of a list, by the test `before`; the first of equals
 abbrev pub earliest : (ℕ → ℕ → Bool) → ℕ → List ℕ → ℕ
 earliest before x [] = x
 earliest before x (y ∷ ys) = earliest before (if before y x then y else x) ys
 
--- whether some edge of s leads to a placed vertex
+-- whether an edge of vertex `s` leads to a placed vertex
 abbrev pub is_beside : List (List Edge) → List ℕ → ℕ → Bool
 is_beside edges placed s = list_any (λ e. list_any (λ p. p == e.to) placed) (edges_at edges s)
 
--- the earliest of the last list; if it is empty, the earliest of x and `rest`
+-- the earliest vertex of the last list; if that is empty, the earliest of `x` and `rest`
 abbrev pub choose : (ℕ → ℕ → Bool) → ℕ → List ℕ → List ℕ → ℕ
 choose before x rest [] = earliest before x rest
 choose before x rest (y ∷ ys) = earliest before y ys
 
--- the vertex that is placed next, of x and `rest`, after those that are placed
+-- the vertex of `x` and `rest` that comes next after the placed ones: the earliest with an edge to one of these; the
+-- earliest of all if none has
 abbrev pub next_placed : List (List Edge) → (ℕ → ℕ → Bool) → List ℕ → ℕ → List ℕ → ℕ
 next_placed edges before placed x rest = choose before x rest (filter (is_beside edges placed) (x ∷ rest))
 
--- the list without s
+-- the list without the vertex `s`
 abbrev pub without : ℕ → List ℕ → List ℕ
 without s xs = filter (λ x. not (x == s)) xs
 
--- the order of the vertices that are left, after those that are placed
+-- the first vertices, at most as many as the number given, of the grown order of those that are left, after the placed
+-- ones
 abbrev pub grown_behind : List (List Edge) → (ℕ → ℕ → Bool) → ℕ → List ℕ → List ℕ → List ℕ
 grown_behind edges before zero placed rest = []
 grown_behind edges before (suc n) placed [] = []
@@ -44,24 +46,24 @@ grown_behind edges before (suc n) placed (x ∷ rest) =
     ∷ grown_behind edges before n (next_placed edges before placed x rest
     ∷ placed) (without (next_placed edges before placed x rest) (x ∷ rest))
 
--- the grown order of all vertices
+-- the grown order of all vertices, by the test `before`
 abbrev pub order : List (List Edge) → (ℕ → ℕ → Bool) → List ℕ
 order edges before = grown_behind edges before (length edges) [] (numbers_from 0 (length edges))
 
--- the vertex at position i
+-- the vertex at position `i`; 0 past the end
 abbrev pub at_position : List ℕ → ℕ → ℕ
 at_position vertices i = slice_index_or vertices i 0
 
--- the position of vertex s in the list; the length of the list if it is not there
+-- the position of vertex `s` in a list; the length of the list if it is not there
 abbrev pub position_of : List ℕ → ℕ → ℕ
 position_of [] s = 0
 position_of (x ∷ xs) s = if x == s then 0 else suc (position_of xs s)
 
--- s has an edge to a placed vertex
+-- an edge of vertex `s` leads to a placed vertex
 abbrev pub Beside : List (List Edge) → List ℕ → ℕ → Type 0
 Beside edges placed s = (e : Edge) × Contains (edges_at edges s) e × Contains placed e.to
 
--- each vertex has exactly one position, and each vertex except the first of its component has an edge to an earlier one
+-- `vertices` has each vertex once; and each from which a walk leads to an earlier one has an edge to an earlier one
 pub record IsGrownOrder (edges : List (List Edge)) (vertices : List ℕ) : Type 0 where
   pub all : (s : ℕ) → s < length edges → Contains vertices s
   pub vertex : (i : ℕ) → i < length vertices → at_position vertices i < length edges
@@ -71,43 +73,43 @@ pub record IsGrownOrder (edges : List (List Edge)) (vertices : List ℕ) : Type 
       → (e : Edge) × Contains (edges_at edges (at_position vertices i)) e
       × ((k : ℕ) × (k < i) × (at_position vertices k ≡ e.to))
 
--- the graph with its vertices numbered by their positions
+-- the edge `e`, which leads to a vertex, as an edge to that vertex's position in `vertices`
 abbrev pub positioned_edge : List ℕ → Edge → Edge
 positioned_edge vertices e = record { port = e.port; to = position_of vertices e.to }
 
--- the graph with its vertices numbered by their positions in the list
+-- the graph with its vertices numbered by their positions in `vertices`
 abbrev pub by_position : List (List Edge) → List ℕ → List (List Edge)
 by_position edges vertices = map (λ s. map (positioned_edge vertices) (edges_at edges s)) vertices
 
--- the grown order is a grown order, and the graph by its positions is grown
+-- the order that grows by `before` is a grown order, and the graph numbered by it is a grown graph
 pub record Grows (edges : List (List Edge)) (before : ℕ → ℕ → Bool) : Type 0 where
   pub is_grown : IsGrownOrder edges (order edges before)
   pub graph : IsGrownGraph (by_position edges (order edges before))
 
--- the grown order of a graph whose edges go both ways is grown, whatever the test of keys
+-- in a graph whose edges go both ways, the order that grows by any test is a grown order (`Grows`)
 abbrev pub OrderLaw : Type 0
 OrderLaw = (edges : List (List Edge)) (before : ℕ → ℕ → Bool) → LeadToVertices edges → IsSymmetric edges
     → Grows edges before
 
--- the test distinguishes any two vertices, and orders them
+-- `before` is a strict total order of vertices
 pub record AreKeys (before : ℕ → ℕ → Bool) : Type 0 where
   pub not_itself : (a : ℕ) → before a a ≡ false
   pub trans : (a b c : ℕ) → before a b ≡ true → before b c ≡ true → before a c ≡ true
   pub total : (a b : ℕ) → a ≢ b → before a b ≡ false → before b a ≡ true
 
--- s may be placed before y: if y has an edge to a placed vertex, s has one too and y is not earlier; if s has none, y
--- is not earlier
+-- vertex `s` may be placed before vertex `y`: if `y` has an edge to a placed vertex, so has `s`, and `y` is not
+-- earlier; if `s` has none, `y` is not earlier
 pub record IsEarlier (edges : List (List Edge)) (before : ℕ → ℕ → Bool) (placed : List ℕ) (s y : ℕ) : Type 0 where
   pub front : Beside edges placed y → Beside edges placed s × (before y s ≡ false)
   pub alone : (Beside edges placed s → ⊥) → before y s ≡ false
 
--- each vertex may be placed before each later one, once those before it are placed
+-- each vertex of a list may be placed before each later one, once those before it are placed
 abbrev pub AreEarlier : List (List Edge) → (ℕ → ℕ → Bool) → List ℕ → List ℕ → Type 0
 AreEarlier edges before placed [] = Unit {0}
 AreEarlier edges before placed (s ∷ ss) =
     ((y : ℕ) → Contains ss y → IsEarlier edges before placed s y) × AreEarlier edges before (s ∷ placed) ss
 
--- in the grown order each vertex may be placed before each later one
+-- in the order that grows by keys, each vertex may be placed before each later one (`AreEarlier`)
 abbrev pub KeysLaw : Type 0
 KeysLaw = (edges : List (List Edge)) (before : ℕ → ℕ → Bool) → LeadToVertices edges → AreKeys before
     → AreEarlier edges before [] (order edges before)

@@ -4,7 +4,7 @@ use Rattle.port_graph.specs.declared.edge.Edge.{Edge}
 use Rattle.spread_labels.specs.declared.label.Mark.{Mark}
 use Rattle.spread_labels.specs.Labels.{marks_after}
 
--- the list has the mark of each vertex after this many rounds
+-- `marks` has the mark of each vertex towards `target` after `round` rounds
 pub record AreMarksAfter (edges : List (List Edge)) (target round : ℕ) (marks : List (Option Mark)) : Type 0 where
   pub all : length marks ≡ length edges
   pub each : (s : ℕ) → s < length edges → slice_index_or marks s None ≡ marks_after edges target round s

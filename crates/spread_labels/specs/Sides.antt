@@ -1,4 +1,4 @@
--- The edges up and the edges down, each in lists of their own, as slopes need them.
+-- The edges of a graph that lead up, and those that lead down, each in lists of their own, as slopes need them.
 use Rattle.std.specs.Prelude.{ℕ, suc, Bool, nat_lt, List, [], ◌∷◌, filter}
 use Rattle.port_graph.specs.declared.edge.Edge.{Edge}
 use Rattle.port_graph.specs.Slopes.{Slope}
@@ -7,7 +7,7 @@ use Rattle.port_graph.specs.Routes.{Climbs, Descends}
 use Rattle.spread_labels.specs.LabelLaws.{IsSymmetric}
 use Rattle.spread_labels.specs.Ways.{Climbs as ClimbsBy, Descends as DescendsBy}
 
--- for each vertex from the k-th on, its edges that pass a test
+-- for each vertex of some, the first with the number `k`, its edges that pass the test
 abbrev pub rows_from : (ℕ → Edge → Bool) → ℕ → List (List Edge) → List (List Edge)
 rows_from test k [] = []
 rows_from test k (es ∷ rows) = filter (test k) es ∷ rows_from test (suc k) rows
@@ -20,7 +20,7 @@ ups_of edges = rows_from (λ s e. nat_lt e.to s) 0 edges
 abbrev pub downs_of : List (List Edge) → List (List Edge)
 downs_of edges = rows_from (λ s e. nat_lt s e.to) 0 edges
 
--- the slopes of a graph: its edges up and its edges down
+-- the slopes of a graph: the edges up and the edges down of each vertex
 abbrev pub slopes_of : List (List Edge) → List Slope
 slopes_of edges = indexed (ups_of edges) (downs_of edges)
 
@@ -30,6 +30,6 @@ pub record AreSides (edges : List (List Edge)) : Type 0 where
   pub climbs : (es : List Edge) (s u : ℕ) → ClimbsBy edges s es u → Climbs (slopes_of edges) s es u
   pub descends : (es : List Edge) (s u : ℕ) → DescendsBy edges s es u → Descends (slopes_of edges) s es u
 
--- each graph whose edges go both ways has sides that are slopes
+-- the edges up and down of a graph whose edges go both ways satisfy `AreSides`
 abbrev pub SidesLaw : Type 0
 SidesLaw = (edges : List (List Edge)) → IsSymmetric edges → AreSides edges

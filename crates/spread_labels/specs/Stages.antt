@@ -1,4 +1,4 @@
--- The stage of each vertex while the order grows.
+-- The stage of each vertex while an order grows: left, beside a placed vertex, or placed.
 use Rattle.std.specs.Prelude.{ℕ, Bool, true, false, List, [], ◌∷◌, filter, Option, None, Some, slice_index_or, slice_set, if◌then◌else◌}
 use Rattle.port_graph.specs.declared.edge.Edge.{Edge}
 use Rattle.spread_labels.specs.declared.growth.Stage.{Stage}
@@ -12,43 +12,44 @@ is_stage Beside Beside = true
 is_stage Placed Placed = true
 is_stage _ _ = false
 
--- the stage of vertex s; `Left` past the end
+-- the stage of vertex `s`; `Left` past the end
 abbrev pub stage_at : List Stage → ℕ → Stage
 stage_at stages s = slice_index_or stages s Left
 
--- the earliest of the vertices; None if there are none
+-- the earliest of some vertices, by the test `before`; None if there are none
 abbrev pub earliest_of : (ℕ → ℕ → Bool) → List ℕ → Option ℕ
 earliest_of before [] = None
 earliest_of before (x ∷ xs) = Some (earliest before x xs)
 
--- the earlier of y and the vertex found so far; y if none was found
+-- `y` if no vertex was found yet or `y` is before it, else the one that was found
 abbrev pub earlier_of : (ℕ → ℕ → Bool) → Option ℕ → ℕ → ℕ
 earlier_of before None y = y
 earlier_of before (Some x) y = if before y x then y else x
 
--- the earliest of the first n vertices at this stage; None if there is none
+-- the earliest of the first `n` vertices that are at `stage`; None if there is none
 abbrev pub earliest_at : (ℕ → ℕ → Bool) → List Stage → Stage → ℕ → Option ℕ
 earliest_at before stages stage n =
     earliest_of before (filter (λ s. is_stage (stage_at stages s) stage) (numbers_from 0 n))
 
--- the first number if there is one, and the other otherwise
+-- the first number if there is one, else the second
 abbrev pub first_of : Option ℕ → Option ℕ → Option ℕ
 first_of None other = other
 first_of (Some x) other = Some x
 
--- the vertex that is placed next: the earliest beside a placed one or, if there is none, the earliest that is left
+-- the vertex that is placed next: the earliest that is beside a placed one; if there is none, the earliest that is
+-- left; None if there is neither
 abbrev pub next_at : (ℕ → ℕ → Bool) → List Stage → ℕ → Option ℕ
 next_at before stages n = first_of (earliest_at before stages Beside n) (earliest_at before stages Left n)
 
--- the stages once vertex s, if it is left, is beside a placed vertex
+-- the stages, with vertex `s` beside a placed one if it was left
 abbrev pub beside : List Stage → ℕ → List Stage
 beside stages s = if is_stage (stage_at stages s) Left then slice_set stages s Beside else stages
 
--- the stages once each vertex that the edges lead to, if it is left, is beside a placed one
+-- the stages, with each vertex that the edges lead to beside a placed one if it was left
 abbrev pub beside_all : List Stage → List Edge → List Stage
 beside_all stages [] = stages
 beside_all stages (e ∷ es) = beside_all (beside stages e.to) es
 
--- the stages once vertex v is placed, and each vertex that its edges lead to and that is left is beside it
+-- the stages, with vertex `v` placed, and each vertex that its edges lead to beside it if it was left
 abbrev pub after_add_vertex : ℕ → List Edge → List Stage → List Stage
 after_add_vertex v edges stages = beside_all (slice_set stages v Placed) edges

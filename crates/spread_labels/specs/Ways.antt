@@ -8,37 +8,38 @@ use Rattle.port_graph.specs.Heads.{edges_at, LeadToVertices}
 use Rattle.spread_labels.specs.declared.label.Mark.{Mark}
 use Rattle.spread_labels.specs.Labels.{marks, candidates}
 
--- the edges lead up from s to u, in turn
+-- the edges lead up, one after the other, from vertex `s` to vertex `u`
 abbrev pub Climbs : List (List Edge) → ℕ → List Edge → ℕ → Type 0
 Climbs edges s [] u = s ≡ u
 Climbs edges s (e ∷ es) u = Contains (edges_at edges s) e × (e.to < s) × Climbs edges e.to es u
 
--- the edges lead down from s to u, in turn
+-- the edges lead down, one after the other, from vertex `s` to vertex `u`
 abbrev pub Descends : List (List Edge) → ℕ → List Edge → ℕ → Type 0
 Descends edges s [] u = s ≡ u
 Descends edges s (e ∷ es) u = Contains (edges_at edges s) e × (s < e.to) × Descends edges e.to es u
 
--- the edges are those that are picked at each vertex from s to the target t
+-- the edges are those that are picked at each vertex, from `s` until they reach `t`
 abbrev pub Follows : (ℕ → Edge) → ℕ → ℕ → List Edge → Type 0
 Follows pick t s [] = s ≡ t
 Follows pick t s (e ∷ es) = (s ≢ t) × (pick s ≡ e) × Follows pick t e.to es
 
--- the cost of vertex s towards target t; None if it has no label
+-- the cost of vertex `s` towards vertex `t`; None if it has no label
 abbrev pub cost : List (List Edge) → ℕ → ℕ → Option ℕ
 cost edges t s = option_map (λ m. m.cost) (marks edges t s)
 
--- from cost n on, the costs of the vertices that the edges lead to fall by one each
+-- from cost `n` on, the costs of the vertices that the edges lead to fall by one each, towards vertex `t`
 abbrev pub CostsFall : List (List Edge) → ℕ → ℕ → List Edge → Type 0
 CostsFall edges t n [] = Unit {0}
 CostsFall edges t zero (e ∷ es) = ⊥
 CostsFall edges t (suc n) (e ∷ es) = (cost edges t e.to ≡ Some n) × CostsFall edges t n es
 
--- the vertices that the edges pass, including the first and the last
+-- the vertices that the edges pass from vertex `s` on, with the first and the last
 abbrev pub vertices_along : ℕ → List Edge → List ℕ
 vertices_along s [] = s ∷ []
 vertices_along s (e ∷ es) = s ∷ vertices_along e.to es
 
--- a way by the picked edges: it goes up and then down, takes as many edges as the cost, and passes no vertex twice
+-- a way from vertex `s` to vertex `t` by the picked edges: it goes up and then down, has `n` edges, each to a cost one
+-- less, and passes no vertex twice
 pub record Way (edges : List (List Edge)) (pick : ℕ → Edge) (t s n : ℕ) : Type 0 where
   pub ups : List Edge
   pub downs : List Edge
@@ -50,26 +51,26 @@ pub record Way (edges : List (List Edge)) (pick : ℕ → Edge) (t s n : ℕ) : 
   pub wires : length (ups ++ downs) ≡ n
   pub none_twice : IsDistinct (λ a b. a == b) (vertices_along s (ups ++ downs))
 
--- for each LID, a candidate is picked at each vertex with a label towards the LID's home, except the home
+-- for each LID, `pick` gives a candidate at each vertex that has a label towards the LID's home, except at the home
 abbrev pub PicksCandidates : List (List Edge) → (ℕ → ℕ) → (ℕ → ℕ → Edge) → Type 0
 PicksCandidates edges home pick = (lid s : ℕ) (m : Mark) → marks edges (home lid) s ≡ Some m → s ≢ home lid
     → Contains (candidates edges (home lid) s) (pick lid s)
 
--- whichever candidates are picked, they lead to the home from each vertex with a label
+-- whichever candidates are picked, they lead from each vertex with a label to the home, over as many edges as its cost
 abbrev pub WaysLaw : Type 0
 WaysLaw = (edges : List (List Edge)) (home : ℕ → ℕ) (pick : ℕ → ℕ → Edge) → PicksCandidates edges home pick
     → (lid s : ℕ) (m : Mark) → marks edges (home lid) s ≡ Some m → Way edges (pick lid) (home lid) s m.cost
 
--- the number of the channel from a into b, if there are n vertices
+-- the number of the channel from vertex `a` to vertex `b`, if there are `n` vertices: it rises up and then down
 abbrev pub channel_number : ℕ → ℕ → ℕ → ℕ
 channel_number n a b = if nat_lt b a then n - b else n + b
 
--- the numbers of the channels that the edges take from s on, if there are n vertices
+-- the numbers of the channels that the edges take from vertex `s` on, if there are `n` vertices
 abbrev pub channels_along : ℕ → ℕ → List Edge → List ℕ
 channels_along n s [] = []
 channels_along n s (e ∷ es) = channel_number n s e.to ∷ channels_along n e.to es
 
--- channel numbers rise up and then down, whatever the target, the LID and what is picked
+-- channel numbers rise along edges that go up and then down
 abbrev pub ChannelsLaw : Type 0
 ChannelsLaw = (edges : List (List Edge)) → LeadToVertices edges → (s u t : ℕ) (ups downs : List Edge)
     → Climbs edges s ups u → Descends edges u downs t
@@ -79,19 +80,21 @@ ChannelsLaw = (edges : List (List Edge)) → LeadToVertices edges → (s u t : �
 abbrev pub Channel : Type 0
 Channel = ℕ × Edge
 
--- a packet that holds one channel may wait for the next: both are candidates towards one target
+-- a packet that holds the channel `held` may wait for `next`: one is a candidate at the vertex that the other leads to,
+-- and both towards one target
 pub record MayWait (edges : List (List Edge)) (held next : Channel) : Type 0 where
   pub target : ℕ
   pub holds : Contains (candidates edges target held.0) held.1
   pub there : held.1.to ≡ next.0
   pub wants : Contains (candidates edges target next.0) next.1
 
--- n + 1 channels from a to b, where a packet that holds one may wait for the next
+-- over a number of steps, each channel from `a` on may wait for the next one, and the last is `b`
 abbrev pub MayWaitInTurn : List (List Edge) → ℕ → Channel → Channel → Type 0
 MayWaitInTurn edges zero a b = a ≡ b
 MayWaitInTurn edges (suc n) a b = (c : Channel) × MayWait edges a c × MayWaitInTurn edges n c b
 
--- no packets wait in a credit loop, over all targets together
+-- in a graph no channels may wait for each other in a circle, over all targets together, so no packets wait in a credit
+-- loop
 abbrev pub NoCycleLaw : Type 0
 NoCycleLaw = (edges : List (List Edge)) → LeadToVertices edges → (n : ℕ) (a : Channel) → MayWaitInTurn edges (suc n) a a
     → ⊥

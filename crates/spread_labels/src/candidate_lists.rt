@@ -37,7 +37,8 @@ impl CandidateLists {
     }
 
     /// Finds for each target the ports of the edges whose set in `sets` has the target, in the order of the edges.
-    /// Replaces the ports that were found before. Takes one step for each edge, and one for each port that is found.
+    /// There must be a set for each edge. Replaces the ports that were found before. Takes time linear in the number of
+    /// edges and of ports found.
     pub fn find(&mut self, edges: &[Edge], sets: &[TargetSet]) -> Result<(), AllocError>
         requires { length sets.now ≡ length edges.now }
         ensures { OnOk result (EachTarget (λ k. slice_index_or self.new k []
@@ -46,7 +47,7 @@ impl CandidateLists {
         find_all(&mut self.lists, edges, sets)
     }
 
-    /// Returns the ports towards `target`.
+    /// Returns the ports towards `target`, which must be less than 64.
     pub fn at(&self, target: usize) -> &[PortNum]
         requires { target < 64 }
         ensures { result.now ≡ slice_index_or self.now target [] }
@@ -55,7 +56,8 @@ impl CandidateLists {
     }
 }
 
-/// Sets the list of each target to the ports of the edges whose set in `sets` has the target.
+/// Sets the list of each target to the ports of the edges whose set in `sets` has the target. There must be 64 lists,
+/// and a set for each edge.
 fn find_all(
     lists: &mut [Vec<PortNum>],
     edges: &[Edge],
@@ -79,7 +81,8 @@ fn clear(lists: &mut [Vec<PortNum>])
     }
 }
 
-/// Appends to the list of each target the ports of the edges whose set in `sets` has the target.
+/// Appends to the list of each target the ports of the edges whose set in `sets` has the target. There must be 64
+/// lists, and a set for each edge.
 fn add_all(lists: &mut [Vec<PortNum>], edges: &[Edge], sets: &[TargetSet]) -> Result<(), AllocError>
     requires lists { length lists.old ≡ 64 }
     requires all { length sets.now ≡ length edges.now }
@@ -93,7 +96,7 @@ fn add_all(lists: &mut [Vec<PortNum>], edges: &[Edge], sets: &[TargetSet]) -> Re
     Ok(())
 }
 
-/// Appends `port` to the list of each target in `targets`.
+/// Appends `port` to the list of each target in `targets`. There must be 64 lists.
 fn add(lists: &mut [Vec<PortNum>], port: PortNum, targets: TargetSet) -> Result<(), AllocError>
     requires { length lists.old ≡ 64 }
     ensures { OnOk result (EachTarget (λ k. slice_index_or (map (λ list. list.items) lists.new) k []

@@ -25,9 +25,9 @@ impl Model for CandidateSets {
 }
 
 impl CandidateSets {
-    /// Finds for each edge the targets among `targets` towards which it is a candidate. There are at most 64 targets.
-    /// Takes a step or two for each edge in each round, for all targets together. There is one round more than the
-    /// greatest cost.
+    /// Finds for each edge the targets among `targets`, by their indices, towards which it is a candidate. There must
+    /// be at most 64 targets. Takes time linear in the number of vertices and edges in each round, for all targets
+    /// together. There is one round more than the greatest cost.
     pub fn towards(alloc: Global, edges: &Adjacency, targets: &[usize]) -> Result<Self, AllocError>
         requires lead { LeadToVertices edges.now }
         requires few { length targets.now ≤ 64 }
@@ -38,7 +38,7 @@ impl CandidateSets {
         Ok(CandidateSets { rows })
     }
 
-    /// Returns the sets of a vertex's edges, in the order of the edges.
+    /// Returns the sets of the edges of `vertex`, which must exist, in the order of the edges.
     pub fn at(&self, vertex: usize) -> &[TargetSet]
         requires { vertex < length self.now }
         ensures { result.now ≡ slice_index_or self.now vertex [] }

@@ -34,8 +34,8 @@ pub struct Grades {
     pub levels: Vec<usize>,
 }
 
-/// Computes the distance classes and levels of vertices. Takes a breadth-first search from each root and each leaf
-/// vertex.
+/// Returns the distance classes and levels of vertices, given the leaf vertices and the roots. Takes a breadth-first
+/// search from each of these.
 pub fn grade(
     alloc: Global,
     edges: &Adjacency,
@@ -88,7 +88,8 @@ fn distance_class(roots: DistanceSum, leaves: DistanceSum) -> u128
     }
 }
 
-/// Returns four times the mean of `count` numbers whose sum is `sum`, rounded down, or 0 if `count` is 0.
+/// Returns four times the mean of `count` numbers whose sum is `sum`, rounded down, or 0 if `count` is 0. The mean must
+/// be at most 2^64.
 fn quarters(sum: u128, count: usize) -> u128
     requires { sum ≤ count * 2 ^ 64 }
     ensures { result ≡ quarters_of sum count }
@@ -100,7 +101,7 @@ fn quarters(sum: u128, count: usize) -> u128
     4 * (sum / count) + 4 * (sum % count) / count
 }
 
-/// Returns the sum of the distances of each vertex from the vertices `some`.
+/// Returns the distance sum of each vertex from the vertices `some`.
 pub(crate) fn distance_sums(
     alloc: Global,
     edges: &Adjacency,
@@ -123,7 +124,8 @@ pub(crate) fn distance_sums(
     Ok(distance_sums)
 }
 
-/// Adds to each distance sum the distance at its index.
+/// Adds to each distance sum the distance at its index, if there is one. There must be as many distances as sums, and
+/// room in each sum for one more.
 fn add_distances(distance_sums: &mut [DistanceSum], distances: &[Option<usize>])
     requires all { length distance_sums.old ≡ length distances.now }
     requires room { All HasRoom distance_sums.old }
@@ -134,7 +136,8 @@ fn add_distances(distance_sums: &mut [DistanceSum], distances: &[Option<usize>])
     }
 }
 
-/// Returns `distance_sum` with `distance` added, or unchanged if `distance` is `None`.
+/// Returns `distance_sum` with `distance` added, or unchanged if `distance` is `None`. There must be room for one more
+/// distance.
 fn with(distance_sum: DistanceSum, distance: Option<usize>) -> DistanceSum
     requires { HasRoom distance_sum }
     ensures { result ≡ with_distance distance_sum distance }

@@ -22,8 +22,9 @@ pub(crate) enum Stage {
 }
 
 /// Returns the vertices in their grown order. The next vertex is the one with the earliest key among those that have an
-/// edge to a placed one. If there is none, it is the one with the earliest key of all that are left. Of equal keys the
-/// lesser vertex's is earlier. Takes one step for each pair of vertices and for each edge.
+/// edge to a placed one. If there is none, it is the one with the earliest key of all that are not placed. Of equal
+/// keys the lesser vertex's is earlier. There must be a key for each vertex, and for each edge an edge back. Takes time
+/// quadratic in the number of vertices, and linear in that of edges.
 pub fn grown_order(
     alloc: Global,
     edges: &Adjacency,
@@ -57,7 +58,8 @@ fn next_vertex(keys: &[VertexKey], stages: &[Stage]) -> Option<usize>
     }
 }
 
-/// Returns the vertex with the earliest key among those at `stage`, or `None` if there is none.
+/// Returns the vertex with the earliest key among those at `stage`, or `None` if there is none. Of equal keys the
+/// lesser vertex's is earlier.
 fn earliest(keys: &[VertexKey], stages: &[Stage], stage: Stage) -> Option<usize>
     requires { length stages.now ≡ length keys.now }
     ensures earliest { result ≡ earliest_at (before_by keys.now) stages.now stage (length keys.now) }
@@ -79,7 +81,7 @@ fn is_at(one: Stage, stage: Stage) -> bool
     one == stage
 }
 
-/// Returns the earlier of `vertex` and `found`, or `vertex` if `found` is `None`.
+/// Returns the earlier of `vertex` and `found` by `is_before`, or `vertex` if `found` is `None`.
 pub(crate) fn earlier(keys: &[VertexKey], found: Option<usize>, vertex: usize) -> usize
     requires vertex { vertex < length keys.now }
     requires found { MatchOption found (Unit {0}) (λ other. other < length keys.now) }
@@ -101,7 +103,7 @@ pub fn is_before(keys: &[VertexKey], one: usize, other: usize) -> bool
     one_key.is_less(&other_key) || (!other_key.is_less(&one_key) && one < other)
 }
 
-/// Marks `vertex` as placed. Each vertex that its edges lead to and that is left becomes beside a placed one.
+/// Marks `vertex` as placed, and each vertex that `edges` lead to and that is at `Left` as `Beside`.
 fn add_vertex(edges: &[Edge], vertex: usize, stages: &mut [Stage])
     requires vertex { vertex < length stages.old }
     requires lead { All (λ edge. edge.to < length stages.old) edges.now }

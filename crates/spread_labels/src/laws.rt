@@ -63,7 +63,7 @@ pub fn keys_tell_apart()
 {}
 
 /// The next vertex of the grown order has the earliest key of those that have an edge to a placed one. If there is
-/// none, it has the earliest key of all that are left.
+/// none, it has the earliest key of all that are not placed.
 pub fn keys_law()
     ensures { KeysLaw }
 {}

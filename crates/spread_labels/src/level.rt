@@ -11,7 +11,7 @@ use std::alloc::{AllocError, Global};
 /// The greatest digit weight. No number of a LID exceeds it.
 const GREATEST_WEIGHT: usize = 65536;
 
-/// Returns the least distance of each sum, or 0 if it has none.
+/// Returns the least distance in each sum, or 0 if it has none.
 pub(crate) fn near_or_0(
     alloc: Global,
     distance_sums: &[DistanceSum],
@@ -25,9 +25,9 @@ pub(crate) fn near_or_0(
         .collect(alloc)
 }
 
-/// Computes the digit weight of the level of each vertex: the product of the widths of all lesser levels, but at most
+/// Returns the digit weight of the level of each vertex: the product of the widths of all lesser levels, but at most
 /// 65536. The width of a level is the greatest number of edges to higher vertices that a vertex of it has, but at least
-/// 1. Takes one step for each edge at each level.
+/// 1. There must be a level for each vertex. Walks all vertices for each level.
 pub fn digit_weights(
     alloc: Global,
     edges: &Adjacency,
@@ -45,7 +45,7 @@ pub fn digit_weights(
     Ok(digit_weights)
 }
 
-/// Returns the digit weight of each level up to the greatest.
+/// Returns the digit weight of each level up to the greatest of `levels`.
 fn digit_weights_by_level(
     alloc: Global,
     edges: &Adjacency,
@@ -66,7 +66,7 @@ fn digit_weights_by_level(
     Ok(digit_weights)
 }
 
-/// Returns the digit weight of the next level, given the digit weight and the width of a level.
+/// Returns the digit weight of the next level, given the digit weight and the width of a level. It is at most 65536.
 fn next_digit_weight(digit_weight: usize, width: usize) -> usize
     ensures { result ≡ min (digit_weight * width) 65536 }
 {
@@ -100,7 +100,7 @@ fn width(edges: &Adjacency, levels: &[usize], level: usize) -> usize
     width
 }
 
-/// Counts the edges of a vertex that lead to higher vertices.
+/// Returns the number of `edges`, those of `vertex`, that lead to higher vertices.
 fn rises(edges: &[Edge], vertex: usize, levels: &[usize]) -> usize
     requires vertex { vertex < length levels.now }
     requires lead { All (λ edge. edge.to < length levels.now) edges.now }

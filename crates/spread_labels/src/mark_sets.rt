@@ -17,7 +17,7 @@ pub(crate) struct MarkSets {
     downs: Vec<TargetSet>,
 }
 
-/// The targets that a vertex has a mark for, and those for which the mark is `Down`.
+/// The sets of one vertex: the targets that it has a mark for, and those for which the mark is `Down`.
 #[derive(Clone, Copy)]
 struct VertexSets {
     marked: TargetSet,
@@ -44,7 +44,8 @@ fn giver_set(edge: &Edge, vertex: usize, marks: &MarkSets) -> TargetSet
     }
 }
 
-/// Returns the targets for which any of the edges of `vertex` gives it a mark.
+/// Returns the targets for which any of `edges`, those of `vertex`, gives it a mark, and those for which one that leads
+/// up does.
 fn given_by(edges: &[Edge], vertex: usize, marks: &MarkSets) -> Givers
     requires marked { All (λ edge. edge.to < length marks.now.marked.items) edges.now }
     requires downs { All (λ edge. edge.to < length marks.now.downs.items) edges.now }
@@ -127,7 +128,8 @@ pub(crate) fn after_round(
     Ok(MarkSets { marked, downs })
 }
 
-/// Returns the sets before the first round: each target is marked `Down` for itself.
+/// Returns the sets of `count` vertices before the first round: each target is marked `Down` for itself. There must be
+/// at most 64 targets.
 pub(crate) fn at_first(
     alloc: Global,
     count: usize,
@@ -144,7 +146,7 @@ pub(crate) fn at_first(
     })
 }
 
-/// Returns for each of `count` vertices the indices in `targets` at which it is.
+/// Returns for each of `count` vertices the indices in `targets` at which it is. There must be at most 64 targets.
 fn at_targets(alloc: Global, count: usize, targets: &[usize]) -> Result<Vec<TargetSet>, AllocError>
     requires few { length targets.now ≤ 64 }
     requires vertices { All (λ target. target < count) targets.now }

@@ -20,7 +20,7 @@ impl TargetSet {
         TargetSet { bits: 0 }
     }
 
-    /// Returns the set with `target` added.
+    /// Returns the set with `target`, which must be less than 64, added.
     pub(crate) fn with(self, target: usize) -> Self
         requires { target < 64 }
         ensures { EachTarget (λ k. has result k ≡ ((k == target) || has self k)) }
@@ -30,7 +30,7 @@ impl TargetSet {
         }
     }
 
-    /// Returns the union of two sets.
+    /// Returns the union of this set and `other`.
     pub fn or(self, other: TargetSet) -> Self
         ensures { EachTarget (λ k. has result k ≡ (has self k || has other k)) }
     {
@@ -39,7 +39,7 @@ impl TargetSet {
         }
     }
 
-    /// Returns the intersection of two sets.
+    /// Returns the intersection of this set and `other`.
     pub(crate) fn and(self, other: TargetSet) -> Self
         ensures { EachTarget (λ k. has result k ≡ (has self k && has other k)) }
     {
@@ -64,14 +64,14 @@ impl TargetSet {
         self.bits == 0
     }
 
-    /// Returns whether two sets are equal.
+    /// Returns whether this set and `other` are equal.
     pub(crate) fn is_same(self, other: TargetSet) -> bool
         ensures { result ≡ true → EachTarget (λ k. has self k ≡ has other k) }
     {
         self.bits == other.bits
     }
 
-    /// Returns whether a target is in the set.
+    /// Returns whether `target`, which must be less than 64, is in the set.
     pub fn has(self, target: usize) -> bool
         requires { target < 64 }
         ensures { result ≡ has self target }

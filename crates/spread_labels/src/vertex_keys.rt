@@ -9,9 +9,9 @@ use crate::vertex_key::VertexKey;
 use port_graph::{Adjacency, distances};
 use std::alloc::{AllocError, Global};
 
-/// Computes the key of each vertex: its distance class, and its distance from the first vertex of its component. The
-/// first vertex is the one of the least distance class, and the least such vertex. Takes two breadth-first searches for
-/// each component.
+/// Returns the key of each vertex: its distance class, and its distance from the first vertex of its component. The
+/// first vertex is the one of the least distance class, and the least such vertex. There must be a distance class for
+/// each vertex, and for each edge an edge back. Takes two breadth-first searches for each component.
 pub fn keys(
     alloc: Global,
     edges: &Adjacency,
@@ -66,8 +66,8 @@ fn far(
     Ok(far)
 }
 
-/// Returns the distance of each vertex from the first one, by `keys`, of the component of `vertex`. A vertex of another
-/// component has none.
+/// Returns the distance of each vertex from the first one, by `keys`, of the component of `vertex`, or `None` for a
+/// vertex of another component.
 fn from_first(
     alloc: Global,
     edges: &Adjacency,
@@ -84,7 +84,7 @@ fn from_first(
     distances(alloc, edges, first)
 }
 
-/// Fills each distance of `far` that is missing with the one that was found, if there is one.
+/// Fills each distance of `far` that is missing with the one in `found`, if there is one. Both must be equally long.
 fn fill(far: &mut [Option<usize>], found: &[Option<usize>])
     requires { length far.old ≡ length found.now }
     ensures { FillsIn far.old found.now far.new }

@@ -7,7 +7,8 @@ ghost use Rattle.spread_labels.specs.Positions.{ArePositions, StandOnce, to_posi
 use port_graph::{Adjacency, Edge};
 use std::alloc::{AllocError, Global};
 
-/// Returns the position in `vertices` of each of `count` vertices. The position of a vertex that is not there is 0.
+/// Returns the position in `vertices` of each of `count` vertices, or 0 if it is not there. `vertices` must list some
+/// of them, each once.
 pub fn positions(alloc: Global, vertices: &[usize], count: usize) -> Result<Vec<usize>, AllocError>
     requires { StandOnce count vertices.now }
     ensures { IfOk result (λ positions. ArePositions count vertices.now positions.items) }
@@ -19,7 +20,8 @@ pub fn positions(alloc: Global, vertices: &[usize], count: usize) -> Result<Vec<
     Ok(positions)
 }
 
-/// Returns the position of `vertex` in `vertices`, or the length of `vertices` if it is not there. Takes a search.
+/// Returns the position of `vertex` in `vertices`, or the length of `vertices` if it is not there. Takes time linear in
+/// that length.
 pub fn position_of(vertices: &[usize], vertex: usize) -> usize
     ensures { result ≡ position_of vertices.now vertex }
 {
@@ -31,7 +33,7 @@ pub fn position_of(vertices: &[usize], vertex: usize) -> usize
     vertices.len()
 }
 
-/// Returns the position of each of `vertices`, given the position of each vertex.
+/// Returns the position of each of `vertices`, given in `positions` the position of each vertex.
 pub fn positions_at(
     alloc: Global,
     positions: &[usize],
@@ -47,7 +49,7 @@ pub fn positions_at(
     Ok(found)
 }
 
-/// Returns the count of each of `vertices`, given the count of each vertex.
+/// Returns the count of each of `vertices`, given in `counts` the count of each vertex.
 pub fn counts_at(alloc: Global, counts: &[u16], vertices: &[usize]) -> Result<Vec<u16>, AllocError>
     requires { All (λ vertex. vertex < length counts.now) vertices.now }
     ensures { IfOk result (λ found. found.items ≡ map (slice_index counts.now) vertices.now) }
@@ -59,7 +61,8 @@ pub fn counts_at(alloc: Global, counts: &[u16], vertices: &[usize]) -> Result<Ve
     Ok(found)
 }
 
-/// Returns the edges of the vertex at each position of an order, as edges to positions. Takes one step for each edge.
+/// Returns the edges of the vertex at each position of the order `vertices`, as edges to positions. The order must have
+/// every vertex, and `positions` must have the position of each. Takes time linear in the number of vertices and edges.
 pub fn by_positions(
     alloc: Global,
     edges: &Adjacency,
@@ -79,7 +82,7 @@ pub fn by_positions(
     Ok(placed)
 }
 
-/// Returns the edges, each leading to the position of its vertex.
+/// Returns `edges`, each leading to the position of its vertex.
 fn to_positions(alloc: Global, edges: &[Edge], positions: &[usize]) -> Result<Vec<Edge>, AllocError>
     requires { All (λ edge. edge.to < length positions.now) edges.now }
     ensures { IfOk result (λ found. found.items ≡ map (to_position positions.now) edges.now) }

@@ -1,5 +1,5 @@
--- The candidate that a packet takes if loads are balanced: for each adapter each position takes one candidate, in turn
--- or by counted loads, and the LIDs that are attached at a position share the routes to its adapters.
+-- By which candidate a packet leaves a switch if loads are balanced: for each adapter each switch takes one candidate,
+-- and the LIDs at a switch share the choices for its adapters.
 use Rattle.std.specs.Prelude.{ℕ, ◌+◌, ◌*◌, ◌==◌, List, [], map, slice_index, slice_index_or, sum_by, take, if◌then◌else◌}
 use Rattle.std.specs.Prelude.{Option, None, Some}
 use Rattle.port_graph.specs.declared.edge.Edge.{Edge}
@@ -9,46 +9,46 @@ use Rattle.balanced_choices.specs.BalancedChoices.{are_even, balanced_choices, d
 use Rattle.balanced_choices.specs.FirstLoads.{first_loads}
 use Rattle.balanced_choices.specs.declared.rounds.Destination.{Destination}
 
--- how routes towards adapters are chosen: the digit weight, the leaf number and the number of adapters of each position
--- give the first choices; if these do not balance loads, `counted` has for each adapter the number of the candidate
--- that each position takes
+-- how candidates towards adapters are chosen: the digit weight, the leaf number and the number of adapters of each
+-- position, which give the first choices; and `counted`, if these do not balance loads: for each adapter, the number of
+-- the candidate that each position takes
 pub record AdapterChoices : Type 0 where
   pub weights : List ℕ
   pub leaf_numbers : List ℕ
   pub adapters : List ℕ
   pub counted : Option (List (List ℕ))
 
--- the number of the first adapter at position q: how many adapters there are at earlier positions
+-- how many adapters there are at positions before `q`, which is the number of the first adapter at `q` in `counted`
 abbrev pub first_at : List ℕ → ℕ → ℕ
 first_at adapters q = sum_by (λ n. n) (take q adapters)
 
--- the number of the adapter at position q whose choices a LID with this number takes
+-- the number, in `counted`, of the adapter at position `q` whose choices a LID with the number `lid` takes
 abbrev pub adapter_of : List ℕ → ℕ → ℕ → ℕ
 adapter_of adapters lid q = first_at adapters q + in_turn (slice_index adapters q) lid
 
--- the number of the first end at position q: each leaf number stands for as many numbers as the most adapters of a
+-- the number of the first adapter at position `q`, for first choices: its leaf number times the most adapters of a
 -- position
 abbrev pub first_number : List ℕ → List ℕ → ℕ → ℕ
 first_number leaf_numbers adapters q = slice_index leaf_numbers q * greatest 0 adapters
 
--- the number of the end at position q whose choices a LID with this number takes
+-- the number, for first choices, of the adapter at position `q` whose choices a LID with the number `lid` takes
 abbrev pub end_number : AdapterChoices → ℕ → ℕ → ℕ
 end_number by lid q = first_number by.leaf_numbers by.adapters q + in_turn (slice_index by.adapters q) lid
 
--- the number of the candidate that a LID with this number takes at position p towards position q: if choices are not
--- counted, the digits of the end's number from the weight of p on, plus p; otherwise the counted choice, or 0 if there
--- are no adapters at q
+-- the number by which a LID with the number `lid` chooses a candidate at position `p` towards position `q`: by first
+-- choices, the adapter's number divided by the digit weight of `p`, plus `p`; by counted ones, that of the adapter, or
+-- 0 if `q` has none
 abbrev pub choice_with : Option (List (List ℕ)) → AdapterChoices → ℕ → ℕ → ℕ → ℕ
 choice_with None by lid p q = digits_from (slice_index by.weights p) (end_number by lid q) + p
 choice_with (Some choices) by lid p q =
     if slice_index by.adapters q == 0 then 0
     else slice_index (slice_index_or choices (adapter_of by.adapters lid q) []) p
 
--- the choice of a LID with this number at position p towards position q
+-- the number by which a LID with the number `lid` chooses a candidate at position `p` towards position `q`
 abbrev pub choice_towards : AdapterChoices → ℕ → ℕ → ℕ → ℕ
 choice_towards by lid p q = choice_with by.counted by lid p q
 
--- position q as a destination, given the leaf number of each position: its ends are its adapters
+-- position `q` as a destination of packets: its ends are its adapters, numbered for first choices
 abbrev pub destination : List ℕ → List ℕ → ℕ → Destination
 destination leaf_numbers adapters q = record {
   position = q;
@@ -56,18 +56,18 @@ destination leaf_numbers adapters q = record {
   number = first_number leaf_numbers adapters q;
 }
 
--- the positions with adapters as destinations
+-- the positions with adapters as destinations of packets, by rising position
 abbrev pub destinations : List ℕ → List ℕ → List Destination
 destinations leaf_numbers adapters = map (destination leaf_numbers adapters) (leaf_vertices adapters)
 
--- None if the loads by first choices are even, and otherwise balanced choices, when each adapter sends a packet to each
+-- None if the loads by first choices are even, else the balanced choices, if each adapter sends one packet to each
 -- adapter
 abbrev pub counted_if_uneven : List (List Edge) → List ℕ → List ℕ → List Destination → Option (List (List ℕ))
 counted_if_uneven graph adapters weights ds =
     if are_even graph (first_loads graph adapters weights ds) then None
     else Some (balanced_choices graph adapters weights ds)
 
--- how routes are chosen in a graph by positions
+-- how candidates towards adapters are chosen in a graph by positions
 unfoldable pub adapter_choices : List (List Edge) → List ℕ → List ℕ → List ℕ → AdapterChoices
 adapter_choices graph weights leaf_numbers adapters = record {
   weights = weights;

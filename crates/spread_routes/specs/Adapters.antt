@@ -1,18 +1,19 @@
--- The adapters at the switches of a view.
+-- How many adapters each switch of a view has, counted by ports.
 use Rattle.std.specs.Prelude.{ℕ, Bool, false, not, List, filter, length, map}
 use Rattle.std.specs.List.{range_with_len}
 use Rattle.std.specs.Option.{option_map_or}
 use Rattle.subnet_view.specs.Reading.{Cells, is_usable, port_count_of, switches}
 use Rattle.subnet_view.specs.Wires.{across}
 
--- whether the wire in port p of switch g leads to an adapter
+-- whether the wire in port `p` of node `g` leads to a node that is no usable switch, which is an adapter; false if it
+-- has no wire
 abbrev pub has_adapter_at : Cells → ℕ → ℕ → Bool
 has_adapter_at cells g p = option_map_or (λ q. not (is_usable cells q.0)) (across cells g p) false
 
--- the number of adapter ports that are wired to a switch
+-- the number of ports of switch `g` that are wired to adapter ports
 abbrev pub adapters_at : Cells → ℕ → ℕ
 adapters_at cells g = length (filter (has_adapter_at cells g) (range_with_len 1 (port_count_of cells g)))
 
--- the number of adapter ports that are wired to each usable switch, by rising GUID
+-- how many adapters each usable switch has, counted by ports, by rising GUID
 abbrev pub adapters_of : Cells → List ℕ
 adapters_of cells = map (adapters_at cells) (switches cells)

@@ -1,4 +1,4 @@
--- The order in which leaf switches take turns: leaf switches with a common neighbor come one after the other, so that
+-- The leaf numbers of switches: leaf switches with a common least neighbor are numbered one after the other, so that
 -- their LIDs spread over the wires of that neighbor.
 use Rattle.std.specs.Prelude.{ℕ, ◌%◌, ◌^◌, Bool, ◌&&◌, ◌||◌, List, [], ◌∷◌, ◌==◌, filter, length, map, min, nat_lt, slice_index}
 use Rattle.port_graph.specs.declared.edge.Edge.{Edge}
@@ -7,31 +7,30 @@ use Rattle.spread_labels.specs.Orders.{numbers_from}
 use Rattle.subnet_view.specs.SwitchEdges.{SwitchEdges}
 use Rattle.spread_routes.specs.Rule.{by_index}
 
--- the least of n and the numbers of the list
+-- the least of `n` and the numbers of a list
 abbrev pub least : ℕ → List ℕ → ℕ
 least n [] = n
 least n (m ∷ ms) = least (min n m) ms
 
--- the least of n and the vertices that the edges lead to
+-- the least of `n` and the vertices that `edges` lead to
 abbrev pub least_head : ℕ → List Edge → ℕ
 least_head n edges = least n (map (λ e. e.to) edges)
 
--- the least neighbor of each vertex; the number of vertices if it has none
+-- the least neighbor of each vertex; for a vertex without edges, the number of vertices
 abbrev pub least_neighbors : List (List Edge) → List ℕ
 least_neighbors edges = map (least_head (length edges)) edges
 
--- whether vertex a comes before vertex b, given the least neighbors: its least neighbor is less, or it is equal and a
--- is less
+-- whether vertex `a` comes before vertex `b` among leaf vertices: its least neighbor is less, or equal and `a` is less
 abbrev pub goes_first : List ℕ → ℕ → ℕ → Bool
 goes_first neighbors a b =
     nat_lt (slice_index neighbors a) (slice_index neighbors b)
     || (slice_index neighbors a == slice_index neighbors b && nat_lt a b)
 
--- the leaf number of vertex s: how many leaf vertices come before it, modulo 2^16
+-- the leaf number of vertex `s`: how many of the leaf vertices come before it (`goes_first`), modulo 2^16
 abbrev pub leaf_number : List ℕ → List ℕ → ℕ → ℕ
 leaf_number neighbors leaves s = length (filter (λ leaf. goes_first neighbors leaf s) leaves) % 2 ^ 16
 
--- the leaf number of each switch, by rising GUID, given how many adapters each switch has
+-- the leaf number of each switch, by rising GUID, if `adapters` has how many adapters each has
 abbrev pub leaf_numbers : List SwitchEdges → List ℕ → List ℕ
 leaf_numbers graph adapters =
     map (leaf_number (least_neighbors (by_index graph)) (leaf_vertices adapters)) (numbers_from 0 (length graph))

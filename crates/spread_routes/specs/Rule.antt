@@ -1,5 +1,5 @@
--- A rule that spreads routes over the wires: by marks in an order that grows, and by a choice among the edges that gave
--- a switch its mark.
+-- The spread rule: it labels switches towards a target in an order that grows by keys, and a packet chooses, by a
+-- number, among the edges that gave a switch its label.
 use Rattle.std.specs.Prelude.{ℕ, List, map, length, Option, option_map}
 use Rattle.port_graph.specs.declared.edge.Edge.{Edge}
 use Rattle.spread_labels.specs.declared.vertex_key.VertexKey.{VertexKey}
@@ -14,43 +14,44 @@ use Rattle.subnet_view.specs.Graph.{guids_of}
 use Rattle.subnet_view.specs.GraphLaws.{IsGraph}
 use Rattle.subnet_view.specs.Routing.{Routing, IsRouting}
 
--- what the rule needs: the key of each switch, by rising GUID, and the number by which a packet for a LID takes one of
--- some edges at a position towards another position
+-- what the spread rule needs: the key of each switch, by rising GUID; and the number by which a packet for a LID
+-- chooses among edges at one position towards another
 pub record Spreading : Type 0 where
   pub keys : List VertexKey
   pub number : ℕ → ℕ → ℕ → List Edge → ℕ
 
--- the edges of each switch, as edges to the indices of switches
+-- the edges of each switch of the graph, as edges to the indices of switches
 abbrev pub by_index : List SwitchEdges → List (List Edge)
 by_index graph = map (λ c. map (positioned_edge (guids_of graph)) c.edges) graph
 
--- the indices of the switches, in the order that grows by these keys
+-- the indices of the switches, in the order that grows by `keys`
 abbrev pub order_by_keys : List SwitchEdges → List VertexKey → List ℕ
 order_by_keys graph keys = order (by_index graph) (before_by keys)
 
--- the position of switch g in the order that grows by the keys
+-- the position of switch `g` in the order that grows by `keys`
 abbrev pub position : List SwitchEdges → List VertexKey → ℕ → ℕ
 position graph keys g = position_of (order_by_keys graph keys) (position_of (guids_of graph) g)
 
--- the switch at position p
+-- the GUID of the switch at position `p` of the order that grows by `keys`
 abbrev pub switch_there : List SwitchEdges → List VertexKey → ℕ → ℕ
 switch_there graph keys p = at_position (guids_of graph) (at_position (order_by_keys graph keys) p)
 
--- the edges of the switch at each position, as edges to positions
+-- the edges of the switch at each position of the order that grows by `keys`, as edges to positions
 abbrev pub by_positions : List SwitchEdges → List VertexKey → List (List Edge)
 by_positions graph keys = grown (by_index graph) (before_by keys)
 
--- the edge that a packet for the LID takes at position p towards position q, by its number modulo the number of edges;
--- None if there are no edges
+-- the edge that a packet for `lid` takes at position `p` towards position `q`: that at its number modulo the number of
+-- edges; None if there are no edges
 abbrev pub taken : Spreading → ℕ → ℕ → ℕ → List Edge → Option Edge
 taken by lid p q edges = chosen edges (by.number lid p q edges)
 
--- the edge by which a packet for the LID leaves the switch at position p for the switch at position q; None if there is
--- none
+-- the edge by which a packet for `lid` leaves the switch at position `p` for that at position `q`, one of the
+-- candidates; None if there are none
 abbrev pub edge_to : List SwitchEdges → Spreading → ℕ → ℕ → ℕ → Option Edge
 edge_to graph by lid p q = taken by lid p q (candidates (by_positions graph by.keys) q p)
 
--- the rule: the port of the edge that is taken, and the cost and the channels by positions
+-- the spread rule: the port of the candidate that is taken, and the cost and the channels by positions in the order
+-- that grows by the keys
 abbrev pub spread : List SwitchEdges → Spreading → Routing
 spread graph by = record {
   next = λ lid s t.
@@ -60,6 +61,6 @@ spread graph by = record {
       channel_number (length (by_positions graph by.keys)) (position graph by.keys a) (position graph by.keys b);
 }
 
--- whatever the keys and whatever edges the LIDs take, the rule is a rule of routing
+-- on each graph, the spread rule is a rule of routing, whatever the keys and the numbers are
 abbrev pub SpreadIsRouting : Type 0
 SpreadIsRouting = (graph : List SwitchEdges) (by : Spreading) → IsGraph graph → IsRouting graph (spread graph by)

@@ -1,5 +1,5 @@
--- The whole rule, given only the wires, how many adapters each switch has, and what the order grows by. These give the
--- keys, and the edge that a LID takes.
+-- The spread rule as a function of the wires between switches, of how many adapters each switch has, and of what the
+-- order grows by: these give keys, levels and the number by which a LID chooses.
 use Rattle.std.specs.Prelude.{◌≡◌, ℕ, Bool, List, [], map, filter, length, nat_lt, ◌+◌, ◌/◌, ◌%◌, slice_index, if◌then◌else◌}
 use Rattle.std.specs.Prelude.{Option, None, Some}
 use Rattle.std.specs.List.{list_any}
@@ -21,7 +21,7 @@ use Rattle.spread_routes.specs.LeafNumbers.{leaf_numbers}
 use Rattle.spread_routes.specs.Rule.{by_index, by_positions, order_by_keys, spread}
 use Rattle.spread_routes.specs.SwitchOrders.{OrderValue, as_named, balanced_as, from_roots, least_loaded, keys_as_named, named_in, switches_by_keys}
 
--- what the rule depends on: the wires, the key and the level of each switch, by rising GUID, and the choices for
+-- what a spread rule is made from: the graph, the key and the level of each switch, by rising GUID, and the choices for
 -- adapters if loads are balanced
 pub record Grading : Type 0 where
   pub graph : List SwitchEdges
@@ -29,11 +29,11 @@ pub record Grading : Type 0 where
   pub levels : List ℕ
   pub choices : Option AdapterChoices
 
--- the level of the switch at position p
+-- the level of the switch at position `p`
 abbrev pub level_there : Grading → ℕ → ℕ
 level_there by p = slice_index by.levels (at_position (order_by_keys by.graph by.keys) p)
 
--- the LID digit of the switch at index i: its level, the digit weight of that level, and its GUID modulo 31
+-- the LID digit of the switch at index `i`: its level, the digit weight of that level, and as offset its GUID modulo 31
 abbrev pub lid_digit_at : List SwitchEdges → List ℕ → ℕ → LidDigit
 lid_digit_at graph levels i = record {
   level = slice_index levels i;
@@ -41,81 +41,83 @@ lid_digit_at graph levels i = record {
   offset = at_position (guids_of graph) i % 31;
 }
 
--- the LID digit of the switch at position p
+-- the LID digit of the switch at position `p`
 abbrev pub lid_digit_there : Grading → ℕ → LidDigit
 lid_digit_there by p = lid_digit_at by.graph by.levels (at_position (order_by_keys by.graph by.keys) p)
 
--- whether one of the edges leads from the switch at position p to a switch of a higher level
+-- whether one of the edges leads from the switch at position `p` to a switch of a higher level
 abbrev pub goes_higher : Grading → ℕ → List Edge → Bool
 goes_higher by p edges = list_any (λ e. nat_lt (level_there by p) (level_there by e.to)) edges
 
--- the number of a LID at a switch: if the packet can go higher, the LID without its digits below the switch's digit
--- weight, and otherwise the LID; plus the offset
+-- the number of a LID at a switch: divided by the digit weight if `higher`, so if the packet can go to a higher level,
+-- else the LID's own; plus the switch's offset
 abbrev pub number_by : LidDigit → Bool → ℕ → ℕ
 number_by lid_digit higher lid = (if higher then lid / lid_digit.digit_weight else lid) + lid_digit.offset
 
--- the number of a LID at position p towards position q: its choice if loads are balanced, and `number` otherwise
+-- the number by which a LID chooses at position `p` towards position `q`: that of its choice for an adapter if loads
+-- are balanced, else `number`
 abbrev pub number_with : Option AdapterChoices → ℕ → ℕ → ℕ → ℕ → ℕ
 number_with None number lid p q = number
 number_with (Some choices) number lid p q = choice_towards choices lid p q
 
--- the number of a LID at position p towards position q, if it can take these edges
+-- the number by which a LID chooses among `edges` at position `p` towards position `q`
 abbrev pub number_there : Grading → ℕ → ℕ → ℕ → List Edge → ℕ
 number_there by lid p q edges =
     number_with by.choices (number_by (lid_digit_there by p) (goes_higher by p edges) lid) lid p q
 
--- the rule by a grading
+-- the spread rule of a grading
 abbrev pub spread_at : Grading → Routing
 spread_at by = spread by.graph (record { keys = by.keys; number = number_there by })
 
--- the indices of those GUIDs that are switches of the graph
+-- the indices of those of the GUIDs that are switches of the graph
 abbrev pub indices_of : List SwitchEdges → List ℕ → List ℕ
 indices_of graph guids = filter (λ i. nat_lt i (length graph)) (map (position_of (guids_of graph)) guids)
 
--- the keys of switches, by the distance classes that the leaf switches and the roots give, given how many adapters each
--- switch has, by rising GUID
+-- the keys of switches by distance class, from the roots that are in the graph and from the leaf switches; `adapters`
+-- has how many adapters each switch has, by rising GUID
 abbrev pub keys_from_roots : List SwitchEdges → List ℕ → List ℕ → List VertexKey
 keys_from_roots graph adapters roots =
     keys_of (by_index graph) (distance_classes_of (by_index graph) (leaf_vertices adapters) (indices_of graph roots))
 
--- the keys with the least trial load, of those from no roots and those by depth
+-- the keys of the order of least trial load, of those tried: from no roots, and by depth; those from no roots if their
+-- trial loads are even
 abbrev pub keys_least_loaded : List SwitchEdges → List ℕ → List VertexKey
 keys_least_loaded graph adapters =
     least_loaded_keys (by_index graph) adapters (keys_from_roots graph adapters [])
 
--- the keys of switches, by what the order grows by
+-- the keys of switches by what the order grows by: roots, a list of switches, or the least trial load
 abbrev pub keys_by : List SwitchEdges → List ℕ → OrderValue → List VertexKey
 keys_by graph adapters (from_roots roots) = keys_from_roots graph adapters roots
 keys_by graph adapters (as_named switches) = keys_as_named graph switches
 keys_by graph adapters (balanced_as switches) = keys_as_named graph switches
 keys_by graph adapters least_loaded = keys_least_loaded graph adapters
 
--- how many adapters each position has, in the order that grows by these keys
+-- how many adapters the switch at each position has, in the order that grows by `keys`
 abbrev pub adapters_there : List SwitchEdges → List VertexKey → List ℕ → List ℕ
 adapters_there graph keys adapters = map (slice_index adapters) (order_by_keys graph keys)
 
--- the leaf number of each position, in the order that grows by these keys
+-- the leaf number of the switch at each position, in the order that grows by `keys`
 abbrev pub leaf_numbers_there : List SwitchEdges → List VertexKey → List ℕ → List ℕ
 leaf_numbers_there graph keys adapters = map (slice_index (leaf_numbers graph adapters)) (order_by_keys graph keys)
 
--- the digit weight of the switch at each position, in the order that grows by these keys
+-- the digit weight of the switch at each position, in the order that grows by `keys`
 abbrev pub weights_there : List SwitchEdges → List VertexKey → List ℕ → List ℕ
 weights_there graph keys levels = map (λ i. (lid_digit_at graph levels i).digit_weight) (order_by_keys graph keys)
 
--- the balanced choices in the order that grows by these keys
+-- the choices for adapters in the order that grows by `keys`
 abbrev pub balanced_by : List SwitchEdges → List VertexKey → List ℕ → List ℕ → AdapterChoices
 balanced_by graph keys levels adapters =
     adapter_choices (by_positions graph keys) (weights_there graph keys levels) (leaf_numbers_there graph keys adapters)
     (adapters_there graph keys adapters)
 
--- the choices for adapters; None if loads are not balanced
+-- the choices for adapters if loads are balanced, else None
 abbrev pub choices_by : List SwitchEdges → List VertexKey → List ℕ → List ℕ → OrderValue → Option AdapterChoices
 choices_by graph keys levels adapters (from_roots roots) = None
 choices_by graph keys levels adapters (as_named switches) = None
 choices_by graph keys levels adapters (balanced_as switches) = Some (balanced_by graph keys levels adapters)
 choices_by graph keys levels adapters least_loaded = Some (balanced_by graph keys levels adapters)
 
--- what the rule depends on, given the wires, how many adapters each switch has, and what the order grows by
+-- the grading from a graph, how many adapters each switch has, and what the order grows by
 abbrev pub grading_of : List SwitchEdges → List ℕ → OrderValue → Grading
 grading_of graph adapters order =
     let levels = levels_of (by_index graph) (leaf_vertices adapters) in
@@ -126,27 +128,28 @@ grading_of graph adapters order =
       choices = choices_by graph (keys_by graph adapters order) levels adapters order;
     }
 
--- the whole rule, given the wires, how many adapters each switch has, and what the order grows by
+-- the spread rule from a graph, how many adapters each switch has, and what the order grows by
 unfoldable pub spread_by : List SwitchEdges → List ℕ → OrderValue → Routing
 spread_by graph adapters order = spread_at (grading_of graph adapters order)
 
--- the whole rule is a rule of routing
+-- on each graph, `spread_by` is a rule of routing, however many adapters switches have and whatever the order grows by
 abbrev pub SpreadByIsRouting : Type 0
 SpreadByIsRouting = (graph : List SwitchEdges) (adapters : List ℕ) (order : OrderValue) → IsGraph graph
     → IsRouting graph (spread_by graph adapters order)
 
--- the switches in the order of the rule
+-- the GUIDs of the switches, in the order of the spread rule
 unfoldable pub switches_in_order : List SwitchEdges → List ℕ → OrderValue → List ℕ
 switches_in_order graph adapters order = switches_by_keys graph (keys_by graph adapters order)
 
--- if the switches are named in the order of the rule, the order stays the same and packets are routed as before
+-- if a list names the switches in the order of the rule, the order that grows by the list is that order, and packets
+-- are routed as before
 pub record OrderStands (graph : List SwitchEdges) (adapters : List ℕ) (by : OrderValue) : Type 0 where
   pub order : switches_in_order graph adapters (named_in by (switches_in_order graph adapters by))
       ≡ switches_in_order graph adapters by
   pub routing : spread_by graph adapters (named_in by (switches_in_order graph adapters by))
       ≡ spread_by graph adapters by
 
--- each order satisfies `OrderStands`, whatever the graph and the adapters
+-- on each graph `OrderStands` holds, however many adapters switches have and whatever the order grows by
 abbrev pub OrdersStand : Type 0
 OrdersStand = (graph : List SwitchEdges) (adapters : List ℕ) (order : OrderValue) → IsGraph graph
     → OrderStands graph adapters order

@@ -1,4 +1,5 @@
--- The tables of the rule, and the ports that it chooses.
+-- How the code finds the port of the spread rule: candidates towards up to 64 switches at once, and the ports of one
+-- switch.
 use Rattle.std.specs.Prelude.{◌≡◌, ◌<◌, ◌≤◌, ◌+◌, ◌%◌, ℕ, List, [], ◌∷◌, length, Option, None, slice_get, slice_index, slice_index_or, slice_set}
 use Rattle.port_graph.specs.declared.edge.Edge.{Edge}
 use Rattle.port_graph.specs.Heads.{edges_at}
@@ -14,11 +15,12 @@ use Rattle.spread_routes.specs.Rule.{by_positions, order_by_keys}
 use Rattle.spread_routes.specs.AdapterChoices.{AdapterChoices}
 use Rattle.spread_routes.specs.Spread.{Grading, number_by, number_with, lid_digit_there, spread_at}
 
--- a LID digit for a position that has no switch
+-- a LID digit for positions past the end
 abbrev pub no_lid_digit : LidDigit
 no_lid_digit = record { level = 0; digit_weight = 1; offset = 0 }
 
--- the edges by positions, each switch's position, and the LID digit at each position
+-- `edges` are those of the graph by positions, `positions` has the position of each switch, and `lid_digits` the LID
+-- digit at each position
 pub record IsByPositions (by : Grading) (edges : List (List Edge)) (positions : List ℕ) (lid_digits : List LidDigit) :
     Type 0 where
   pub is_graph : IsGraph by.graph
@@ -30,13 +32,13 @@ pub record IsByPositions (by : Grading) (edges : List (List Edge)) (positions : 
   pub lid_digit : (p : ℕ) → p < length edges → slice_index_or lid_digits p no_lid_digit ≡ lid_digit_there by p
 
 -- the candidates of all vertices towards the switches at the indices from `first` up to, but not including, `end`: for
--- each edge, the targets for which it is a candidate
+-- each edge, the targets for which it is one
 pub record TowardsValue : Type 0 where
   pub first : ℕ
   pub end : ℕ
   pub sets : List (List TargetSet)
 
--- the sets are those of the candidates towards at most 64 switches of the graph
+-- `towards` has the candidates towards at most 64 switches of the graph
 pub record AreTowards (by : Grading) (towards : TowardsValue) : Type 0 where
   pub few : towards.end ≤ towards.first + 64
   pub within : towards.end ≤ length by.graph
@@ -46,7 +48,7 @@ pub record AreTowards (by : Grading) (towards : TowardsValue) : Type 0 where
       ≡ candidates (by_positions by.graph by.keys) (position_of (order_by_keys by.graph by.keys) (towards.first + k)) p
 
 -- how packets leave a switch: the ports of its candidates towards each target, the targets for which a candidate leads
--- to a higher switch, the switch's LID digit, the choices for adapters if loads are balanced, and the positions of the
+-- to a higher level, the switch's LID digit, the choices for adapters if loads are balanced, and the positions of the
 -- switch and of the targets
 pub record ExitsValue : Type 0 where
   pub ports : List (List ℕ)
@@ -56,31 +58,31 @@ pub record ExitsValue : Type 0 where
   pub own : ℕ
   pub targets : List ℕ
 
--- the port with this number, modulo the number of ports; None if there are no ports
+-- the port at index `choice` modulo the number of ports; None if there are no ports
 abbrev pub port_chosen : List ℕ → ℕ → Option ℕ
 port_chosen [] choice = None
 port_chosen (port ∷ ports) choice = slice_get (port ∷ ports) (choice % length (port ∷ ports))
 
--- the port with this number, modulo the number of ports, if there are ports
+-- the port at index `choice` modulo the number of ports; there must be one
 abbrev pub port_turn : List ℕ → ℕ → ℕ
 port_turn ports choice = slice_index ports (choice % length ports)
 
--- the number by which a LID chooses among the ports towards target k
+-- the number by which a LID with the number `lid` chooses among the ports towards target `k`
 abbrev pub exit_number : ExitsValue → ℕ → ℕ → ℕ
 exit_number exits k lid =
     number_with exits.choices (number_by exits.lid_digit (has exits.higher k) lid) lid exits.own
     (slice_index exits.targets k)
 
--- the port that a LID takes towards target k
+-- the port by which a LID with the number `lid` leaves towards target `k`; None if there is none
 abbrev pub port_by : ExitsValue → ℕ → ℕ → Option ℕ
 port_by exits k lid = port_chosen (slice_index_or exits.ports k []) (exit_number exits k lid)
 
--- these exits give, for each LID and each target, the port by which the rule leaves the switch at index `own`
+-- `exits` give, for each LID and each target, the port by which the spread rule leaves the switch at index `own`
 abbrev pub AreExits : Grading → TowardsValue → ℕ → ExitsValue → Type 0
 AreExits by towards own exits = (k lid : ℕ) → towards.first + k < towards.end → port_by exits k lid
     ≡ (spread_at by).next lid (switch_at by.graph own) (switch_at by.graph (towards.first + k))
 
--- the entries with `f lid` at each of the LIDs
+-- the entries, with `f lid` at each of some LIDs
 abbrev pub with_entries : (ℕ → ℕ) → List ℕ → List ℕ → List ℕ
 with_entries f entries [] = entries
 with_entries f entries (lid ∷ lids) = with_entries f (slice_set entries lid (f lid)) lids

@@ -57,8 +57,8 @@ impl Model for AdapterChoices {
 
 impl AdapterChoices {
     /// Balances the loads of a graph by positions for the case that each adapter sends a packet to each adapter.
-    /// `weights`, `leaf_numbers` and `adapters` have the digit weight, the leaf number and the number of adapters of
-    /// each position. Takes as long as `first_loads` and, if its loads are not even, as long as `balanced_choices`
+    /// `weights`, `leaf_numbers` and `adapters` must have the digit weight, the leaf number and the number of adapters
+    /// of each position. Takes as long as `first_loads` and, if its loads are not even, as long as `balanced_choices`
     /// besides.
     pub(crate) fn of(
         alloc: Global,
@@ -96,8 +96,8 @@ impl AdapterChoices {
         self.counted.is_some()
     }
 
-    /// Returns the number of the candidate that a LID with this number takes at the position `own` towards the position
-    /// `target`, or 0 if there are no adapters at `target`. The choices must have been made by counted loads.
+    /// Returns the number of the candidate that a LID with the number `number` takes at the position `own` towards the
+    /// position `target`, or 0 if there are no adapters at `target`. The choices must have been made by counted loads.
     pub(crate) fn towards(&self, number: usize, own: usize, target: usize) -> usize
         requires { IsTrue (is_some self.now.counted) }
         ensures { result ≡ choice_towards self.now number own target }
@@ -114,7 +114,8 @@ impl AdapterChoices {
         }
     }
 
-    /// Returns the turns of ends among `count` candidates at the position `own`.
+    /// Returns the turns of ends among `count` candidates at the position `own`. `count` must not be 0, and less than
+    /// 2^63.
     pub(crate) fn turn(&self, own: usize, count: usize) -> RoundRobin
         requires { (0 < count) × (count < 2 ^ 63) }
         ensures turn { IsTurn result }
@@ -134,7 +135,7 @@ impl AdapterChoices {
     }
 
     /// Returns the number of the adapter at `position` whose choices a LID with the number `number` takes, but at most
-    /// 2^64 - 1.
+    /// 2^64 - 1. `position` must exist.
     fn adapter_of(&self, number: usize, position: usize) -> usize
         requires { position < length self.now.adapters }
         ensures { result ≡ min (adapter_of self.now.adapters number position) (2 ^ 64 - 1) }

@@ -9,8 +9,8 @@ use smp_bytes::{Guid, PortNum};
 use std::alloc::{AllocError, Global};
 use subnet_view::{Wires, is_usable, port_count};
 
-/// Returns the number of adapter ports that are wired to each usable switch, by rising GUID. Takes two searches for
-/// each port of a switch.
+/// Returns the number of adapter ports that are wired to each usable switch, by rising GUID. `guids` must be the usable
+/// switches. Takes a binary search among the cells for each switch, and at most four for each of its ports.
 pub fn adapters_of(alloc: Global, wires: &Wires, guids: &[Guid]) -> Result<Vec<u16>, AllocError>
     requires { guids.now ≡ switches (cells_of wires.now) }
     ensures { IfOk result (λ adapters. adapters.items ≡ adapters_of (cells_of wires.now)) }
@@ -21,8 +21,7 @@ pub fn adapters_of(alloc: Global, wires: &Wires, guids: &[Guid]) -> Result<Vec<u
         .collect(alloc)
 }
 
-/// Returns the most adapters that a switch has, given the number of adapters at each switch. Returns 0 if there are no
-/// switches.
+/// Returns the greatest number in `adapters`, which has the number of adapters at each switch, or 0 if it is empty.
 pub fn most_adapters(adapters: &[u16]) -> u16
     ensures { result ≡ greatest 0 adapters.now }
 {
@@ -33,7 +32,7 @@ pub fn most_adapters(adapters: &[u16]) -> u16
     most
 }
 
-/// Counts the adapter ports that are wired to `switch`.
+/// Returns the number of adapter ports that are wired to `switch`.
 fn adapters_at(wires: &Wires, switch: Guid) -> u16
     ensures { result ≡ adapters_at (cells_of wires.now) switch }
 {

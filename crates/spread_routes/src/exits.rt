@@ -21,7 +21,7 @@ use std::marker::Model;
 #[derive(Drop)]
 pub struct Exits<'s> {
     lists: CandidateLists,
-    /// The targets for which one of the edges leads to a higher switch.
+    /// The targets for which one of the candidates leads to a higher switch.
     higher: TargetSet,
     lid_digit: LidDigit,
     /// The choices for adapters, if loads are balanced.
@@ -88,7 +88,8 @@ impl<'s> Exits<'s> {
         self.targets = targets;
     }
 
-    /// Sets the exits of a switch: `edges[i]` is a candidate towards each target in `sets[i]`.
+    /// Sets the exits of a switch: `edges[i]` is a candidate towards each target in `sets[i]`. There must be a set for
+    /// each edge.
     pub(crate) fn find(
         &mut self,
         lid_digit: LidDigit,
@@ -112,8 +113,8 @@ impl<'s> Exits<'s> {
     }
 
     /// Writes for each of `lids` the number of the port that it takes towards `target`, or `none` if no way leads
-    /// there. A LID chooses by its number in `numbers`. Takes one step for each LID, and a few more if their numbers
-    /// are not consecutive.
+    /// there. A LID chooses by its number in `numbers`. `target` must be less than 64, and each LID within `entries`
+    /// and `numbers`. Takes time linear in the number of LIDs.
     pub fn write(&self, target: usize, lids: &[Lid], numbers: &[u16], none: u8, entries: &mut [u8])
         requires target { target < 64 }
         requires lids { All (λ lid. lid < length entries.old) lids.now }
@@ -152,7 +153,7 @@ impl<'s> Exits<'s> {
 }
 
 /// Writes for each of `lids` the port of `ports` that it takes by its choice at the position `own` towards the position
-/// `target`. The choices must have been made by counted loads.
+/// `target`. The choices must have been made by counted loads, and there must be a port.
 fn write_chosen(
     entries: &mut [u8],
     lids: &[Lid],
@@ -178,7 +179,7 @@ fn write_chosen(
 }
 
 /// Writes for each of `lids` the port of `ports` that it takes by its first choice at the position `own` towards the
-/// position `target`.
+/// position `target`. The choices must not have been made by counted loads, and there must be a port.
 fn write_in_turn(
     entries: &mut [u8],
     lids: &[Lid],
@@ -216,7 +217,7 @@ fn write_none(entries: &mut [u8], lids: &[Lid], none: u8)
     }
 }
 
-/// Writes for each of `lids` the port of `ports` that it takes.
+/// Writes for each of `lids` the port of `ports` that it takes by `lid_digit`. There must be a port.
 fn write_ports(
     entries: &mut [u8],
     lids: &[Lid],
@@ -241,7 +242,7 @@ fn write_ports(
     }
 }
 
-/// Returns the number of `lid`.
+/// Returns the number of `lid`, which must be within `numbers`.
 fn number_of(numbers: &[u16], lid: usize) -> usize
     requires { lid < length numbers.now }
     ensures number { result ≡ slice_index numbers.now lid }

@@ -8,8 +8,8 @@ use std::alloc::{AllocError, Global};
 use subnet_view::SwitchGraph;
 
 /// Returns the number of each switch among the leaf switches, by rising GUID, modulo 2^16. Leaf switches with a common
-/// least neighbor have consecutive numbers. `adapters` has the number of adapters at each switch, by rising GUID. Takes
-/// as many steps for each switch as there are leaf switches.
+/// least neighbor have consecutive numbers. `adapters` must have the number of adapters at each switch, by rising GUID.
+/// Takes time linear in the number of edges, and for each switch in the number of leaf switches.
 pub fn leaf_numbers(
     alloc: Global,
     graph: &SwitchGraph,
@@ -37,7 +37,7 @@ fn leaf_number(neighbors: &[usize], leaves: &[usize], index: usize) -> u16
     (count_before(neighbors, leaves, index) % 65536) as u16
 }
 
-/// Counts the leaf vertices that come before the vertex `index`.
+/// Returns the number of leaf vertices that come before the vertex `index`.
 fn count_before(neighbors: &[usize], leaves: &[usize], index: usize) -> usize
     requires index { index < length neighbors.now }
     requires leaves { All (λ leaf. leaf < length neighbors.now) leaves.now }
@@ -49,7 +49,8 @@ fn count_before(neighbors: &[usize], leaves: &[usize], index: usize) -> usize
         .count()
 }
 
-/// Returns whether vertex `a` comes before vertex `b`: its least neighbor is less, or it is equal and `a` is less.
+/// Returns whether vertex `a` comes before vertex `b`: its least neighbor is less, or both have the same one and `a` is
+/// less.
 fn goes_first(neighbors: &[usize], a: usize, b: usize) -> bool
     requires a { a < length neighbors.now }
     requires b { b < length neighbors.now }
@@ -69,7 +70,7 @@ fn least_neighbors(alloc: Global, edges: &Adjacency) -> Result<Vec<usize>, Alloc
     Ok(found)
 }
 
-/// Returns the least of `none` and the vertices that the edges lead to.
+/// Returns the least of `none` and the vertices that `edges` lead to.
 fn least_head(edges: &[Edge], none: usize) -> usize
     ensures { result ≡ least_head none edges.now }
 {

@@ -18,7 +18,7 @@ use subnet_view::SwitchGraph;
 /// How a switch chooses among its edges by a digit of the LID.
 #[derive(Clone, Copy, Debug, PartialEq, Eq)]
 pub(crate) struct LidDigit {
-    /// The distance of the nearest leaf switch.
+    /// The distance of the nearest leaf switch, or 0 if there is none.
     pub(crate) level: usize,
     /// The weight of a LID's digit at that level.
     pub(crate) digit_weight: usize,
@@ -27,8 +27,8 @@ pub(crate) struct LidDigit {
 }
 
 impl LidDigit {
-    /// Returns the turns of LIDs among `count` ports. `is_higher` says whether one of the ports leads to a higher
-    /// switch.
+    /// Returns the turns of LIDs among `count` ports, which must not be 0. `is_higher` says whether one of the ports
+    /// leads to a higher switch.
     pub(crate) fn turn(&self, is_higher: bool, count: usize) -> RoundRobin
         requires weight { 0 < self.now.digit_weight }
         requires count { 0 < count }
@@ -52,7 +52,7 @@ pub(crate) fn weights_of(alloc: Global, lid_digits: &[LidDigit]) -> Result<Vec<u
         .collect(alloc)
 }
 
-/// Returns the LID digit of the switch at each position of an order.
+/// Returns the LID digit of the switch at each position of `order`, given the level of each switch in `levels`.
 pub(crate) fn lid_digits(
     alloc: Global,
     graph: &SwitchGraph,
@@ -80,8 +80,8 @@ pub(crate) fn lid_digits(
     Ok(lid_digits)
 }
 
-/// Returns the targets for which one of the edges leads to a switch at a higher level than `lid_digit`. An edge counts
-/// for the targets of its set.
+/// Returns the targets for which one of `edges` leads to a switch at a higher level than that of `lid_digit`. An edge
+/// counts for the targets of its set in `sets`.
 pub(crate) fn higher_targets(
     lid_digits: &[LidDigit],
     lid_digit: &LidDigit,
@@ -103,7 +103,7 @@ pub(crate) fn higher_targets(
     higher
 }
 
-/// Returns the level of the switch at `position`.
+/// Returns the level of the switch at `position`, which must exist.
 fn level_at(lid_digits: &[LidDigit], position: usize) -> usize
     requires { position < length lid_digits.now }
     ensures { result ≡ (slice_index_or lid_digits.now position no_lid_digit).level }

@@ -91,10 +91,10 @@ impl<'g> Model for Spread<'g> {
 }
 
 impl<'g> Spread<'g> {
-    /// Computes the routes. `adapters` has the number of adapters at each switch, by rising GUID, and `order` says what
-    /// the order of switches grows by. Ignores GUIDs that are not a switch of the graph. Takes a breadth-first search
-    /// from each leaf switch and each root, two for each component if the order grows from roots, and a search for each
-    /// switch that is named. If loads are balanced, takes as long as `balanced_choices` besides.
+    /// Computes the routes. `adapters` must have the number of adapters at each switch, by rising GUID, and `order`
+    /// says what the order of switches grows by. Ignores GUIDs that are not a switch of `graph`. Takes a breadth-first
+    /// search from each leaf switch and each root, and two for each component unless the order is named. Besides, takes
+    /// trials if the order is that of the least trial load, and balances loads if the order asks for it.
     pub fn of(
         alloc: Global,
         graph: &'g SwitchGraph,
@@ -170,8 +170,8 @@ impl<'g> Spread<'g> {
     }
 
     /// Finds the candidates of all switches towards the 64 switches from index `first` on, or towards as many as there
-    /// are. Takes a step or two for each edge in each round, for all these targets together. There is one round more
-    /// than the greatest cost.
+    /// are. `first` must exist. Takes time linear in the number of switches and edges in each round, for all these
+    /// targets together. There is one round more than the greatest cost.
     pub fn towards(&self, alloc: Global, first: usize) -> Result<Towards, AllocError>
         requires { first < length self.now.graph }
         ensures are { IfOk result (λ towards. AreTowards self.now towards) }
@@ -183,8 +183,9 @@ impl<'g> Spread<'g> {
         Ok(Towards { first, end, sets })
     }
 
-    /// Finds how packets leave the switch at the index `own` towards each target. Replaces the contents of `exits`.
-    /// Takes a step or two for each edge, and one for each candidate.
+    /// Finds how packets leave the switch at the index `own`, which must exist, towards each target. `towards` must be
+    /// of these routes. Replaces the contents of `exits`. Takes time linear in the number of edges and candidates of
+    /// the switch.
     pub fn exits_from<'s>(
         &'s self,
         own: usize,
@@ -206,7 +207,7 @@ impl<'g> Spread<'g> {
     }
 }
 
-/// Returns the part of a list from index `first` on. It is empty if the list is shorter.
+/// Returns the part of `list` from index `first` on. It is empty if the list is shorter.
 fn behind(list: &[usize], first: usize) -> &[usize]
     ensures { result.now ≡ drop first list.now }
 {

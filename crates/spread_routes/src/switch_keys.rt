@@ -26,8 +26,8 @@ pub(crate) struct SwitchKeys {
     pub(crate) levels: Vec<usize>,
 }
 
-/// Returns the switches of a graph in the order of the rule. `adapters` has the number of adapters at each switch, by
-/// rising GUID. Takes as long as `Spread::of`, except for the edges.
+/// Returns the switches of `graph` in the order of the rule. `adapters` must have the number of adapters at each
+/// switch, by rising GUID. Takes no longer than `Spread::of`.
 pub fn switches_in_order(
     alloc: Global,
     graph: &SwitchGraph,
@@ -138,8 +138,8 @@ fn least_loaded(
     Ok(SwitchKeys { keys, levels })
 }
 
-/// Returns the keys of the switches of a graph by the list `switches`, which may name only some. Takes a search for
-/// each switch of the list.
+/// Returns the keys of the switches of `graph` by the list `switches`, which may name only some. Takes a binary search
+/// among the switches of the graph for each switch of the list.
 fn keys_as_named(
     alloc: Global,
     graph: &SwitchGraph,
@@ -159,7 +159,7 @@ fn keys_as_named(
     Ok(keys)
 }
 
-/// Returns the key of a switch that has `number` switches before it in the list.
+/// Returns the key of a switch that has `number` switches before it in a list.
 fn key_at(number: usize) -> VertexKey
     ensures { result ≡ record { distance_class = 0; distance = number } }
 {

@@ -9,7 +9,7 @@ use std::alloc::{AllocError, Global};
 pub enum SwitchOrder {
     /// The distances of the switches from some switches, the roots.
     FromRoots {
-        /// The roots. If there are none, the most central switch of each component is found.
+        /// The roots. In a component without one, its most central switch is its root.
         roots: Vec<Guid>,
     },
     /// A list that names switches.
@@ -40,7 +40,7 @@ impl SwitchOrder {
         )
     }
 
-    /// Returns a copy. Takes one step for each GUID.
+    /// Returns a copy. Takes time linear in the number of GUIDs.
     pub fn try_clone(&self, alloc: Global) -> Result<Self, AllocError>
         ensures { IfOk result (λ copy. order_value_of copy ≡ order_value_of self.now) }
     {

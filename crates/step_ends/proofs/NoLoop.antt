@@ -72,7 +72,8 @@ told_steps_make_no_loop rule preferred lmc facts held goal is =
     by_test (are_right (cells_of facts) (position_at positions) held) is
   where
     by_test : (b : Bool)
-        → IsGoalFrom true b (cells_of facts) held (planned lmc rule facts) (positions_by rule (cells_of facts)) (positions_by preferred (cells_of facts)) (Some goal)
+        → IsGoalFrom true b (cells_of facts) held (planned lmc rule facts) (positions_by rule (cells_of facts)) (positions_by preferred (cells_of facts))
+        (Some goal)
         → IsFreeByTold facts held (next_to facts held goal) goal
     by_test true is = absurd (cc)
     by_test false is = free_by_told facts held (planned lmc rule facts) (positions_by rule (cells_of facts)) (positions_by preferred (cells_of facts)) goal is

@@ -88,7 +88,8 @@ module _ (rule : RuleValue) (lmc : ℕ) (facts : Facts) (range : AreInRange fact
         elim (next_deliver_or_drop_by_order cells q (V (suc m)) plan (V (suc (suc m))) line
         (own ∙ sym (owners_next cells (by_order positions) (V m) plan lid ∙ own)) (follows lid x own m) i g at) [
           | inl e ↦ e
-          | inr ends ↦ absurd (none (plans_deliver_what_tables_can rule lmc facts range has_room (V (suc (suc m))) line (kept lid x own (suc m)) i ends.0 ends.1))
+          | inr ends ↦ absurd (none
+              (plans_deliver_what_tables_can rule lmc facts range has_room (V (suc (suc m))) line (kept lid x own (suc m)) i ends.0 ends.1))
         ]
 
     unowned : (m lid i g : ℕ) → owners_of plan lid ≡ [] → slice_get (switches cells) i ≡ Some g → entry_for (V (suc m)) lid g ≡ 255

@@ -33,7 +33,8 @@ module _ (rule : RuleValue) (lmc : ℕ) (facts : Facts) (text : List ℕ) (small
   pub read_again : (n : ℕ) → held_of (printed lmc rule facts text n) ≡ S n
   read_again zero = refl
   read_again (suc n) =
-      (step_texts_are_read rule lmc facts (step_rule rule facts (held_of (printed lmc rule facts text n))) (printed lmc rule facts text n) small range has_room).1
+      (step_texts_are_read rule lmc facts (step_rule rule facts (held_of (printed lmc rule facts text n))) (printed lmc rule facts text n) small range
+      has_room).1
       ∙ ap (stepped lmc rule facts) (read_again n)
 
   pub printed_is : (n : ℕ) → printed lmc rule facts text (suc n) ≡ next_text plan.given (S (suc n))

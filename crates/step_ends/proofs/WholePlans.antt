@@ -89,7 +89,8 @@ module _ (rule : RuleValue) (lmc : ℕ) (facts : Facts) (has_room : ¬ (IsNoRoom
       not_both (sym owner ∙ ap (λ (t : HeldPlan). is_owner (owners_of t lid) x) (sym same) ∙ ap (λ (os : List EndPort). is_owner os x) empty)
 
   -- the LID of an end port
-  module _ (range : AreInRange facts) (i : ℕ) (less : i < length (switches cells)) (is_end : Contains (end_ports cells) (record { node = switch_at cells i; port = 0 })) where
+  module _ (range : AreInRange facts) (i : ℕ) (less : i < length (switches cells))
+      (is_end : Contains (end_ports cells) (record { node = switch_at cells i; port = 0 })) where
     abbrev e : EndPort
     e = record { node = switch_at (cells_of facts) i; port = 0 }
 
@@ -126,7 +127,8 @@ module _ (rule : RuleValue) (lmc : ℕ) (facts : Facts) (has_room : ¬ (IsNoRoom
           },
         )
       where
-        alone_with : (lid : ℕ) → owner_of given lid ≡ Some e → (owners_of plan lid ≡ []) ⊎ ((y : EndPort) × (owners_of plan lid ≡ y ∷ [])) → owners_of plan lid ≡ e ∷ []
+        alone_with : (lid : ℕ) → owner_of given lid ≡ Some e → (owners_of plan lid ≡ []) ⊎ ((y : EndPort) × (owners_of plan lid ≡ y ∷ []))
+            → owners_of plan lid ≡ e ∷ []
         alone_with lid owned (inl none) = absurd (owned_not_empty lid e owned none)
         alone_with lid owned (inr y) =
             let same : y.0 ≡ e = same_Some y.0 e (sym (owner_is lid y.0 y.1) ∙ owned) in

@@ -1,4 +1,4 @@
--- Stages of steps towards the plan of a view.
+-- That the plan of a view is whole and gives switches LIDs, as stages of steps require.
 use Rattle.std.specs.Prelude.{ℕ, Contains}
 use Rattle.fact_store.specs.View.{Facts, cells_of, AreInRange}
 use Rattle.subnet_view.specs.Reading.{Cells, switches}
@@ -9,7 +9,7 @@ use Rattle.lft_blocks.specs.Rules.{RuleValue}
 use Rattle.held_tables.specs.PlanTables.{held_plan}
 use Rattle.between_orders.specs.HandedSteps.{HaveOwnLids, IsWholePlan}
 
--- the plan of a view with room is whole
+-- if facts are in range and have room, their plan is whole (`IsWholePlan`)
 abbrev pub PlansAreWhole : Type 0
 PlansAreWhole =
     (rule : RuleValue) (lmc : ℕ) (facts : Facts) → AreInRange facts → ¬ (IsNoRoom lmc (cells_of facts))
@@ -20,7 +20,8 @@ abbrev pub SwitchesAreEndPorts : Cells → Type 0
 SwitchesAreEndPorts cells =
     (g : ℕ) → Contains (switches cells) g → Contains (end_ports cells) (record { node = g; port = 0 })
 
--- each usable switch has a LID in the plan of a view with room, if its port 0 is an end port
+-- if facts are in range and have room, and port 0 of each usable switch is an end port, each usable switch has a LID in
+-- their plan
 abbrev pub PlansGiveOwnLids : Type 0
 PlansGiveOwnLids =
     (rule : RuleValue) (lmc : ℕ) (facts : Facts) → AreInRange facts → ¬ (IsNoRoom lmc (cells_of facts))

@@ -1,4 +1,4 @@
--- When steps of whole tables towards a plan end.
+-- When repeated steps of whole tables towards a plan end: what `next` prints is what it was given.
 use Rattle.std.specs.Prelude.{◌≡◌, ◌≤◌, ◌+◌, ◌*◌, ℕ, Bool, zero, suc, true, Contains, List, [], ◌∷◌, Option, Some, length}
 use Rattle.fact_store.specs.View.{Facts, cells_of, AreInRange}
 use Rattle.subnet_view.specs.Reading.{Cells, switches}
@@ -39,34 +39,36 @@ MeetAtMost cells plan most =
     → (i m : ℕ) → after m (next_hops_of cells plan line.lid) (To i) ≡ Ends (Taken line.port)
     → after most (next_hops_of cells plan line.lid) (To i) ≡ Ends (Taken line.port)
 
--- after `most` or more steps, and at least two, a step returns what it was given
+-- if a plan delivers what tables can, and no route of it passes more than `most` switches, then after `most` or more
+-- steps by settled entries, and at least two, a step changes nothing
 abbrev pub StepsEnd : Type 0
 StepsEnd =
     (cells : Cells) (held plan : HeldPlan) (most n : ℕ) → DeliversWhatTablesCan cells plan → MeetAtMost cells plan most
     → most ≤ n → 2 ≤ n
     → settled cells plan held (suc n) ≡ settled cells plan held n
 
--- the plan of a view with room delivers from each switch from which some tables deliver
+-- if facts are in range and have room, their plan delivers what tables can (`DeliversWhatTablesCan`)
 abbrev pub PlansDeliverWhatTablesCan : Type 0
 PlansDeliverWhatTablesCan =
     (rule : RuleValue) (lmc : ℕ) (facts : Facts) → AreInRange facts → ¬ (IsNoRoom lmc (cells_of facts))
     → DeliversWhatTablesCan (cells_of facts) (held_plan (plan_of rule lmc (cells_of facts)))
 
--- a step from tables that are right by the order of the plan's switches makes no credit loop, and the next tables are
--- again right by that order
+-- the step from `held` towards the plan of `facts` makes no credit loop, and the next tables are right by the order of
+-- the plan's switches
 pub record IsFreeOfLoops (lmc : ℕ) (rule : RuleValue) (facts : Facts) (held : HeldPlan) : Type 0 where
   pub loops : (cycle lids : List ℕ) → IsLoopInStep (cells_of facts) held (stepped lmc rule facts held) cycle lids
       → cycle ≡ []
   pub right : are_right (cells_of facts) (plan_position rule (cells_of facts)) (stepped lmc rule facts held) ≡ true
 
--- with room, a step from tables that are right by the order of the plan's switches is free of loops
+-- if facts are in range and have room, a step towards their plan from tables that are right by the order of its
+-- switches makes no credit loop, and leads to tables that are right by it
 abbrev pub RightTablesMakeNoLoop : Type 0
 RightTablesMakeNoLoop =
     (rule : RuleValue) (lmc : ℕ) (facts : Facts) (held : HeldPlan) → AreInRange facts
     → ¬ (IsNoRoom lmc (cells_of facts)) → are_right (cells_of facts) (plan_position rule (cells_of facts)) held ≡ true
     → IsFreeOfLoops lmc rule facts held
 
--- equal facts, options and held tables give equal next tables, by the same order
+-- equal facts, options and held tables give equal next tables, by the same goal, if there is one
 abbrev pub StepsHaveOneResult : Type 0
 StepsHaveOneResult =
     (told : Bool) (rule preferred : RuleValue) (facts : Facts) (held plan : HeldPlan)
@@ -74,20 +76,20 @@ StepsHaveOneResult =
     → IsNextStep told rule preferred facts held plan goal next
     → IsNextStep told rule preferred facts held plan other_goal other → (goal ≡ other_goal) × (next ≡ other)
 
--- a step by the order that held tables imply, towards tables between that order and the plan's, makes no credit loop,
--- and the next tables are right by that order
+-- the step from `held` to `next` makes no credit loop, and `next` is right by the positions of `goal`, an order that
+-- the held tables imply
 pub record IsFreeByTold (facts : Facts) (held next : HeldPlan) (goal : Goal) : Type 0 where
   pub loops : (cycle lids : List ℕ) → IsLoopInStep (cells_of facts) held next cycle lids → cycle ≡ []
   pub right : are_right (cells_of facts) (position_at goal.positions) next ≡ true
 
--- a step by the order that the held tables imply is free of loops
+-- a step by the order that the held tables imply makes no credit loop, and the next tables are right by this order
 abbrev pub ToldStepsMakeNoLoop : Type 0
 ToldStepsMakeNoLoop =
     (rule preferred : RuleValue) (lmc : ℕ) (facts : Facts) (held : HeldPlan) (goal : Goal)
     → IsGoalOf true rule preferred facts held (planned lmc rule facts) (Some goal)
     → IsFreeByTold facts held (next_towards rule facts held (planned lmc rule facts) (Some goal)) goal
 
--- what `next` prints after n steps from the tables of a text, each step from what was printed before
+-- what `next` prints after the given number of steps from the tables of `text`, each step from what was printed before
 abbrev pub printed : ℕ → RuleValue → Facts → List ℕ → ℕ → List ℕ
 printed lmc rule facts text zero = text
 printed lmc rule facts text (suc n) = step_text lmc rule facts (held_of (printed lmc rule facts text n))
@@ -100,19 +102,20 @@ pub record AreEnough (rule : RuleValue) (lmc : ℕ) (facts : Facts) (n : ℕ) : 
   pub two : 2 ≤ most
   pub enough : most + 2 * length (switches (cells_of facts)) + 2 ≤ n
 
--- if there is room, `next` prints what it was given, byte for byte, after enough steps
+-- if facts are in range and have room, the LMC is at most 7, and n steps are enough, step n + 1 prints what step n
+-- printed, byte for byte
 abbrev pub PrintedStepsEnd : Type 0
 PrintedStepsEnd =
     (rule : RuleValue) (lmc : ℕ) (facts : Facts) (text : List ℕ) (n : ℕ) → lmc ≤ 7 → AreInRange facts
     → ¬ (IsNoRoom lmc (cells_of facts)) → AreEnough rule lmc facts n
     → printed lmc rule facts text (suc n) ≡ printed lmc rule facts text n
 
--- no route of a plan passes more switches than there are
+-- no route of a plan passes more switches than there are usable ones
 abbrev pub WaysMeetAtMostAll : Type 0
 WaysMeetAtMostAll = (cells : Cells) (plan : HeldPlan) → MeetAtMost cells plan (length (switches cells))
 
--- if a LID is given and no usable switch held a greater top than the greatest LID, `next` prints what `plan` prints
--- after enough steps
+-- if facts are in range and have room, the LMC is at most 7, a LID is given, and no usable switch held a top above the
+-- greatest LID, `next` prints after enough steps what `plan` prints
 abbrev pub LastTextIsThePlans : Type 0
 LastTextIsThePlans =
     (rule : RuleValue) (lmc : ℕ) (facts : Facts) (text : List ℕ) (n top : ℕ) → lmc ≤ 7 → AreInRange facts

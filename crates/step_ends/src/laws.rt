@@ -36,15 +36,16 @@ pub fn told_steps_make_no_loop()
     ensures law { ToldStepsMakeNoLoop }
 {}
 
-/// Repeated with the same facts, LMC and rule, `next` prints what it was given, byte for byte, after enough steps, if
-/// there is room for the LIDs. This holds even if LIDs are new or gone, or entries lead nowhere. If no route of the
-/// plan passes more than n switches, n is at least 2, and there are m usable switches, n + 2m + 2 steps are enough.
+/// Repeated with the same facts, LMC and rule, and without `--told-order` and `--last-order`, `next` prints what it was
+/// given, byte for byte, after enough steps, if there is room for the LIDs. This holds even if LIDs are new or gone, or
+/// entries lead nowhere. If no route of the plan passes more than n switches, n is at least 2, and there are m usable
+/// switches, n + 2m + 2 steps are enough.
 pub fn printed_steps_end()
     ensures law { PrintedStepsEnd }
 {}
 
-/// After enough steps, `next` prints what `plan` prints, if an end port has a LID and no usable switch held a greater
-/// top than the greatest LID.
+/// After enough steps without `--told-order` and `--last-order`, `next` prints what `plan` prints, if there is room for
+/// the LIDs, an end port has a LID, and no usable switch held a greater top than the greatest LID.
 pub fn last_text_is_the_plans()
     ensures law { LastTextIsThePlans }
 {}
@@ -54,13 +55,14 @@ pub fn ways_meet_at_most_all()
     ensures law { WaysMeetAtMostAll }
 {}
 
-/// The plan of a view with room is whole, as `handed_steps_end`, `stages_stay_whole` and `stages_are_few` want it
-/// (`between_orders`).
+/// The plan of a view with room is whole, as `handed_steps_end`, `stages_stay_whole` and `stages_are_few`
+/// (`between_orders`) ask.
 pub fn plans_are_whole()
     ensures law { PlansAreWhole }
 {}
 
-/// Each usable switch has a LID in the plan of a view with room, if its port 0 is an end port, whose GUID is known.
+/// Each usable switch has a LID in the plan of a view with room, if port 0 of each is an end port, so that its GUID is
+/// known.
 pub fn plans_give_own_lids()
     ensures law { PlansGiveOwnLids }
 {}

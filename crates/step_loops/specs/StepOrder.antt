@@ -1,4 +1,4 @@
--- Channels that wait for each other in a step, in any mixtures of the two tables, and their order.
+-- Which channels wait for each other in a step, in any mixtures of the two tables: numbers that rise, or a credit loop.
 use Rattle.std.specs.Prelude.{◌≡◌, ◌↔◌, ◌⊎◌, ◌≤◌, ◌*◌, ℕ, List, [], ◌∷◌, Option, length}
 use Rattle.port_graph.specs.declared.edge.Edge.{Edge}
 use Rattle.subnet_view.specs.Reading.{Cells, switches}
@@ -8,53 +8,55 @@ use Rattle.audit_channels.specs.declared.order.ChannelOrder.{ChannelOrder}
 use Rattle.audit_channels.specs.declared.order.ChannelOrder.TheVariants.{Rises, Cycle}
 use Rattle.next_tables.specs.Mixtures.{TakesInStep, WaitsInStep, RiseInStep}
 
--- `new` is `old`, and channel b also follows a if packets take a and then b, each by either column
+-- in `new` channel b follows a exactly if it does in `old`, or packets take a and then b, each by either column
 pub record IsWithStep (old : List (List ℕ)) (held next : List (Option Edge)) (new : List (List ℕ)) : Type 0 where
   pub as_many : length new ≡ length old
   pub follows : (a b : ℕ) → Follows new a b ↔ (Follows old a b ⊎ TakesInStep held next a b)
 
--- channel b follows a if packets take a and then b, each by either column
+-- in `waits` channel b follows a if packets take a and then b, each by either column
 abbrev pub IsAddedInStep : List (Option Edge) → List (Option Edge) → List (List ℕ) → Type 0
 IsAddedInStep held next waits = (a b : ℕ) → TakesInStep held next a b → Follows waits a b
 
--- packets for some LID, whether or not an end port holds it, hold channel a and wait for b
+-- in the step, packets for some LID, whether or not an end port holds it, hold channel `a` and wait for `b`
 pub record WaitsFor (cells : Cells) (held next : HeldPlan) (a b : ℕ) : Type 0 where
   pub lid : ℕ
   pub is_lid : 1 ≤ lid
   pub waits : WaitsInStep cells held next lid a b
 
--- `waits` has, for each channel, the channels that packets that hold it wait for
+-- `waits` has, for each channel, the channels that packets that hold it wait for in the step
 pub record AreWaits (cells : Cells) (held next : HeldPlan) (waits : List (List ℕ)) : Type 0 where
   pub as_many : length waits ≡ 256 * length (switches cells)
   pub follows : (a b : ℕ) → Follows waits a b ↔ WaitsFor cells held next a b
 
--- each channel of each switch has a number, less than the numbers of the channels that it waits for
+-- `numbers` has a number for each channel of each switch, less than the numbers of the channels that it waits for in
+-- the step
 pub record NumbersRise (cells : Cells) (held next : HeldPlan) (numbers : List ℕ) : Type 0 where
   pub as_many : length numbers ≡ 256 * length (switches cells)
   pub rise : RiseInStep cells held next numbers
 
--- in the list that has `channel`, then the given channels, then `last`, each channel waits for the next one
+-- in the list that has `channel`, then the given channels, then `last`, each channel waits for the next one in the step
 abbrev pub WaitOn : Cells → HeldPlan → HeldPlan → ℕ → List ℕ → ℕ → Type 0
 WaitOn cells held next channel [] last = WaitsFor cells held next channel last
 WaitOn cells held next channel (c ∷ later) last =
     WaitsFor cells held next channel c × WaitOn cells held next c later last
 
--- each channel waits for the next one, and the last waits for the first
+-- the channels of a list, at least one, wait in a credit loop of the step: each for the next one, and the last for the
+-- first
 abbrev pub WaitInCycle : Cells → HeldPlan → HeldPlan → List ℕ → Type 0
 WaitInCycle cells held next [] = ⊥
 WaitInCycle cells held next (channel ∷ later) = WaitOn cells held next channel later channel
 
--- the order is numbers that rise, or a cycle
+-- a channel order holds for the step: its numbers rise, or its channels wait in a credit loop
 abbrev pub IsStepOrder : Cells → HeldPlan → HeldPlan → ChannelOrder → Type 0
 IsStepOrder cells held next (Rises numbers) = NumbersRise cells held next numbers.items
 IsStepOrder cells held next (Cycle channels) = WaitInCycle cells held next channels.items
 
--- no cycle has fewer channels than `channels`
+-- no credit loop of the step has fewer channels than `channels`
 abbrev pub NoneShorter : Cells → HeldPlan → HeldPlan → List ℕ → Type 0
 NoneShorter cells held next channels =
     (cycle : List ℕ) → WaitInCycle cells held next cycle → length channels ≤ length cycle
 
--- if the order is a cycle, no cycle has fewer channels
+-- a channel order is numbers, or channels than which no credit loop of the step has fewer
 abbrev pub IsShortestInStep : Cells → HeldPlan → HeldPlan → ChannelOrder → Type 0
 IsShortestInStep cells held next (Rises numbers) = Unit {0}
 IsShortestInStep cells held next (Cycle channels) = NoneShorter cells held next channels.items

@@ -19,7 +19,7 @@ pub(crate) struct Columns {
 }
 
 impl Columns {
-    /// Returns empty columns.
+    /// Returns columns without vertices.
     pub fn none(alloc: Global) -> Self
         ensures held { result.held.items ≡ [] }
         ensures next { result.next.items ≡ [] }
@@ -31,7 +31,8 @@ impl Columns {
     }
 }
 
-/// Returns the columns of `lid`, from the blocks with its entries. Takes two steps for each switch.
+/// Returns the columns of `lid`. `held_blocks` and `next_blocks` must be those with its entries. Takes what
+/// `Network::edges` takes for each.
 pub(crate) fn columns_of(
     alloc: Global,
     held: &Network,
@@ -58,9 +59,9 @@ pub(crate) fn columns_of(
 }
 
 /// Records that a channel follows another if packets for the LID of `columns` take them in this order, each by either
-/// table. `before` has the columns of the previous LID, which the caller has added. Equal columns are not added again.
-/// Takes a step for each switch if they are equal or if both tables have the same edges, otherwise four. If the next
-/// channel is not known to follow the switch's channel, each of these steps also walks the channels that follow it.
+/// table. What `before`, the columns of the previous LID, says must be in `waits` already; equal columns are not added
+/// again. `waits` must have 256 channels for each vertex. Takes time linear in the number of switches and, where the
+/// next channel is not known to follow the switch's channel, in the number of channels that follow it.
 pub(crate) fn add_step(
     waits: &mut Waits,
     before: &Columns,
@@ -81,7 +82,8 @@ pub(crate) fn add_step(
     add_all(waits, &columns.held, &columns.next)
 }
 
-/// Records which channels follow each other if packets take each of them by either of two columns that differ.
+/// Records which channels follow each other if packets take each of them by either of two columns. `waits` must have
+/// 256 channels for each vertex of either column.
 fn add_all(
     waits: &mut Waits,
     held: &[Option<Edge>],

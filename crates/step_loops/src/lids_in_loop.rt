@@ -14,9 +14,9 @@ use smp_bytes::Lid;
 use std::alloc::{AllocError, Global};
 
 /// Returns, for each channel of a credit loop in a step, the least LID for which packets that hold it wait for the next
-/// channel. The first channel follows the last. At each of the two switches, the entry may be of either table. For each
-/// LID, until each channel has one, takes a step for each switch by either table, and four for each channel that has no
-/// LID yet.
+/// channel. The first channel follows the last. At each of the two switches, the entry may be of either table. `held`
+/// and `next` must have the same facts, and `cycle` must be a credit loop of the step. For each LID, until each channel
+/// has one, takes time linear in the numbers of switches and of channels.
 pub fn loop_lids(
     alloc: Global,
     held: &Network,
@@ -45,7 +45,7 @@ pub fn loop_lids(
     Ok(lids)
 }
 
-/// Returns, for each channel of `cycle`, the next one. The first follows the last.
+/// Returns, for each channel of `cycle`, the channel after it. After the last comes the first.
 fn turned(alloc: Global, cycle: &[usize]) -> Result<Vec<usize>, AllocError>
     ensures { IfOk result (λ after. after.items ≡ turned cycle.now) }
 {
@@ -64,15 +64,15 @@ fn none_known(alloc: Global, count: usize) -> Result<Vec<Lid>, AllocError>
     vec![in alloc; Lid::NONE; count]
 }
 
-/// Returns whether all `lids` are known: none of them is 0.
+/// Returns whether all `lids` are known, so that none of them is 0.
 fn are_known(lids: &[Lid]) -> bool
     ensures { result ≡ are_known lids.now }
 {
     lids.iter().all(|lid| *lid != Lid::NONE)
 }
 
-/// Sets `lid` for each channel of a cycle that has no LID yet, if packets for `lid` hold the channel and wait for the
-/// next one, by the edges of either column. `after` has the next channels.
+/// Sets `lid`, in `lids`, for each channel of `cycle` that has no LID yet, if packets for `lid` hold the channel and
+/// wait for the one in `after`, by the edges of either column. There must be as many entries in all three lists.
 fn note_lid(
     lids: &mut [Lid],
     cycle: &[usize],
@@ -90,8 +90,8 @@ fn note_lid(
     }
 }
 
-/// Returns `known` if it is not 0. Otherwise returns `lid` if its packets hold `channel` and wait for `other`, or 0 if
-/// they do not.
+/// Returns `lid` if `known` is 0 and packets for `lid` hold `channel` and wait for `other`, by the edges of either
+/// column. Otherwise returns `known`.
 fn noted(
     channel: usize,
     other: usize,

@@ -12,35 +12,35 @@ use Rattle.subnet_view.specs.Reading.{Cells, IsUsable}
 use Rattle.subnet_view.specs.EndPorts.{IsEndPort}
 use Rattle.subnet_view.specs.Wires.{IsWire}
 
--- a part of a fabric, by its vertices: the whole fabric, for example, or all that is joined to one vertex
+-- a part of a fabric, by its vertices: the fabric itself, for example, or all that is joined to one vertex
 abbrev pub Part : Type 1
 Part = NodePort → Type 0
 
--- the part that is the whole fabric
+-- the part that contains every vertex
 abbrev pub WholeFabric : Part
 WholeFabric vertex = Unit {0}
 
--- an end port of the part, and the node that it belongs to
+-- `port` is an end port of the part, and `node` is its node
 pub record IsEndPortIn (part : Part) (f : Fabric) (port : NodePort) (node : fabric.Node) : Type 0 where
   pub node_there : IsNodeAt f port.node node
   pub end_port : fabric.IsEndPort f port
   pub in_part : part port
 
--- `port` is port p of a node with the GUID g
+-- `port` is port `p` of a node with the GUID `g`
 pub record IsPortNamed (f : Fabric) (g p : ℕ) (port : NodePort) : Type 0 where
   pub node : fabric.Node
   pub node_there : IsNodeAt f port.node node
   pub guid_is : node.guid ≡ g
   pub port_is : port.port ≡ p
 
--- port p of a node with the GUID g is an end port of the part
+-- port `p` of a node with the GUID `g` is an end port of the part
 pub record HasEndPort (part : Part) (f : Fabric) (g p : ℕ) : Type 0 where
   pub port : NodePort
   pub named : IsPortNamed f g p port
   pub end_port : fabric.IsEndPort f port
   pub in_part : part port
 
--- there is a wire of the part between these ports, given by the GUIDs of their nodes and their numbers
+-- a wire in a port of the part leads from port `p` of a node with the GUID `g` to port `q` of one with the GUID `h`
 pub record HasWire (part : Part) (f : Fabric) (g p h q : ℕ) : Type 0 where
   pub from : NodePort
   pub to : NodePort
@@ -49,15 +49,15 @@ pub record HasWire (part : Part) (f : Fabric) (g p h q : ℕ) : Type 0 where
   pub wire : walks.IsWire f from to
   pub in_part : part (vertex_of f from)
 
--- the facts have the type and the number of ports of an end port's node, its port GUID, and the table room if the node
--- is a switch
+-- `cells` have the type and the number of ports of `node`, the GUID of its port `p`, and its table room if it is a
+-- switch
 pub record TellsEndPort (cells : Cells) (node : fabric.Node) (p : ℕ) : Type 0 where
   pub kind : node_of cells node.guid ≡ Some (node.kind, node.ports)
   pub port_guid : port_guid_of cells node.guid p ≡ Some (node.port_guid p)
   pub cap : IsTrue (is_switch node.kind) → cap_of cells node.guid ≡ Some node.cap
 
--- the view describes the part, whose nodes have different GUIDs: it contains the part's end ports and their nodes, and
--- the wires in its ports, as they are; it may contain anything else, such as nodes that are gone
+-- the view describes the part, whose nodes have different GUIDs: it has the part's end ports and their nodes, and
+-- exactly the part's wires in the part's ports; elsewhere it may say anything, for instance of nodes that are gone
 pub record Covers (part : Part) (cells : Cells) (f : Fabric) : Type 0 where
   pub guids_distinct : (p q : NodePort) (a b : fabric.Node) → IsEndPortIn part f p a → IsEndPortIn part f q b → a.guid
       ≡ b.guid → p.node ≡ q.node

@@ -1,4 +1,4 @@
--- Cells in which rising keys are looked up.
+-- Cells in which rising keys are looked up, so that cells of lesser keys can be passed.
 use Rattle.std.specs.Prelude.{◌≡◌, T, Bool, false, [], ◌∷◌, Option, MatchOption}
 use Rattle.std.specs.Ordering.{is_lt}
 use Rattle.std.specs.FinMap.{find, is_sorted}
@@ -8,19 +8,19 @@ use Rattle.reply_facts.specs.declared.value.Value.{Value}
 use Rattle.reply_facts.specs.Key.{key_cmp}
 use Rattle.subnet_view.specs.Reading.{Cells}
 
--- whether key k comes before `key`
+-- whether the key `k` comes before `key`
 abbrev pub is_before : Key → Key → Bool
 is_before k key = is_lt (key_cmp k key)
 
--- the next cell and the later ones are in the order of keys; if there is no next cell, there is no later one
+-- `next` and `later` are in the order of keys; if there is no `next`, `later` is empty
 abbrev pub AreLeft : Option (Key × Cell Value) → Cells → Type 0
 AreLeft next later = MatchOption next (later ≡ []) (λ s. T (is_sorted key_cmp (s ∷ later)))
 
--- `key` and later keys are found as before
+-- `key` and each key after it have the cell in `new` that they have in `old`
 abbrev pub KeepsFrom : Key → Cells → Cells → Type 0
 KeepsFrom key old new = (k : Key) → is_before k key ≡ false → find key_cmp k new ≡ find key_cmp k old
 
--- the first cell, if there is one, has `key` or a later key
+-- the first of the cells, if there is one, has `key` or a key after it
 abbrev pub IsFrom : Key → Cells → Type 0
 IsFrom key [] = Unit {0}
 IsFrom key (s ∷ later) = is_before s.0 key ≡ false

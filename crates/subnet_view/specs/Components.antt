@@ -5,14 +5,15 @@ use Rattle.port_graph.specs.Walks.{shortest}
 use Rattle.subnet_view.specs.SwitchEdges.{SwitchEdges}
 use Rattle.subnet_view.specs.Graph.{guids_of, neighbors}
 
--- the fewest wires between two switches; None if they lie in different components
+-- the fewest wires from switch `a` to switch `b`; None if no walk leads there
 abbrev pub distance : List SwitchEdges → ℕ → ℕ → Option ℕ
 distance graph a b = shortest (neighbors graph) (length graph) a b
 
--- whether a walk leads from one switch to the other
+-- whether a walk leads from switch `a` to switch `b`
 abbrev pub in_one_component : List SwitchEdges → ℕ → ℕ → Bool
 in_one_component graph a b = is_some (distance graph a b)
 
--- the root of a switch's component, which is its least GUID; None if the GUID is not that of a switch
+-- the root of the component of switch `a`: the first switch of the graph in it, whose GUID is the least if GUIDs rise;
+-- None if `a` is no switch of the graph
 abbrev pub root_of : List SwitchEdges → ℕ → Option ℕ
 root_of graph a = find (in_one_component graph a) (guids_of graph)

@@ -1,4 +1,4 @@
--- The ports that have a LID: port 0 of a switch, and the ports of other nodes.
+-- The end ports, which have LIDs: port 0 of a switch, and the ports of other nodes.
 use Rattle.std.specs.Prelude.{◌≡◌, ◌↔◌, ◌≤◌, ℕ, Bool, List, [], ◌∷◌, map, filter, Contains, Option, None, Some, IsTrue, IsSome, is_some, ◌==◌, ◌&&◌, MatchBool, option_map, if◌then◌else◌}
 use Rattle.std.specs.List.{filter_map, AllPairs}
 use Rattle.std.specs.declared.cmp.Ordering.{Ordering}
@@ -15,22 +15,24 @@ use Rattle.subnet_view.specs.declared.end_port.EndPort.{EndPort}
 use Rattle.reply_facts.specs.Known.{node_of, port_guid_of}
 use Rattle.subnet_view.specs.Reading.{Cells, is_switch_node, is_port_of}
 
--- whether p is port 0 of a switch, or from 1 to the number of ports of another node
+-- whether `p` is the number of an end port of node `g`: 0 if that is known to be a switch, else from 1 to its number of
+-- ports
 abbrev pub is_end_port_number : Cells → ℕ → ℕ → Bool
 is_end_port_number cells g p = if is_switch_node cells g then p == 0 else is_port_of cells g p
 
--- whether the port is an end port: port 0 of a switch, or a port of another node, with a known GUID
+-- whether port `p` of node `g` is an end port: its number is that of one (`is_end_port_number`), and its GUID is known
 abbrev pub is_end_port : Cells → ℕ → ℕ → Bool
 is_end_port cells g p = is_end_port_number cells g p && is_some (port_guid_of cells g p)
 
--- the end port of a cell with its port GUID; None if the cell is not the GUID of an end port
+-- the end port that a cell gives the GUID of, with this GUID; None if the cell is of no port GUID, the GUID is
+-- disputed, or the port is no end port
 abbrev pub guid_and_port : Cells → Key × Cell Value → Option (ℕ × EndPort)
 guid_and_port cells ((PortGuid g p), c) =
     if is_end_port_number cells g p then option_map (λ guid. (guid, record { node = g; port = p }))
     (port_guid_of cells g p) else None
 guid_and_port cells (_, c) = None
 
--- the port GUID, the node GUID and the port
+-- the numbers by which end ports are ordered: port GUID, node GUID and port
 abbrev pub port_numbers : ℕ × EndPort → List ℕ
 port_numbers e = e.0 ∷ e.1.node ∷ e.1.port ∷ []
 
@@ -38,58 +40,59 @@ port_numbers e = e.0 ∷ e.1.node ∷ e.1.port ∷ []
 abbrev pub port_cmp : ℕ × EndPort → ℕ × EndPort → Ordering
 port_cmp a b = slice_cmp nat_cmp (port_numbers a) (port_numbers b)
 
--- whether a comes before b: by port GUID, then node GUID, then port
+-- whether `a` comes before `b` in the order of end ports: by port GUID, then node GUID, then port
 abbrev pub comes_before : ℕ × EndPort → ℕ × EndPort → Bool
 comes_before a b = is_lt (port_cmp a b)
 
--- the list with e inserted before the first end port that it comes before
+-- the list with `e` inserted before the first end port that it comes before; at the end if there is none
 abbrev pub put_in_order : ℕ × EndPort → List (ℕ × EndPort) → List (ℕ × EndPort)
 put_in_order e [] = e ∷ []
 put_in_order e (x ∷ xs) = if comes_before e x then e ∷ x ∷ xs else x ∷ put_in_order e xs
 
--- the list in order, sorted by insertion
+-- the list, sorted by insertion into the order of end ports
 abbrev pub in_order : List (ℕ × EndPort) → List (ℕ × EndPort)
 in_order [] = []
 in_order (x ∷ xs) = put_in_order x (in_order xs)
 
--- the end ports with their port GUIDs, in their order
+-- the end ports with their port GUIDs, in the order of end ports
 abbrev pub guids_and_ports : Cells → List (ℕ × EndPort)
 guids_and_ports cells = in_order (filter_map (guid_and_port cells) cells)
 
--- the end ports in their order
+-- the end ports, in the order of port GUID, node GUID and port
 abbrev pub end_ports : Cells → List EndPort
 end_ports cells = map (λ e. e.1) (guids_and_ports cells)
 
--- the end ports that come after the given one; all if none is given
+-- the end ports that come after the given one, with their port GUIDs; all if none is given
 abbrev pub ports_after : Cells → Option (ℕ × EndPort) → List (ℕ × EndPort)
 ports_after cells None = guids_and_ports cells
 ports_after cells (Some e) = filter (comes_before e) (guids_and_ports cells)
 
 -- the laws of these definitions: ------------------------------------------------------
 
--- the node is known to have this type and number of ports
+-- node `g` is known to have this type and this number of ports
 abbrev pub IsNodeWith : Cells → ℕ → NodeType → ℕ → Type 0
 IsNodeWith cells g kind ports = node_of cells g ≡ Some (kind, ports)
 
--- the port is an end port, as a statement
+-- port `p` of node `g` is an end port: the node and the port's GUID are known, and `p` is 0 for a switch, or from 1 to
+-- the number of ports of another node
 abbrev pub IsEndPort : Cells → ℕ → ℕ → Type 0
 IsEndPort cells g p = (kind : NodeType) × (ports : ℕ) × IsNodeWith cells g kind ports
     × MatchBool (is_switch kind) (p ≡ 0) ((1 ≤ p) × (p ≤ ports)) × IsSome (port_guid_of cells g p)
 
--- `is_end_port` holds exactly for end ports
+-- `is_end_port` answers true exactly for end ports (`IsEndPort`)
 abbrev pub EndPortLaw : Type 0
 EndPortLaw = (cells : Cells) (g p : ℕ) → IsTrue (is_end_port cells g p) ↔ IsEndPort cells g p
 
--- a comes before b in the order of end ports, if their GUIDs are known
+-- `a` comes before `b` in the order of end ports; true if the GUID of one of them is not known
 abbrev pub ComesBefore : Cells → EndPort → EndPort → Type 0
 ComesBefore cells a b = (m n : ℕ) → port_guid_of cells a.node a.port ≡ Some m → port_guid_of cells b.node b.port
     ≡ Some n → IsTrue (comes_before (m, a) (n, b))
 
--- the list has exactly the end ports
+-- `ports` has exactly the end ports as members
 abbrev pub HasEndPorts : Cells → List EndPort → Type 0
 HasEndPorts cells ports = (e : EndPort) → Contains ports e ↔ IsEndPort cells e.node e.port
 
--- `end_ports` has the end ports, each once, in their order
+-- `end_ports` has exactly the end ports as members, each once, in their order
 abbrev pub EndPortsLaw : Type 0
 EndPortsLaw = (facts : Facts) → HasEndPorts (cells_of facts) (end_ports (cells_of facts))
     × AllPairs (ComesBefore (cells_of facts)) (end_ports (cells_of facts))

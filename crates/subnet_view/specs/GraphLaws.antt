@@ -7,7 +7,7 @@ use Rattle.subnet_view.specs.Wires.{IsWire}
 use Rattle.subnet_view.specs.SwitchEdges.{SwitchEdges}
 use Rattle.subnet_view.specs.Graph.{guids_of, edges_at, neighbors, graph_of}
 
--- the GUID is that of a switch of the graph
+-- `a` is the GUID of a switch of the graph
 abbrev pub IsSwitch : List SwitchEdges → ℕ → Type 0
 IsSwitch graph a = Contains (guids_of graph) a
 
@@ -19,19 +19,19 @@ pub record IsGraph (graph : List SwitchEdges) : Type 0 where
   pub leads_to_switch : (a b : ℕ) → Contains (neighbors graph a) b → IsSwitch graph b
   pub both_ways : (a b : ℕ) → Contains (neighbors graph a) b → Contains (neighbors graph b) a
 
--- facts give a graph
+-- `graph_of` the cells of any facts is a graph (`IsGraph`)
 abbrev pub GraphLaw : Type 0
 GraphLaw = (facts : Facts) → IsGraph (graph_of (cells_of facts))
 
--- the switches of the graph are the usable ones
+-- the switches of the graph of facts are exactly their usable switches
 abbrev pub SwitchLaw : Type 0
 SwitchLaw = (facts : Facts) (g : ℕ) → IsSwitch (graph_of (cells_of facts)) g ↔ IsTrue (is_usable (cells_of facts) g)
 
--- a wire leads from port p of g to the usable switch h
+-- a wire leads from port `p` of node `g` to the usable switch `h`
 abbrev pub IsSwitchWire : Facts → ℕ → ℕ → ℕ → Type 0
 IsSwitchWire facts g p h = IsTrue (is_usable (cells_of facts) h) × ((q : ℕ) × IsWire (cells_of facts) g p h q)
 
--- the edges of a switch are the wires from it to usable switches
+-- the edges of a usable switch in the graph of facts are exactly its wires to usable switches
 abbrev pub EdgeLaw : Type 0
 EdgeLaw = (facts : Facts) (g p h : ℕ) → IsTrue (is_usable (cells_of facts) g)
     → Contains (edges_at (graph_of (cells_of facts)) g) (record { port = p; to = h }) ↔ IsSwitchWire facts g p h

@@ -1,4 +1,4 @@
--- The search for the next end port.
+-- The search for the next end port after a given one, in any order of cells.
 use Rattle.std.specs.Prelude.{ℕ, Bool, true, ◌&&◌, Option, None, Some, if◌then◌else◌}
 use Rattle.subnet_view.specs.declared.end_port.EndPort.{EndPort}
 use Rattle.subnet_view.specs.EndPorts.{comes_before}

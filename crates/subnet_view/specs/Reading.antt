@@ -1,4 +1,4 @@
--- What facts contain about the nodes and ports of a subnet.
+-- What facts say of the nodes and ports of a subnet: which are switches, which of these are usable, and what is up.
 use Rattle.std.specs.Prelude.{◌≡◌, ◌↔◌, ◌<◌, ℕ, Bool, false, List, Contains, Option, None, Some, IsTrue, IsSome, is_some, ◌&&◌, if◌then◌else◌}
 use Rattle.std.specs.Option.{option_map_or}
 use Rattle.std.specs.List.{filter_map, AllPairs}
@@ -13,58 +13,58 @@ use Rattle.reply_facts.specs.declared.value.Value.{Value}
 use Rattle.reply_facts.specs.Known.{cap_of, node_of, up_of}
 use Rattle.fact_store.specs.View.{Facts, cells_of}
 
--- the cells of facts with their keys, in the order of keys
+-- cells with their keys, as facts have them: in the order of keys
 abbrev pub Cells : Type 0
 Cells = List (Key × Cell Value)
 
--- whether the port is known to be up
+-- whether port `p` of node `g` is known to be up
 abbrev pub is_up : Cells → ℕ → ℕ → Bool
 is_up cells g p = option_map_or (λ up. up) (up_of cells g p) false
 
--- whether what is known of a node is that it is a switch
+-- whether `node`, what is known of a node, says that it is a switch; false if nothing is known
 abbrev pub is_switch_in : Option (NodeType × ℕ) → Bool
 is_switch_in node = option_map_or (λ n. is_switch n.0) node false
 
--- whether the node is known to be a switch
+-- whether node `g` is known to be a switch
 abbrev pub is_switch_node : Cells → ℕ → Bool
 is_switch_node cells g = is_switch_in (node_of cells g)
 
--- the number of a node's ports; 0 if the node is not known
+-- the number of ports of node `g`; 0 if the node is not known
 abbrev pub port_count_of : Cells → ℕ → ℕ
 port_count_of cells g = option_map_or (λ n. n.1) (node_of cells g) 0
 
--- whether the node is known to be a switch whose table room is known
+-- whether node `g` is known to be a switch, and its table room is known
 abbrev pub is_usable : Cells → ℕ → Bool
 is_usable cells g = is_switch_node cells g && is_some (cap_of cells g)
 
--- whether p is from 1 to the node's number of ports
+-- whether `p` is from 1 to the number of ports of node `g`
 abbrev pub is_port_of : Cells → ℕ → ℕ → Bool
 is_port_of cells g p = is_within p (port_count_of cells g)
 
--- the node of a cell; None if it is not a usable switch
+-- the node of a cell that says what a node is, if that is a usable switch; None for other nodes and cells
 abbrev pub usable_guid : Cells → Key × Cell Value → Option ℕ
 usable_guid cells ((Node g), c) = if is_usable cells g then Some g else None
 usable_guid cells (_, c) = None
 
--- the usable switches, by rising GUID
+-- the usable switches of facts, by rising GUID
 abbrev pub switches : Cells → List ℕ
 switches cells = filter_map (usable_guid cells) cells
 
 -- the laws of these definitions: ------------------------------------------------------
 
--- the node is a usable switch, as a statement
+-- node `g` is a usable switch: it is known to be a switch, and its table room is known
 abbrev pub IsUsable : Cells → ℕ → Type 0
 IsUsable cells g = (ports : ℕ) × (node_of cells g ≡ Some (Switch, ports)) × IsSome (cap_of cells g)
 
--- `is_usable` holds exactly for usable switches
+-- `is_usable` answers true exactly for usable switches (`IsUsable`)
 abbrev pub UsableLaw : Type 0
 UsableLaw = (cells : Cells) (g : ℕ) → IsTrue (is_usable cells g) ↔ IsUsable cells g
 
--- the list has exactly the usable switches
+-- `guids` has exactly the usable switches as members
 abbrev pub HasSwitches : Cells → List ℕ → Type 0
 HasSwitches cells guids = (g : ℕ) → Contains guids g ↔ IsUsable cells g
 
--- `switches` has the usable switches, each once, by rising GUID
+-- `switches` has exactly the usable switches as members, each once, by rising GUID
 abbrev pub SwitchesLaw : Type 0
 SwitchesLaw = (facts : Facts) → HasSwitches (cells_of facts) (switches (cells_of facts))
     × AllPairs (λ a b. a < b) (switches (cells_of facts))

@@ -1,8 +1,8 @@
--- A switch with its wires to other switches.
+-- A switch with its edges, its wires to switches.
 use Rattle.std.specs.Prelude.{ℕ, List}
 use Rattle.port_graph.specs.declared.edge.Edge.{Edge}
 
--- a usable switch and its wires to other switches, by rising port
+-- a usable switch and its wires to usable switches, itself among them, by rising port
 pub record SwitchEdges : Type 0 where
   pub guid : ℕ
   pub edges : List Edge

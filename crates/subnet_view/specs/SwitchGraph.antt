@@ -7,51 +7,51 @@ use Rattle.subnet_view.specs.Graph.{guids_of, edges_at}
 use Rattle.subnet_view.specs.GraphLaws.{IsGraph}
 use Rattle.subnet_view.specs.Components.{distance}
 
--- each edge leads to an index below n
+-- each of the edges leads to an index below `n`
 abbrev pub LeadBelow : ℕ → List Edge → Type 0
 LeadBelow n edges = (e : Edge) → Contains edges e → e.to < n
 
--- the number is at index i
+-- `number` is at index `i` of `numbers`
 abbrev pub IsIndexOf : List ℕ → ℕ → ℕ → Type 0
 IsIndexOf numbers number i = (i < length numbers) × (slice_index numbers i ≡ number)
 
--- `found` is the index of the number; None if the list does not have it
+-- `found` is the index of `number` in `numbers`; None if it is not there
 abbrev pub IsIndexIn : List ℕ → ℕ → Option ℕ → Type 0
 IsIndexIn numbers number found = MatchOption found (¬ (Contains numbers number)) (IsIndexOf numbers number)
 
--- the GUID of the switch at index i
+-- the GUID of the switch at index `i`
 abbrev pub switch_at : List SwitchEdges → ℕ → ℕ
 switch_at graph i = slice_index (guids_of graph) i
 
--- an edge to an index, as an edge to the GUID at that index
+-- the edge `e`, which leads to an index, as an edge to the GUID at that index
 abbrev pub by_guid : List ℕ → Edge → Edge
 by_guid guids e = record { port = e.port; to = slice_index guids e.to }
 
--- these edges, which lead to indices, are the edges of the switch at index i
+-- `edges`, which lead to indices, are the edges of the switch at index `i`
 abbrev pub AreEdgesAt : List SwitchEdges → ℕ → List Edge → Type 0
 AreEdgesAt graph i edges = map (by_guid (guids_of graph)) edges ≡ edges_at graph (switch_at graph i)
 
--- the distances from the switch at index i to each switch, by rising GUID
+-- the distance from the switch at index `i` to each switch, by rising GUID; None where no walk leads
 abbrev pub distances_from : List SwitchEdges → ℕ → List (Option ℕ)
 distances_from graph i = map (distance graph (switch_at graph i)) (guids_of graph)
 
--- each switch with its edges
+-- each of the GUIDs with the edges at its index, as many as the shorter list has
 abbrev pub switch_edges : List ℕ → List (List Edge) → List SwitchEdges
 switch_edges [] edges = []
 switch_edges (g ∷ guids) [] = []
 switch_edges (g ∷ guids) (es ∷ edges) = record { guid = g; edges = es } ∷ switch_edges guids edges
 
--- the graph of switches, given the edges of each, which lead to indices
+-- the graph of the switches `guids`, where `edges` has the edges of each, which lead to indices
 abbrev pub named : List ℕ → List (List Edge) → List SwitchEdges
 named guids edges = switch_edges guids (map (map (by_guid guids)) edges)
 
--- each switch has edges that lead to switches, and together they are a graph
+-- `edges` has for each switch of `guids` edges that lead to indices of switches, and together they are a graph
 pub record IsSwitchGraph (guids : List ℕ) (edges : List (List Edge)) : Type 0 where
   pub as_many : length edges ≡ length guids
   pub to_switches : LeadToVertices edges
   pub is_graph : IsGraph (named guids edges)
 
--- the list has the edges of each switch of the graph, by rising GUID, and they lead to indices
+-- `edges` has the edges of each switch of the graph, by rising GUID, and they lead to indices
 pub record AreEdgesByIndex (graph : List SwitchEdges) (edges : List (List Edge)) : Type 0 where
   pub as_many : length edges ≡ length graph
   pub to_switches : LeadToVertices edges

@@ -7,26 +7,28 @@ use Rattle.reply_facts.specs.Known.{port_guid_of, link_of, cap_of}
 use Rattle.subnet_view.specs.Reading.{Cells, is_up, is_switch_node, is_usable, is_port_of, IsUsable}
 use Rattle.subnet_view.specs.EndPorts.{is_end_port, IsNodeWith}
 
--- whether the port can have a wire: it is up, is from 1 to its node's number of ports, and belongs to a usable switch
--- or is an end port
+-- whether port `p` of node `g` can have a wire: it is up, `p` is from 1 to the node's number of ports, and the node is
+-- a usable switch or the port an end port
 abbrev pub is_wire_end : Cells → ℕ → ℕ → Bool
 is_wire_end cells g p = is_up cells g p && is_port_of cells g p
     && (if is_switch_node cells g then is_usable cells g else is_end_port cells g p)
 
--- whether q is port p of node g
+-- whether `q` is port `p` of node `g`
 abbrev pub is_at : ℕ → ℕ → ℕ × ℕ → Bool
 is_at g p q = g == q.0 && p == q.1
 
--- whether there is a wire between the ports: they are different, both can have a wire, and the link of q names g and p
+-- whether a wire joins port `p` of node `g` and the port `q`, if the link of the first names `q`: the ports are
+-- different, both can have a wire, and the link of `q` names the first
 abbrev pub is_wire : Cells → ℕ → ℕ → ℕ × ℕ → Bool
 is_wire cells g p q = not (is_at g p q) && is_wire_end cells g p && is_wire_end cells q.0 q.1
     && option_map_or (is_at g p) (link_of cells q.0 q.1) false
 
--- the other end of the wire in a port; None if there is no wire
+-- the other end of the wire in port `p` of node `g`; None if it has no wire
 abbrev pub across : Cells → ℕ → ℕ → Option (ℕ × ℕ)
 across cells g p = option_and_then (λ q. if is_wire cells g p q then Some q else None) (link_of cells g p)
 
--- the switch and its port that the wire in an adapter port leads to; None if there is none
+-- the switch and its port that the wire in port `p` of node `g` leads to; None if `g` is itself a switch, or no wire
+-- leads to a switch
 abbrev pub attached : Cells → ℕ → ℕ → Option (ℕ × ℕ)
 attached cells g p =
     if is_switch_node cells g then None else option_and_then (λ q. if is_switch_node cells q.0 then Some q else None)
@@ -34,12 +36,14 @@ attached cells g p =
 
 -- the laws of these definitions: ------------------------------------------------------
 
--- a port that can have a wire, as a statement
+-- port `p` of node `g` can have a wire: `p` is from 1 to the node's number of ports, it is up, and the node is a switch
+-- of known table room, or another node and the port's GUID is known
 abbrev pub CanHaveWire : Cells → ℕ → ℕ → Type 0
 CanHaveWire cells g p = (kind : NodeType) × (ports : ℕ) × IsNodeWith cells g kind ports × (1 ≤ p) × (p ≤ ports)
     × IsTrue (is_up cells g p) × MatchBool (is_switch kind) (IsSome (cap_of cells g)) (IsSome (port_guid_of cells g p))
 
--- a wire between the two ports, as a statement
+-- a wire joins port `p` of node `g` and port `q` of node `h`: they are different, both can have a wire, and their links
+-- name each other
 pub record IsWire (cells : Cells) (g p h q : ℕ) : Type 0 where
   pub different : ◌≢◌ {A = ℕ × ℕ} (g, p) (h, q)
   pub first : CanHaveWire cells g p
@@ -47,7 +51,7 @@ pub record IsWire (cells : Cells) (g p h q : ℕ) : Type 0 where
   pub named_there : link_of cells g p ≡ Some (h, q)
   pub named_back : link_of cells h q ≡ Some (g, p)
 
--- `across` gives a port exactly if a wire leads there
+-- `across` gives a port exactly if a wire (`IsWire`) leads there
 abbrev pub WireLaw : Type 0
 WireLaw = (cells : Cells) (g p h q : ℕ) → (across cells g p ≡ Some (h, q)) ↔ IsWire cells g p h q
 
@@ -55,12 +59,12 @@ WireLaw = (cells : Cells) (g p h q : ℕ) → (across cells g p ≡ Some (h, q))
 abbrev pub WiresGoBothWays : Type 0
 WiresGoBothWays = (cells : Cells) (g p h q : ℕ) → across cells g p ≡ Some (h, q) → across cells h q ≡ Some (g, p)
 
--- the port's node is not known to be a switch, and a wire leads from the port to a port of a usable switch
+-- node `g` is not known to be a switch, and a wire leads from its port `p` to port `q` of the usable switch `h`
 pub record IsAttached (cells : Cells) (g p h q : ℕ) : Type 0 where
   pub not_a_switch : is_switch_node cells g ≡ false
   pub wire : IsWire cells g p h q
   pub to_switch : IsUsable cells h
 
--- `attached` gives a port exactly if the port is attached to it
+-- `attached` gives a port of a switch exactly if the adapter port is attached to it (`IsAttached`)
 abbrev pub AttachedLaw : Type 0
 AttachedLaw = (cells : Cells) (g p h q : ℕ) → (attached cells g p ≡ Some (h, q)) ↔ IsAttached cells g p h q

@@ -32,7 +32,7 @@ impl<'s> Model for CellCursor<'s> {
 }
 
 impl<'s> CellCursor<'s> {
-    /// Creates a cursor before all cells of a store.
+    /// Creates a cursor before all cells of `store`.
     pub(crate) fn new(store: &'s Store) -> Self
         ensures { result ≡ cells_of store.now }
     {
@@ -41,7 +41,8 @@ impl<'s> CellCursor<'s> {
         CellCursor { next, later }
     }
 
-    /// Returns the type of `node` and its number of ports, if they are known. Passes the cells of earlier keys.
+    /// Returns the type of `node` and its number of ports, or `None` if they are not known. Passes the cells of earlier
+    /// keys.
     pub(crate) fn node(&mut self, node: Guid) -> Option<(NodeType, u8)>
         ensures value { result ≡ node_of self.old node }
         ensures later { KeepsFrom (Node node) self.old self.new }
@@ -52,7 +53,7 @@ impl<'s> CellCursor<'s> {
         }
     }
 
-    /// Returns the GUID of `port` of `node`, if it is known. Passes the cells of earlier keys.
+    /// Returns the GUID of `port` of `node`, or `None` if it is not known. Passes the cells of earlier keys.
     pub(crate) fn port_guid(&mut self, node: Guid, port: PortNum) -> Option<Guid>
         ensures value { result ≡ port_guid_of self.old node port }
         ensures later { KeepsFrom (PortGuid node port) self.old self.new }
@@ -63,8 +64,8 @@ impl<'s> CellCursor<'s> {
         }
     }
 
-    /// Returns the number of LIDs that the linear forwarding table of the switch `node` has room for, if it is known.
-    /// Passes the cells of earlier keys.
+    /// Returns the number of LIDs that the linear forwarding table of the switch `node` has room for, or `None` if it
+    /// is not known. Passes the cells of earlier keys.
     pub(crate) fn cap(&mut self, node: Guid) -> Option<u16>
         ensures value { result ≡ cap_of self.old node }
         ensures later { KeepsFrom (Cap node) self.old self.new }

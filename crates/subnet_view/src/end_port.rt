@@ -20,22 +20,22 @@ pub struct EndPort {
 }
 
 /// Returns whether `port` of `node` is an end port: port 0 of a switch, or a port of another node, with a known GUID.
-/// Takes two searches.
+/// Takes at most two binary searches among the cells.
 pub fn is_end_port(store: &Store, node: Guid, port: PortNum) -> bool
     ensures { result ≡ is_end_port (cells_of store.now) node port }
 {
     is_end_port_number(store, node, port) && store.port_guid(node, port).is_some()
 }
 
-/// Returns the end ports, by port GUID, then node GUID, then port. Walks the cells, with a search for each port GUID,
-/// and sorts.
+/// Returns the end ports, by port GUID, then node GUID, then port. Walks the cells, with a binary search for each port
+/// GUID, and sorts what it finds.
 pub fn end_ports(alloc: Global, store: &Store) -> Result<Vec<EndPort>, Refused>
     ensures { IfOk result (λ ports. ports.items ≡ end_ports (cells_of store.now)) }
 {
     Ok(listed_end_ports(alloc, store)?)
 }
 
-/// Counts the end ports. Takes no memory. Walks the cells, with a search for each port GUID.
+/// Returns the number of end ports. Walks the cells, with a binary search for each port GUID. Does not allocate.
 pub fn count_end_ports(store: &Store) -> usize
     ensures { result ≡ length (end_ports (cells_of store.now)) }
 {
@@ -87,7 +87,7 @@ fn sort(found: &mut [(Guid, EndPort)])
     found.sort_unstable_by_key(sort_key);
 }
 
-/// Returns the port GUID, the node GUID and the port, by which end ports are sorted.
+/// Returns the port GUID, the node GUID and the port of `end`, by which end ports are sorted.
 pub(crate) fn sort_key(end: &(Guid, EndPort)) -> [u64; 3]
     ensures { result ≡ port_numbers end.now }
 {
@@ -98,8 +98,8 @@ pub(crate) fn sort_key(end: &(Guid, EndPort)) -> [u64; 3]
     ]
 }
 
-/// Returns the end port of a cell with its port GUID, or `None` if the cell is not the GUID of an end port. Takes a
-/// search if the cell is a port GUID.
+/// Returns the end port of a cell with its port GUID, or `None` if the cell is not the GUID of an end port. `sighting`
+/// must be a cell of `store`. Takes a binary search among the cells if its key is that of a port GUID.
 pub(crate) fn guid_and_port(store: &Store, sighting: &Sighting) -> Option<(Guid, EndPort)>
     requires { cell_for store.now sighting.now.0 ≡ Some sighting.now.1 }
     ensures { result ≡ guid_and_port (cells_of store.now) sighting.now }
@@ -117,7 +117,8 @@ pub(crate) fn guid_and_port(store: &Store, sighting: &Sighting) -> Option<(Guid,
     }
 }
 
-/// Returns whether `port` is port 0 of a switch, or from 1 to the number of ports of another node. Takes a search.
+/// Returns whether `port` is port 0 of a switch, or from 1 to the number of ports of another node. Returns `false` if
+/// it is not known what `node` is. Takes a binary search among the cells.
 fn is_end_port_number(store: &Store, node: Guid, port: PortNum) -> bool
     ensures { result ≡ is_end_port_number (cells_of store.now) node port }
 {

@@ -9,8 +9,8 @@ use fact_store::Store;
 use smp_bytes::Guid;
 
 /// Returns the first end port after `last` in the order of `end_ports`, with its port GUID, or the first of all if
-/// `last` is `None`. Returns `None` if there is none. Takes no memory. Walks the cells, with a search for each port
-/// GUID.
+/// `last` is `None`. Returns `None` if there is none. Walks the cells, with a binary search for each port GUID. Does
+/// not allocate.
 pub fn next_end_port(store: &Store, last: Option<(Guid, EndPort)>) -> Option<(Guid, EndPort)>
     ensures { MatchOption result (ports_after (cells_of store.now) last ≡ [])
         (λ end. ports_after (cells_of store.now) last
@@ -25,7 +25,8 @@ pub fn next_end_port(store: &Store, last: Option<(Guid, EndPort)>) -> Option<(Gu
     next
 }
 
-/// Returns `end` if it comes after `last` and before `next`, and otherwise `next`.
+/// Returns `end` if it comes after `last`, if there is one, and before `next`, if there is one. Otherwise returns
+/// `next`.
 fn nearer(
     last: &Option<(Guid, EndPort)>,
     next: Option<(Guid, EndPort)>,

@@ -19,7 +19,7 @@ pub(crate) struct PortReader<'s> {
 }
 
 impl<'s> PortReader<'s> {
-    /// Creates a reader of all cells of a store.
+    /// Creates a reader of all cells of `store`.
     pub(crate) fn new(store: &'s Store) -> Self
         ensures { ReadsAll (cells_of store.now) result }
     {
@@ -31,8 +31,9 @@ impl<'s> PortReader<'s> {
         }
     }
 
-    /// Returns both ends of a link's cell, which are its own port and the far end. Returns `None` if its own port
-    /// cannot have a wire. Passes what is known of earlier ports.
+    /// Returns both ends of the link that `sighting` tells, which are its own port and the far end. Returns `None` if
+    /// `sighting` is not of a link, if it is disputed, or if its own port cannot have a wire. Passes what is known of
+    /// earlier ports.
     pub(crate) fn wire_end(
         &mut self,
         sighting: &Sighting,

@@ -6,7 +6,7 @@ ghost use Rattle.subnet_view.specs.Reading.{port_count_of, is_up, is_switch_in, 
 use fact_store::{Sighting, Store, Value};
 use smp_bytes::{Guid, NodeType, PortNum};
 
-/// Returns the number of a node's ports, or 0 if the node is not known. Takes a search.
+/// Returns the number of ports of the node `guid`, or 0 if it is not known. Takes a binary search among the cells.
 pub fn port_count(store: &Store, guid: Guid) -> u8
     ensures { result ≡ port_count_of (cells_of store.now) guid }
 {
@@ -16,28 +16,28 @@ pub fn port_count(store: &Store, guid: Guid) -> u8
     }
 }
 
-/// Returns whether a port is known to be up. Takes a search.
+/// Returns whether `port` of `node` is known to be up. Takes a binary search among the cells.
 pub(crate) fn is_up(store: &Store, node: Guid, port: PortNum) -> bool
     ensures { result ≡ is_up (cells_of store.now) node port }
 {
     store.is_up(node, port).unwrap_or(false)
 }
 
-/// Returns whether a node is known to be a switch. Takes a search.
+/// Returns whether `node` is known to be a switch. Takes a binary search among the cells.
 pub(crate) fn is_switch(store: &Store, node: Guid) -> bool
     ensures { result ≡ is_switch_node (cells_of store.now) node }
 {
     matches!(store.node(node), Some((NodeType::Switch, _)))
 }
 
-/// Returns whether the value of a cell is that its node is a switch.
+/// Returns whether the value of `sighting` is that its node is a switch.
 pub(crate) fn is_switch_said(sighting: &Sighting) -> bool
     ensures { result ≡ is_switch_in (kind_in (value_in (Some sighting.now.1))) }
 {
     matches!(sighting.value(), Some(Value::Kind(NodeType::Switch, _)))
 }
 
-/// Returns the GUID that is the value of a cell, or `None` if its value is not a GUID.
+/// Returns the GUID that is the value of `sighting`, or `None` if it has no value or another one.
 pub(crate) fn guid_said(sighting: &Sighting) -> Option<Guid>
     ensures { result ≡ guid_in (value_in (Some sighting.now.1)) }
 {
@@ -47,8 +47,8 @@ pub(crate) fn guid_said(sighting: &Sighting) -> Option<Guid>
     }
 }
 
-/// Returns the node and the port at the other end of a link that are the value of a cell, or `None` if its value is not
-/// those.
+/// Returns the node and the port at the other end of a link that are the value of `sighting`, or `None` if it has no
+/// value or another one.
 pub(crate) fn peer_said(sighting: &Sighting) -> Option<(Guid, PortNum)>
     ensures { result ≡ peer_in (value_in (Some sighting.now.1)) }
 {

@@ -24,7 +24,7 @@ pub(crate) fn roots(alloc: Global, graph: &SwitchGraph) -> Result<Vec<Option<Gui
     Ok(roots)
 }
 
-/// Sets `root` as the root of each switch that has no root yet and has a distance.
+/// Sets `root` as the root of each switch that has no root yet and has a distance. Both lists must be equally long.
 fn fill(roots: &mut [Option<Guid>], distances: &[Option<usize>], root: Guid)
     requires { length roots.old ≡ length distances.now }
     ensures { FillsIn roots.old distances.now root roots.new }

@@ -8,15 +8,15 @@ use fact_store::{Key, Refused, Sighting, Store};
 use smp_bytes::Guid;
 use std::alloc::{AllocError, Global};
 
-/// Returns whether `node` is a usable switch: it is known to be a switch, and its table room is known. Takes two
-/// searches.
+/// Returns whether `node` is a usable switch: it is known to be a switch, and its table room is known. Takes at most
+/// two binary searches among the cells.
 pub fn is_usable(store: &Store, node: Guid) -> bool
     ensures { result ≡ is_usable (cells_of store.now) node }
 {
     is_switch(store, node) && store.cap(node).is_some()
 }
 
-/// Returns the usable switches, by rising GUID. Walks the cells.
+/// Returns the usable switches, by rising GUID. Walks the cells, with a binary search for each switch.
 pub fn switches(alloc: Global, store: &Store) -> Result<Vec<Guid>, Refused>
     ensures { IfOk result (λ found. found.items ≡ switches (cells_of store.now)) }
 {
@@ -36,8 +36,8 @@ fn listed_switches(alloc: Global, store: &Store) -> Result<Vec<Guid>, AllocError
     Ok(found)
 }
 
-/// Returns the node of a cell of the store, or `None` if it is not a usable switch. Takes a search if the node is a
-/// switch.
+/// Returns the node that `sighting` is about, or `None` if it is not about a node, or not about a usable switch.
+/// `sighting` must be a cell of `store`. Takes a binary search among the cells if the node is a switch.
 pub fn usable_guid(store: &Store, sighting: &Sighting) -> Option<Guid>
     requires { cell_for store.now sighting.now.0 ≡ Some sighting.now.1 }
     ensures { result ≡ usable_guid (cells_of store.now) sighting.now }
@@ -54,7 +54,7 @@ pub fn usable_guid(store: &Store, sighting: &Sighting) -> Option<Guid>
     }
 }
 
-/// Returns whether the value of the cell is that `node` is a switch, and its table room is known.
+/// Returns whether the value of `sighting` is that its node is a switch, and the table room of `node` is known.
 fn is_usable_said(store: &Store, node: Guid, sighting: &Sighting) -> bool
     ensures { result ≡ (is_switch_in (kind_in (value_in (Some sighting.now.1)))
         && is_some (cap_of (cells_of store.now) node)) }

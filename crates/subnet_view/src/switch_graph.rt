@@ -41,8 +41,8 @@ impl Model for SwitchGraph {
 }
 
 impl SwitchGraph {
-    /// Builds the graph of the view's usable switches and the wires between them. Takes two searches among the wires
-    /// for each port of a switch, and one among the switches for each wire.
+    /// Builds the graph of the view's usable switches and the wires between them. Takes at most two binary searches
+    /// among the ports that can have a wire for each port of a switch, and one among the switches for each wire.
     pub fn of(alloc: Global, wires: &Wires) -> Result<Self, Refused>
         ensures { IfOk result (λ graph. graph ≡ graph_of (cells_of wires.now)) }
     {
@@ -51,7 +51,7 @@ impl SwitchGraph {
         Ok(SwitchGraph { guids, edges })
     }
 
-    /// Returns the number of switches. Takes one step.
+    /// Returns the number of switches. Takes constant time.
     pub fn len(&self) -> usize
         ensures count { result ≡ length self.now }
         ensures is_graph { IsGraph self.now }
@@ -73,21 +73,22 @@ impl SwitchGraph {
         self.guids
     }
 
-    /// Returns the switch at `index`, or `None` if there is none. Takes one step.
+    /// Returns the switch at `index`, or `None` if there is none. Takes constant time.
     pub fn switch(&self, index: usize) -> Option<Guid>
         ensures { result ≡ slice_get (guids_of self.now) index }
     {
         self.guids.get(index).copied()
     }
 
-    /// Returns the index of `switch`, or `None` if it is not in the graph. Takes a search.
+    /// Returns the index of `switch`, or `None` if it is not in the graph. Takes a binary search among the switches.
     pub fn index_of(&self, switch: Guid) -> Option<usize>
         ensures { IsIndexIn (guids_of self.now) switch result }
     {
         index_of(&self.guids, switch)
     }
 
-    /// Returns the edges of the switch at `index`. They lead to indices. Takes one step.
+    /// Returns the edges of the switch at `index`, which must exist. They lead to indices of switches. Takes constant
+    /// time.
     pub fn edges(&self, index: usize) -> &[Edge]
         requires { index < length self.now }
         ensures edges { AreEdgesAt self.now index result.now }
@@ -96,7 +97,7 @@ impl SwitchGraph {
         self.edges.at(index)
     }
 
-    /// Returns the edges of all switches, by rising GUID. They lead to indices.
+    /// Returns the edges of all switches, by rising GUID. They lead to indices of switches.
     pub fn adjacency(&self) -> &Adjacency
         ensures edges { AreEdgesByIndex self.now result.now }
         ensures is_graph { IsGraph self.now }
@@ -104,8 +105,8 @@ impl SwitchGraph {
         &self.edges
     }
 
-    /// Returns the distance from the switch at index `from` to each switch, or `None` if no walk leads there. Takes a
-    /// breadth-first search.
+    /// Returns the distance to each switch from the one at index `from`, which must exist, or `None` if no walk leads
+    /// there. Takes a breadth-first search.
     pub fn distances(&self, alloc: Global, from: usize) -> Result<Vec<Option<usize>>, AllocError>
         requires { from < length self.now }
         ensures { IfOk result (λ found. found.items ≡ distances_from self.now from) }
@@ -122,7 +123,7 @@ impl SwitchGraph {
     }
 }
 
-/// Returns the edges of each switch. `guids` are the usable switches.
+/// Returns the edges of each switch. `guids` must be the usable switches.
 fn edges(alloc: Global, wires: &Wires, guids: &[Guid]) -> Result<Adjacency, AllocError>
     requires { guids.now ≡ switches (cells_of wires.now) }
     ensures wires { IfOk result (λ edges.
@@ -137,7 +138,7 @@ fn edges(alloc: Global, wires: &Wires, guids: &[Guid]) -> Result<Adjacency, Allo
     Ok(edges)
 }
 
-/// Returns the wires from a switch to other switches, by rising port.
+/// Returns the edges of the switch `guid`, by rising port. `guids` must be the usable switches.
 fn edges_of(
     alloc: Global,
     wires: &Wires,
@@ -158,8 +159,9 @@ fn edges_of(
     Ok(found)
 }
 
-/// Returns the edge of the wire in `port` of `guid`, or `None` if no wire leads from there to a switch. Takes two
-/// searches among the wires, and one among the switches if there is a wire.
+/// Returns the edge of the wire in `port` of `guid`, or `None` if no wire leads from there to a switch. `guids` must be
+/// the usable switches. Takes at most two binary searches among the ports that can have a wire, and one among the
+/// switches if there is a wire.
 fn edge_at(wires: &Wires, guids: &[Guid], guid: Guid, port: PortNum) -> Option<Edge>
     requires { guids.now ≡ switches (cells_of wires.now) }
     ensures wire { option_map (by_guid guids.now) result ≡ edge_at (cells_of wires.now) guid port }
@@ -170,7 +172,7 @@ fn edge_at(wires: &Wires, guids: &[Guid], guid: Guid, port: PortNum) -> Option<E
     Some(Edge { port, to })
 }
 
-/// Returns the index of `guid` among the rising GUIDs `guids`, or `None` if it is not there. Takes a search.
+/// Returns the index of `guid` among `guids`, which must rise, or `None` if it is not there. Takes a binary search.
 fn index_of(guids: &[Guid], guid: Guid) -> Option<usize>
     requires { IsStrictlyIncreasing guids.now }
     ensures { IsIndexIn guids.now guid result }

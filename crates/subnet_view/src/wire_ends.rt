@@ -8,7 +8,7 @@ use smp_bytes::{Guid, NodeType, PortNum};
 
 /// Returns the node and the port at the other end of the wire in `port` of `node`, or `None` if there is no wire. There
 /// is a wire if the links of two different ports name each other, and both ports are up and either belong to usable
-/// switches or are end ports. Takes eight searches.
+/// switches or are end ports. Takes at most eight binary searches among the cells.
 pub fn wire(store: &Store, node: Guid, port: PortNum) -> Option<(Guid, PortNum)>
     ensures { result ≡ across (cells_of store.now) node port }
 {
@@ -20,8 +20,9 @@ pub fn wire(store: &Store, node: Guid, port: PortNum) -> Option<(Guid, PortNum)>
     }
 }
 
-/// Returns the switch and its port that the wire in an adapter port leads to, or `None` if there is none. A port of a
-/// node that is known to be a switch is attached to nothing. Takes ten searches.
+/// Returns the switch and its port that the wire in `port` of `node` leads to. Returns `None` if there is no wire, if
+/// it does not lead to a switch, or if `node` is known to be a switch. Takes at most ten binary searches among the
+/// cells.
 pub fn attached(store: &Store, node: Guid, port: PortNum) -> Option<(Guid, PortNum)>
     ensures { result ≡ attached (cells_of store.now) node port }
 {
@@ -36,7 +37,7 @@ pub fn attached(store: &Store, node: Guid, port: PortNum) -> Option<(Guid, PortN
     }
 }
 
-/// Returns whether there is a wire between the ports `near` and `far`. The link of `near` must name `far`.
+/// Returns whether there is a wire between the ports `near` and `far`, if the link of `near` names `far`.
 fn is_wire(store: &Store, near: (Guid, PortNum), far: (Guid, PortNum)) -> bool
     ensures { result ≡ is_wire (cells_of store.now) near.0 near.1 far }
 {
@@ -46,7 +47,7 @@ fn is_wire(store: &Store, near: (Guid, PortNum), far: (Guid, PortNum)) -> bool
         && store.link(far.0, far.1) == Some(near)
 }
 
-/// Returns whether a port can have a wire. Takes three searches.
+/// Returns whether the port `end` can have a wire. Takes at most three binary searches among the cells.
 fn is_wire_end(store: &Store, end: (Guid, PortNum)) -> bool
     ensures { result ≡ is_wire_end (cells_of store.now) end.0 end.1 }
 {

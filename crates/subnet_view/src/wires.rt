@@ -14,7 +14,7 @@ use std::marker::Model;
 #[derive(Drop)]
 pub struct Wires<'s> {
     store: &'s Store,
-    /// The ports that can have a wire, each with the far end of its link, by rising GUID and port.
+    /// The ports that can have a wire and whose links are known, each with the far end, by rising GUID and port.
     ends: Vec<((Guid, PortNum), (Guid, PortNum))>,
 }
 
@@ -34,7 +34,7 @@ impl<'s> Model for Wires<'s> {
 }
 
 impl<'s> Wires<'s> {
-    /// Finds the wires of a store's view. Walks the cells.
+    /// Finds the wires of the view that `store` holds. Walks the cells.
     pub fn of(alloc: Global, store: &'s Store) -> Result<Self, Refused>
         ensures { IfOk result (λ wires. wires ≡ store.now) }
     {
@@ -42,15 +42,15 @@ impl<'s> Wires<'s> {
         Ok(Wires { store, ends })
     }
 
-    /// Returns the store.
+    /// Returns the store that the wires were found in.
     pub fn store(&self) -> &'s Store
         ensures { result.now ≡ self.now }
     {
         self.store
     }
 
-    /// Returns the node and the port at the other end of the wire in `port` of `node`, as `wire` does. Takes two
-    /// searches among the ports that can have a wire.
+    /// Returns the node and the port at the other end of the wire in `port` of `node`, as `wire` does. Takes at most
+    /// two binary searches among the ports that can have a wire.
     pub fn across(&self, node: Guid, port: PortNum) -> Option<(Guid, PortNum)>
         ensures { result ≡ across (cells_of self.now) node port }
     {
@@ -63,8 +63,8 @@ impl<'s> Wires<'s> {
         }
     }
 
-    /// Returns the switch and its port that the wire in an adapter port leads to, as `attached` does. Takes four
-    /// searches.
+    /// Returns the switch and its port that the wire in `port` of `node` leads to, as `attached` does. Takes at most
+    /// two binary searches among the cells, and two among the ports that can have a wire.
     pub fn attached(&self, node: Guid, port: PortNum) -> Option<(Guid, PortNum)>
         ensures { result ≡ attached (cells_of self.now) node port }
     {
@@ -79,8 +79,8 @@ impl<'s> Wires<'s> {
         }
     }
 
-    /// Returns the far end of the link of `port` of `node`, or `None` if the port cannot have a wire. Takes a search
-    /// among the ports that can.
+    /// Returns the far end of the link of `port` of `node`, or `None` if the port cannot have a wire or the link is not
+    /// known. Takes a binary search among the ports that can have a wire.
     fn end_link(&self, node: Guid, port: PortNum) -> Option<(Guid, PortNum)>
         ensures { result ≡ end_link (cells_of self.now) node port }
     {
@@ -92,14 +92,15 @@ impl<'s> Wires<'s> {
     }
 }
 
-/// Returns whether `near`'s link leads to another port, `far`, and that port's link, `back`, leads back to `near`.
+/// Returns whether `far`, to which the link of `near` leads, is another port, and its own link, `back`, leads to
+/// `near`.
 fn is_pair(near: (Guid, PortNum), far: (Guid, PortNum), back: Option<(Guid, PortNum)>) -> bool
     ensures { result ≡ is_pair near far back }
 {
     near != far && back == Some(near)
 }
 
-/// Returns the ports that can have a wire, each with the far end of its link, by rising GUID and port.
+/// Returns the ports that can have a wire and whose links are known, each with the far end, by rising GUID and port.
 fn wire_ends(
     alloc: Global,
     store: &Store,

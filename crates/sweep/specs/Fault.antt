@@ -4,13 +4,14 @@ use Rattle.reply_facts.specs.ReportFault.{report_fault_name}
 use Rattle.sweep.specs.declared.fault.SweepFault.{SweepFault}
 use Rattle.sweep.specs.declared.fault.SweepFault.TheVariants.{NotOutstanding, Bad, SequenceSpent, Memory}
 
--- the name of a fault; for a fault of the report, the report's name of it
+-- the name of a sweep's fault; for the fault of a report, the report's name of it
 abbrev pub sweep_fault_name : SweepFault → List ℕ
 sweep_fault_name NotOutstanding = codes "NotOutstanding"
 sweep_fault_name (Bad fault) = report_fault_name fault
 sweep_fault_name SequenceSpent = codes "SequenceSpent"
 sweep_fault_name Memory = codes "Memory"
 
+-- whether the fault is lack of memory
 abbrev pub is_memory : SweepFault → Bool
 is_memory Memory = true
 is_memory _ = false

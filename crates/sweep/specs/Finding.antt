@@ -1,5 +1,5 @@
--- What a reply adds: what is new, and what is asked next.
--- InfiniBand Architecture Specification, Volume 1: subnet management, NodeInfo and PortInfo; topology discovery.
+-- What a reply to a sweep brings up: a new vertex or a port's state, and what is asked next. InfiniBand Architecture
+-- Specification, Volume 1: subnet management, NodeInfo and PortInfo; topology discovery.
 use Rattle.std.specs.Prelude.{◌≡◌, ℕ, zero, suc, ◌+◌, ◌<◌, Bool, true, false, ◌&&◌, ◌||◌, not, List, [], ◌∷◌, ◌++◌, length, nat_lt, ◌==◌, if◌then◌else◌, Option, Some, None, is_some}
 use Rattle.std.specs.Option.{option_map_or}
 use Rattle.smp_bytes.specs.declared.node_type.NodeType.{NodeType}
@@ -28,7 +28,8 @@ use Rattle.sweep.specs.Sweep.{Sweep, Asking, asking, first_vertex, vertex_at, ve
 
 -- by NodeInfo ---------------------------------------------------------------------------------
 
--- the vertex of a node: a switch has one, with port 0, an adapter one for each port that is reached
+-- the vertex that NodeInfo over `path` tells of, a node of this type and port count: a switch by port 0, another node
+-- by the port that was reached
 abbrev pub vertex_of : List ℕ → NodeInfo → NodeType → ℕ → Vertex
 vertex_of path info kind ports =
     record {
@@ -40,66 +41,72 @@ vertex_of path info kind ports =
       path = path;
     }
 
--- what NodeInfo adds about a node whose GUID is new to the sweep
+-- what NodeInfo over `path` brings up about a node that is new to the sweep: a vertex; nothing if its type is reserved,
+-- which is None here
 abbrev pub found_anew : List ℕ → NodeInfo → Option NodeType → Finding
 found_anew path info None = Nothing
 found_anew path info (Some kind) = NewVertex (vertex_of path info kind info.num_ports)
 
--- what NodeInfo adds about a known node: its first reply decided its type and number of ports, and only another port of
--- an adapter is new
+-- what NodeInfo over `path` brings up about a node whose first vertex is `first`: a vertex for another port of a node
+-- that is no switch, with the type and port count of `first`; else nothing
 abbrev pub found_again : Sweep → List ℕ → NodeInfo → Vertex → Finding
 found_again s path info first =
     if is_switch first.kind || is_some (vertex_at s.reached info.node_guid info.local_port_num) then Nothing
     else NewVertex (vertex_of path info first.kind first.ports)
 
+-- what NodeInfo over `path` brings up, given the node's first vertex, or None if the node is new
 abbrev pub node_found_of : Sweep → List ℕ → NodeInfo → Option Vertex → Finding
 node_found_of s path info None = found_anew path info (type_of_number info.node_type)
 node_found_of s path info (Some first) = found_again s path info first
 
--- what NodeInfo adds
+-- what NodeInfo over `path` brings up: a new vertex, or nothing
 abbrev pub node_found : Sweep → List ℕ → NodeInfo → Finding
 node_found s path info = node_found_of s path info (first_vertex s.reached info.node_guid)
 
 -- by PortInfo -----------------------------------------------------------------------------------
 
+-- whether the path is empty, so that of the manager's own node
 abbrev pub is_start : List ℕ → Bool
 is_start [] = true
 is_start (port ∷ path) = false
 
--- the node is a switch, and the port is neither its management port nor the port that leads back
+-- whether node `guid` is known to be a switch, and `port` is neither 0 nor the port by which the sweep first reached it
 abbrev pub is_way_on : Sweep → ℕ → ℕ → Bool
 is_way_on s guid port =
     option_map_or (λ first. is_switch first.kind
     && (not (port == 0) && not (port == first.arrival))) (first_vertex s.reached guid) false
 
--- the sweep goes on by the port: it is the port by which the sweep goes out, or a way on from a switch
+-- whether the sweep goes on by `port` of node `guid`, if that is up: it is the port by which the sweep goes out, or a
+-- way on from a switch
 abbrev pub goes_by : Sweep → List ℕ → ℕ → ℕ → Bool
 goes_by s path guid port = (is_start path && port == s.origin) || is_way_on s guid port
 
--- the port is up, and the sweep goes on by it
+-- whether the port is up by its PortInfo `info`, and the sweep goes on by it
 abbrev pub leads_on : Sweep → List ℕ → ℕ → ℕ → List ℕ → Bool
 leads_on s path guid port info = is_up_state (bits_in port_state info) && goes_by s path guid port
 
--- whether the sweep goes on by a port; `TooFar` if the path already has the greatest length
+-- whether the sweep goes on through a port: `Leads` if so, `TooFar` if the path has 63 ports already, `Stays` if not
 abbrev pub onward : Sweep → List ℕ → ℕ → ℕ → List ℕ → Onward
 onward s path guid port info =
     if not (leads_on s path guid port info) then Stays
     else if nat_lt (length path) max_hops then Leads
     else TooFar
 
--- the port reports that a manager sits there
+-- whether PortInfo says that a manager sits at the port
 abbrev pub has_manager : List ℕ → Bool
 has_manager info = bits_in is_sm_bit info == 1
 
--- the first reply of the node reported that it is not a switch
+-- whether node `guid` is known to be no switch, by its first reply
 abbrev pub is_of_adapter : Sweep → ℕ → Bool
 is_of_adapter s guid = option_map_or (λ first. not (is_switch first.kind)) (first_vertex s.reached guid) false
 
--- the port reports a manager, belongs to an adapter, and was not reached by the empty path
+-- whether the manager at a port of node `guid` is asked for SMInfo: PortInfo reports one, the node is no switch, and
+-- the path is not empty
 abbrev pub asks_manager : Sweep → List ℕ → ℕ → List ℕ → Bool
 asks_manager s path guid info = has_manager info && (not (is_start path) && is_of_adapter s guid)
 
--- what the PortInfo of a port reports
+-- what the PortInfo `info` of a port brings up: its state, whether the manager there is asked, and whether the sweep
+-- goes on
 abbrev pub port_finding_of : Sweep → List ℕ → ℕ → ℕ → List ℕ → PortFinding
 port_finding_of s path guid port info =
     record {
@@ -110,36 +117,37 @@ port_finding_of s path guid port info =
       onward = onward s path guid port info;
     }
 
+-- what the PortInfo `info` of a port brings up, as a finding
 abbrev pub port_found_of : Sweep → List ℕ → ℕ → ℕ → List ℕ → Finding
 port_found_of s path guid port info = Port (port_finding_of s path guid port info)
 
--- what PortInfo adds; nothing if the request was not about a node
+-- what the PortInfo `info` of a port brings up; nothing if the request was not about a node
 abbrev pub port_found : Sweep → List ℕ → Option ℕ → ℕ → List ℕ → Finding
 port_found s path None port info = Nothing
 port_found s path (Some guid) port info = port_found_of s path guid port info
 
 -- by any reply -----------------------------------------------------------------------------------
 
--- what the reply to this question adds
+-- what the reply `packet` to the request `r` brings up, by its question; SwitchInfo and SMInfo bring up nothing
 abbrev pub finding_of : Sweep → Request → List ℕ → Question → Finding
 finding_of s r packet ask.Node = node_found s r.path (node_info_of packet)
 finding_of s r packet ask.Switch = Nothing
 finding_of s r packet (ask.Port port) = port_found s r.path (about_of r.context) port (payload_of packet)
 finding_of s r packet (ask.Manager guid port) = Nothing
 
--- what the reply to a request adds
+-- what the reply `packet` to the request `r` brings up
 abbrev pub finding : Sweep → Request → List ℕ → Finding
 finding s r packet = finding_of s r packet r.question
 
 -- what is asked next --------------------------------------------------------------------------------
 
--- the questions for PortInfo of consecutive ports, from `port` on
+-- the questions for PortInfo of some consecutive ports, from `port` on
 abbrev pub port_questions : ℕ → ℕ → List ℕ → Context → List Asking
 port_questions port zero path context = []
 port_questions port (suc more) path context =
     record { question = ask.Port port; path = path; context = context } ∷ port_questions (port + 1) more path context
 
--- the questions for a new vertex: for a switch, SwitchInfo and PortInfo of its ports from 0 on; for an adapter,
+-- the questions about a new vertex: for a switch, SwitchInfo and PortInfo of its ports from 0 on; for another node,
 -- PortInfo of the port that was reached
 abbrev pub vertex_questions : Vertex → List Asking
 vertex_questions v =
@@ -148,26 +156,26 @@ vertex_questions v =
     ∷ port_questions 0 (v.ports + 1) v.path (About v.guid)
     else record { question = ask.Port v.port; path = v.path; context = About v.guid } ∷ []
 
--- the question for the manager at the port over the path to the port, if the manager is to be asked
+-- the question for SMInfo of the manager at a port, over `path`; none if it is not asked
 abbrev pub manager_questions : List ℕ → PortFinding → List Asking
 manager_questions path found =
     if found.asks_manager
     then record { question = ask.Manager found.guid found.port; path = path; context = About found.guid } ∷ []
     else []
 
--- the question for the node behind the port, if the port leads on, over the path with the port appended
+-- the question for the node behind a port, over `path` with the port appended; none if the sweep does not go on there
 abbrev pub onward_questions : List ℕ → ℕ → ℕ → Onward → List Asking
 onward_questions path guid port Stays = []
 onward_questions path guid port Leads =
     record { question = ask.Node; path = path ++ port ∷ []; context = Via guid port } ∷ []
 onward_questions path guid port TooFar = []
 
--- the questions for the manager and then for the node behind the port
+-- the questions that follow from PortInfo: for the manager at the port, and then for the node behind it
 abbrev pub port_found_questions : List ℕ → PortFinding → List Asking
 port_found_questions path found =
     manager_questions path found ++ onward_questions path found.guid found.port found.onward
 
--- the questions that follow from a finding
+-- the questions that follow from a finding over `path`
 abbrev pub questions : List ℕ → Finding → List Asking
 questions path Nothing = []
 questions path (NewVertex v) = vertex_questions v
@@ -175,37 +183,38 @@ questions path (Port found) = port_found_questions path found
 
 -- what the sweep has then ----------------------------------------------------------------------------
 
--- the vertices, with the new vertex, if the reply adds one
+-- the vertices, with that of the finding placed in order if it is one
 abbrev pub with_vertex : Finding → List Vertex → List Vertex
 with_vertex Nothing reached = reached
 with_vertex (NewVertex v) reached = placed vertex_key v reached
 with_vertex (Port found) reached = reached
 
--- the states with this state added, unless its number is reserved or the port has a state already
+-- the states, with that of a port placed in order, unless it is reserved, which is None here, or the port has one
+-- already
 abbrev pub with_state_of : ℕ → ℕ → Option PortState → List SeenState → List SeenState
 with_state_of guid port None states = states
 with_state_of guid port (Some state) states =
     placed state_key (record { guid = guid; port = port; state = state }) states
 
--- the states, with the port's state, if the reply adds one
+-- the states, with that of the finding placed in order if it is of a port
 abbrev pub with_state : Finding → List SeenState → List SeenState
 with_state Nothing states = states
 with_state (NewVertex v) states = states
 with_state (Port found) states = with_state_of found.guid found.port found.state states
 
--- 1 if the port leads too far, otherwise 0
+-- 1 if a port leads too far, else 0
 abbrev pub one_too_far : Onward → ℕ
 one_too_far Stays = 0
 one_too_far Leads = 0
 one_too_far TooFar = 1
 
--- the number of ports that lead too far by the finding: 0 or 1
+-- how many ports lead too far by a finding: 0 or 1
 abbrev pub too_far_by : Finding → ℕ
 too_far_by Nothing = 0
 too_far_by (NewVertex v) = 0
 too_far_by (Port found) = one_too_far found.onward
 
--- the sweep with the finding added and its questions queued
+-- the sweep with the finding over `path` added, and its questions queued
 abbrev pub with_finding : Sweep → List ℕ → Finding → Sweep
 with_finding s path found =
     record (asking s (questions path found)) {
@@ -215,11 +224,11 @@ with_finding s path found =
       too_far = s.too_far + too_far_by found;
     }
 
--- a path is extended only if it is shorter than the longest path
+-- if the sweep goes on through the port, `path` has fewer than 63 ports
 abbrev pub IsPathWithinReach : List ℕ → Onward → Type 0
 IsPathWithinReach path onward = onward ≡ Leads → length path < max_hops
 
--- what the reply adds extends no path beyond the longest one
+-- the finding extends no path beyond 63 ports
 abbrev pub IsWithinReach : List ℕ → Finding → Type 0
 IsWithinReach path Nothing = Unit {0}
 IsWithinReach path (NewVertex v) = Unit {0}

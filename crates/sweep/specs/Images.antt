@@ -1,5 +1,6 @@
--- The attributes that a sweep keeps, if it is asked to: the 64 bytes in the first reply about each port or switch.
--- InfiniBand Architecture Specification, Volume 1: subnet management, PortInfo and SwitchInfo.
+-- The images that a sweep keeps, if it is asked to: the 64 bytes of PortInfo of each port, and of SwitchInfo of each
+-- switch, in the first reply. InfiniBand Architecture Specification, Volume 1: subnet management, PortInfo and
+-- SwitchInfo.
 use Rattle.std.specs.Prelude.{◌≡◌, ℕ, ◌≤◌, Bool, true, false, List, [], Option, Some, None, option_map}
 use Rattle.reply_facts.specs.Report.{about_of, payload_of}
 use Rattle.sweep.specs.declared.images.SeenImage.{SeenImage}
@@ -8,33 +9,34 @@ use Rattle.sweep.specs.declared.request.Question.TheVariants as ask
 use Rattle.sweep.specs.declared.request.Request.{Request}
 use Rattle.sweep.specs.Order.{AreInOrder, found_at, placed}
 
--- whether images are kept, PortInfo of ports, and SwitchInfo of switches (by port 0), each in the order of GUIDs and
--- ports
+-- whether images are kept; those of PortInfo by port, and those of SwitchInfo by port 0 of switches, in the order of
+-- GUIDs and ports
 pub record Images : Type 0 where
   pub keeps : Bool
   pub ports : List SeenImage
   pub switches : List SeenImage
 
+-- the GUID and the port of an image, by which images are ordered
 abbrev pub image_key : SeenImage → ℕ × ℕ
 image_key i = (i.guid, i.port)
 
--- no images yet
+-- no images yet; whether they are kept is `keeps`
 abbrev pub no_images : Bool → Images
 no_images keeps = record { keeps = keeps; ports = []; switches = [] }
 
--- the image that is kept under a GUID and a port; None if there is none
+-- the bytes of the image of a GUID and a port; None if there is none
 abbrev pub image_at : List SeenImage → ℕ → ℕ → Option (List ℕ)
 image_at images guid port = option_map (λ i. i.bytes) (found_at image_key guid port images)
 
 -- what a reply adds ---------------------------------------------------------------------------
 
--- the images with this image added, if images are kept and none has its GUID and port
+-- `images` with `image` placed in order, unless one has its GUID and port; unchanged if images are not kept
 abbrev pub with_image : Bool → SeenImage → List SeenImage → List SeenImage
 with_image true image images = placed image_key image images
 with_image false image images = images
 
--- the images with the data of a reply of the node `guid` added: PortInfo under its port, SwitchInfo under port 0, and
--- nothing else
+-- the images with the data of a reply about node `guid` added: PortInfo under its port, SwitchInfo under port 0;
+-- unchanged for other attributes
 abbrev pub images_of : Images → ℕ → List ℕ → Question → Images
 images_of images guid bytes ask.Node = images
 images_of images guid bytes ask.Switch =
@@ -47,28 +49,28 @@ images_of images guid bytes (ask.Port port) =
     }
 images_of images guid bytes (ask.Manager at port) = images
 
--- the images, with the data of a reply added if the request was about a node
+-- the images with the data of a reply added, if the request was about a node; else unchanged
 abbrev pub images_about : Images → Option ℕ → List ℕ → Question → Images
 images_about images None bytes question = images
 images_about images (Some guid) bytes question = images_of images guid bytes question
 
--- the images after the reply to a request
+-- the images after the reply `packet` to the request `r`
 abbrev pub images_with : Images → Request → List ℕ → Images
 images_with images r packet = images_about images (about_of r.context) (payload_of packet) r.question
 
 -- with memory ------------------------------------------------------------------------------------
 
--- what is kept, and the numbers of further images for which there is memory
+-- the images that are kept, and for how many more of each kind there is memory
 pub record ImageTable : Type 0 where
   pub kept : Images
   pub port_room : ℕ
   pub switch_room : ℕ
 
--- if images are kept, there is memory for one more of each kind
+-- if images are kept, there is memory for at least one more of each kind
 abbrev pub HasImageRoom : ImageTable → Type 0
 HasImageRoom table = table.kept.keeps ≡ true → (1 ≤ table.port_room) × (1 ≤ table.switch_room)
 
--- images are in the order of GUIDs and ports
+-- the images are in the order of GUIDs and ports, each of these at most once
 pub record AreImages (images : Images) : Type 0 where
   pub ports : AreInOrder image_key images.ports
   pub switches : AreInOrder image_key images.switches

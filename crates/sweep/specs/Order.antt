@@ -1,23 +1,23 @@
--- Lists in the order of GUIDs and ports, and the index of an item in it.
+-- Lists in the order of GUIDs and ports, and where an item is or would be inserted.
 use Rattle.std.specs.Prelude.{◌≡◌, ℕ, Bool, true, false, ◌&&◌, ◌||◌, List, [], ◌∷◌, find, nat_lt, slice_get, ◌==◌, if◌then◌else◌, Option}
 use Rattle.std.specs.Option.{option_map_or}
 use Rattle.request_table.specs.Order.{AreOrdered, IsIndex}
 
--- the item at `index` passes the test
+-- whether there is an item at `index`, and it passes the test
 abbrev pub passes_at : {T : Type 0} → (T → Bool) → List T → ℕ → Bool
 passes_at test items index = option_map_or test (slice_get items index) false
 
 -- by GUID and port -----------------------------------------------------------------------------
 
--- `a` is before `b` by GUID, and for equal GUIDs by port
+-- whether `a` is before `b`: its GUID is less, or equal and its port is less
 abbrev pub is_before : ℕ × ℕ → ℕ × ℕ → Bool
 is_before a b = nat_lt a.0 b.0 || (a.0 == b.0 && nat_lt a.1 b.1)
 
--- each item is before all later items
+-- each item is before all later ones, by GUID and port
 abbrev pub AreInOrder : {T : Type 0} → (T → ℕ × ℕ) → List T → Type 0
 AreInOrder key items = AreOrdered (λ a b. is_before (key a) (key b) ≡ true) items
 
--- the items with `x` inserted in order, unless an item with its GUID and port is there
+-- the items with `x` inserted in order; unchanged if one with its GUID and port is there
 abbrev pub placed : {T : Type 0} → (T → ℕ × ℕ) → T → List T → List T
 placed key x [] = x ∷ []
 placed key x (y ∷ ys) =
@@ -25,7 +25,7 @@ placed key x (y ∷ ys) =
     else if is_before (key x) (key y) then x ∷ (y ∷ ys)
     else y ∷ ys
 
--- `x` has this GUID and port
+-- whether the item `x` has this GUID and port
 abbrev pub has_key : {T : Type 0} → (T → ℕ × ℕ) → ℕ → ℕ → T → Bool
 has_key key guid port x = (key x).0 == guid && (key x).1 == port
 
@@ -33,6 +33,6 @@ has_key key guid port x = (key x).0 == guid && (key x).1 == port
 abbrev pub found_at : {T : Type 0} → (T → ℕ × ℕ) → ℕ → ℕ → List T → Option T
 found_at key guid port items = find (has_key key guid port) items
 
--- `index` is the index of the item with the GUID and port `at`, or where it would be inserted
+-- `index` is that of the item with the GUID and port `at`; if there is none, the one at which it would be inserted
 abbrev pub IsIndexFor : {T : Type 0} → (T → ℕ × ℕ) → ℕ × ℕ → List T → ℕ → Type 0
 IsIndexFor key at items index = IsIndex (λ x. is_before (key x) at) items index

@@ -1,4 +1,4 @@
--- What a sweep returns for a reply, and what it has afterwards.
+-- What a sweep makes of a reply: the request that it belongs to, the answer or the refusal, and the sweep afterwards.
 use Rattle.std.specs.Prelude.{ℕ, ◌+◌, ◌^◌, Bool, List, [], length, find, nat_lt, if◌then◌else◌, Option, Some, None, Result, Ok, Err}
 use Rattle.smp_bytes.specs.declared.smp_fault.SmpFault.{SmpFault}
 use Rattle.smp_bytes.specs.Answers.{answers, is_of}
@@ -21,63 +21,69 @@ use Rattle.sweep.specs.Images.{images_with}
 
 -- which request a reply belongs to ----------------------------------------------------------
 
--- the packet has the request's attribute, modifier and path
+-- whether `packet` has the attribute, the modifier and the path of the request `r`
 abbrev pub is_for : List ℕ → Request → Bool
 is_for packet r = is_of packet (attribute_asked r.question) (modifier_asked r.question) (Some r.path)
 
--- the packet has the request's attribute, modifier, path and TransactionID
+-- whether `packet` has the TransactionID, the attribute, the modifier and the path of the request `r`
 abbrev pub belongs : ℕ → List ℕ → Request → Bool
 belongs generation packet r =
     answers packet (transaction_of generation r.number) (attribute_asked r.question) (modifier_asked r.question)
     (Some r.path)
 
--- the request that waits for the reply `packet`; None if there is none
+-- the waiting request that the reply `packet` belongs to; None if there is none
 abbrev pub request_of : Sweep → List ℕ → Option Request
 request_of s packet = find (belongs s.generation packet) s.outstanding
 
 -- what is answered ----------------------------------------------------------------------------
 
--- the report of the reply to a request
+-- the report of the reply `packet` to the request `r`
 abbrev pub report_for : Sweep → Request → List ℕ → Report
 report_for s r packet = record { generation = s.generation; context = r.context; bytes = packet }
 
--- the fault of a reply; the data of SMInfo are not judged, since a manager may report anything about itself
+-- the fault of a reply to a question; the data of SMInfo are not judged, since a manager may say anything of itself;
+-- None if it has none
 abbrev pub fault_by : Question → Report → Option ReportFault
 fault_by ask.Node report = report_fault report
 fault_by ask.Switch report = report_fault report
 fault_by (ask.Port port) report = report_fault report
 fault_by (ask.Manager guid port) report = packet_fault report.bytes
 
+-- the fault of the reply `packet` to the request `r`; None if it has none
 abbrev pub fault_for : Sweep → Request → List ℕ → Option ReportFault
 fault_for s r packet = fault_by r.question (report_for s r packet)
 
--- the answer in a reply: for SMInfo what the manager says, with the port that was asked; otherwise a report of facts
+-- the answer in a reply: a report of facts; for SMInfo, the port that was asked, with what the manager there says
 abbrev pub answer_by : Question → Report → Answer
 answer_by ask.Node report = Facts report
 answer_by ask.Switch report = Facts report
 answer_by (ask.Port port) report = Facts report
 answer_by (ask.Manager guid port) report = Seen guid port (sm_info_in (payload_of report.bytes))
 
+-- the answer in the reply `packet` to the request `r`
 abbrev pub answer_for : Sweep → Request → List ℕ → Answer
 answer_for s r packet = answer_by r.question (report_for s r packet)
 
--- a request that follows from the reply needs a number of more than 32 bits
+-- whether a request that follows from the reply needs a number over 32 bits
 abbrev pub is_spent : Sweep → Request → List ℕ → Bool
 is_spent s r packet = nat_lt (2 ^ 32) (s.next + length (questions r.path (finding s r packet)))
 
+-- the answer in the reply to the request `r`, or why the sweep refuses it: the given fault, or `SequenceSpent`
 abbrev pub judged_by : Sweep → Request → List ℕ → Option ReportFault → Result Answer SweepFault
 judged_by s r packet (Some why) = Err (Bad why)
 judged_by s r packet None = if is_spent s r packet then Err SequenceSpent else Ok (answer_for s r packet)
 
+-- the answer in the reply, or why the sweep refuses it; `NotOutstanding` if it belongs to no request
 abbrev pub judged_for : Sweep → List ℕ → Option Request → Result Answer SweepFault
 judged_for s packet None = Err NotOutstanding
 judged_for s packet (Some r) = judged_by s r packet (fault_for s r packet)
 
+-- the answer in the reply, or why the sweep refuses it, given the fault that its bytes have as a packet
 abbrev pub judged_as : Sweep → List ℕ → Option SmpFault → Result Answer SweepFault
 judged_as s packet (Some why) = Err (Bad (fault.Smp why))
 judged_as s packet None = judged_for s packet (request_of s packet)
 
--- the answer in the packet, or why the sweep refuses it, except for lack of memory
+-- the answer in the reply `packet`, or why the sweep refuses it, except for lack of memory
 abbrev pub judged : Sweep → List ℕ → Result Answer SweepFault
 judged s packet = judged_as s packet (fault_of packet)
 
@@ -88,7 +94,8 @@ sightings_by (Seen guid port info) = []
 
 -- what the sweep has then -----------------------------------------------------------------------
 
--- the sweep with the request ended, its reply's image kept, the finding added, and its questions queued
+-- the sweep once the request of a reply has ended, the image is kept, the finding added, and its questions queued;
+-- unchanged if there is no such request
 abbrev pub after_reply_to : Sweep → List ℕ → Option Request → Sweep
 after_reply_to s packet None = s
 after_reply_to s packet (Some r) =

@@ -8,39 +8,40 @@ use Rattle.request_table.specs.Order.{AreOrdered}
 use Rattle.sweep.specs.Replies.{judged, after_reply}
 use Rattle.sweep.specs.Sweep.{Sweep, after_next_request, managers_asked, port_image, started, switch_image, after_timeout}
 
--- the next request goes out; bytes arrive; a TransactionID times out
+-- what happens to a sweep: its next request goes out; bytes arrive; or a TransactionID times out
 pub data Event : Type 0 where
   Sends : Event
   Hears : List ℕ → Event
   TimesOut : ℕ → Event
 
--- the sweep after it received a packet, given its answer; a reply that is refused leaves everything as it is
+-- the sweep after the reply `packet`; unchanged if it was refused
 abbrev pub heard : Sweep → List ℕ → Result Answer SweepFault → Sweep
 heard s packet (Ok answer) = after_reply s packet
 heard s packet (Err fault) = s
 
--- the sweep after an event
+-- the sweep after one event
 abbrev pub step : Sweep → Event → Sweep
 step s Sends = (after_next_request s).sweep
 step s (Hears packet) = heard s packet (judged s packet)
 step s (TimesOut transaction) = after_timeout s transaction
 
+-- the number of the first request; none if there is no request
 abbrev pub first_number : List Request → List ℕ
 first_number [] = []
 first_number (r ∷ queued) = r.number ∷ []
 
--- the number of the request that goes out; empty if none does
+-- the number of the request that goes out by the event; none if none does
 abbrev pub number_sent : Sweep → Event → List ℕ
 number_sent s Sends = first_number s.queued
 number_sent s (Hears packet) = []
 number_sent s (TimesOut transaction) = []
 
--- the numbers of all requests that go out
+-- the numbers of the requests that go out by the events, in turn
 abbrev pub numbers_sent : Sweep → List Event → List ℕ
 numbers_sent s [] = []
 numbers_sent s (e ∷ events) = number_sent s e ++ numbers_sent (step s e) events
 
--- the numbers of the requests that go out rise, so no number is used twice
+-- whatever happens to a sweep, the numbers of the requests that go out rise, so none is used twice
 abbrev pub NumbersRise : Type 0
 NumbersRise = (origin generation first : ℕ) (keeps : Bool) (events : List Event)
     → AreOrdered (λ a b. a < b) (numbers_sent (started origin generation first keeps) events)
@@ -56,21 +57,22 @@ reply_taken s Sends = 0
 reply_taken s (Hears packet) = taken_by (judged s packet)
 reply_taken s (TimesOut transaction) = 0
 
--- the number of replies that are accepted
+-- how many replies are accepted over the events
 abbrev pub replies_taken : Sweep → List Event → ℕ
 replies_taken s [] = 0
 replies_taken s (e ∷ events) = reply_taken s e + replies_taken (step s e) events
 
--- the sweep after a run
+-- the sweep after the events, in turn
 abbrev pub after : Sweep → List Event → Sweep
 after s [] = s
 after s (e ∷ events) = after (step s e) events
 
--- the number of requests that have not been answered: they timed out, wait, or are to be sent
+-- how many requests have not been answered: they timed out, wait, or are still queued
 abbrev pub unended : Sweep → ℕ
 unended s = s.unanswered + (length s.outstanding + length s.queued)
 
--- the requests that were answered, timed out, wait or are to be sent are as many as the numbers given from `first` on
+-- whatever happens to a sweep, the requests that were answered, timed out, wait or are queued are together as many as
+-- the numbers given from `first` on
 abbrev pub EachCounts : Type 0
 EachCounts =
     (origin generation first : ℕ) (keeps : Bool) (events : List Event) →
@@ -80,45 +82,45 @@ EachCounts =
 
 -- managers that are asked ----------------------------------------------------------------------
 
--- the number of requests for SMInfo among the requests
+-- how many of the requests are for SMInfo
 abbrev pub managers_in : List Request → ℕ
 managers_in [] = 0
 managers_in (r ∷ requests) = managers_asked r.question + managers_in requests
 
--- 1 if the first request of the queue is for SMInfo, otherwise 0
+-- 1 if the first request is for SMInfo, else 0
 abbrev pub manager_in_first : List Request → ℕ
 manager_in_first [] = 0
 manager_in_first (r ∷ queued) = managers_asked r.question
 
--- the number of requests for SMInfo that go out by the event: 0 or 1
+-- how many requests for SMInfo go out by the event: 0 or 1
 abbrev pub manager_sent : Sweep → Event → ℕ
 manager_sent s Sends = manager_in_first s.queued
 manager_sent s (Hears packet) = 0
 manager_sent s (TimesOut transaction) = 0
 
--- the number of requests for SMInfo that go out
+-- how many requests for SMInfo go out over the events
 abbrev pub managers_sent : Sweep → List Event → ℕ
 managers_sent s [] = 0
 managers_sent s (e ∷ events) = manager_sent s e + managers_sent (step s e) events
 
--- 1 if a manager's answer is accepted, otherwise 0
+-- 1 if a reply is accepted and answers for SMInfo, else 0
 abbrev pub manager_told : Result Answer SweepFault → ℕ
 manager_told (Ok (Facts report)) = 0
 manager_told (Ok (Seen guid port info)) = 1
 manager_told (Err fault) = 0
 
--- 1 if the event is a manager's answer that is accepted, otherwise 0
+-- 1 if the event is a reply that is accepted and answers for SMInfo, else 0
 abbrev pub manager_heard : Sweep → Event → ℕ
 manager_heard s Sends = 0
 manager_heard s (Hears packet) = manager_told (judged s packet)
 manager_heard s (TimesOut transaction) = 0
 
--- the number of managers' answers that are accepted
+-- how many replies that answer for SMInfo are accepted over the events
 abbrev pub managers_heard : Sweep → List Event → ℕ
 managers_heard s [] = 0
 managers_heard s (e ∷ events) = manager_heard s e + managers_heard (step s e) events
 
--- as many requests for SMInfo went out as were answered, wait, or count as silent managers
+-- whatever happens to a sweep, as many requests for SMInfo went out as were answered, wait, or timed out
 abbrev pub EachManagerCounts : Type 0
 EachManagerCounts =
     (origin generation first : ℕ) (keeps : Bool) (events : List Event) →
@@ -129,7 +131,7 @@ EachManagerCounts =
 
 -- images ------------------------------------------------------------------------------------------
 
--- a sweep that is not asked to keep images keeps none
+-- the sweep `s` has no image of any port or switch
 pub record HasNoImage (s : Sweep) : Type 0 where
   pub ports : (guid port : ℕ) → port_image s guid port ≡ None
   pub switches : (guid : ℕ) → switch_image s guid ≡ None

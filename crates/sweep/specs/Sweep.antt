@@ -17,11 +17,10 @@ use Rattle.request_table.specs.Numbers as numbers
 use Rattle.sweep.specs.Images.{Images, image_at, no_images}
 use Rattle.sweep.specs.Order.{AreInOrder, found_at}
 
--- The port by which the sweep goes out and its generation; the number of the next request; the requests that are to be
--- sent and the requests that wait for a reply, both by rising number; the vertices that were reached and the states of
--- ports that were seen, in the order of GUIDs and ports; the attributes that are kept; the number of requests that
--- timed out, and the number of them that were for SMInfo; and the number of ports that lead further than the longest
--- path.
+-- the port by which the sweep goes out, and its generation; the number of its next request; the requests that are
+-- queued and those that wait, both by rising number; the vertices that were reached and the states of ports that were
+-- seen, in the order of GUIDs and ports; the images; how many requests timed out, and how many of these were for
+-- SMInfo; and how many ports lead too far
 pub record Sweep : Type 0 where
   pub origin : ℕ
   pub generation : ℕ
@@ -37,30 +36,33 @@ pub record Sweep : Type 0 where
 
 -- requests as packets ---------------------------------------------------------------------
 
+-- the attribute that a question asks for
 abbrev pub attribute_asked : Question → ℕ
 attribute_asked ask.Node = node_info
 attribute_asked ask.Switch = switch_info
 attribute_asked (ask.Port port) = port_info
 attribute_asked (ask.Manager guid port) = sm_info
 
+-- the attribute modifier of a question: the port for PortInfo, else 0
 abbrev pub modifier_asked : Question → ℕ
 modifier_asked ask.Node = 0
 modifier_asked ask.Switch = 0
 modifier_asked (ask.Port port) = port
 modifier_asked (ask.Manager guid port) = 0
 
--- the number of managers that are asked for SMInfo: 0 or 1
+-- 1 if a question asks a manager for SMInfo, else 0
 abbrev pub managers_asked : Question → ℕ
 managers_asked ask.Node = 0
 managers_asked ask.Switch = 0
 managers_asked (ask.Port port) = 0
 managers_asked (ask.Manager guid port) = 1
 
--- the TransactionID: the generation in the high half, the sequence number in the low half
+-- the TransactionID of the request with the number `number`: the generation in the high half, the number in the low
+-- half
 abbrev pub transaction_of : ℕ → ℕ → ℕ
 transaction_of generation number = generation * 2 ^ 32 + number
 
--- a Get over the request's path, with no data
+-- the packet of the request `r`: a Get over its path, with no data
 abbrev pub packet_of : ℕ → Request → List ℕ
 packet_of generation r =
     directed get (attribute_asked r.question) (modifier_asked r.question) (transaction_of generation r.number) r.path
@@ -68,23 +70,23 @@ packet_of generation r =
 
 -- questions ------------------------------------------------------------------------------
 
--- a question that is to be asked, before it has a number
+-- a question that is to be asked over a path, before it has a number
 pub record Asking : Type 0 where
   pub question : Question
   pub path : List ℕ
   pub context : Context
 
--- the questions as requests, with rising numbers
+-- the questions as requests, with numbers that rise from `number`
 abbrev pub numbered : ℕ → List Asking → List Request
 numbered number [] = []
 numbered number (a ∷ asked) =
     record { number = number; question = a.question; path = a.path; context = a.context } ∷ numbered (number + 1) asked
 
--- the sweep with the questions `asked` at the end of the queue, numbered from `next` on
+-- the sweep with the questions `asked` queued, numbered from its next number on
 abbrev pub asking : Sweep → List Asking → Sweep
 asking s asked = record s { next = s.next + length asked; queued = s.queued ++ numbered s.next asked }
 
--- a sweep that has asked nothing; it keeps images if `keeps`
+-- a sweep that has asked nothing; its first number is `first`, and it keeps images if `keeps`
 abbrev pub empty_sweep : ℕ → ℕ → ℕ → Bool → Sweep
 empty_sweep origin generation first keeps =
     record {
@@ -101,21 +103,23 @@ empty_sweep origin generation first keeps =
       too_far = 0;
     }
 
--- a sweep begins by asking its own node for NodeInfo
+-- the first question of a sweep: NodeInfo of the manager's own node
 abbrev pub first_question : Asking
 first_question = record { question = ask.Node; path = []; context = Start }
 
--- a sweep that has its first question in the queue
+-- a sweep that has only its first question queued
 abbrev pub started : ℕ → ℕ → ℕ → Bool → Sweep
 started origin generation first keeps = asking (empty_sweep origin generation first keeps) (first_question ∷ [])
 
 -- sending and waiting ----------------------------------------------------------------------
 
--- the sweep after its next request went out, and the request's packet; None if the queue was empty
+-- a sweep once its next request went out, and the request's packet; None if nothing was queued
 pub record Sent : Type 0 where
   pub sweep : Sweep
   pub packet : Option (List ℕ)
 
+-- the sweep once the first of the given queue went out and waits, and its packet; unchanged and None if the queue is
+-- empty
 abbrev pub after_next_request_of : Sweep → List Request → Sent
 after_next_request_of s [] = record { sweep = s; packet = None }
 after_next_request_of s (r ∷ queued) =
@@ -125,23 +129,24 @@ after_next_request_of s (r ∷ queued) =
           Some (packet_of s.generation r);
     }
 
--- the sweep after the first request of the queue went out, which then waits for its reply, and the request's packet
+-- the sweep once its next request went out and waits, and the request's packet; unchanged and None if nothing is queued
 abbrev pub after_next_request : Sweep → Sent
 after_next_request s = after_next_request_of s s.queued
 
--- the requests without the request that has the number `number`
+-- the requests without the one with the number `number`
 abbrev pub without_number : ℕ → List Request → List Request
 without_number number requests = numbers.without_number (λ r. r.number) number requests
 
--- the request with this TransactionID; None if there is none
+-- the one of the requests with the TransactionID `transaction`; None if there is none
 abbrev pub request_with : ℕ → ℕ → List Request → Option Request
 request_with generation transaction requests = find (λ r. transaction_of generation r.number == transaction) requests
 
--- `NotOutstanding` if no request with this TransactionID waits, otherwise None
+-- `NotOutstanding` if no request with the TransactionID `transaction` waits, else None
 abbrev pub timeout_fault : Sweep → ℕ → Option SweepFault
 timeout_fault s transaction =
     if is_some (request_with s.generation transaction s.outstanding) then None else Some NotOutstanding
 
+-- the sweep once the given request timed out; unchanged if there is none
 abbrev pub after_timeout_of : Sweep → Option Request → Sweep
 after_timeout_of s None = s
 after_timeout_of s (Some r) =
@@ -151,68 +156,73 @@ after_timeout_of s (Some r) =
       silent_managers = s.silent_managers + managers_asked r.question;
     }
 
--- the sweep after a request timed out: the request no longer waits, and counts as unanswered; if it was for SMInfo, its
--- manager counts as silent
+-- the sweep once the request with the TransactionID `transaction` timed out: it no longer waits and counts as
+-- unanswered and, if it was for SMInfo, its manager as silent; unchanged if no such request waits
 abbrev pub after_timeout : Sweep → ℕ → Sweep
 after_timeout s transaction = after_timeout_of s (request_with s.generation transaction s.outstanding)
 
--- the TransactionID of the waiting request at index `i`; None if there are fewer
+-- the TransactionID of the waiting request at index `i`; None if fewer wait
 abbrev pub outstanding_at : Sweep → ℕ → Option ℕ
 outstanding_at s i = option_map (λ r. transaction_of s.generation r.number) (slice_get s.outstanding i)
 
+-- whether there are no requests
 abbrev pub is_none_left : List Request → Bool
 is_none_left [] = true
 is_none_left (r ∷ requests) = false
 
--- nothing is to be sent, and nothing waits
+-- whether the sweep is done: no request is queued, and none waits
 abbrev pub is_done : Sweep → Bool
 is_done s = is_none_left s.queued && is_none_left s.outstanding
 
 -- what was found -----------------------------------------------------------------------------
 
+-- the GUID and the port of a vertex, by which vertices are ordered
 abbrev pub vertex_key : Vertex → ℕ × ℕ
 vertex_key r = (r.guid, r.port)
 
+-- the GUID and the port of a state, by which states are ordered
 abbrev pub state_key : SeenState → ℕ × ℕ
 state_key p = (p.guid, p.port)
 
--- the first vertex of a node, which says what the node is
+-- the first vertex of node `guid`, which says what the node is; None if it was not reached
 abbrev pub first_vertex : List Vertex → ℕ → Option Vertex
 first_vertex reached guid = find (λ r. r.guid == guid) reached
 
--- the vertex of a node with this port; None if it was not reached
+-- the vertex of node `guid` with the port `port`; None if it was not reached
 abbrev pub vertex_at : List Vertex → ℕ → ℕ → Option Vertex
 vertex_at reached guid port = found_at vertex_key guid port reached
 
--- the state of a port that was seen; None if none was
+-- the state of port `port` of node `guid`; None if none is there
 abbrev pub state_at : List SeenState → ℕ → ℕ → Option PortState
 state_at states guid port = option_map (λ p. p.state) (found_at state_key guid port states)
 
--- the path that first reached a switch (port 0) or an adapter's port; None if it was not reached
+-- the path that first reached the vertex of node `guid` with the port `port`, which is 0 for a switch; None if it was
+-- not reached
 abbrev pub path_to : Sweep → ℕ → ℕ → Option (List ℕ)
 path_to s guid port = option_map (λ r. r.path) (vertex_at s.reached guid port)
 
--- the state of a port in its first reply with a state that is not reserved; None if there was none
+-- the state of port `port` of node `guid` in the first reply with one that is not reserved; None if there was none
 abbrev pub seen_state : Sweep → ℕ → ℕ → Option PortState
 seen_state s guid port = state_at s.states guid port
 
--- PortInfo in the first reply about a port; None if it is not kept
+-- PortInfo in the first reply about port `port` of node `guid`; None if it is not kept
 abbrev pub port_image : Sweep → ℕ → ℕ → Option (List ℕ)
 port_image s guid port = image_at s.images.ports guid port
 
--- SwitchInfo in the first reply of a switch; None if it is not kept
+-- SwitchInfo in the first reply of the switch `guid`; None if it is not kept
 abbrev pub switch_image : Sweep → ℕ → Option (List ℕ)
 switch_image s guid = image_at s.images.switches guid 0
 
 -- what holds of each sweep ---------------------------------------------------------------------
 
--- the numbers of requests rise, are at least `least`, and are below `next`
+-- the numbers of the requests rise, are at least `least`, and are below `next`
 abbrev pub AreRising : ℕ → List Request → ℕ → Type 0
 AreRising least requests next = numbers.AreRising (λ r. r.number) least requests next
 
--- The numbers of the waiting requests, followed by the queue, rise and are below the next number; vertices and states
--- are in order; the requests that timed out, the ports that lead too far, and the requests that wait or are to be sent
--- are together at most `next`; and the silent managers are at most the unanswered requests.
+-- what holds of each sweep: the numbers of the waiting requests, followed by those of the queue, rise and are below
+-- `next`, which is at most 2^32; vertices and states are in order; requests that timed out, ports that lead too far,
+-- and requests that wait or are queued are together at most `next`; silent managers are at most the requests that timed
+-- out
 pub record IsSweep (s : Sweep) : Type 0 where
   pub rising : AreRising 0 (s.outstanding ++ s.queued) s.next
   pub next : s.next ≤ 2 ^ 32

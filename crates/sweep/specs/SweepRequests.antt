@@ -3,15 +3,15 @@ use Rattle.std.specs.Prelude.{◌≡◌, ℕ, ◌+◌, ◌≤◌, List, ◌++◌
 use Rattle.sweep.specs.declared.request.Request.{Request}
 use Rattle.sweep.specs.Sweep.{Asking, numbered}
 
--- the requests that wait, the requests to be sent, the number of the next request, and the number of further requests
--- for which there is memory
+-- the number of a sweep's next request, the requests that wait, those that are queued, and for how many more there is
+-- memory
 pub record SweepRequests : Type 0 where
   pub next : ℕ
   pub outstanding : List Request
   pub queued : List Request
   pub room : ℕ
 
--- the questions `asked` were added at the end of the queue
+-- from `old` to `new` the questions `asked` were queued, and there is memory for at most as many fewer requests
 pub record HasAsked (asked : List Asking) (old new : SweepRequests) : Type 0 where
   pub next : new.next ≡ old.next + length asked
   pub outstanding : new.outstanding ≡ old.outstanding

@@ -7,6 +7,6 @@ use smp_bytes::{Guid, PortNum};
 pub enum Answer {
     /// Facts: a report for a store to ingest.
     Facts(Report),
-    /// A manager at this port of an adapter, and the SMInfo that it answered.
+    /// A manager at the port of the adapter that was asked, and the SMInfo that it answered.
     Seen(Guid, PortNum, SmInfo),
 }

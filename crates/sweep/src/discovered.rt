@@ -19,7 +19,7 @@ use std::marker::Model;
 /// the numbers of further vertices and states for which there is memory.
 #[derive(Drop)]
 pub(crate) struct Discovered {
-    /// By rising GUID and port, like `seen`.
+    /// The vertices, by rising GUID and port. The states in `seen` have the same order.
     vertices: Vec<Vertex>,
     seen: PageList<SeenState>,
     too_far: u64,
@@ -41,7 +41,8 @@ impl Model for Discovered {
     } };
 }
 
-/// Returns the index of the vertex, or where it would be inserted. Takes a binary search.
+/// Returns the index of the vertex with `guid` and `port`, or where it would be inserted. `vertices` must be in order.
+/// Takes a binary search.
 fn vertex_index(vertices: &[Vertex], guid: Guid, port: PortNum) -> usize
     requires { AreInOrder vertex_key vertices.now }
     ensures { IsIndexFor vertex_key (guid, port) vertices.now result }
@@ -64,7 +65,7 @@ fn state_of(seen: Option<SeenState>) -> Option<PortState>
     }
 }
 
-/// Returns whether the vertex at `index` has this GUID and port.
+/// Returns whether there is a vertex at `index`, with `guid` and `port`.
 fn is_vertex(vertices: &[Vertex], index: usize, guid: Guid, port: PortNum) -> bool
     ensures { result ≡ passes_at (has_key vertex_key guid port) vertices.now index }
 {
@@ -74,7 +75,7 @@ fn is_vertex(vertices: &[Vertex], index: usize, guid: Guid, port: PortNum) -> bo
     }
 }
 
-/// Returns whether the vertex at `index` has this GUID.
+/// Returns whether there is a vertex at `index`, with `guid`.
 fn is_vertex_of(vertices: &[Vertex], index: usize, guid: Guid) -> bool
     ensures { result ≡ passes_at (λ r. r.guid == guid) vertices.now index }
 {
@@ -109,7 +110,7 @@ fn vertex_at(vertices: &[Vertex], guid: Guid, port: PortNum) -> Option<&Vertex>
 }
 
 impl Discovered {
-    /// Creates an empty collection. Takes no memory.
+    /// Creates an empty collection. Does not allocate.
     pub(crate) fn new(alloc: Global) -> Self
         ensures reached { result.reached ≡ [] }
         ensures states { result.states ≡ [] }
@@ -146,7 +147,7 @@ impl Discovered {
         self.seen.reserve(1)
     }
 
-    /// Returns the first vertex of a node, or `None` if it was not reached. Takes a search.
+    /// Returns the first vertex of the node `guid`, or `None` if the node was not reached. Takes a binary search.
     pub(crate) fn first_of(&self, guid: Guid) -> Option<&Vertex>
         requires { AreInOrder vertex_key self.now.reached }
         ensures { option_copied result ≡ first_vertex self.now.reached guid }
@@ -154,7 +155,7 @@ impl Discovered {
         first_of(&self.vertices, guid)
     }
 
-    /// Returns the vertex with this GUID and port, or `None` if it was not reached. Takes a search.
+    /// Returns the vertex with `guid` and `port`, or `None` if it was not reached. Takes a binary search.
     pub(crate) fn vertex(&self, guid: Guid, port: PortNum) -> Option<&Vertex>
         requires { AreInOrder vertex_key self.now.reached }
         ensures { option_copied result ≡ vertex_at self.now.reached guid port }
@@ -162,7 +163,7 @@ impl Discovered {
         vertex_at(&self.vertices, guid, port)
     }
 
-    /// Returns the state of a port, or `None` if none was seen. Takes a search.
+    /// Returns the state of the port, or `None` if none was seen. Takes a binary search.
     pub(crate) fn state(&self, guid: Guid, port: PortNum) -> Option<PortState>
         requires { AreInOrder state_key self.now.states }
         ensures { result ≡ state_at self.now.states guid port }
@@ -170,8 +171,8 @@ impl Discovered {
         state_of(item_at(&self.seen, guid, port))
     }
 
-    /// Adds the vertex or the state that a reply adds, unless it is there already, and counts a port that leads too
-    /// far. Takes no memory.
+    /// Adds the vertex or the state of `finding`, unless it is there already, and counts a port that leads too far.
+    /// There must be room for a vertex and a state. Does not allocate.
     pub(crate) fn put(&mut self, finding: Finding)
         requires reached { AreInOrder vertex_key self.old.reached }
         requires states { AreInOrder state_key self.old.states }
@@ -195,7 +196,8 @@ impl Discovered {
     }
 }
 
-/// Inserts the vertex in order, unless it is there already. Moves the vertices behind it.
+/// Inserts `vertex` in order, unless one with its GUID and port is there already. `vertices` must be in order and have
+/// room.
 fn put_vertex(vertices: &mut Vec<Vertex>, vertex: Vertex)
     requires order { AreInOrder vertex_key vertices.old.items }
     requires room { vec_len vertices.old < vec_capacity vertices.old }
@@ -211,7 +213,8 @@ fn put_vertex(vertices: &mut Vec<Vertex>, vertex: Vertex)
     }
 }
 
-/// Inserts in order the state that a port reports, unless its number is reserved or the port has a state already.
+/// Inserts in order the state in `found`, unless its number is reserved or the port has a state already. `states` must
+/// be in order and have room.
 fn put_state_of(states: &mut PageList<SeenState>, found: &PortFinding)
     requires order { AreInOrder state_key states.old.items }
     requires room { 0 < states.old.room }

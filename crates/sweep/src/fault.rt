@@ -4,13 +4,13 @@ use fact_store::ReportFault;
 use std::alloc::AllocError;
 use thiserror::Error;
 
-/// Why a sweep refuses a call. A refused call leaves it as it was.
+/// Why a sweep refuses a call. A refused call leaves the sweep as it was.
 #[derive(Clone, Copy, Debug, PartialEq, Eq, Error)]
 pub enum SweepFault {
     /// The reply, or the TransactionID that timed out, belongs to no request that waits.
     #[error("NotOutstanding")]
     NotOutstanding,
-    /// The bytes are not a packet, or not an answer that can be read.
+    /// The bytes are not a packet, or facts or SMInfo cannot be read from the reply.
     #[error("{0}")]
     Bad(ReportFault),
     /// A request that follows from the reply needs a number over 4294967295.
@@ -24,7 +24,7 @@ pub enum SweepFault {
 impl SweepFault {
     ghost use Rattle.sweep.specs.Fault.{sweep_fault_name};
 
-    /// Returns the name that `{}` writes. For a fault of the report, this is the report's name of it.
+    /// Returns the name that `{}` writes. If the fault is `Bad`, this is the name of the report's fault.
     pub fn name(self) -> &'static str
         ensures { result.now ≡ sweep_fault_name self }
     {

@@ -17,18 +17,18 @@ pub(crate) enum Finding {
     Nothing,
     /// A new node, or another port of an adapter.
     NewVertex(Vertex),
-    /// What a port reports.
+    /// What a reply about a port adds.
     Port(PortFinding),
 }
 
-/// What a port reports.
+/// The state of a port, and what a sweep asks next because of it.
 #[derive(Debug, Drop)]
 pub(crate) struct PortFinding {
     pub(crate) guid: Guid,
     pub(crate) port: PortNum,
     /// The state, or `None` if its number is reserved.
     pub(crate) state: Option<PortState>,
-    /// Whether to ask the manager that sits there.
+    /// Whether to ask the manager that sits at the port for SMInfo.
     pub(crate) asks_manager: bool,
     pub(crate) onward: Onward,
 }
@@ -38,9 +38,9 @@ pub(crate) struct PortFinding {
 pub(crate) enum Onward {
     /// The port is not up, or the sweep does not go on by it.
     Stays,
-    /// The sweep asks the node behind the port.
+    /// The sweep asks the node at the far end of the port's wire.
     Leads,
-    /// The node behind the port is further away than the longest path.
+    /// The sweep would ask the node at the far end, but the path to the port already has 63 hops.
     TooFar,
 }
 
@@ -59,7 +59,7 @@ impl Finding {
 }
 
 impl PortFinding {
-    /// Returns the number of requests that follow from what the port reports.
+    /// Returns the number of requests that follow from the reply about the port.
     fn question_count(&self) -> u64
         ensures count { (path : List ℕ) → result ≡ length (port_found_questions path self.now) }
         ensures within { result ≤ 257 }
@@ -87,7 +87,7 @@ impl Vertex {
 }
 
 impl Sweep {
-    /// Returns what the reply to `request` adds.
+    /// Returns what `smp`, a reply to `request`, adds.
     pub(crate) fn finding(&self, request: &Request, smp: &Smp) -> Finding
         ensures { result ≡ finding self.now request.now smp.now }
     {
@@ -107,7 +107,7 @@ impl Sweep {
         }
     }
 
-    /// Returns what NodeInfo adds: a new node, another port of an adapter, or nothing.
+    /// Returns what NodeInfo over `path` adds: a new node, another port of an adapter, or nothing.
     fn node_found(&self, path: &Path<63>, info: &NodeInfo) -> Finding
         ensures { result ≡ node_found self.now path.now info.now }
     {
@@ -128,8 +128,8 @@ impl Sweep {
         Finding::NewVertex(vertex_of(path, info, first.kind, first.ports))
     }
 
-    /// Returns what PortInfo adds: the port's state, whether to ask the manager that sits there, and whether the sweep
-    /// goes on by the port.
+    /// Returns what PortInfo of the port adds: its state, whether to ask the manager that sits there, and whether the
+    /// sweep goes on by it.
     fn port_found(&self, path: &Path<63>, guid: Guid, port: PortNum, info: &PortInfo) -> Finding
         ensures { result ≡ port_found_of self.now path.now guid port info.now }
     {
@@ -142,15 +142,15 @@ impl Sweep {
         })
     }
 
-    /// Returns whether to ask the manager at a port: the port reports one, belongs to an adapter, and was not reached
-    /// by the empty path.
+    /// Returns whether to ask the manager at a port: `info` reports one, the node `guid` is an adapter, and `path` is
+    /// not empty.
     fn asks_manager(&self, path: &Path<63>, guid: Guid, info: &PortInfo) -> bool
         ensures { result ≡ asks_manager self.now path.now guid info.now }
     {
         has_manager(info) && !path.is_empty() && self.is_of_adapter(guid)
     }
 
-    /// Returns whether the first reply of the node `guid` reported that it is not a switch.
+    /// Returns whether the node `guid` was reached, and its first reply reported that it is not a switch.
     fn is_of_adapter(&self, guid: Guid) -> bool
         ensures { result ≡ is_of_adapter self.now guid }
     {
@@ -172,15 +172,15 @@ impl Sweep {
         }
     }
 
-    /// Returns whether a port is up and the sweep goes on by it.
+    /// Returns whether `info` says that the port is up, and the sweep goes on by it.
     fn leads_on(&self, path: &Path<63>, guid: Guid, port: PortNum, info: &PortInfo) -> bool
         ensures { result ≡ leads_on self.now path.now guid port info.now }
     {
         is_up(info) && self.goes_by(path, guid, port)
     }
 
-    /// Returns whether the sweep goes on by a port: it is the port by which the sweep goes out, or a port of a switch
-    /// other than port 0 and the port that leads back.
+    /// Returns whether the sweep goes on by `port`: `path` is empty and the sweep goes out by `port`, or the node
+    /// `guid` is a switch and `port` is neither 0 nor the port at which its first request arrived.
     fn goes_by(&self, path: &Path<63>, guid: Guid, port: PortNum) -> bool
         ensures { result ≡ goes_by self.now path.now guid port }
     {
@@ -194,15 +194,15 @@ impl Sweep {
     }
 }
 
-/// Returns whether a port reports that a manager sits there.
+/// Returns whether `info` reports that a manager sits at the port.
 fn has_manager(info: &PortInfo) -> bool
     ensures { result ≡ has_manager info.now }
 {
     info.is_sm()
 }
 
-/// Builds the vertex of a node that answered: for a switch with its management port, for an adapter with the port that
-/// was asked.
+/// Builds the vertex of a node that answered: a switch with port 0, an adapter with the port at which the request
+/// arrived.
 fn vertex_of(path: &Path<63>, info: &NodeInfo, kind: NodeType, ports: u8) -> Vertex
     ensures { result ≡ vertex_of path.now info.now kind ports }
 {

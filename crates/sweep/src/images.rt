@@ -29,8 +29,8 @@ impl OfPort for SeenImage {
     }
 }
 
-/// The attributes that a sweep keeps, if it is asked to. Contracts see them, and the numbers of further images of each
-/// kind for which there is memory.
+/// The PortInfo of ports and the SwitchInfo of switches that a sweep keeps. It keeps none unless it was asked to.
+/// Contracts see them, and the numbers of further images of each kind for which there is memory.
 #[derive(Drop)]
 pub(crate) struct Images {
     keeps: bool,
@@ -56,7 +56,7 @@ impl Model for Images {
 }
 
 impl Images {
-    /// Creates an empty collection, which keeps images if `keeps`. Takes no memory.
+    /// Creates an empty collection, which keeps images if `keeps`. Does not allocate.
     pub(crate) fn new(alloc: Global, keeps: bool) -> Self
         ensures { result.kept ≡ no_images keeps }
     {
@@ -67,7 +67,7 @@ impl Images {
         }
     }
 
-    /// Reserves memory for one more image of each kind, if images are kept.
+    /// Reserves memory for one more image of each kind if images are kept, and otherwise does nothing.
     pub(crate) fn reserve(&mut self) -> Result<(), AllocError>
         ensures kept { self.new.kept ≡ self.old.kept }
         ensures room { OnOk result (HasImageRoom self.new) }
@@ -79,8 +79,9 @@ impl Images {
         Ok(())
     }
 
-    /// Adds `bytes`, the attribute in a reply, if images are kept, it is PortInfo or SwitchInfo, and the port or switch
-    /// has none yet. Takes no memory.
+    /// Adds `bytes`, the attribute in a reply, if images are kept, the attribute is PortInfo or SwitchInfo, `context`
+    /// names the node, and there is no image of that port or switch yet. If images are kept, there must be room for one
+    /// of each kind. Does not allocate.
     pub(crate) fn put(&mut self, question: Question, context: &Context, bytes: &[u8; 64])
         requires { HasImageRoom self.old }
         ensures { self.new.kept
@@ -112,14 +113,14 @@ impl Images {
         }
     }
 
-    /// Returns PortInfo of a port, or `None` if it is not kept. Takes a search.
+    /// Returns the PortInfo of the port, or `None` if none is kept. Takes a binary search.
     pub(crate) fn of_port(&self, guid: Guid, port: PortNum) -> Option<SeenImage>
         ensures { result ≡ found_at image_key guid port self.now.kept.ports }
     {
         item_at(&self.ports, guid, port)
     }
 
-    /// Returns SwitchInfo of a switch, or `None` if it is not kept. Takes a search.
+    /// Returns the SwitchInfo of the switch `guid`, or `None` if none is kept. Takes a binary search.
     pub(crate) fn of_switch(&self, guid: Guid) -> Option<SeenImage>
         ensures { result ≡ found_at image_key guid 0 self.now.kept.switches }
     {
@@ -127,7 +128,8 @@ impl Images {
     }
 }
 
-/// Inserts an image in order, if images are kept and its port has none yet. Moves at most a page.
+/// Inserts `image` in order, if `keeps` and its port has none yet. `images` must be in order and, if `keeps`, have
+/// room.
 fn put_image(keeps: bool, images: &mut PageList<SeenImage>, image: SeenImage)
     requires order { AreInOrder image_key images.old.items }
     requires room { keeps ≡ true → 1 ≤ images.old.room }

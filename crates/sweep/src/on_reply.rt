@@ -43,14 +43,15 @@ impl Sweep {
         }
     }
 
-    /// Takes the reply to a request that waits, and queues the requests that follow from it: for a new node, the
-    /// requests for its ports; for a port, first for the manager that sits there, and then for the node behind it.
+    /// Takes the reply to a request that waits, and queues the requests that follow from it. For a new switch these are
+    /// SwitchInfo and PortInfo of each of its ports, and for a new adapter port its PortInfo. For a port, they are
+    /// first the manager that sits there, and then the node at the far end.
     ///
     /// # Errors
     ///
-    /// Returns the first of these faults: the bytes are not a packet; no request waits for them; facts cannot be read
-    /// from the reply or, if it is SMInfo, it is not an answer with status 0; no number is left for a request that
-    /// follows from it; memory ran out.
+    /// Returns the first of these that applies: `Bad` if the bytes are not a packet; `NotOutstanding` if no request
+    /// waits for them; `Bad` if facts cannot be read from the reply or, if it is SMInfo, it is not an answer with
+    /// status 0; `SequenceSpent` if no number is left for a request that follows; `Memory`.
     pub fn on_reply(&mut self, bytes: &[u8; 256]) -> Result<Answer, SweepFault>
         ensures judged { JudgesButFor is_memory result (result_err (judged self.old bytes.now)) }
         ensures answer { IfOk result (λ answer. judged self.old bytes.now ≡ Ok answer) }
@@ -64,8 +65,8 @@ impl Sweep {
         }
     }
 
-    /// Takes the reply to a request that waits, as `on_reply` does, and adds its facts to `store`. If it returns an
-    /// error, `store` is unchanged.
+    /// Takes the reply `smp` to a request that waits, as `on_reply` does, and adds its facts to `store`. If an error is
+    /// returned, `store` is unchanged.
     pub fn on_reply_into(&mut self, smp: &Smp, store: &mut Store) -> Result<Answer, SweepFault>
         ensures judged { JudgesButFor is_memory result (result_err (judged self.old smp.now)) }
         ensures answer { IfOk result (λ answer. judged self.old smp.now ≡ Ok answer) }
@@ -79,7 +80,7 @@ impl Sweep {
         self.take_into(smp, store)
     }
 
-    /// Takes a reply, and passes its facts to `keeper`.
+    /// Takes the reply `smp`, and passes its facts to `keeper`. If an error is returned, `keeper` is unchanged.
     fn take_into<K: Keeper>(&mut self, smp: &Smp, keeper: &mut K) -> Result<Answer, SweepFault>
         ensures judged { JudgesButFor is_memory result (result_err (judged self.old smp.now)) }
         ensures answer { IfOk result (λ answer. judged self.old smp.now ≡ Ok answer) }
@@ -102,7 +103,7 @@ impl Sweep {
         Ok(accepted.answer)
     }
 
-    /// Returns what to do about a reply, or the first reason to refuse it.
+    /// Returns the request that `smp` answers with what the reply adds, or the first reason to refuse the reply.
     fn accept(&self, smp: &Smp) -> Result<Accepted, SweepFault>
         ensures ok { IfOk result (λ accepted. IsAccepted self.now smp.now accepted) }
         ensures err { IfErr result (λ fault. judged self.now smp.now ≡ Err fault) }
@@ -158,7 +159,7 @@ impl Sweep {
     }
 }
 
-/// Returns the answer in a reply that has no fault.
+/// Returns the answer in a reply to `question`. `report` must have the bytes of `smp`.
 fn answer_by(question: Question, report: Report, smp: &Smp) -> Answer
     requires { report.bytes ≡ smp.now }
     ensures { result ≡ answer_by question report }

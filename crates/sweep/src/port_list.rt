@@ -21,7 +21,8 @@ pub(crate) fn is_before(a: (Guid, PortNum), b: (Guid, PortNum)) -> bool
     a.0 < b.0 || a.0 == b.0 && a.1 < b.1
 }
 
-/// Returns the index of a port's item, or where it would be inserted. Takes a binary search.
+/// Returns the index of the item with `guid` and `port`, or where it would be inserted. `items` must be in order. Takes
+/// a binary search.
 fn index_for<T: OfPort>(items: &PageList<T>, guid: Guid, port: PortNum) -> usize
     requires { AreInOrder T.key items.now.items }
     ensures { IsIndexFor T.key (guid, port) items.now.items result }
@@ -40,7 +41,7 @@ fn index_for<T: OfPort>(items: &PageList<T>, guid: Guid, port: PortNum) -> usize
     low
 }
 
-/// Returns whether the item at `index` has this GUID and port.
+/// Returns whether there is an item at `index`, with `guid` and `port`.
 fn is_at<T: OfPort>(items: &PageList<T>, index: usize, guid: Guid, port: PortNum) -> bool
     ensures { result ≡ passes_at (has_key T.key guid port) items.now.items index }
 {
@@ -53,7 +54,8 @@ fn is_at<T: OfPort>(items: &PageList<T>, index: usize, guid: Guid, port: PortNum
     }
 }
 
-/// Returns the item of a port, or `None` if there is none. Takes a search.
+/// Returns the item with `guid` and `port`, or `None` if there is none. `items` must be in order. Takes a binary
+/// search.
 pub(crate) fn item_at<T: OfPort>(items: &PageList<T>, guid: Guid, port: PortNum) -> Option<T>
     requires { AreInOrder T.key items.now.items }
     ensures { result ≡ found_at T.key guid port items.now.items }
@@ -66,7 +68,8 @@ pub(crate) fn item_at<T: OfPort>(items: &PageList<T>, guid: Guid, port: PortNum)
     }
 }
 
-/// Inserts an item in order, unless its port has one already. Moves at most a page.
+/// Inserts `item` in order, unless its port has one already. `items` must be in order and have room. Moves at most a
+/// page.
 pub(crate) fn put<T: OfPort>(items: &mut PageList<T>, item: T)
     requires order { AreInOrder T.key items.old.items }
     requires room { 0 < items.old.room }

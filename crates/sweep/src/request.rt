@@ -40,14 +40,14 @@ impl Numbered for Request {
     }
 }
 
-/// Returns the TransactionID for `number`: the generation is its high half, `number` its low half.
+/// Returns the TransactionID that has `generation` as its high half and `number` as its low half.
 pub(crate) fn transaction_of(generation: Generation, number: u32) -> u64
     ensures { result ≡ transaction_of generation number }
 {
     u64::from(generation.number()) * 0x1_0000_0000 + u64::from(number)
 }
 
-/// Returns the number in a TransactionID of this generation; 0 if the TransactionID is below all of this generation.
+/// Returns how far `transaction` is above the least TransactionID of `generation`, or 0 if it is below that.
 pub(crate) fn sequence_of(generation: Generation, transaction: u64) -> u64
     ensures { result ≡ transaction - generation * 2 ^ 32 }
 {
@@ -77,7 +77,7 @@ impl Question {
         }
     }
 
-    /// Returns the number of managers that are asked for SMInfo: 0 or 1.
+    /// Returns 1 if the question is for the SMInfo of a manager, and otherwise 0.
     pub(crate) fn managers_asked(self) -> u64
         ensures count { result ≡ managers_asked self }
         ensures within { result ≤ 1 }
@@ -90,7 +90,7 @@ impl Question {
 }
 
 impl Request {
-    /// Returns the packet of the request.
+    /// Returns the packet of the request in a sweep of `generation`.
     pub(crate) fn packet(&self, generation: Generation) -> Smp
         ensures { result ≡ packet_of generation self.now }
     {
@@ -104,7 +104,8 @@ impl Request {
         )
     }
 
-    /// Returns whether a packet has the TransactionID, attribute, modifier and path of the request.
+    /// Returns whether `smp` has the TransactionID, attribute, modifier and path of the request in a sweep of
+    /// `generation`. Its method and status are not looked at.
     pub(crate) fn is_answered_by(&self, generation: Generation, smp: &Smp) -> bool
         ensures { result ≡ belongs generation smp.now self.now }
     {

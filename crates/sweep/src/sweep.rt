@@ -16,10 +16,10 @@ use std::alloc::{AllocError, Global};
 use std::marker::Model;
 
 /// A sweep over a subnet: what it has asked, what it waits for, and what it has found (subnet management, topology
-/// discovery). Contracts see each part.
+/// discovery).
 #[derive(Drop)]
 pub struct Sweep {
-    /// The port of its own node by which it goes out.
+    /// The port of the manager's own node by which the sweep goes out.
     pub(crate) origin: PortNum,
     pub(crate) generation: Generation,
     pub(crate) requests: SweepRequests,
@@ -68,8 +68,8 @@ impl Model for Sweep {
 
 impl Sweep {
     /// Starts a sweep that goes out by the port `origin` of its own node. Its first request asks what that node is, and
-    /// has the number `first_sequence`. If `keeps`, it keeps PortInfo of ports and SwitchInfo of switches as they are
-    /// read, some 80 bytes each.
+    /// has the number `first_sequence`. If `keeps`, it keeps the PortInfo of ports and the SwitchInfo of switches as
+    /// they are read.
     pub fn start(
         alloc: Global,
         origin: PortNum,
@@ -94,8 +94,8 @@ impl Sweep {
         })
     }
 
-    /// Takes the next request from the queue, first in, first out, and returns its packet, or `None` if the queue is
-    /// empty. The request then waits for its reply. Takes one step.
+    /// Takes the next request from the queue, first in, first out, and returns its packet. Returns `None` if the queue
+    /// is empty. The request then waits for its reply. Takes constant time.
     pub fn next_request(&mut self) -> Option<Smp>
         ensures packet { result ≡ (after_next_request self.old).packet }
         ensures sweep { self.new ≡ (after_next_request self.old).sweep }
@@ -106,8 +106,8 @@ impl Sweep {
         Some(packet)
     }
 
-    /// Ends the waiting request with this TransactionID, and counts it as unanswered. Returns `NotOutstanding` if there
-    /// is none. Takes a search, and moves the requests on one side of it.
+    /// Ends the waiting request with the TransactionID `transaction`, and counts it as unanswered. Returns
+    /// `NotOutstanding` if no such request waits.
     pub fn on_timeout(&mut self, transaction: u64) -> Result<(), SweepFault>
         ensures judged { Judges result (timeout_fault self.old transaction) }
         ensures ok { OnOk result (self.new ≡ after_timeout self.old transaction) }
@@ -122,22 +122,21 @@ impl Sweep {
         Ok(())
     }
 
-    /// Returns whether nothing is to be sent and nothing waits for a reply.
+    /// Returns whether no request is to be sent and none waits for a reply.
     pub fn is_done(&self) -> bool
         ensures { result ≡ is_done self.now }
     {
         self.requests.is_empty()
     }
 
-    /// Returns the generation of its facts.
+    /// Returns the generation of the facts that the sweep reports.
     pub fn generation(&self) -> Generation
         ensures { result ≡ self.now.generation }
     {
         self.generation
     }
 
-    /// Returns the TransactionID of the waiting request at index `i`, by rising TransactionID, or `None` if there are
-    /// fewer.
+    /// Returns the TransactionID of the waiting request at index `i`, in rising order, or `None` if fewer wait.
     pub fn outstanding(&self, i: usize) -> Option<u64>
         ensures { result ≡ outstanding_at self.now i }
     {
@@ -152,8 +151,7 @@ impl Sweep {
         self.unanswered
     }
 
-    /// Returns the number of requests for SMInfo that timed out: of managers that a port reports but that did not
-    /// answer.
+    /// Returns the number of requests for SMInfo that timed out. Each went to a port that reports a manager.
     pub fn silent_managers(&self) -> u64
         ensures count { result ≡ self.now.silent_managers }
         ensures within { result ≤ self.now.unanswered }
@@ -161,7 +159,7 @@ impl Sweep {
         self.silent_managers
     }
 
-    /// Returns the number of ports that lead to a node more than 63 hops away, which was not asked.
+    /// Returns the number of ports by which the sweep did not go on because the path to them already has 63 hops.
     pub fn too_far(&self) -> u64
         ensures { result ≡ self.now.too_far }
     {
@@ -177,7 +175,7 @@ impl Sweep {
     }
 
     /// Returns the path that first reached a switch (port 0) or an adapter's port, or `None` if it was not reached.
-    /// Takes a search.
+    /// Takes a binary search among the vertices.
     pub fn path_to(&self, guid: Guid, port: PortNum) -> Option<&Path<63>>
         ensures { option_copied result ≡ path_to self.now guid port }
     {
@@ -186,14 +184,14 @@ impl Sweep {
     }
 
     /// Returns the state of a port in its first reply with a state that is not reserved, or `None` if there was none.
-    /// Takes a search.
+    /// Takes a binary search among the states.
     pub fn seen_state(&self, guid: Guid, port: PortNum) -> Option<PortState>
         ensures { result ≡ seen_state self.now guid port }
     {
         self.found.state(guid, port)
     }
 
-    /// Returns PortInfo in the first reply about a port, or `None` if it is not kept. Takes a search.
+    /// Returns the PortInfo in the first reply about the port, or `None` if none is kept. Takes a binary search.
     pub fn port_image(&self, guid: Guid, port: PortNum) -> Option<PortInfo>
         ensures { result ≡ port_image self.now guid port }
     {
@@ -201,7 +199,8 @@ impl Sweep {
         Some(PortInfo::decode(&image.bytes))
     }
 
-    /// Returns SwitchInfo in the first reply of a switch, or `None` if it is not kept. Takes a search.
+    /// Returns the SwitchInfo in the first reply of the switch `guid`, or `None` if none is kept. Takes a binary
+    /// search.
     pub fn switch_image(&self, guid: Guid) -> Option<SwitchInfo>
         ensures { result ≡ switch_image self.now guid }
     {

@@ -51,7 +51,7 @@ impl Model for SweepRequests {
 }
 
 impl SweepRequests {
-    /// Creates an empty table, whose first number is `first`. Takes no memory.
+    /// Creates an empty table, whose first number is `first`. Does not allocate.
     pub(crate) fn new(alloc: Global, first: u32) -> Self
         ensures next { result.next ≡ first }
         ensures outstanding { result.outstanding ≡ [] }
@@ -94,7 +94,7 @@ impl SweepRequests {
         self.table.get(self.sent)
     }
 
-    /// Marks the next request to be sent as sent, so that it waits.
+    /// Lets the next request to be sent wait for its reply. There must be a request to be sent.
     pub(crate) fn send(&mut self)
         requires queued { 0 < length self.old.queued }
         requires few { length self.old.outstanding < 2 ^ 32 }
@@ -106,7 +106,7 @@ impl SweepRequests {
         self.sent += 1;
     }
 
-    /// Returns the waiting request at `index`, in the order of numbers, or `None` if there are fewer.
+    /// Returns the waiting request at `index`, by rising numbers, or `None` if fewer wait.
     pub(crate) fn get(&self, index: usize) -> Option<&Request>
         ensures { option_copied result ≡ slice_get self.now.outstanding index }
     {
@@ -117,7 +117,8 @@ impl SweepRequests {
         }
     }
 
-    /// Returns the number of requests with a lower TransactionID. Takes a binary search.
+    /// Returns the number of requests whose TransactionID in `generation` is below `transaction`. Takes a binary
+    /// search.
     fn count_below(&self, generation: Generation, transaction: u64) -> usize
         ensures index { IsIndex (λ r. nat_lt r.number (transaction - generation * 2 ^ 32))
             (self.now.outstanding ++ self.now.queued) result }
@@ -127,7 +128,8 @@ impl SweepRequests {
         self.table.count_below(sequence_of(generation, transaction))
     }
 
-    /// Returns the index of the waiting request with this TransactionID, or `None` if there is none. Takes a search.
+    /// Returns the index of the waiting request with the TransactionID `transaction`, or `None` if there is none. Takes
+    /// a binary search.
     pub(crate) fn index_of(&self, generation: Generation, transaction: u64) -> Option<usize>
         ensures { IsIndexFor (request_with generation transaction self.now.outstanding)
             self.now.outstanding result }
@@ -141,7 +143,7 @@ impl SweepRequests {
         }
     }
 
-    /// Returns the index of the waiting request that a packet answers, or `None` if there is none. Takes a search.
+    /// Returns the index of the waiting request that `smp` answers, or `None` if there is none. Takes a binary search.
     pub(crate) fn index_for(&self, generation: Generation, smp: &Smp) -> Option<usize>
         ensures { IsIndexFor (find (belongs generation smp.now) self.now.outstanding)
             self.now.outstanding result }
@@ -155,7 +157,7 @@ impl SweepRequests {
         }
     }
 
-    /// Removes and returns the waiting request at `index`. Moves the requests on one side of it.
+    /// Removes and returns the waiting request at `index`, which must be there.
     pub(crate) fn end(&mut self, index: usize) -> Request
         requires { index < length self.old.outstanding }
         ensures request { Some result ≡ slice_get self.old.outstanding index }
@@ -169,7 +171,7 @@ impl SweepRequests {
         self.table.end(index)
     }
 
-    /// Appends a request to the queue. Takes no memory.
+    /// Appends a request to the queue under the next number. There must be room and a number for it. Does not allocate.
     pub(crate) fn ask(&mut self, question: Question, path: Path<63>, context: Context)
         requires room { 0 < self.old.room }
         requires number { self.old.next < 2 ^ 32 }
@@ -185,7 +187,8 @@ impl SweepRequests {
         });
     }
 
-    /// Queues the questions for PortInfo of all ports of a switch, from its port 0 on.
+    /// Queues the questions for PortInfo of all ports of the switch `vertex`, from port 0 on. There must be room and
+    /// numbers for them.
     fn ask_ports(&mut self, vertex: &Vertex)
         requires room { vertex.now.ports + 1 ≤ self.old.room }
         requires number { self.old.next + (vertex.now.ports + 1) ≤ 2 ^ 32 }
@@ -204,7 +207,7 @@ impl SweepRequests {
         }
     }
 
-    /// Queues the questions for a new vertex.
+    /// Queues the questions for the new vertex `vertex`. There must be room and numbers for them.
     fn ask_vertex(&mut self, vertex: &Vertex)
         requires room { length (vertex_questions vertex.now) ≤ self.old.room }
         requires number { self.old.next + length (vertex_questions vertex.now) ≤ 2 ^ 32 }
@@ -220,7 +223,8 @@ impl SweepRequests {
         }
     }
 
-    /// Queues the question for SMInfo of the manager at a port, over the path to the port, if it is to be asked.
+    /// Queues the question for SMInfo of the manager at a port over `path`, the path to the port, if `found` says that
+    /// it is to be asked. There must be room and a number for it.
     fn ask_manager(&mut self, path: &Path<63>, found: &PortFinding)
         requires room { length (manager_questions path.now found.now) ≤ self.old.room }
         requires number { self.old.next + length (manager_questions path.now found.now) ≤ 2 ^ 32 }
@@ -235,7 +239,8 @@ impl SweepRequests {
         }
     }
 
-    /// Queues the question for NodeInfo of the node behind `port`, over `path` with `port` appended.
+    /// Queues the question for NodeInfo of the node at the far end of `port`, over `path` with `port` appended. `path`
+    /// must be shorter than 63 hops, and there must be room and a number for the question.
     fn ask_across(&mut self, path: Path<63>, guid: Guid, port: PortNum)
         requires path { length path < 63 }
         requires room { 0 < self.old.room }
@@ -247,7 +252,7 @@ impl SweepRequests {
         self.ask(Question::Node, path, Context::Via(guid, port));
     }
 
-    /// Queues the questions that follow from what a port reports.
+    /// Queues the questions that follow from the reply about a port. There must be room and numbers for them.
     fn ask_of_port(&mut self, path: Path<63>, found: &PortFinding)
         requires reach { IsPathWithinReach path found.now.onward }
         requires room { length (port_found_questions path found.now) ≤ self.old.room }
@@ -261,7 +266,8 @@ impl SweepRequests {
         }
     }
 
-    /// Removes the request at `index`, and queues the questions that follow from its reply. Takes no memory.
+    /// Removes the waiting request at `index`, and queues the questions that follow from `finding`. There must be room
+    /// and numbers for them. Does not allocate.
     pub(crate) fn take(&mut self, index: usize, finding: &Finding)
         requires { CanTake self.old index finding.now }
         ensures { HasTaken index finding.now self.old self.new }

@@ -14,9 +14,9 @@ pub struct Vertex {
     pub kind: NodeType,
     /// The number of ports, as the first reply reported.
     pub ports: u8,
-    /// The port at which the request arrived.
+    /// The port of the node at which the request arrived.
     pub arrival: PortNum,
-    /// The path to it.
+    /// The path of the request that reached the vertex.
     pub path: Path<63>,
 }
 

@@ -1,4 +1,4 @@
--- What the text of a plan says.
+-- That a plan's text is read back as the tables that the plan holds.
 use Rattle.std.specs.Prelude.{◌≡◌, ℕ, ◌≤◌, None}
 use Rattle.fact_store.specs.View.{Facts, cells_of, AreInRange}
 use Rattle.lid_assign.specs.Lids.{IsNoRoom}
@@ -13,12 +13,12 @@ use Rattle.tables_file.specs.Reading.{first_fault, held_of}
 abbrev pub IsRead : PlanValue → Type 0
 IsRead plan = (first_fault (plan_text plan) ≡ None) × (held_of (plan_text plan) ≡ held_plan plan)
 
--- the text of each plan whose numbers are in range is read
+-- the text of each plan whose numbers are in range has no fault, and says what the plan holds
 abbrev pub PrintedPlansAreRead : Type 0
 PrintedPlansAreRead = (plan : PlanValue) → IsPlanInRange plan → IsRead plan
 
--- by each rule and under each LMC, the text of a view's plan is read if the facts are in range and there is room for
--- the LIDs
+-- if facts are in range and have room for the LIDs, the text of their plan, by each rule and under each LMC, has no
+-- fault, and says what the plan holds
 abbrev pub PlansAreRead : Type 0
 PlansAreRead =
     (rule : RuleValue) (lmc : ℕ) (facts : Facts) → lmc ≤ 7 → AreInRange facts → ¬ (IsNoRoom lmc (cells_of facts))

@@ -1,4 +1,4 @@
--- What the text of tables says if the switches have tops of their own.
+-- That a text of tables is read back as these tables, also if switches have tops of their own.
 use Rattle.std.specs.Prelude.{◌≡◌, ◌≤◌, ℕ, List, map, None}
 use Rattle.std.specs.List.{AllByRecursion}
 use Rattle.lft_blocks.specs.Plan.{PlanValue, SwitchTable}
@@ -13,15 +13,15 @@ use Rattle.tables_file.specs.TablesText.{next_text}
 abbrev pub Says : List ℕ → HeldPlan → Type 0
 Says text held = (first_fault text ≡ None) × (held_of text ≡ held)
 
--- a switch with its own top: `top` of its GUID
+-- the switch of `table` with its own top: `top` of its GUID
 abbrev pub with_own_top : (ℕ → ℕ) → SwitchTable → HeldSwitch
 with_own_top top table = with_top (top table.guid) table
 
--- the top of each switch is at most 0xBFFF
+-- the top of each switch of `tables`, `top` of its GUID, is at most 0xBFFF
 abbrev pub AreTops : (ℕ → ℕ) → List SwitchTable → Type 0
 AreTops top tables = AllByRecursion (λ table. top table.guid ≤ 0xBFFF) tables
 
--- the LIDs with their owners, and the switches with their own tops and their blocks
+-- the LIDs of `plan` with their owners, and its switches with their blocks and tops of their own: `top` of the GUID
 abbrev pub held_under : (ℕ → ℕ) → PlanValue → HeldPlan
 held_under top plan = record {
   lids = owned_lids plan.given;
@@ -29,13 +29,14 @@ held_under top plan = record {
   blocks = blocks_of 0 plan.tables;
 }
 
--- the text of the tables of a plan whose numbers are in range, with own tops of the switches, says these tables
+-- if the numbers of a plan are in range, and each switch's own top is at most 0xBFFF, the text of the plan's tables
+-- under these tops says these tables
 abbrev pub PrintedTablesAreRead : Type 0
 PrintedTablesAreRead =
     (top : ℕ → ℕ) (plan : PlanValue) → IsPlanInRange plan → AreTops top plan.tables
     → Says (next_text plan.given (held_under top plan)) (held_under top plan)
 
--- each top is at most 0xBFFF, and each block has 64 entries, each a byte
+-- each top of `held` is at most 0xBFFF, and each block has 64 entries, each a byte
 pub record IsHeldInRange (held : HeldPlan) : Type 0 where
   pub tops : AllByRecursion (λ switch. switch.top ≤ 0xBFFF) held.switches
   pub blocks : AllByRecursion (λ block. IsBlock block.entries) held.blocks

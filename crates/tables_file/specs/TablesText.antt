@@ -7,7 +7,7 @@ use Rattle.held_tables.specs.declared.held.HeldBlock.{HeldBlock}
 use Rattle.held_tables.specs.declared.held.HeldSwitch.{HeldSwitch}
 use Rattle.held_tables.specs.Held.{HeldPlan}
 
--- the block belongs to the switch at `index`
+-- `block` belongs to the switch at `index`
 abbrev pub is_of : ℕ → HeldBlock → Bool
 is_of index block = block.switch == index
 
@@ -31,10 +31,10 @@ switches_text index (switch ∷ switches) blocks =
     switch_line switch.top switch.guid ++ flat_map block_text (first_blocks index blocks)
     ++ switches_text (suc index) switches (later_blocks index blocks)
 
--- the lines of the switches and of their blocks
+-- the lines of the switches of `held` and of their blocks
 abbrev pub tables_text_of : HeldPlan → List ℕ
 tables_text_of held = switches_text 0 held.switches held.blocks
 
--- a line for each end port with its LIDs, and then the tables
+-- a line for each end port of `given` with its LIDs, and then the lines of the switches and blocks of `next`
 abbrev pub next_text : Given → HeldPlan → List ℕ
 next_text given next = lids_text given ++ tables_text_of next

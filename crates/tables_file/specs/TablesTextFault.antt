@@ -1,17 +1,19 @@
--- The faults of a plan's text.
+-- The faults of a text of tables, as of a plan.
 use Rattle.std.specs.Prelude.{ℕ, List, codes}
 use Rattle.text_words.specs.declared.fault.LineFault.{LineFault}
 use Rattle.text_words.specs.declared.fault.LinesFault.{LinesFault}
 use Rattle.tables_file.specs.declared.fault.TablesTextError.{TablesTextError}
 use Rattle.tables_file.specs.declared.fault.TablesTextError.TheVariants.{Syntax, Lid, Port, Lmc, Switch, Block}
 
+-- a fault of a line, with the line's number
 abbrev pub TablesLineFault : Type 0
 TablesLineFault = LineFault TablesTextError
 
+-- why a text of tables is refused: the fault of a line, or memory
 abbrev pub TablesTextFault : Type 0
 TablesTextFault = LinesFault TablesTextError
 
--- the word for a fault
+-- the word that is printed for a fault of a line
 abbrev pub wrong_word : TablesTextError → List ℕ
 wrong_word Syntax = codes "syntax"
 wrong_word Lid = codes "lid"

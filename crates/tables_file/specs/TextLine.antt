@@ -1,4 +1,4 @@
--- What a line says: nothing, or a LID, a switch or a block.
+-- What a line of a text of tables says: nothing, or a LID, a switch or a block.
 use Rattle.std.specs.Prelude.{ℕ, List, [], ◌∷◌, Option, None, Some, option_map, option_and_then, codes, if◌then◌else◌}
 use Rattle.std.specs.Str.{bytes_eq}
 use Rattle.text_words.specs.Text.{words}
@@ -10,44 +10,45 @@ use Rattle.tables_file.specs.declared.line.SwitchLine.{SwitchLine}
 use Rattle.tables_file.specs.declared.line.BlockLine.{BlockLine}
 use Rattle.tables_file.specs.Words.{small_of, bare_guid_of, port_of, entries_of}
 
--- the two words of a list; None if it has more or fewer
+-- the two words of a list of two; None if it has more or fewer
 abbrev pub both : List (List ℕ) → Option (List ℕ × List ℕ)
 both (one ∷ other ∷ []) = Some (one, other)
 both _ = None
 
--- reads `lmc N`; the inner value is None if N is above 7
+-- reads `lmc N`: the inner value is N, or None if N is above 7; None if the words are others
 abbrev pub lmc_in : List ℕ × List ℕ → Option (Option ℕ)
 lmc_in x = if bytes_eq x.0 (codes "lmc") then small_of 7 x.1 else None
 
--- reads the part of a `lid` line after the port; the LMC is 0 if there is no such part
+-- reads the part of a `lid` line after the port, which is `lmc N` or missing; the LMC is 0 if it is missing
 abbrev pub lmc_line : List (List ℕ) → Option (Option ℕ)
 lmc_line [] = Some (Some 0)
 lmc_line (word ∷ rest) = option_and_then lmc_in (both (word ∷ rest))
 
--- a `lid` line with the LID `lid`, the port `p` and the LMC that `rest` gives
+-- a `lid` line with the LID `lid`, the port `p` and the LMC that `rest` gives; None if `rest` gives none
 abbrev pub lid_of_port : Option ℕ → List (List ℕ) → ℕ × Option ℕ → Option LidLine
 lid_of_port lid rest p = option_map (λ lmc. record { lid = lid; node = p.0; port = p.1; lmc = lmc }) (lmc_line rest)
 
--- reads the part of a `lid` line after its first word
+-- reads the part of a `lid` line after its first word: a LID, a port and possibly an LMC; None for other words
 abbrev pub lid_line : List (List ℕ) → Option LidLine
 lid_line [] = None
 lid_line (lid ∷ []) = None
 lid_line (lid ∷ port ∷ rest) =
     option_and_then (λ n. option_and_then (lid_of_port n rest) (port_of port)) (count_of 0xBFFF lid)
 
--- reads the part of a `switch` line after `guid`: `top` and a number
+-- reads the part of a `switch` line after `guid`, which is `top` and a number; None if it is not, or if `guid` is no
+-- GUID
 abbrev pub top_line : List ℕ → List ℕ × List ℕ → Option SwitchLine
 top_line guid x =
     if bytes_eq x.0 (codes "top") then option_and_then
     (λ g. option_map (λ t. record { guid = g; top = t }) (small_of 0xBFFF x.1)) (bare_guid_of guid)
     else None
 
--- reads the part of a `switch` line after its first word
+-- reads the part of a `switch` line after its first word: a GUID and a top; None for other words
 abbrev pub switch_line : List (List ℕ) → Option SwitchLine
 switch_line [] = None
 switch_line (guid ∷ rest) = option_and_then (top_line guid) (both rest)
 
--- reads the part of a `block` line after its first word: a number and the entries
+-- reads the part of a `block` line after its first word: a number and the entries; None for other words
 abbrev pub block_line : List (List ℕ) → Option BlockLine
 block_line words =
     option_and_then (λ x. option_and_then (λ n. option_map (λ e. record { number = n; entries = e }) (entries_of x.1))

@@ -1,6 +1,6 @@
 use text_words::{LineError, LineFault, LinesFault};
 
-/// What is wrong with a line of a plan's text.
+/// What is wrong with a line of a text of tables.
 #[derive(Clone, Copy, Debug, PartialEq, Eq)]
 pub enum TablesTextError {
     /// The grammar has no such line, or it is a block above all switches.
@@ -8,7 +8,8 @@ pub enum TablesTextError {
     /// The LID is outside 1 to 49,151, the last LID of the end port or the top is above 49,151, or the LID is less than
     /// on the `lid` line before.
     Lid,
-    /// The port is above 254, or the end port does not come after that of the `lid` line before, which has this LID.
+    /// The port is above 254, or the LID is that of the `lid` line before and the end port does not come after that
+    /// line's.
     Port,
     /// The LMC is above 7.
     Lmc,
@@ -38,5 +39,5 @@ impl LineError for TablesTextError {
 /// The number of a text's first faulty line, from 1, and what is wrong with it.
 pub type TablesLineFault = LineFault<TablesTextError>;
 
-/// Why a text could not be read.
+/// Why a text of tables could not be read.
 pub type TablesTextFault = LinesFault<TablesTextError>;

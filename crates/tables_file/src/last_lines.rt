@@ -12,19 +12,19 @@ use subnet_view::EndPort;
 /// The first number above all LIDs of end ports.
 const LID_END: u32 = Lid::UNICAST_END as u32;
 
-/// What must be kept of the lines so far to check the order of later ones.
+/// What is kept of the lines so far, to check the order of later ones.
 #[derive(Clone, Copy)]
 pub(crate) struct LastLines {
-    /// The first LID of the last `lid` line, with its end port.
+    /// The first LID of the last `lid` line, with its end port, or `None` if there was no such line.
     pub(crate) lid: Option<HeldLid>,
-    /// The GUID of the last switch.
+    /// The GUID of the last switch, or `None` if there was none.
     pub(crate) switch: Option<Guid>,
-    /// The least number that the next block of this switch may have.
+    /// The least number that the next block of the last switch may have.
     pub(crate) block: u32,
 }
 
 impl LastLines {
-    /// Returns the state before the first line.
+    /// Returns what is kept before the first line: no `lid` line and no switch.
     pub(crate) fn start() -> Self
         ensures { result ≡ start }
     {
@@ -35,7 +35,7 @@ impl LastLines {
         }
     }
 
-    /// Returns what the line numbered `number` says, or what is wrong with it.
+    /// Returns what `line` says, after the lines so far, or its fault. Its number is `number`.
     pub(crate) fn item(&self, number: usize, line: &[u8]) -> Result<HeldItem, TablesLineFault>
         ensures { result ≡ item_of number self.now (line_of line.now) }
     {
@@ -48,7 +48,8 @@ impl LastLines {
         }
     }
 
-    /// Returns what a `block` line numbered `number` says, or what is wrong with it.
+    /// Returns what the `block` line with the number `number` says. Returns `Syntax` if there is no switch above it,
+    /// and `Block` if the block's number is above 767 or too small.
     fn block(&self, number: usize, line: BlockLine) -> Result<HeldItem, TablesLineFault>
         ensures { result ≡ block_with number self.now line.number line.entries }
     {
@@ -64,7 +65,7 @@ impl LastLines {
         }
     }
 
-    /// Returns the state after a line that says `item`.
+    /// Returns what is kept after the next line, which says `item`.
     pub(crate) fn after(&self, item: &HeldItem) -> Self
         ensures { result ≡ last_lines_after self.now item.now }
     {
@@ -87,15 +88,15 @@ impl LastLines {
     }
 }
 
-/// Returns the fault `wrong` of the line numbered `line`.
+/// Returns the fault `wrong`, of the line with the number `line`.
 fn wrong(line: usize, wrong: TablesTextError) -> Result<HeldItem, TablesLineFault>
     ensures { result ≡ Err (record { line = line; wrong = wrong }) }
 {
     Err(TablesLineFault { line, wrong })
 }
 
-/// Returns what a `lid` line numbered `number` says, or what is wrong with it. `last` is the first LID of the `lid`
-/// line before, if there is one.
+/// Returns what the `lid` line with the number `number` says, or its fault. `last` is the first LID of the `lid` line
+/// before, if there is one.
 fn lid(number: usize, last: Option<HeldLid>, line: LidLine) -> Result<HeldItem, TablesLineFault>
     ensures { result ≡ lid_with number last line.lid line.node line.port line.lmc }
 {
@@ -119,8 +120,8 @@ fn lid(number: usize, last: Option<HeldLid>, line: LidLine) -> Result<HeldItem, 
     lid_after(number, last, HeldRange { first, lmc })
 }
 
-/// Returns what a `lid` line numbered `number` says if it comes after the `lid` line of `last`, if there is one. The
-/// caller has checked that its numbers are in range.
+/// Returns `range`, the LIDs of the `lid` line with the number `number`, if they come after `last`, the first LID of
+/// the `lid` line before, or if there is no such line. Otherwise returns the line's fault.
 fn lid_after(
     number: usize,
     last: Option<HeldLid>,
@@ -134,8 +135,8 @@ fn lid_after(
     }
 }
 
-/// Returns what a `lid` line numbered `number` says if it comes after the `lid` line of `last`, otherwise what is wrong
-/// with it.
+/// Returns `range`, the LIDs of the `lid` line with the number `number`, if they come after `last`. Returns `Lid` if
+/// the first LID is less, and otherwise `Port`.
 fn lid_behind(number: usize, last: HeldLid, range: HeldRange) -> Result<HeldItem, TablesLineFault>
     ensures { result ≡ lid_behind number last range }
 {
@@ -149,8 +150,8 @@ fn lid_behind(number: usize, last: HeldLid, range: HeldRange) -> Result<HeldItem
     }
 }
 
-/// Returns whether `held` comes after `last`: its LID, its node or, on the same node, its port is greater. The LID of
-/// `held` must not be less than that of `last`.
+/// Returns whether the LID or the node of `held` is greater than that of `last` or, on the same node, its port is. If
+/// its LID is not less, this is whether `held` comes after `last`.
 fn is_behind(last: HeldLid, held: HeldLid) -> bool
     ensures { result ≡ is_behind last held }
 {
@@ -160,8 +161,8 @@ fn is_behind(last: HeldLid, held: HeldLid) -> bool
         || (is_same_node && last.port.port < held.port.port)
 }
 
-/// Returns what a `switch` line numbered `number` says, or what is wrong with it. `last` is the switch before, if there
-/// is one.
+/// Returns what the `switch` line with the number `number` says. Returns `Lid` if the top is above 49,151, and
+/// otherwise `Switch` if the GUID is not greater than `last`, that of the switch before, if there is one.
 fn switch(number: usize, last: Option<Guid>, line: SwitchLine) -> Result<HeldItem, TablesLineFault>
     ensures { result ≡ switch_with number last line.guid line.top }
 {

@@ -14,8 +14,8 @@ pub fn plans_are_read()
     ensures law { PlansAreRead }
 {}
 
-/// The text of tables whose switches have their own tops, after the LIDs of a plan, has no fault and is read as these
-/// tables.
+/// If the numbers of a plan are in their ranges, the text of its LIDs and tables with a top of its own for each switch,
+/// at most 49,151, has no fault and is read as these tables.
 pub fn printed_tables_are_read()
     ensures law { PrintedTablesAreRead }
 {}

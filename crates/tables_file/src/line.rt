@@ -10,7 +10,7 @@ use text_words::{count, is_word, split_word};
 /// The greatest LID of an end port.
 const MAX_LID: u16 = Lid::UNICAST_END - 1;
 
-/// What a line says.
+/// What a line of a text of tables says.
 #[derive(Clone, Copy)]
 pub(crate) enum TextLine {
     Empty,
@@ -47,7 +47,7 @@ pub(crate) struct BlockLine {
     pub(crate) entries: [u8; 64],
 }
 
-/// Returns what a line says, or `None` if the grammar has no such line.
+/// Returns what `line` says, or `None` if the grammar has no such line.
 #[tactic(auto, unfolding(crate::specs::TextLine::line_of))]
 pub(crate) fn read_line(line: &[u8]) -> Option<TextLine>
     ensures { result ≡ line_of line.now }
@@ -66,7 +66,7 @@ pub(crate) fn read_line(line: &[u8]) -> Option<TextLine>
     }
 }
 
-/// Returns the two words of a line, or `None` if it has more or fewer.
+/// Returns the two words of `line`, or `None` if it has more or fewer.
 fn two_words(line: &[u8]) -> Option<(&[u8], &[u8])>
     ensures { option_map (λ x. (x.0.now, x.1.now)) result ≡ both (words line.now) }
 {
@@ -96,7 +96,7 @@ fn lid_line(line: &[u8]) -> Option<LidLine>
 }
 
 /// Parses the part of a `lid` line after the end port: `lmc` and a number, or nothing, which means LMC 0. The inner
-/// value is `None` if the number is above 7.
+/// value is `None` if the number is above 7. Returns `None` if the grammar has no such line.
 fn lmc_line(line: &[u8]) -> Option<Option<Lmc>>
     ensures { result ≡ lmc_line (words line.now) }
 {

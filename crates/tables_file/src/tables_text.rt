@@ -12,7 +12,8 @@ use held_tables::{Held, HeldBlock, HeldSwitch};
 use lft_blocks::{write_block, write_lids, write_switch};
 use lid_assign::LidMap;
 
-/// Writes a line for each end port of `lids`, by rising LID, and then the tables, and flushes. Takes no memory.
+/// Writes a line for each end port of `lids`, by rising LID, and then the tables `next`, and flushes. Blocks are
+/// written as by `write_tables`. Does not allocate.
 pub fn write_next<W: Sink>(sink: &mut W, lids: &LidMap, next: &Held) -> Result<(), WriteFault>
     ensures writes { Writes W.written W.has_failed result sink.old sink.new (next_text lids.now next.now) }
     ensures flushed { OnOk result (IsTrue (W.is_flushed sink.new)) }
@@ -22,15 +23,16 @@ pub fn write_next<W: Sink>(sink: &mut W, lids: &LidMap, next: &Held) -> Result<(
     sink.flush()
 }
 
-/// Writes the tables: for each switch in order, a line with its top and a line for each of its blocks. The blocks must
-/// be in the order of the switches.
+/// Writes the tables: for each switch in order, a line with its top and a line for each of its blocks. From the first
+/// block on that is not in the order of the switches, no block is written.
 pub fn write_tables<W: Sink>(sink: &mut W, held: &Held) -> Result<(), WriteFault>
     ensures { WritesPart W.written W.has_failed result sink.old sink.new (tables_text_of held.now) }
 {
     write_switches(sink, held.switches(), held.blocks())
 }
 
-/// Writes the lines of the switches and of their blocks, which must be in the order of the switches.
+/// Writes the lines of `switches` and of their blocks. From the first block on that is not in the order of the
+/// switches, no block is written.
 fn write_switches<W: Sink>(
     sink: &mut W,
     switches: &[HeldSwitch],
@@ -48,7 +50,7 @@ fn write_switches<W: Sink>(
     Ok(())
 }
 
-/// Returns the blocks at the head that belong to the switch at `index`, and the blocks after them.
+/// Returns the blocks at the head of `blocks` that belong to the switch at `index`, and the blocks after them.
 fn split_blocks(blocks: &[HeldBlock], index: usize) -> (&[HeldBlock], &[HeldBlock])
     ensures first { result.0.now ≡ first_blocks index blocks.now }
     ensures later { result.1.now ≡ later_blocks index blocks.now }
@@ -56,7 +58,7 @@ fn split_blocks(blocks: &[HeldBlock], index: usize) -> (&[HeldBlock], &[HeldBloc
     blocks.split_at(count_of(blocks, index))
 }
 
-/// Returns the number of blocks at the head that belong to the switch at `index`.
+/// Returns the number of blocks at the head of `blocks` that belong to the switch at `index`.
 fn count_of(blocks: &[HeldBlock], index: usize) -> usize
     ensures count { result ≡ prefix_len (is_of index) blocks.now }
     ensures within { result ≤ length blocks.now }
@@ -69,7 +71,7 @@ fn count_of(blocks: &[HeldBlock], index: usize) -> usize
     blocks.len()
 }
 
-/// Writes the line of a switch and a line for each of its blocks.
+/// Writes the line of `switch` and a line for each of `blocks`.
 fn write_held<W: Sink>(
     sink: &mut W,
     switch: &HeldSwitch,
@@ -82,7 +84,7 @@ fn write_held<W: Sink>(
     write_blocks(sink, blocks)
 }
 
-/// Writes a line for each block.
+/// Writes a line for each of `blocks`.
 fn write_blocks<W: Sink>(sink: &mut W, blocks: &[HeldBlock]) -> Result<(), WriteFault>
     ensures { WritesPart W.written W.has_failed result sink.old sink.new (flat_map block_text blocks.now) }
 {

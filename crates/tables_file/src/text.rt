@@ -10,9 +10,9 @@ use held_tables::Held;
 use std::alloc::Global;
 use text_words::{LinesFault, split_line};
 
-/// Reads a plan's text. It has a line for each end port, by rising first LID, and the line may give the port's LMC. For
-/// each switch, by rising GUID, it has a line for the switch and lines for its blocks, by rising number. Lines end with
-/// LF or CR LF, empty lines are skipped, and `#` begins a comment:
+/// Reads a text of tables, as of a plan. It has a line for each end port, by rising first LID, and the line may give
+/// the port's LMC. For each switch, by rising GUID, it has a line for the switch and lines for its blocks, by rising
+/// number. Lines end with LF or CR LF, empty lines are skipped, and `#` begins a comment:
 ///
 /// ```text
 /// lid 1 0000000000000010/0
@@ -21,7 +21,7 @@ use text_words::{LinesFault, split_line};
 /// block 0 ff000303ff..
 /// ```
 ///
-/// Takes a step for each byte and each LID, and twice as many if memory is refused.
+/// Takes time linear in the number of bytes and of LIDs.
 ///
 /// # Errors
 ///
@@ -40,7 +40,7 @@ pub fn parse(alloc: Global, text: &[u8]) -> Result<Held, TablesTextFault>
     }
 }
 
-/// Reads the lines of a text.
+/// Reads the lines of a text, or returns the first fault. Returns `Memory` if memory runs out before that.
 #[tactic(auto, using(crate::proofs::Folds::reading))]
 fn read_lines(alloc: Global, text: &[u8]) -> Result<Held, TablesTextFault>
     ensures { IsReadAs text.now result }
@@ -59,7 +59,7 @@ fn read_lines(alloc: Global, text: &[u8]) -> Result<Held, TablesTextFault>
     Ok(held)
 }
 
-/// Returns the first fault of a text. Takes no memory.
+/// Returns the first fault of a text, or `None` if it has none. Does not allocate.
 #[tactic(auto, using(crate::proofs::Folds::judging))]
 fn first_fault(text: &[u8]) -> Option<TablesLineFault>
     ensures { result ≡ first_fault text.now }

@@ -7,7 +7,8 @@ use attr_codec::Lmc;
 use smp_bytes::{Guid, PortNum};
 use text_words::number;
 
-/// Parses decimal digits as a number. The inner value is `None` if the number is above `most`.
+/// Parses decimal digits as a number. The inner value is `None` if the number is above `most`. Returns `None` if `word`
+/// is no number.
 pub(crate) fn small(word: &[u8], most: u16) -> Option<Option<u16>>
     ensures { result ≡ small_of most word.now }
 {
@@ -30,7 +31,8 @@ pub(crate) fn bare_guid(word: &[u8]) -> Option<Guid>
     Some(Guid::new(number(word, 16)?))
 }
 
-/// Parses a node's GUID and a port of it, as in `0000000000000100/1`. The port is `None` if it is above 254.
+/// Parses a node's GUID and a port of it, as in `0000000000000100/1`. The port is `None` if it is above 254. Returns
+/// `None` if `word` is not of this form.
 pub(crate) fn node_port(word: &[u8]) -> Option<(Guid, Option<PortNum>)>
     ensures { result ≡ port_of word.now }
 {
@@ -40,7 +42,7 @@ pub(crate) fn node_port(word: &[u8]) -> Option<(Guid, Option<PortNum>)>
     Some((node, port_num(port)))
 }
 
-/// Returns the port with this number, or `None` if there is no number.
+/// Returns the port with the number `number`, which must be at most 254, or `None` if `number` is `None`.
 fn port_num(number: Option<u16>) -> Option<PortNum>
     requires { IfSome number (λ n. n ≤ 254) }
     ensures { result ≡ number }
@@ -51,7 +53,7 @@ fn port_num(number: Option<u16>) -> Option<PortNum>
     }
 }
 
-/// Returns the LMC with this number, or `None` if there is no number.
+/// Returns the LMC with the number `number`, which must be at most 7, or `None` if `number` is `None`.
 pub(crate) fn lmc_of(number: Option<u16>) -> Option<Lmc>
     requires { IfSome number (λ n. n ≤ 7) }
     ensures { result ≡ number }
@@ -71,7 +73,7 @@ fn before_slash(word: &[u8]) -> Option<(&[u8], &[u8])>
     Some((&word[..len], &word[len + 1..]))
 }
 
-/// Returns the index of the first slash, or `None` if there is none.
+/// Returns the index of the first slash in `word`, or `None` if there is none.
 fn slash(word: &[u8]) -> Option<usize>
     ensures { result ≡ position (λ b. b == 47) word.now }
 {

@@ -5,7 +5,7 @@ use Rattle.std.specs.List.{list_all}
 use Rattle.std.specs.Str.{bytes_eq}
 use Rattle.std.specs.Str.Parse.{digits_value}
 
--- the value of a digit in `base`; None if the byte is no digit
+-- the value of the digit `b` in `base`; None if the byte is no digit
 abbrev pub digit_of : ℕ → ℕ → Option ℕ
 digit_of base b = if is_digit b base then Some (digit_value b) else None
 
@@ -14,15 +14,15 @@ abbrev pub number_of : ℕ → List ℕ → Option ℕ
 number_of base word =
     if nat_le 1 (length word) && list_all (λ b. is_digit b base) word then Some (digits_value base word) else None
 
--- n if it is from 1 to `most`, otherwise None
+-- `n` if it is from 1 to `most`, else None
 abbrev pub up_to : ℕ → ℕ → Option ℕ
 up_to most n = if nat_le 1 n && nat_le n most then Some n else None
 
--- a decimal number; the inner value is None if the number is not from 1 to `most`
+-- the number that `word` spells in decimal: None if it spells none, and an inner None if it is not from 1 to `most`
 abbrev pub count_of : ℕ → List ℕ → Option (Option ℕ)
 count_of most word = option_map (up_to most) (number_of 10 word)
 
--- a GUID: `0x` and one to sixteen hex digits; None if the word is anything else
+-- the GUID that `word` spells: `0x` and one to sixteen hex digits; None if it is anything else
 abbrev pub guid_of : List ℕ → Option ℕ
 guid_of word = if bytes_eq (take 2 word) (codes "0x")
     && nat_le (length word) 18 then number_of 16 (drop 2 word) else None

@@ -1,12 +1,12 @@
--- A text as lines, and a line as words.
+-- A text as lines, and a line as words: a `#` outside quotes begins a comment.
 use Rattle.std.specs.Prelude.{ℕ, Bool, false, List, [], ◌∷◌, ◌==◌, ◌&&◌, ◌||◌, not, if◌then◌else◌}
 
--- the bytes begin with b
+-- whether the bytes begin with `b`
 abbrev pub begins_with : ℕ → List ℕ → Bool
 begins_with b [] = false
 begins_with b (c ∷ bytes) = c == b
 
--- the lines, with b put before the first line
+-- the lines, with the byte `b` put before the first line
 abbrev pub onto_first : ℕ → List (List ℕ) → List (List ℕ)
 onto_first b [] = (b ∷ []) ∷ []
 onto_first b (line ∷ later) = (b ∷ line) ∷ later
@@ -18,39 +18,40 @@ lines [] = []
 lines (b ∷ bytes) = if b == 10 then []
     ∷ lines bytes else (if b == 13 && begins_with 10 bytes then lines bytes else onto_first b (lines bytes))
 
--- a blank or a tab
+-- whether the byte `b` is a blank or a tab
 abbrev pub is_blank : ℕ → Bool
 is_blank b = b == 32 || b == 9
 
--- the byte b put before the first word; the later words stay
+-- the byte `b` put before the first word; the later words stay
 abbrev pub onto_word : ℕ → List ℕ × List (List ℕ) → List ℕ × List (List ℕ)
 onto_word b parts = (b ∷ parts.0, parts.1)
 
--- the words; an empty first word does not count
+-- the first word and the later ones; an empty first word does not count
 abbrev pub words_in : List ℕ × List (List ℕ) → List (List ℕ)
 words_in ([], later) = later
 words_in (b ∷ word, later) = (b ∷ word) ∷ later
 
--- a word ends before a blank, a tab or a '#' outside quotes
+-- whether a word ends before the byte `b`: a blank, a tab or a `#` outside quotes
 abbrev pub is_behind_word : Bool → ℕ → Bool
 is_behind_word quoted b = not quoted && (b == 35 || is_blank b)
 
--- a word is within quotes after b; each quote opens or closes
+-- whether a place is within quotes after the byte `b`, given whether it was before it; a double quote opens or closes
 abbrev pub is_quoted_after : Bool → ℕ → Bool
 is_quoted_after quoted b = if b == 34 then not quoted else quoted
 
--- the rest of the current word, within quotes or not, and the words after it; a '#' outside quotes ends the line
+-- the rest of the current word, which is within quotes if `quoted`, and the words after it; a `#` outside quotes ends
+-- the line
 abbrev pub parts : Bool → List ℕ → List ℕ × List (List ℕ)
 parts quoted [] = ([], [])
 parts quoted (b ∷ bytes) =
     if is_behind_word quoted b then ([], if b == 35 then [] else words_in (parts false bytes))
     else onto_word b (parts (is_quoted_after quoted b) bytes)
 
--- the words of a line
+-- the words of `line`
 abbrev pub words : List ℕ → List (List ℕ)
 words line = words_in (parts false line)
 
--- the line without its carriage return, if it ends with one
+-- a line without the carriage return at its end, if it ends with one
 abbrev pub without_return : List ℕ → List ℕ
 without_return [] = []
 without_return (b ∷ []) = if b == 13 then [] else b ∷ []

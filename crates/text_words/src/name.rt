@@ -28,7 +28,7 @@ impl Model for NodeName {
 }
 
 impl NodeName {
-    /// Creates a name from its bytes. Returns `None` if they are no name.
+    /// Creates a name with the bytes `name`. Returns `None` if they are not a name.
     pub fn new(name: &[u8]) -> Option<Self>
         ensures { result ≡ name_in name.now }
     {
@@ -76,7 +76,7 @@ fn is_name_byte(byte: u8) -> bool
     matches!(byte, 0x20..=0x7E) && byte != b'"'
 }
 
-/// Returns the bytes of a name as text.
+/// Returns the bytes `name`, which must be a name, as text.
 fn text(name: &[u8]) -> ArrayString<64>
     requires { IsTrue (is_name name.now) }
     ensures { result.bytes ≡ name.now }

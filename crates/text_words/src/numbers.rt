@@ -4,7 +4,7 @@ ghost use Rattle.text_words.specs.Number.{digit_of, number_of, count_of, guid_of
 use smp_bytes::Guid;
 
 /// Parses a word of digits in a base from 2 to 36, or returns `None` if the word is anything else. A number over
-/// `u64::MAX` gives `u64::MAX`. Takes a step for each digit.
+/// `u64::MAX` gives `u64::MAX`. Takes time linear in the number of digits.
 pub fn number(word: &[u8], base: u32) -> Option<u64>
     requires { 2 ≤ base × base ≤ 36 }
     ensures { result ≡ option_map (min (2 ^ 64 - 1)) (number_of base word.now) }
@@ -19,7 +19,7 @@ pub fn number(word: &[u8], base: u32) -> Option<u64>
     Some(number)
 }
 
-/// Returns the value of a digit, or `None` if the byte is no digit in this base.
+/// Returns the value of the digit `byte`, or `None` if it is no digit in `base`, which must be from 2 to 36.
 fn digit(byte: u8, base: u32) -> Option<u32>
     requires { 2 ≤ base × base ≤ 36 }
     ensures { result ≡ digit_of base byte }
@@ -27,7 +27,7 @@ fn digit(byte: u8, base: u32) -> Option<u32>
     char::from(byte).to_digit(base)
 }
 
-/// Appends a digit to `number`. Returns `u64::MAX` if the result is greater.
+/// Returns `number` with `digit` appended in `base`, or `u64::MAX` if that is greater.
 fn with_digit(number: u64, base: u32, digit: u32) -> u64
     requires { 1 ≤ base }
     ensures { result ≡ min (2 ^ 64 - 1) (number * base + digit) }

@@ -5,7 +5,7 @@ use crate::name::NodeName;
 use crate::numbers::port_number;
 use crate::text::place_of;
 
-/// Parses a name in quotes, `"name"`. Returns `None` if the word is anything else. Takes a step for each byte.
+/// Parses a name in quotes, `"name"`. Returns `None` if the word is anything else. Takes time linear in its length.
 pub fn quoted_name(word: &[u8]) -> Option<NodeName>
     ensures { result ≡ quoted_name word.now }
 {
@@ -17,7 +17,7 @@ pub fn quoted_name(word: &[u8]) -> Option<NodeName>
 }
 
 /// Parses a port in brackets, `[port]`. Returns `None` if the word is anything else, and `Some(None)` if the port is
-/// not from 1 to 254. Takes a step for each byte.
+/// not from 1 to 254. Takes time linear in its length.
 pub fn bracketed_port(word: &[u8]) -> Option<Option<u8>>
     ensures { result ≡ bracketed_port word.now }
 {
@@ -29,7 +29,7 @@ pub fn bracketed_port(word: &[u8]) -> Option<Option<u8>>
 }
 
 /// Parses a name in quotes, directly followed by a port in brackets, `"name"[port]`. Returns `None` if the word is
-/// anything else. The port is `None` if it is not from 1 to 254. Takes a step for each byte.
+/// anything else. The port is `None` if it is not from 1 to 254. Takes time linear in the word's length.
 pub fn named_port(word: &[u8]) -> Option<(NodeName, Option<u8>)>
     ensures { result ≡ named_port word.now }
 {
@@ -39,8 +39,8 @@ pub fn named_port(word: &[u8]) -> Option<(NodeName, Option<u8>)>
 }
 
 /// Splits a word that begins with the byte `first`. Returns the bytes between `first` and the next `close`, and the
-/// bytes after this `close`, or `None` if the word does not begin with `first` or has no such `close`. Takes a step for
-/// each byte.
+/// bytes after this `close`. Returns `None` if the word does not begin with `first` or has no such `close`. Takes time
+/// linear in its length.
 pub fn enclosed(word: &[u8], first: u8, close: u8) -> Option<(&[u8], &[u8])>
     ensures { option_map (λ x. (x.0.now, x.1.now)) result ≡ enclosed first close word.now }
 {
@@ -51,7 +51,7 @@ pub fn enclosed(word: &[u8], first: u8, close: u8) -> Option<(&[u8], &[u8])>
     until(rest, close)
 }
 
-/// Returns the bytes before the first `close` and the bytes after it, or `None` if there is no `close`.
+/// Returns the parts of `bytes` before and after the first `close`, or `None` if there is no `close`.
 #[tactic(auto, using(crate::proofs::Splits::until_at, crate::proofs::Splits::until_none))]
 fn until(bytes: &[u8], close: u8) -> Option<(&[u8], &[u8])>
     ensures { option_map (λ x. (x.0.now, x.1.now)) result ≡ until close bytes.now }

@@ -4,7 +4,7 @@ ghost use Rattle.std.specs.Str.{bytes_eq};
 ghost use Rattle.text_words.specs.Text.{lines, words, is_blank, parts, is_behind_word, is_quoted_after};
 ghost use Rattle.text_words.specs.Text.{without_return};
 
-/// Returns the first line of a text without its line end, and the text after it. Returns `None` if the text is empty.
+/// Returns the first line of `text` without its line end, and the text after it. Returns `None` if `text` is empty.
 #[tactic(auto, using(crate::proofs::Splits::lines_at, crate::proofs::Splits::lines_none))]
 pub fn split_line(text: &[u8]) -> Option<(&[u8], &[u8])>
     ensures line { MatchOption result (lines text.now ≡ [])
@@ -20,7 +20,7 @@ pub fn split_line(text: &[u8]) -> Option<(&[u8], &[u8])>
     }
 }
 
-/// Returns the line without its carriage return, if it ends with one.
+/// Returns `line` without its carriage return, if it ends with one.
 #[tactic(auto, using(crate::proofs::Splits::return_at_end, crate::proofs::Splits::no_return_at_end))]
 fn without_return(line: &[u8]) -> &[u8]
     ensures { result.now ≡ without_return line.now }
@@ -31,7 +31,8 @@ fn without_return(line: &[u8]) -> &[u8]
     if *last == b'\r' { rest } else { line }
 }
 
-/// Returns the first word of a line and what follows it, or `None` if there is no word.
+/// Returns the first word of `line` and what follows it, or `None` if there is no word. A `#` outside quotes ends the
+/// line.
 pub fn split_word(line: &[u8]) -> Option<(&[u8], &[u8])>
     ensures { MatchOption result (words line.now ≡ [])
         (λ x. words line.now ≡ x.0.now ∷ words x.1.now) }
@@ -44,14 +45,14 @@ pub fn split_word(line: &[u8]) -> Option<(&[u8], &[u8])>
     }
 }
 
-/// Returns the index of the first byte that is not a separator, or `None` if there is none.
+/// Returns the index of the first byte of `line` that does not separate words, or `None` if there is none.
 fn word_start(line: &[u8]) -> Option<usize>
     ensures { result ≡ position (λ b. not (is_blank b)) line.now }
 {
     line.iter().position(|byte| !is_blank(*byte))
 }
 
-/// Returns the length of the word with which the line begins.
+/// Returns the length of the word that `line` begins with.
 fn word_len(line: &[u8]) -> usize
     ensures within { result ≤ length line.now }
     ensures word { (parts false line.now).0 ≡ take result line.now }
@@ -88,14 +89,14 @@ pub fn is_word(word: &[u8], wanted: &str) -> bool
     word == wanted.as_bytes()
 }
 
-/// Returns the index of the first `byte`, or `None` if there is none.
+/// Returns the index of the first `byte` in `bytes`, or `None` if there is none.
 pub(crate) fn place_of(bytes: &[u8], byte: u8) -> Option<usize>
     ensures { result ≡ position (λ b. b == byte) bytes.now }
 {
     bytes.iter().position(|b| *b == byte)
 }
 
-/// Returns whether the byte separates words.
+/// Returns whether `byte` separates words, which a blank and a tab do.
 fn is_blank(byte: u8) -> bool
     ensures { result ≡ is_blank byte }
 {

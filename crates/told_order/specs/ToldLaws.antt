@@ -1,4 +1,4 @@
--- The laws of the order that tables imply.
+-- That tables are right by the order that they imply, and that they imply one if they are right by any.
 use Rattle.std.specs.Prelude.{◌≡◌, ◌≤◌, ◌<◌, ℕ, List, Contains, None, Some, length}
 use Rattle.subnet_view.specs.Reading.{Cells, switches}
 use Rattle.held_tables.specs.Held.{HeldPlan}
@@ -7,23 +7,23 @@ use Rattle.spread_labels.specs.Orders.{position_of}
 use Rattle.two_orders.specs.Agreement.{AgreesUpTo, AreVertices}
 use Rattle.told_order.specs.ToldOrder.{IsTold, position_in}
 
--- tables are right for every LID by the positions of switches in the order that they imply; switches that a wire joins
--- have different positions
+-- if tables imply an order, they are right for every LID by the positions of switches in it; these are positions among
+-- the switches, and switches that a wire joins have different ones
 abbrev pub ToldOrdersAreRight : Type 0
 ToldOrdersAreRight =
     (cells : Cells) (tables : HeldPlan) (preferred taken : List ℕ) → IsTold cells tables preferred (Some taken)
     → IsOrder cells (position_in taken) × AreApart cells (position_in taken)
     × ((lid : ℕ) → 1 ≤ lid → AreRight cells (position_in taken) tables lid)
 
--- tables that are right by some order imply an order, if each usable switch is in the list of preferences
+-- if tables are right for every LID by some order, and each usable switch is in `preferred`, the tables imply an order
 abbrev pub SomeOrderIsTold : Type 0
 SomeOrderIsTold =
     (cells : Cells) (tables : HeldPlan) (preferred : List ℕ) (q : ℕ → ℕ)
     → ((i : ℕ) → i < length (switches cells) → Contains preferred i)
     → ((lid : ℕ) → 1 ≤ lid → AreRight cells q tables lid) → IsTold cells tables preferred None → ⊥
 
--- if tables are right by an order that agrees with the preferences on their first k switches, the order that the tables
--- imply also agrees with the preferences on these switches
+-- if tables are right for every LID by an order that agrees with the preferences, a list of the usable switches, on
+-- their first k switches, the order that the tables imply also agrees with the preferences on these switches
 abbrev pub ToldOrdersAgree : Type 0
 ToldOrdersAgree =
     (cells : Cells) (tables : HeldPlan) (preferred taken : List ℕ) (q : ℕ → ℕ) (k : ℕ)
@@ -31,7 +31,8 @@ ToldOrdersAgree =
     → ((lid : ℕ) → 1 ≤ lid → AreRight cells q tables lid) → AgreesUpTo preferred q k
     → AgreesUpTo preferred (position_in taken) k
 
--- tables that are right by the order of the preferences imply that order
+-- if tables are right for every LID by the order of the preferences, a list of the usable switches, the order that they
+-- imply is that one
 abbrev pub ToldOrdersAreStable : Type 0
 ToldOrdersAreStable =
     (cells : Cells) (tables : HeldPlan) (preferred taken : List ℕ)

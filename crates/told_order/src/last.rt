@@ -7,8 +7,7 @@ ghost use Rattle.told_order.specs.Turns.{lists_of};
 use crate::turns::SwitchTurn;
 
 /// Returns the last switch in `preferred` that may be the last of the switches left, by the turns at each switch, or
-/// `None` if there is none. Takes a step for each switch in `preferred` and for each turn at a switch that is left,
-/// until it finds one.
+/// `None` if there is none.
 pub(crate) fn last_of(
     turns: &[Vec<SwitchTurn>],
     preferred: &[usize],
@@ -37,7 +36,7 @@ fn may_be_last(turns: &[Vec<SwitchTurn>], left: &[bool], switch: usize) -> bool
         }
 }
 
-/// Returns whether one of the turns leads from a switch that is left to a switch that is left.
+/// Returns whether one of `turns` leads from a switch that is left to a switch that is left.
 fn turns_in(turns: &[SwitchTurn], left: &[bool]) -> bool
     ensures { result ≡ turns_in left.now turns.now }
 {

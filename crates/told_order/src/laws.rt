@@ -6,8 +6,8 @@ ghost use Rattle.told_order.specs.ToldLaws.{
   ToldOrdersAreStable,
 };
 
-/// Tables are right for every LID by the order that they imply, and no two switches that a wire joins have the same
-/// position.
+/// If tables imply an order, they are right for every LID by it, and no two switches that a wire joins have the same
+/// position in it.
 pub fn told_orders_are_right()
     ensures law { ToldOrdersAreRight }
 {}
@@ -19,12 +19,12 @@ pub fn some_order_is_told()
 {}
 
 /// If tables are right by an order that agrees with the preferences on their first switches, the order that the tables
-/// imply also agrees with the preferences on these switches.
+/// imply also agrees with the preferences on these switches. The preferences have each usable switch once.
 pub fn told_orders_agree()
     ensures law { ToldOrdersAgree }
 {}
 
-/// If tables are right by the order of the preferences, they imply that order.
+/// If tables are right by the order of the preferences, which have each usable switch once, they imply that order.
 pub fn told_orders_are_stable()
     ensures law { ToldOrdersAreStable }
 {}

@@ -13,8 +13,8 @@ use std::alloc::{AllocError, Global};
 /// Returns the indices (by rising GUID) of all usable switches, in an order by which no packet, for any LID, goes down
 /// and then up again by the tables of `network`. The last switch comes first. Each switch is the last switch in
 /// `preferred` that can be taken at that point. Returns `None` if there is no such order, or if switches that
-/// `preferred` lacks are left. Costs what `channel_waits` takes, and for each switch a step for each switch in
-/// `preferred` and each turn that is looked at.
+/// `preferred` lacks are left. Costs what `channel_waits` takes and, for each switch that is taken, at most a walk over
+/// the turns at each switch in `preferred`.
 pub fn told_order(
     alloc: Global,
     network: &Network,
@@ -45,7 +45,7 @@ fn all_left(alloc: Global, count: usize) -> Result<Vec<bool>, AllocError>
     vec![in alloc; true; count]
 }
 
-/// Returns whether any flag is true.
+/// Returns whether any flag in `left` is true.
 fn is_any(left: &[bool]) -> bool
     ensures { result ≡ list_any (λ flag. flag) left.now }
 {

@@ -14,14 +14,14 @@ use std::alloc::{AllocError, Global};
 /// they came from.
 #[derive(Clone, Copy, Debug, PartialEq, Eq)]
 pub(crate) struct SwitchTurn {
-    /// The index of the switch that they come from.
+    /// The index of the switch from which the packets come.
     pub from: usize,
-    /// The index of the switch that they leave for.
+    /// The index of the switch for which the packets leave.
     pub to: usize,
 }
 
 /// Returns the turns that packets make at each usable switch, by rising GUID, by the tables of `network`. Costs what
-/// `channel_waits` takes, and a step for each channel and for each channel that follows it.
+/// `channel_waits` takes, and time linear in the number of channels and of what follows each.
 pub(crate) fn turns(alloc: Global, network: &Network) -> Result<Vec<Vec<SwitchTurn>>, AllocError>
     ensures { IfOk result (λ turns.
         AreTurns (cells_of network.now.facts) network.now.held (lists_of turns.items)) }
@@ -30,7 +30,8 @@ pub(crate) fn turns(alloc: Global, network: &Network) -> Result<Vec<Vec<SwitchTu
     turns_over(alloc, network, &waits)
 }
 
-/// Returns the turns from each channel into the channels that follow it.
+/// Returns, for each usable switch, the turns from channels to it into the channels that follow them. `waits` must have
+/// the channels that packets take next by the tables of `network`.
 fn turns_over(
     alloc: Global,
     network: &Network,
@@ -58,7 +59,7 @@ fn no_turns(alloc: Global, count: usize) -> Result<Vec<Vec<SwitchTurn>>, AllocEr
     Ok(turns)
 }
 
-/// Adds the turns from `channel` into the channels that follow it.
+/// Adds the turns from `channel` into each channel of `following`. `turns` must have a list for each usable switch.
 fn add_turns(
     turns: &mut [Vec<SwitchTurn>],
     network: &Network,
@@ -75,7 +76,8 @@ fn add_turns(
     Ok(())
 }
 
-/// Adds the turn from `channel` into `next`, which follows it.
+/// Adds the turn from `channel` into `next`, if the wire of `next` leads to a usable switch. `turns` must have a list
+/// for each usable switch.
 fn add_turn(
     turns: &mut [Vec<SwitchTurn>],
     network: &Network,

@@ -1,4 +1,4 @@
--- The first fault of a text's lines, except for faults of its links, found from the names of the nodes alone.
+-- The first fault of a topology's lines, except for faults of its links, found from the names of the nodes alone.
 use Rattle.std.specs.Prelude.{◌≡◌, ℕ, ◌+◌, Bool, false, List, [], ◌∷◌, ◌++◌, Option, None, Some, Result, Ok, Err, length, nat_lt, if◌then◌else◌}
 use Rattle.std.specs.List.{list_any}
 use Rattle.std.specs.Option.{option_map_or}
@@ -25,7 +25,7 @@ first_line_fault text = fault_of (nodes_of_lines (lines text))
 abbrev pub is_used : List (Option (List ℕ)) → List ℕ → Bool
 is_used names name = list_any (λ used. option_map_or (λ n. bytes_eq n name) used false) names
 
--- `names` with `name` appended, or the fault of line `number`
+-- `names` with `name` appended, or the fault of line `number`: the name is used, or there are 1,024 already
 abbrev pub with_new_name : ℕ → List (Option (List ℕ)) → List ℕ → Result (List (Option (List ℕ))) TopoFault
 with_new_name number names name =
     if is_used names name then Err (Name number)
@@ -49,7 +49,7 @@ with_names number names [] = Ok names
 with_names number names (line ∷ later) =
     with_name number names (line_of line) >>= λ now. with_names (number + 1) now later
 
--- a call left these names, or returned the fault
+-- a call that is to come to a value or a fault left that value, `new`, or returned that fault
 abbrev pub Leaves : {T : Type 0} → Result T TopoFault → Result (Unit {0}) TopoFault → T → Type 0
 Leaves (Ok now) (Ok u) new = new ≡ now
 Leaves (Err fault) (Err answered) new = answered ≡ fault

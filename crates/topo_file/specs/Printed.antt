@@ -1,4 +1,4 @@
--- The text of a topology.
+-- The text of a topology, which is read as that topology again.
 use Rattle.std.specs.Prelude.{ℕ, suc, ◌≡◌, ◌≤◌, ◌==◌, List, [], ◌∷◌, ◌++◌, Ok, codes, decimal, filter, map, slice_get, if◌then◌else◌}
 use Rattle.std.specs.List.{AllPairs}
 use Rattle.std.specs.Option.{option_map_or}
@@ -21,7 +21,7 @@ node_words node =
 abbrev pub name_at : List Node → ℕ → List ℕ
 name_at nodes id = option_map_or (λ node. node.name) (slice_get nodes id) []
 
--- the words of a link's line, below the node of its first end
+-- the words of the line of `link`, below the node of its first end
 abbrev pub link_words : List Node → Cable → List (List ℕ)
 link_words nodes link = bracketed_text link.one.port ∷ named_text (name_at nodes link.other.node) link.other.port ∷ []
 
@@ -39,7 +39,7 @@ lines_from t id (node ∷ later) =
 abbrev pub topology_text : Layout → List ℕ
 topology_text t = lines_text (lines_from t 0 t.nodes)
 
--- the links are in the order of their first ends' nodes
+-- the links of the list are in the order of their first ends' nodes
 abbrev pub IsInOrder : List Cable → Type 0
 IsInOrder links = AllPairs (λ x y. x.one.node ≤ y.one.node) links
 

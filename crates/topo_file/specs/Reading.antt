@@ -1,4 +1,4 @@
--- What a text says: a topology, or its first fault.
+-- What a text of a topology says: its nodes and links, or its first fault.
 use Rattle.std.specs.Prelude.{ℕ, zero, suc, ◌+◌, ◌^◌, ◌||◌, Bool, false, List, [], ◌∷◌, ◌++◌, Option, None, Some, Result, Ok, Err, length, is_some, nat_le}
 use Rattle.std.specs.Prelude.{nat_lt, option_and_then, slice_get, if◌then◌else◌}
 use Rattle.std.specs.Option.{option_map_or}
@@ -24,16 +24,17 @@ abbrev pub ◌>>=◌ : {A B : Type 0} → Result A TopoFault → (A → Result B
 (Ok value) >>= next = next value
 (Err fault) >>= next = Err fault
 
--- the nodes and the link lines so far
+-- the nodes and the link lines that were read
 pub record Lines : Type 0 where
   pub nodes : List Node
   pub links : List LinkAt
 
--- the GUID of an adapter's last port does not fit 64 bits
+-- the node is no switch, and the GUID of its last port, of so many `ports`, does not fit 64 bits
 abbrev pub is_beyond : NodeLine → ℕ → Bool
 is_beyond node ports = if is_switch node.kind then false else nat_le (2 ^ 64) (node.guid + ports)
 
--- the node in the line `number`, or the line's fault
+-- the node in the line `number`, with the port count and the table's size, or the line's fault; None stands for a
+-- number out of range
 abbrev pub node_with : ℕ → NodeLine → Option ℕ → Option ℕ → Result Node TopoFault
 node_with number node (Some ports) (Some cap) =
     if is_beyond node ports then Err (GuidRange number)
@@ -41,22 +42,22 @@ node_with number node (Some ports) (Some cap) =
 node_with number node (Some ports) None = Err (Ports number)
 node_with number node None cap = Err (Ports number)
 
--- the node in the line `number`, or the line's fault
+-- the node that the node line `node` says, or the fault of the line `number`
 abbrev pub node_of : ℕ → NodeLine → Result Node TopoFault
 node_of number node = node_with number node node.ports node.cap
 
--- `nodes` with `node` appended, or the fault of line `number`
+-- `nodes` with `node` appended, or the fault of the line `number`: the name is used, or there are 1,024 nodes already
 abbrev pub with_node : ℕ → List Node → Node → Result (List Node) TopoFault
 with_node number nodes node =
     if is_some (id_of nodes node.name) then Err (Name number)
     else (if nat_lt (length nodes) 1024 then Ok (nodes ++ node ∷ []) else Err (TooManyNodes number))
 
--- the links with the link of line `number` appended, below the last node; a fault if there is no node
+-- the links with the link of line `number` appended, below the last of so many nodes; a fault if there is no node
 abbrev pub with_link_line : ℕ → ℕ → List LinkAt → LinkLine → Result (List LinkAt) TopoFault
 with_link_line number zero links link = Err (Syntax number)
 with_link_line number (suc last) links link = Ok (links ++ record { line = number; node = last; link = link } ∷ [])
 
--- the lines before, with what the line `number` adds, or its fault
+-- `before`, the lines so far, with what the line `number` adds, or its fault
 abbrev pub with_line : ℕ → Lines → Option TopologyLine → Result Lines TopoFault
 with_line number before None = Err (Syntax number)
 with_line number before (Some line.Empty) = Ok before
@@ -65,13 +66,13 @@ with_line number before (Some (line.Node node)) =
 with_line number before (Some (line.Link link)) =
     with_link_line number (length before.nodes) before.links link >>= λ links. Ok (record before { links = links })
 
--- the lines before, with what the lines add, or the first fault; the first line has the number `number`
+-- `before`, the lines so far, with what the lines add, or the first fault; the first line has the number `number`
 abbrev pub with_lines : ℕ → Lines → List (List ℕ) → Result Lines TopoFault
 with_lines number before [] = Ok before
 with_lines number before (line ∷ later) =
     with_line number before (line_of line) >>= λ now. with_lines (number + 1) now later
 
--- the port of the node `id`; None if the node does not have it
+-- the port of the node `id` with the number `port`; None if there is no number, or the node does not have the port
 abbrev pub port_at : List Node → ℕ → Option ℕ → Option NodePort
 port_at nodes id port =
     option_and_then (λ p. option_and_then (λ node. if nat_le p node.ports then Some (record {
@@ -81,19 +82,20 @@ port_at nodes id port =
     }) else None)
     (slice_get nodes id)) port
 
--- the link between two ports, or the fault of line `number` if one of them does not exist
+-- the link between two ports, or the fault of the line `number` if one of them does not exist (None)
 abbrev pub link_between : ℕ → Option NodePort → Option NodePort → Result Cable TopoFault
 link_between number (Some one) (Some other) = Ok (record { one = one; other = other })
 link_between number (Some one) None = Err (Port number)
 link_between number None other = Err (Port number)
 
--- the link of a line to the peer `id`, or the line's fault
+-- the link that the link line `at` says, to the peer `id`, or the line's fault; None stands for a peer that does not
+-- exist
 abbrev pub link_to : List Node → LinkAt → Option ℕ → Result Cable TopoFault
 link_to nodes at None = Err (Peer at.line)
 link_to nodes at (Some id) =
     link_between at.line (port_at nodes at.node at.link.port) (port_at nodes id at.link.peer_port)
 
--- the link in a line, or the line's fault
+-- the link that the link line `at` says, or the line's fault
 abbrev pub link_of : List Node → LinkAt → Result Cable TopoFault
 link_of nodes at = link_to nodes at (id_of nodes at.link.peer)
 
@@ -101,7 +103,8 @@ link_of nodes at = link_to nodes at (id_of nodes at.link.peer)
 abbrev pub is_end : NodePort → Option NodePort → Bool
 is_end p found = option_map_or (is_same_port p) found false
 
--- `links` with `link` appended, unless it is there already; a fault if one of its ports has another link
+-- `links` with `link` appended, unless it is there already; the fault of the line `number` if one of its ports has
+-- another link
 abbrev pub with_link : ℕ → List Cable → Cable → Result (List Cable) TopoFault
 with_link number links link =
     if is_end link.other (other_end links link.one) then Ok links
@@ -113,11 +116,11 @@ abbrev pub with_links : List Node → List Cable → List LinkAt → Result (Lis
 with_links nodes links [] = Ok links
 with_links nodes links (at ∷ later) = link_of nodes at >>= with_link at.line links >>= λ now. with_links nodes now later
 
--- the topology of the lines, or the first fault of a link
+-- the topology of the nodes and link lines `told`, or the first fault of a link
 abbrev pub topology_in : Lines → Result Layout TopoFault
 topology_in told = with_links told.nodes [] told.links >>= λ links. Ok (record { nodes = told.nodes; links = links })
 
--- the nodes and the links of all lines, or the first fault
+-- the nodes and the link lines of all lines, or the first fault
 abbrev pub nodes_of_lines : List (List ℕ) → Result Lines TopoFault
 nodes_of_lines lines = with_lines 1 (record { nodes = []; links = [] }) lines
 

@@ -3,7 +3,7 @@ use Rattle.std.specs.Prelude.{◌≡◌, ℕ, List, Option, None, Some, Result, 
 use Rattle.topo_file.specs.declared.fault.TopoFault.{TopoFault}
 use Rattle.topo_file.specs.declared.fault.TopoFault.TheVariants.{Syntax, Name, Ports, Peer, Port, Linked, GuidRange, TooManyNodes, Memory}
 
--- the fault is the fault in `told`, or lack of memory
+-- a call is refused for a fault: that in `told`, or lack of memory
 abbrev pub IsRefused : {T : Type 0} → TopoFault → Result T TopoFault → Type 0
 IsRefused Memory told = Unit {0}
 IsRefused fault told = told ≡ Err fault
@@ -13,7 +13,7 @@ abbrev pub ReadsAs : {S T : Type 0} → (S → T) → Result S TopoFault → Res
 ReadsAs seen (Ok value) told = told ≡ Ok (seen value)
 ReadsAs seen (Err fault) told = IsRefused fault told
 
--- the result is `told`, a value or the first fault, unless memory ran out
+-- the result of a call is `told`, a value or the first fault, unless memory ran out
 abbrev pub Reads : {T : Type 0} → Result T TopoFault → Result T TopoFault → Type 0
 Reads result told = ReadsAs (λ value. value) result told
 
@@ -41,7 +41,7 @@ fault_line (GuidRange line) = Some line
 fault_line (TooManyNodes line) = Some line
 fault_line Memory = None
 
--- what `{}` writes for a fault: its line, if there is one, and the word
+-- a fault's word, after its line if there is one
 abbrev pub said_at : Option ℕ → List ℕ → List ℕ
 said_at None word = word
 said_at (Some line) word = codes "line " ++ decimal line ++ codes ": " ++ word

@@ -1,4 +1,4 @@
--- What a topology is.
+-- What a topology is: nodes with names of their own, and links between their ports.
 use Rattle.std.specs.Prelude.{◌≡◌, ◌≢◌, ◌&&◌, ◌==◌, ℕ, Bool, suc, ◌+◌, ◌<◌, ◌≤◌, ◌^◌, List, [], ◌∷◌, All, Option, None, Some, IsTrue, option_map, length}
 use Rattle.std.specs.Prelude.{slice_get, if◌then◌else◌}
 use Rattle.std.specs.List.{AllPairs, list_any}
@@ -16,31 +16,33 @@ pub record Layout : Type 0 where
   pub nodes : List Node
   pub links : List Cable
 
--- the id of the node with this name; None if there is none
+-- the id of the first node with the name `name`, its index; None if there is none
 abbrev pub id_of : List Node → List ℕ → Option ℕ
 id_of [] name = None
 id_of (node ∷ nodes) name = if bytes_eq node.name name then Some 0 else option_map suc (id_of nodes name)
 
--- the id is the id of the node with this name; None if no node has the name
+-- the id is that of a node with the name `name`; for None, no node has the name
 abbrev pub IsFound : List Node → List ℕ → Option ℕ → Type 0
 IsFound nodes name None = All (λ node. node.name ≢ name) nodes
 IsFound nodes name (Some id) = (node : Node) × (slice_get nodes id ≡ Some node) × (node.name ≡ name)
 
--- the node is a switch with this GUID
+-- `node` is a switch with the GUID `guid`
 abbrev pub is_switch_with : ℕ → Node → Bool
 is_switch_with guid node = is_switch node.kind && (node.guid == guid)
 
--- one of the nodes is a switch with this GUID
+-- one of `nodes` is a switch with the GUID `guid`
 abbrev pub has_switch : List Node → ℕ → Bool
 has_switch nodes guid = list_any (is_switch_with guid) nodes
 
--- the size of the forwarding table and the GUIDs of the ports fit the type of the node
+-- a forwarding table of `cap` entries, and the GUIDs of `ports` ports from `guid` on, fit the type of the node; nothing
+-- fits a router
 abbrev pub IsOfKind : NodeType → ℕ → ℕ → ℕ → Type 0
 IsOfKind Switch ports guid cap = (1 ≤ cap) × (cap ≤ 0xC000)
 IsOfKind ChannelAdapter ports guid cap = (cap ≡ 0) × (guid + ports < 2 ^ 64)
 IsOfKind Router ports guid cap = ⊥
 
--- a node that a topology may have
+-- a topology may have `node`: it has a name, 1 to 254 ports, a GUID of 64 bits, and a table and port GUIDs that fit its
+-- type
 pub record IsNode (node : Node) : Type 0 where
   pub named : IsTrue (is_name node.name)
   pub some_ports : 1 ≤ node.ports
@@ -48,26 +50,26 @@ pub record IsNode (node : Node) : Type 0 where
   pub guid_range : node.guid < 2 ^ 64
   pub of_kind : IsOfKind node.kind node.ports node.guid node.cap
 
--- a port of a node in the list, from 1 to its port count
+-- `p` is a port of a node of the list, from 1 to its port count
 pub record IsPortIn (nodes : List Node) (p : NodePort) : Type 0 where
   pub node : Node
   pub there : slice_get nodes p.node ≡ Some node
   pub some : 1 ≤ p.port
   pub within : p.port ≤ node.ports
 
--- both ends of the link are ports of nodes in the list
+-- both ends of `link` are ports of nodes in the list
 pub record IsLinkIn (nodes : List Node) (link : Cable) : Type 0 where
   pub one : IsPortIn nodes link.one
   pub other : IsPortIn nodes link.other
 
--- two links have no port in common
+-- the links `x` and `y` have no port in common
 pub record AreApart (x y : Cable) : Type 0 where
   pub one_one : x.one ≢ y.one
   pub one_other : x.one ≢ y.other
   pub other_one : x.other ≢ y.one
   pub other_other : x.other ≢ y.other
 
--- at most 1,024 nodes, each with a name of its own, and links between their ports, at most one in each port
+-- `t` has at most 1,024 nodes, each with a name of its own, and links between their ports, at most one in each port
 pub record IsTopology (t : Layout) : Type 0 where
   pub few : length t.nodes ≤ 1024
   pub nodes : All IsNode t.nodes

@@ -1,4 +1,4 @@
--- What a line says: nothing, a node or a link.
+-- What a line of a topology says: nothing, a node or a link.
 use Rattle.std.specs.Prelude.{ℕ, List, [], ◌∷◌, Option, None, Some, option_map, option_and_then, codes, ◌||◌, if◌then◌else◌}
 use Rattle.std.specs.Str.{bytes_eq}
 use Rattle.smp_bytes.specs.declared.node_type.NodeType.{NodeType}
@@ -17,8 +17,8 @@ kind_of word =
     if bytes_eq word (codes "Switch") then Some Switch else (if bytes_eq word (codes "Hca")
     || bytes_eq word (codes "Ca") then Some ChannelAdapter else None)
 
--- the size of a node's table: 0 for an adapter; for a switch 1024, or the number after `cap`; the inner value is None
--- if the number is out of range
+-- the size of a node's table, by the words after its GUID: 0 for an adapter; for a switch 1024, or the number after
+-- `cap`; None for other words, and the inner value is None if the number is out of range
 abbrev pub cap_of : NodeType → List (List ℕ) → Option (Option ℕ)
 cap_of Switch [] = Some (Some 1024)
 cap_of Switch (word ∷ cap ∷ []) = if bytes_eq word (codes "cap") then count_of 0xC000 cap else None
@@ -27,7 +27,7 @@ cap_of ChannelAdapter [] = Some (Some 0)
 cap_of ChannelAdapter _ = None
 cap_of Router _ = None
 
--- a node: its port count, its name, 'guid', its GUID, and the size of a switch's table
+-- a node: its port count, its name, 'guid', its GUID, and the size of a switch's table; None if the words say no node
 abbrev pub node_line : NodeType → List (List ℕ) → Option NodeLine
 node_line kind (ports ∷ name ∷ word ∷ guid ∷ rest) =
     if bytes_eq word (codes "guid") then
@@ -37,24 +37,24 @@ node_line kind (ports ∷ name ∷ word ∷ guid ∷ rest) =
     else None
 node_line kind _ = None
 
--- a link: a port, and the peer's name with the peer's port
+-- a link: a port, and the peer's name with the peer's port; None if the words say no link
 abbrev pub link_line : List (List ℕ) → Option LinkLine
 link_line (port ∷ end ∷ []) =
     option_and_then (λ p. option_map (λ x. record { port = p; peer = x.0; peer_port = x.1 }) (named_port end))
     (bracketed_port port)
 link_line _ = None
 
--- what a line says: a node if its first word names a type, otherwise a link
+-- what a line says: a node if its first word names a type, otherwise a link; None if the grammar has no such line
 abbrev pub line_of_kind : Option NodeType → List (List ℕ) → Option TopologyLine
 line_of_kind (Some kind) (word ∷ rest) = option_map Node (node_line kind rest)
 line_of_kind None words = option_map Link (link_line words)
 line_of_kind _ [] = None
 
--- what a line with these words says
+-- what a line with these words says; None if the grammar has no such line
 abbrev pub line_in : List (List ℕ) → Option TopologyLine
 line_in [] = Some Empty
 line_in (word ∷ rest) = line_of_kind (kind_of word) (word ∷ rest)
 
--- what a line says
+-- what a line says; None if the grammar has no such line
 unfoldable pub line_of : List ℕ → Option TopologyLine
 line_of line = line_in (words line)

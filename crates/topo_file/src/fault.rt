@@ -17,7 +17,7 @@ pub enum TopoFault {
     Peer { line: usize },
     /// A link's port is 0 or above its node's port count.
     Port { line: usize },
-    /// A port has two links.
+    /// One of a link's ports has another link.
     Linked { line: usize },
     /// The GUID of an adapter's last port does not fit 64 bits.
     GuidRange { line: usize },

@@ -50,7 +50,7 @@ pub(crate) fn read_line(line: &[u8]) -> Option<TopologyLine>
     }
 }
 
-/// Returns the type of node that a word names, or `None` if it names none.
+/// Returns the type of node that `word` names, or `None` if it names none.
 fn kind(word: &[u8]) -> Option<NodeType>
     ensures { result ≡ kind_of word.now }
 {
@@ -63,7 +63,8 @@ fn kind(word: &[u8]) -> Option<NodeType>
     }
 }
 
-/// Parses the line of a node, without its first word. Returns `None` if the grammar has no such line.
+/// Parses the line of a node of the type `kind`, without its first word. Returns `None` if the grammar has no such
+/// line.
 fn node_line(kind: NodeType, line: &[u8]) -> Option<NodeLine>
     ensures { result ≡ node_line kind (words line.now) }
 {
@@ -83,8 +84,9 @@ fn node_line(kind: NodeType, line: &[u8]) -> Option<NodeLine>
     })
 }
 
-/// Parses the size of a node's forwarding table from the rest of its line. The inner value is `None` if it is out of
-/// range.
+/// Parses the size of a node's forwarding table from the rest of its line. If the line gives none, a switch has 1024,
+/// and an adapter 0. The inner value is `None` if the number is out of range. Returns `None` if the grammar has no such
+/// line.
 fn cap(kind: NodeType, line: &[u8]) -> Option<Option<u16>>
     ensures { result ≡ cap_of kind (words line.now) }
 {
@@ -98,7 +100,7 @@ fn cap(kind: NodeType, line: &[u8]) -> Option<Option<u16>>
 }
 
 /// Parses the size of a switch's forwarding table from the word `cap` and what follows it. The inner value is `None` if
-/// it is out of range.
+/// the number is out of range. Returns `None` if the grammar has no such line.
 fn given_cap(word: &[u8], line: &[u8]) -> Option<Option<u16>>
     ensures { result ≡ cap_of NodeType.Switch (word.now ∷ words line.now) }
 {

@@ -43,7 +43,7 @@ impl Links {
         }
     }
 
-    /// Builds the links of the lines, each once. Takes a few searches for each line.
+    /// Builds the links of `lines`, each once, or returns the first fault.
     pub(crate) fn of(alloc: Global, nodes: &Nodes, lines: &[LinkAt]) -> Result<Self, TopoFault>
         ensures { Reads result (with_links nodes.now [] lines.now) }
     {
@@ -61,14 +61,16 @@ impl Links {
         &self.links
     }
 
-    /// Returns the port at the other end of the link in `port`, or `None` if there is no link. Takes a search.
+    /// Returns the port at the other end of the link in `port`, or `None` if there is no link. Takes time logarithmic
+    /// in the number of ports with links.
     fn other_end(&self, port: NodePort) -> Option<NodePort>
         ensures { result ≡ other_end self.now port }
     {
         self.across.get(&key(port)).copied()
     }
 
-    /// Adds the link of a line, unless it is there already. Returns `Linked` if one of its ports has another link.
+    /// Adds `link`, of the line `line`, unless it is there already. Returns `Linked` if one of its ports has another
+    /// link.
     fn with(self, line: usize, link: Cable) -> Result<Self, TopoFault>
         ensures { Reads result (with_link line self link) }
     {
@@ -81,7 +83,7 @@ impl Links {
         }
     }
 
-    /// Adds a link between two ports that have none.
+    /// Adds `link`, whose ports must have no link.
     fn with_new(self, link: Cable) -> Result<Self, TopoFault>
         requires one { other_end self link.one ≡ None }
         requires other { other_end self link.other ≡ None }
@@ -98,14 +100,15 @@ impl Links {
     }
 }
 
-/// Returns the key of a port in the index.
+/// Returns the key of `port` in the index.
 fn key(port: NodePort) -> (NodeId, PortNum)
     ensures { result ≡ (port.node, port.port) }
 {
     (port.node, port.port)
 }
 
-/// Builds the link of a line, or returns the line's fault.
+/// Builds the link of a line. Returns `Peer` if no node has the peer's name, and otherwise `Port` if one of its nodes
+/// does not have its port.
 fn link(nodes: &Nodes, at: &LinkAt) -> Result<Cable, TopoFault>
     ensures { Reads result (link_of nodes.now at.now) }
 {

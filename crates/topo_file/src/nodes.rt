@@ -53,7 +53,7 @@ impl Nodes {
         self.nodes.len()
     }
 
-    /// Returns the node with this id, or `None` if there is none. Takes one step.
+    /// Returns the node with the id `node`, or `None` if there is none. Takes constant time.
     pub(crate) fn get(&self, node: NodeId) -> Option<&Node>
         ensures { option_copied result ≡ slice_get self.now node }
     {
@@ -67,14 +67,16 @@ impl Nodes {
         &self.nodes
     }
 
-    /// Returns the id of the node with this name, or `None` if there is none. Takes a search.
+    /// Returns the id of the node with the name `name`, or `None` if there is none. Takes time logarithmic in the
+    /// number of nodes.
     pub(crate) fn id(&self, name: &NodeName) -> Option<NodeId>
         ensures { result ≡ id_of self.now name.now }
     {
         self.ids.get(name).copied()
     }
 
-    /// Returns the port of a node, or `None` if the node does not have it. Takes one step.
+    /// Returns the port `port` of `node`. Returns `None` if `port` is `None` or above the node's port count, or there
+    /// is no such node. Takes constant time.
     pub(crate) fn port(&self, node: NodeId, port: Option<u8>) -> Option<NodePort>
         ensures { result ≡ port_at self.now node port }
     {
@@ -88,7 +90,8 @@ impl Nodes {
         })
     }
 
-    /// Appends the node of a line. Returns an error if its name is taken, or there are 1,024 nodes already.
+    /// Appends `node`, of the line `line`. Returns `Name` if its name is taken, and otherwise `TooManyNodes` if there
+    /// are 1,024 nodes already.
     pub(crate) fn with(self, line: usize, node: Node) -> Result<Self, TopoFault>
         ensures { Reads result (with_node line self node) }
     {

@@ -48,8 +48,8 @@ impl Topology {
         self.nodes.len()
     }
 
-    /// Returns the node with this id, or `None` if there is none. Ids count from 0, in the order of the nodes' lines.
-    /// Takes one step.
+    /// Returns the node with the id `node`, or `None` if there is none. Ids count from 0, in the order of the nodes'
+    /// lines. Takes constant time.
     pub fn node(&self, node: NodeId) -> Option<&Node>
         ensures node { option_copied result ≡ slice_get self.now.nodes node }
         ensures is_node { IfSome result (λ node. IsNode node.now) }
@@ -64,7 +64,8 @@ impl Topology {
         self.links.as_slice()
     }
 
-    /// Returns the id of the node with this name, or `None` if there is none. Takes a search.
+    /// Returns the id of the node with the name `name`, or `None` if there is none. Takes time logarithmic in the
+    /// number of nodes.
     pub fn find(&self, name: &str) -> Option<NodeId>
         ensures id { result ≡ id_of self.now.nodes name.now }
         ensures found { IsFound self.now.nodes name.now result }
@@ -72,7 +73,7 @@ impl Topology {
         self.nodes.id(&NodeName::new(name.as_bytes())?)
     }
 
-    /// Returns whether a node is a switch with this GUID. Walks the nodes.
+    /// Returns whether a node is a switch with the GUID `guid`. Takes time linear in the number of nodes.
     pub fn has_switch(&self, guid: Guid) -> bool
         ensures { result ≡ has_switch self.now.nodes guid }
     {
@@ -82,7 +83,7 @@ impl Topology {
             .any(|node| node.kind.is_switch() && node.guid == guid)
     }
 
-    /// Returns whether no two nodes have the same GUID. Takes one step.
+    /// Returns whether no two nodes have the same GUID. Takes constant time.
     pub fn guids_distinct(&self) -> bool
         ensures { IsTrue result ↔ GuidsDiffer self.now.nodes }
     {
@@ -100,13 +101,13 @@ impl Topology {
 /// ```
 ///
 /// A node has a port count, a name and a GUID, and a switch may have the size of its forwarding table. A link has a
-/// port, and its peer's name and port. Takes a search for each node and each link.
+/// port, and its peer's name and port.
 ///
 /// # Errors
 ///
-/// Returns the first fault. Returns `Memory` if memory runs out and no line has a fault other than a fault of its link.
-/// (Whether a link's peer and ports exist and are free is checked by indexes, which take memory.) If memory runs out,
-/// the lines are checked again without any, by a walk over at most 1,024 names for each node.
+/// Returns the first fault: of a line if one has a fault, and otherwise of a link (`Peer`, `Port`, `Linked`). Returns
+/// `Memory` only if memory runs out and no line has a fault. The lines are then checked again without memory, but links
+/// cannot be checked without it.
 pub fn parse(alloc: Global, text: &str) -> Result<Topology, TopoFault>
     ensures reads { Reads result (topology_of text.now) }
     ensures memory { result ≡ Err TopoFault.Memory → first_line_fault text.now ≡ None }
@@ -121,7 +122,7 @@ pub fn parse(alloc: Global, text: &str) -> Result<Topology, TopoFault>
     }
 }
 
-/// Parses the lines of a text into nodes and links.
+/// Parses the lines of a text into nodes and links, or returns the first fault of a line.
 fn read_lines(alloc: Global, text: &[u8]) -> Result<Draft, TopoFault>
     ensures { Reads result (nodes_of_lines (lines text.now)) }
 {
@@ -136,7 +137,8 @@ fn read_lines(alloc: Global, text: &[u8]) -> Result<Draft, TopoFault>
     Ok(draft)
 }
 
-/// Builds the topology of the lines, or returns the first fault of a link.
+/// Builds the topology of the lines, or returns the first fault of a link. The nodes must be such as a topology may
+/// have, and the links' ports at least 1, if they are in range.
 fn finish(alloc: Global, draft: Draft) -> Result<Topology, TopoFault>
     requires { IsDraft draft }
     ensures { Reads result (topology_in draft) }
@@ -154,7 +156,7 @@ fn finish(alloc: Global, draft: Draft) -> Result<Topology, TopoFault>
     })
 }
 
-/// Returns whether no two nodes have the same GUID.
+/// Returns whether no two of `nodes` have the same GUID.
 fn guids_distinct(alloc: Global, nodes: &[Node]) -> Result<bool, AllocError>
     ensures { IfOk result (λ distinct. IsTrue distinct ↔ GuidsDiffer nodes.now) }
 {

@@ -1,4 +1,4 @@
--- The trial loads of an order: packets go from each adapter to each adapter, and each vertex on their way shares its
+-- The trial loads of an order: each adapter sends packets to each adapter, and each vertex on their way shares its
 -- packets evenly over its candidates.
 use Rattle.std.specs.Prelude.{◌≡◌, ◌<◌, ℕ, zero, suc, Bool, not, ◌+◌, ◌-◌, ◌*◌, ◌/◌, ◌^◌, min}
 use Rattle.std.specs.Prelude.{List, [], ◌∷◌, ◌++◌, map, filter, length, replicate, slice_index, slice_set}
@@ -15,40 +15,40 @@ use Rattle.spread_labels.specs.Orders.{by_position, numbers_from, order}
 use Rattle.spread_labels.specs.TargetSets.{EachTarget, has}
 use Rattle.balanced_choices.specs.Loads.{channel_by}
 
--- the numbers, with `more` added at each of the indices, up to 2^64 - 1
+-- the numbers, with `more` added at each of some indices, each at most 2^64 - 1
 abbrev pub with_more : ℕ → List ℕ → List ℕ → List ℕ
 with_more more numbers [] = numbers
 with_more more numbers (i ∷ is) =
     with_more more (slice_set numbers i (min (slice_index numbers i + more) (2 ^ 64 - 1))) is
 
--- packets on their way to a target: how many each vertex has had so far, and how many each channel carries, including
--- those to earlier targets
+-- packets on their way to a target: how many each vertex has had so far, and how many each channel carries, with those
+-- to earlier targets
 pub record Packets : Type 0 where
   pub had : List ℕ
   pub carried : List ℕ
 
--- the share of n packets for each of the candidates es; the rest of the division is dropped
+-- the share of `n` packets that each of the candidates `es` gets; the rest of the division is dropped
 abbrev pub share : ℕ → List Edge → ℕ
 share n es = n / length es
 
--- the packets once vertex s has shared its packets over its candidates es
+-- the packets once vertex `s` has shared those that it had over its candidates `es`
 abbrev pub with_shares : ℕ → List Edge → Packets → Packets
 with_shares s es packets = record {
   had = with_more (share (slice_index packets.had s) es) packets.had (map (λ e. e.to) es);
   carried = with_more (share (slice_index packets.had s) es) packets.carried (map (channel_by s) es);
 }
 
--- the packets once each vertex of the list has shared in turn; `towards` has the candidates of each vertex
+-- the packets once each vertex of a list has shared, one after the other; `towards` has the candidates of each vertex
 abbrev pub shared : (ℕ → List Edge) → List ℕ → Packets → Packets
 shared towards [] packets = packets
 shared towards (s ∷ ss) packets = shared towards ss (with_shares s (towards s) packets)
 
--- the numbers below n, from the last to the first
+-- the numbers below `n`, falling
 abbrev pub last_first : ℕ → List ℕ
 last_first zero = []
 last_first (suc n) = n ∷ last_first n
 
--- whether a candidate of vertex s leads up
+-- whether a candidate of vertex `s` leads up
 abbrev pub goes_up : (ℕ → List Edge) → ℕ → Bool
 goes_up towards s = leads_up s (towards s)
 
@@ -58,44 +58,44 @@ abbrev pub in_turn : (ℕ → List Edge) → ℕ → List ℕ
 in_turn towards n =
     filter (goes_up towards) (last_first n) ++ filter (λ s. not (goes_up towards s)) (numbers_from 0 n)
 
--- the number of packets that each vertex starts with towards a target with `to` adapters: 65,536 from each of its
--- adapters to each of them
+-- how many packets each vertex starts with towards a target with `to` adapters: 65,536 from each of its adapters to
+-- each of those
 abbrev pub first_had : ℕ → List ℕ → List ℕ
 first_had to adapters = map (λ from. 65536 * from * to) adapters
 
--- the loads of the channels of n vertices, once the packets `had` have gone to one more target
+-- the loads of channels of `n` vertices, with the packets that start as in `had` and go to one target added
 abbrev pub carried_to : (ℕ → List Edge) → ℕ → List ℕ → List ℕ → List ℕ
 carried_to towards n had carried = (shared towards (in_turn towards n) (record { had = had; carried = carried })).carried
 
--- the loads of channels, once packets have gone to the adapters of each target of the list, too
+-- the loads of channels, with the packets to the adapters of each target of a list added
 abbrev pub carried_between : List (List Edge) → List ℕ → List ℕ → List ℕ → List ℕ
 carried_between graph adapters carried [] = carried
 carried_between graph adapters carried (t ∷ ts) =
     carried_between graph adapters
     (carried_to (candidates graph t) (length graph) (first_had (slice_index adapters t) adapters) carried) ts
 
--- the load of each channel by the packets between all adapters
+-- the load of each channel by the packets among all adapters, in a graph numbered in a grown order
 abbrev pub loads_by : List (List Edge) → List ℕ → List ℕ
 loads_by graph adapters =
     carried_between graph adapters (replicate (256 * length graph) 0) (leaf_vertices adapters)
 
--- the trial loads of the order that grows by the keys
+-- the load of each channel by the packets among all adapters, in the order that grows by `keys`
 unfoldable pub trial_loads : List (List Edge) → List ℕ → List VertexKey → List ℕ
 trial_loads edges adapters keys =
     let vertices = order edges (before_by keys) in
     loads_by (by_position edges vertices) (map (slice_index adapters) vertices)
 
--- the greatest trial load of a channel
+-- the load of the busiest channel, in the order that grows by `keys`
 abbrev pub trial_load : List (List Edge) → List ℕ → List VertexKey → ℕ
 trial_load edges adapters keys = greatest 0 (trial_loads edges adapters keys)
 
 -- how candidates are found: ----------------------------------------------------------------------------
 
--- the candidates of vertex s towards target k of the sets
+-- the candidates of vertex `s` towards target `k`, from the sets of each edge
 abbrev pub candidates_in : List (List Edge) → List (List TargetSet) → ℕ → ℕ → List Edge
 candidates_in graph rows k s = picked k (sets_at rows s) (edges_at graph s)
 
--- for each vertex, the targets towards which it goes up
+-- `ups` has for each vertex the targets towards which one of its candidates leads up
 pub record AreUpward (graph : List (List Edge)) (rows : List (List TargetSet)) (ups : List TargetSet) : Type 0 where
   pub all : length ups ≡ length graph
   pub each : EachTarget (λ k. (s : ℕ) → s < length graph

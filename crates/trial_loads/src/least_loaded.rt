@@ -24,8 +24,8 @@ struct Trial {
 
 /// Returns `keys` if the trial loads of the order that grows by them are even. Otherwise returns the keys of the order
 /// with the least trial load: `keys` themselves, or the keys by an order by depth from one of the first eight vertices,
-/// forwards or backwards. Of equal trial loads the first counts. `adapters` has the number of adapters at each vertex.
-/// Takes at most 17 trials.
+/// forwards or backwards. Of equal trial loads the first counts. There must be a key for each vertex, for each edge an
+/// edge back, and in `adapters` the number of adapters at each vertex. Takes at most 17 trials.
 pub fn least_loaded_keys(
     alloc: Global,
     edges: &Adjacency,
@@ -52,7 +52,8 @@ pub fn least_loaded_keys(
     Ok(best.keys)
 }
 
-/// Tries the orders by depth in one direction. Returns the trial of the least load of these and `first`.
+/// Tries the orders by depth in `direction`. Returns the trial of the least load of `first` and these, or the first
+/// such one.
 fn try_by_depth(
     alloc: Global,
     edges: &Adjacency,
@@ -104,7 +105,8 @@ fn lesser(best: Trial, other: Trial) -> Trial
     if other.load < best.load { other } else { best }
 }
 
-/// Returns the keys of the vertices by the order by depth from `root`.
+/// Returns the keys of the vertices by the order by depth from `root`, in which `keys` and `direction` decide between
+/// equals.
 fn keys_by_depth(
     alloc: Global,
     edges: &Adjacency,
@@ -121,7 +123,8 @@ fn keys_by_depth(
     keys_in(alloc, &vertices, edges.len())
 }
 
-/// Returns the keys of `count` vertices by the list `vertices`: the number of vertices before each there.
+/// Returns the key of each of `count` vertices: the number of vertices before it in `vertices`, or the length of
+/// `vertices` if it is not there.
 fn keys_in(alloc: Global, vertices: &[usize], count: usize) -> Result<Vec<VertexKey>, AllocError>
     ensures { IfOk result (λ keys. keys.items ≡ keys_in vertices.now count) }
 {

@@ -16,8 +16,8 @@ use std::alloc::{AllocError, Global};
 /// The number of packets from each adapter to each adapter.
 const PACKETS: usize = 65_536;
 
-/// Adds to `loads` what each channel carries of the packets from all adapters to those at each target. There are at
-/// most 64 targets.
+/// Adds to `loads` what each channel carries of the packets from all adapters to those at each target. There must be at
+/// most 64 targets. No load rises above 2^64 - 1.
 pub(crate) fn add_packets_between(
     alloc: Global,
     graph: &Adjacency,
@@ -132,7 +132,7 @@ fn share_down(
 }
 
 /// Shares the packets of `position` evenly over its candidates towards target `k`: those of `edges` whose set has the
-/// target.
+/// target. The rest of the division is dropped.
 fn share(
     edges: &[Edge],
     sets: &[TargetSet],
@@ -166,7 +166,7 @@ fn share(
     }
 }
 
-/// Counts the sets that have `target`.
+/// Returns the number of `sets` that have `target`, which must be less than 64.
 fn count_having(sets: &[TargetSet], target: usize) -> usize
     requires { target < 64 }
     ensures { result ≡ count_by (λ set. has set target) sets.now }

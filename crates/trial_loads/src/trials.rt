@@ -31,10 +31,9 @@ pub(crate) fn trial_load(
 }
 
 /// Returns the number of packets that each channel carries in the order that grows by `keys`. Each adapter sends 65,536
-/// packets to each adapter. Each vertex on the way shares its packets evenly over its candidates. `adapters` has the
-/// number of adapters at each vertex. Takes the time to grow the order. For each 64 vertices that have adapters, takes
-/// a step or two for each edge in as many rounds as the greatest cost. For each vertex that has adapters, takes three
-/// steps for each vertex and at most two for each edge.
+/// packets to each adapter. Each vertex on the way shares its packets evenly over its candidates. `adapters` must have
+/// the number of adapters at each vertex. Grows the order, finds candidates for 64 vertices with adapters at a time,
+/// and takes time linear in the number of vertices and edges for each such vertex.
 pub(crate) fn trial_loads(
     alloc: Global,
     edges: &Adjacency,
@@ -54,8 +53,8 @@ pub(crate) fn trial_loads(
     loads_by(alloc, &graph, &adapters)
 }
 
-/// Returns how many packets each channel carries if each adapter sends 65,536 packets to each adapter. `adapters` has
-/// the number of adapters at each vertex of `graph`. Counts the packets to 64 targets at a time.
+/// Returns how many packets each channel carries if each adapter sends 65,536 packets to each adapter. `adapters` must
+/// have the number of adapters at each vertex of `graph`. Counts the packets to 64 targets at a time.
 fn loads_by(alloc: Global, graph: &Adjacency, adapters: &[u16]) -> Result<Vec<usize>, AllocError>
     requires lead { LeadToVertices graph.now }
     requires adapters { length adapters.now ≡ length graph.now }

@@ -25,7 +25,7 @@ pub(crate) fn upward(
     Ok(ups)
 }
 
-/// Returns the targets in the sets of the edges that lead up from `position`.
+/// Returns the targets in the sets of those of `edges` that lead up from `position`.
 fn upward_from(edges: &[Edge], sets: &[TargetSet], position: usize) -> TargetSet
     requires { length sets.now ≡ length edges.now }
     ensures { EachTarget (λ k. has result k ≡ leads_up position (picked k sets.now edges.now)) }

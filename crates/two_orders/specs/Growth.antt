@@ -6,18 +6,18 @@ use Rattle.spread_labels.specs.declared.vertex_key.VertexKey.{VertexKey}
 use Rattle.spread_labels.specs.Keys.{before_by}
 use Rattle.spread_labels.specs.Orders.{order, position_of}
 
--- the key of a vertex at this position
+-- the key of a vertex at `position`
 abbrev pub key_of : ℕ → VertexKey
 key_of position = record { distance_class = 0; distance = position }
 
--- the vertices in the order that grows by positions
+-- the vertices in the order that grows by `positions`
 abbrev pub grown_by : List (List Edge) → List ℕ → List ℕ
 grown_by edges positions = order edges (before_by (map key_of positions))
 
--- the positions of n vertices in a list; the length of the list for a vertex that is not there
+-- the position in `vertices` of each of `n` vertices; the length of the list for one that is not there
 abbrev pub positions_in : List ℕ → ℕ → List ℕ
 positions_in vertices n = map (position_of vertices) (range_with_len 0 n)
 
--- the number at index i; 0 past the end
+-- the number at index `i`; 0 past the end
 abbrev pub number_at : List ℕ → ℕ → ℕ
 number_at numbers i = slice_index_or numbers i 0

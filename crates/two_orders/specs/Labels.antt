@@ -8,73 +8,74 @@ use Rattle.two_orders.specs.declared.labels.Sides.{Sides}
 use Rattle.two_orders.specs.TwoOrders.{TwoOrders}
 use Rattle.two_orders.specs.Trees.{is_earlier}
 
--- an edge from i to j leads to an earlier position if `up`, and to a later one otherwise
+-- whether an edge from vertex `i` to `j` leads to an earlier position if `up`, or to a later one if not
 abbrev pub is_side : List ℕ → Bool → ℕ → ℕ → Bool
 is_side positions up i j = if up then is_earlier positions j i else is_earlier positions i j
 
--- an edge from i to j leads to these sides by the two orders
+-- whether an edge from vertex `i` to `j` leads up or down by each of the two orders as `sides` says
 abbrev pub leads : TwoOrders → Sides → ℕ → ℕ → Bool
 leads orders sides i j = is_side orders.first sides.first_up i j && is_side orders.second sides.second_up i j
 
--- a walk that came by an edge to `before` may go on by an edge to `after`: it goes up by an order only if it came up by
--- that order
+-- whether a walk that came by an edge to `before` may go on by an edge to `after`: it may go up by an order only if it
+-- came up by that order
 abbrev pub may_follow : Sides → Sides → Bool
 may_follow before after = (not after.first_up || before.first_up) && (not after.second_up || before.second_up)
 
--- a walk that came by an edge to `before` may go on from a vertex with this label; without a label it may not
+-- whether a walk that came by an edge to `before` may go on from a vertex with the given label; false if that has none
 abbrev pub goes_on : Sides → Option Sides → Bool
 goes_on before None = false
 goes_on before (Some after) = may_follow before after
 
--- the label of vertex i; None if it has none
+-- the label of vertex `i`; None if it has none
 abbrev pub label_at : List (Option Sides) → ℕ → Option Sides
 label_at labels i = slice_index_or labels i None
 
--- an edge from i to j leads to these sides, and a walk may go on from j
+-- whether an edge from vertex `i` to `j` leads up or down as `sides` says, and a walk may go on from `j`
 abbrev pub leads_on : TwoOrders → List (Option Sides) → Sides → ℕ → ℕ → Bool
 leads_on orders labels sides i j = leads orders sides i j && goes_on sides (label_at labels j)
 
--- the vertex exists and has no label
+-- whether a vertex exists and has no label
 abbrev pub is_open : Option (Option Sides) → Bool
 is_open None = false
 is_open (Some None) = true
 is_open (Some (Some label)) = false
 
--- whether vertex i has no label and one of its edges leads on to these sides
+-- whether vertex `i` has no label, and one of its edges leads on to these sides
 abbrev pub gets_label : List (List Edge) → TwoOrders → Sides → List (Option Sides) → ℕ → Bool
 gets_label edges orders sides labels i =
     is_open (slice_get labels i) && list_any (λ e. leads_on orders labels sides i e.to) (edges_at edges i)
 
--- the labels once vertex i has the label `sides`, if it had none and one of its edges leads on to these sides
+-- the labels once vertex `i` has the label `sides`, if it had none and one of its edges leads on to these sides; else
+-- unchanged
 abbrev pub labelled : List (List Edge) → TwoOrders → Sides → List (Option Sides) → ℕ → List (Option Sides)
 labelled edges orders sides labels i =
     if gets_label edges orders sides labels i then slice_set labels i (Some sides) else labels
 
--- the labels once each vertex of the list, one after the other, has the label `sides`, if it had none and one of its
--- edges leads on
+-- the labels once each vertex of a list, one after the other, has the label `sides`, if it had none and one of its
+-- edges leads on to these sides
 abbrev pub all_labelled : List (List Edge) → TwoOrders → Sides → List (Option Sides) → List ℕ → List (Option Sides)
 all_labelled edges orders sides labels [] = labels
 all_labelled edges orders sides labels (i ∷ vertices) =
     all_labelled edges orders sides (labelled edges orders sides labels i) vertices
 
--- down by both orders
+-- the label of walks that begin down by both orders
 abbrev pub both_down : Sides
 both_down = record { first_up = false; second_up = false }
 
--- up by the first order only
+-- the label of walks that begin up by the first order and down by the second
 abbrev pub first_goes_up : Sides
 first_goes_up = record { first_up = true; second_up = false }
 
--- up by the second order only
+-- the label of walks that begin down by the first order and up by the second
 abbrev pub second_goes_up : Sides
 second_goes_up = record { first_up = false; second_up = true }
 
--- up by both orders
+-- the label of walks that begin up by both orders
 abbrev pub both_up : Sides
 both_up = record { first_up = true; second_up = true }
 
--- the labels of all vertices: first of those from which walks go down by both orders, then of those from which they go
--- down by the second, then of those from which they go down by the first, and then of all others
+-- the labels of all vertices from the given first ones: next come vertices from which walks begin down by both orders,
+-- then down by the second alone, then down by the first alone, then up by both
 unfoldable pub labels_from : List (List Edge) → TwoOrders → List (Option Sides) → List (Option Sides)
 labels_from edges orders labels =
     all_labelled edges orders both_up

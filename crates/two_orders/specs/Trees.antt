@@ -6,11 +6,11 @@ use Rattle.port_graph.specs.Heads.{edges_at, heads}
 use Rattle.spread_labels.specs.Orders.{earliest}
 use Rattle.two_orders.specs.Growth.{number_at}
 
--- vertex a has an earlier position than b
+-- whether vertex `a` has an earlier position than vertex `b`
 abbrev pub is_earlier : List ℕ → ℕ → ℕ → Bool
 is_earlier positions a b = nat_lt (number_at positions a) (number_at positions b)
 
--- the earliest of vertex v and its neighbors, the vertices that its edges lead to
+-- the earliest of vertex `v` and its neighbors, the vertices that its edges lead to
 abbrev pub earliest_beside : List (List Edge) → List ℕ → ℕ → ℕ
 earliest_beside edges positions v = earliest (is_earlier positions) v (heads edges v)
 
@@ -18,19 +18,20 @@ earliest_beside edges positions v = earliest (is_earlier positions) v (heads edg
 abbrev pub all_earliest : List (List Edge) → List ℕ → List ℕ
 all_earliest edges positions = map (earliest_beside edges positions) (range_with_len 0 (length edges))
 
--- an edge of v is in the tree if it leads to the earliest of v and its neighbors, or if v is the earliest of the vertex
--- at its other end and that vertex's neighbors
+-- whether edge `e` of vertex `v` is in the tree: it leads to the earliest of `v` and its neighbors, or `v` is the
+-- earliest of the other end and its neighbors
 abbrev pub is_in_tree : List ℕ → ℕ → Edge → Bool
 is_in_tree earliests v e = (number_at earliests v == e.to) || (number_at earliests e.to == v)
 
--- the edges of v that are in the tree
+-- the edges of vertex `v` that are in the tree, given the earliest for each vertex
 abbrev pub tree_edges : List (List Edge) → List ℕ → ℕ → List Edge
 tree_edges edges earliests v = filter (is_in_tree earliests v) (edges_at edges v)
 
--- the edges of each vertex that are in the tree
+-- the edges of each vertex that are in the tree, given the earliest for each vertex
 abbrev pub tree_by : List (List Edge) → List ℕ → List (List Edge)
 tree_by edges earliests = map (tree_edges edges earliests) (range_with_len 0 (length edges))
 
--- the tree of these positions
+-- the tree of an order: of each vertex, the edges between it and its earliest neighbor, and between it and vertices
+-- whose earliest neighbor it is
 unfoldable pub tree : List (List Edge) → List ℕ → List (List Edge)
 tree edges positions = tree_by edges (all_earliest edges positions)

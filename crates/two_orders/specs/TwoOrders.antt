@@ -1,16 +1,16 @@
--- Two orders of vertices.
+-- Two orders of vertices, by their positions in each.
 use Rattle.std.specs.Prelude.{ℕ, List, reverse}
 use Rattle.two_orders.specs.Growth.{positions_in}
 
--- the positions of vertices in the first order and in the second, and the vertices of the second, from the first to the
--- last and from the last to the first
+-- the positions of vertices in a first and in a second order, and the vertices of the second order, forwards and
+-- backwards
 pub record TwoOrders : Type 0 where
   pub first : List ℕ
   pub second : List ℕ
   pub rising : List ℕ
   pub falling : List ℕ
 
--- two orders of n vertices, given the positions in the first and the vertices of the second
+-- two orders of `n` vertices, from their positions in the first and the vertices of the second
 abbrev pub two_orders : List ℕ → List ℕ → ℕ → TwoOrders
 two_orders first rising n = record {
   first = first;

@@ -9,8 +9,8 @@ use port_graph::Adjacency;
 use spread_labels::{VertexKey, grown_order};
 use std::alloc::{AllocError, Global};
 
-/// Returns the vertices in the order that grows by `positions`. Takes one step for each pair of vertices and for each
-/// edge.
+/// Returns the vertices in the order that grows by `positions`. There must be a position for each vertex, and for each
+/// edge an edge back. Takes time quadratic in the number of vertices, and linear in that of edges.
 pub fn grown_by(
     alloc: Global,
     edges: &Adjacency,
@@ -25,7 +25,7 @@ pub fn grown_by(
     grown_order(alloc, edges, &keys)
 }
 
-/// Returns positions as keys.
+/// Returns each of `positions` as a key.
 fn keys_of(alloc: Global, positions: &[usize]) -> Result<Vec<VertexKey>, AllocError>
     ensures { IfOk result (λ keys. keys.items ≡ map key_of positions.now) }
 {
@@ -35,7 +35,7 @@ fn keys_of(alloc: Global, positions: &[usize]) -> Result<Vec<VertexKey>, AllocEr
         .collect(alloc)
 }
 
-/// Returns a position as a key.
+/// Returns `position` as a key.
 fn key_of(position: usize) -> VertexKey
     ensures { result ≡ key_of position }
 {
@@ -45,8 +45,8 @@ fn key_of(position: usize) -> VertexKey
     }
 }
 
-/// Returns the position of each of `count` vertices in a list, or the length of the list for a vertex that is not
-/// there. Takes a step for each vertex and each element of the list.
+/// Returns the position of each of `count` vertices in `vertices`, or the length of `vertices` for a vertex that is not
+/// there. Takes time linear in that length for each of the `count` vertices.
 pub fn positions_in(
     alloc: Global,
     vertices: &[usize],
@@ -59,7 +59,7 @@ pub fn positions_in(
         .collect(alloc)
 }
 
-/// Returns the position of `vertex` in a list, or the length of the list if it is not there.
+/// Returns the position of `vertex` in `vertices`, or the length of `vertices` if it is not there.
 fn position_of(vertices: &[usize], vertex: usize) -> usize
     ensures { result ≡ position_of vertices.now vertex }
 {

@@ -23,9 +23,10 @@ const BOTH_DOWN: Sides = Sides {
     second_up: false,
 };
 
-/// Labels the vertices from which walks reach the vertices that have a label. Labels in turn those from which walks go
-/// down by both orders, those from which they go down by the second, those from which they go down by the first, and
-/// all others. Takes at most four steps for each edge.
+/// Gives labels to vertices from which walks go up and then down, by both orders, to a vertex that has a label. Labels
+/// in turn those from which walks go down by both orders, those from which they go down by the second, those from which
+/// they go down by the first, and others. Looks at most four times at each vertex that the second order lists, and at
+/// its edges.
 pub fn label_all(labels: &mut Vec<Option<Sides>>, edges: &Adjacency, orders: &Orders)
     ensures { labels.new.items ≡ labels_from edges.now orders.now labels.old.items }
 {
@@ -58,7 +59,7 @@ fn to_sides(first_up: bool, second_up: bool) -> Sides
     }
 }
 
-/// Gives each vertex of a list in turn the label `sides`, if it has none and one of its edges leads on to `sides`.
+/// Gives each of `vertices` in turn the label `sides`, if it has none and one of its edges leads on to `sides`.
 fn label_each(
     labels: &mut Vec<Option<Sides>>,
     edges: &Adjacency,
@@ -73,7 +74,7 @@ fn label_each(
     }
 }
 
-/// Gives a vertex the label `sides`, if it has none and one of its edges leads on to `sides`.
+/// Gives `vertex` the label `sides`, if it has none and one of its edges leads on to `sides`.
 fn label(
     labels: &mut Vec<Option<Sides>>,
     edges: &Adjacency,
@@ -88,7 +89,7 @@ fn label(
     }
 }
 
-/// Returns whether a vertex has no label and one of its edges leads on to `sides`.
+/// Returns whether `vertex` has no label and one of its edges leads on to `sides`.
 fn gets_label(
     labels: &[Option<Sides>],
     edges: &Adjacency,
@@ -101,7 +102,7 @@ fn gets_label(
     is_open(labels, vertex) && some_leads_on(edges.at(vertex), orders, labels, sides, vertex)
 }
 
-/// Returns whether one of the edges of a vertex leads on to `sides`.
+/// Returns whether one of `edges`, those of `vertex`, leads on to `sides`.
 fn some_leads_on(
     edges: &[Edge],
     orders: &Orders,
@@ -175,7 +176,7 @@ fn may_follow(before: Sides, after: Sides) -> bool
     (!after.first_up || before.first_up) && (!after.second_up || before.second_up)
 }
 
-/// Returns the label of the vertex at `index`, or `None` if it has none.
+/// Returns the label of the vertex at `index`, or `None` if it has none or does not exist.
 pub fn label_at(labels: &[Option<Sides>], index: usize) -> Option<Sides>
     ensures { result ≡ label_at labels.now index }
 {

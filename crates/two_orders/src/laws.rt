@@ -40,8 +40,8 @@ pub fn grows_again()
     ensures law { GrowsAgain }
 {}
 
-/// If, by some positions, each vertex but the first of its component is beside an earlier one, then the order that
-/// grows by these positions does not change the order of the vertices within any component.
+/// If vertices have different positions, and by these each vertex but the first of its component is beside an earlier
+/// one, then the order that grows by these positions does not change the order of the vertices within any component.
 pub fn grown_orders_stay()
     ensures law { GrownOrdersStay }
 {}

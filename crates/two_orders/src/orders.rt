@@ -6,7 +6,7 @@ use crate::growth::positions_in;
 use std::alloc::{AllocError, Global};
 use std::marker::Model;
 
-/// Two orders of vertices.
+/// Two orders of vertices, with the positions in both and the vertices of the second.
 #[derive(Drop)]
 pub struct Orders {
     /// The position of each vertex in the first order.
@@ -82,7 +82,7 @@ impl Orders {
         &self.falling
     }
 
-    /// Returns the position of each vertex in the first order, and frees the rest.
+    /// Returns the position of each vertex in the first order, and frees the second.
     pub fn into_first(self) -> Vec<usize>
         ensures { result.items ≡ self.first }
     {

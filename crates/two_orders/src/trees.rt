@@ -8,7 +8,7 @@ use port_graph::{Adjacency, Edge};
 use std::alloc::{AllocError, Global};
 
 /// Returns the edges between each vertex and its earliest neighbor by `positions`. A vertex without an earlier neighbor
-/// adds no edge. Takes two steps for each edge.
+/// adds no edge. Takes time linear in the number of vertices and edges.
 pub fn tree(alloc: Global, edges: &Adjacency, positions: &[usize]) -> Result<Adjacency, AllocError>
     ensures { IfOk result (λ found. found ≡ tree edges.now positions.now) }
 {
@@ -16,8 +16,8 @@ pub fn tree(alloc: Global, edges: &Adjacency, positions: &[usize]) -> Result<Adj
     tree_by(alloc, edges, &earliest)
 }
 
-/// Returns the edges of each vertex that are in the tree. `earliest` has for each vertex the earliest among itself and
-/// its neighbors.
+/// Returns the edges of each vertex that are in the tree. `earliest` must have for each vertex the earliest among
+/// itself and its neighbors.
 fn tree_by(alloc: Global, edges: &Adjacency, earliest: &[usize]) -> Result<Adjacency, AllocError>
     ensures { IfOk result (λ found. found ≡ tree_by edges.now earliest.now) }
 {
@@ -88,7 +88,7 @@ fn tree_edges(
         .collect(alloc)
 }
 
-/// Returns whether an edge of `vertex` is in the tree.
+/// Returns whether `edge`, one of `vertex`, is in the tree.
 fn is_in_tree(earliest: &[usize], vertex: usize, edge: &Edge) -> bool
     ensures { result ≡ is_in_tree earliest.now vertex edge.now }
 {

@@ -1,4 +1,5 @@
--- The numbers of channels. They rise along each way, so packets never wait for each other in a credit loop.
+-- The numbers of channels by up/down routing. They rise along each way, so packets never wait for each other in a
+-- credit loop.
 use Rattle.std.specs.Prelude.{ℕ, ◌+◌, ◌-◌, List, ◌++◌, count_by, ◌&&◌, if◌then◌else◌}
 use Rattle.std.specs.List.Sorted.{IsStrictlyIncreasing}
 use Rattle.port_graph.specs.Routes.{Way}
@@ -9,22 +10,22 @@ use Rattle.subnet_view.specs.Components.{in_one_component}
 use Rattle.subnet_view.specs.Routing.{numbers_along}
 use Rattle.updown_routes.specs.Ranks.{is_before, slopes_of}
 
--- the number of switches in b's component
+-- the number of switches in the component of switch `b`
 abbrev pub component_size : List SwitchEdges → ℕ → ℕ
 component_size graph b = count_by (in_one_component graph b) (guids_of graph)
 
--- the number of switches in b's component that are before b
+-- the number of switches in the component of switch `b` that are before `b`
 abbrev pub position_of : List SwitchEdges → ℕ → ℕ
 position_of graph b = count_by (λ a. in_one_component graph b a && is_before graph a b) (guids_of graph)
 
--- the number of the channel from a to b: the size of the component, minus the position of b if the wire leads up, or
--- plus the position of b if the wire leads down
+-- the number of the channel from switch `a` to switch `b`: the size of their component, minus the position of `b` if
+-- the wire leads up, or plus it if not
 abbrev pub channel_number : List SwitchEdges → ℕ → ℕ → ℕ
 channel_number graph a b =
     if is_before graph b a then component_size graph b - position_of graph b else component_size graph b
     + position_of graph b
 
--- the channel numbers rise along each way by next ports
+-- in a graph, channel numbers rise along each way up and then down, from a switch of it
 abbrev pub ChannelLaw : Type 0
 ChannelLaw = (graph : List SwitchEdges) → IsGraph graph → (s t n : ℕ) → IsSwitch graph s
     → (w : Way (slopes_of graph) s t n)

@@ -3,22 +3,22 @@ use Rattle.std.specs.Prelude.{◌≡◌, ◌<◌, ℕ, Bool, true, List, map, Ea
 use Rattle.std.specs.List.{enumerate_from}
 use Rattle.std.specs.Option.{option_or}
 
--- a is of lesser rank than b, or of equal rank and lesser index
+-- whether index `a` has a lesser rank than index `b`, or an equal rank and is less; a missing rank counts as 0
 abbrev pub goes_before : List (Option ℕ) → ℕ → ℕ → Bool
 goes_before ranks a b = let ra = unwrap_or (slice_index_or ranks a None) 0 in let rb =
     unwrap_or (slice_index_or ranks b None) 0 in nat_lt ra rb || (ra == rb && nat_lt a b)
 
--- for each index, in order, a pair of its rank and the index; a missing rank counts as 0
+-- each index, in order, after its rank; a missing rank counts as 0
 abbrev pub ranked : List (Option ℕ) → List (ℕ × ℕ)
 ranked ranks = map (λ x. (unwrap_or x.1 0, x.0)) (enumerate_from 0 ranks)
 
--- each switch without a rank gets its distance; the other ranks stay
+-- `new` is `ranks` with the distance, if there is one, for each index without a rank
 abbrev pub FillsIn : List (Option ℕ) → List (Option ℕ) → List (Option ℕ) → Type 0
 FillsIn ranks distances new =
     EachIndex new (λ k. slice_index_or new k None
     ≡ option_or (slice_index_or ranks k None) (slice_index_or distances k None))
 
--- all indices, by rank and then by index
+-- `order` has each index of `ranks` once, by rank and then by index
 pub record IsOrder (ranks : List (Option ℕ)) (order : List ℕ) : Type 0 where
   pub all : length order ≡ length ranks
   pub each : (i : ℕ) → i < length ranks → Contains order i
@@ -26,7 +26,7 @@ pub record IsOrder (ranks : List (Option ℕ)) (order : List ℕ) : Type 0 where
   pub rises : (p q : ℕ) → p < q → q < length order → goes_before ranks (slice_index order p) (slice_index order q)
       ≡ true
 
--- for each index, its position in the order
+-- `positions` has for each index its position in `order`
 pub record ArePositions (order positions : List ℕ) : Type 0 where
   pub all : length positions ≡ length order
   pub position : (p : ℕ) → p < length order → slice_index positions (slice_index order p) ≡ p

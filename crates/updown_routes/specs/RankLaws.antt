@@ -1,4 +1,4 @@
--- Ranks, and what is up and down, as statements.
+-- Laws of ranks: what a root, a rank, up and down are.
 use Rattle.std.specs.Prelude.{◌≡◌, ◌<◌, ◌≤◌, ◌↔◌, ◌⊎◌, ℕ, List, Contains, IsTrue, MatchOption}
 use Rattle.port_graph.specs.declared.edge.Edge.{Edge}
 use Rattle.port_graph.specs.Walks.{Walk, IsShortest}
@@ -8,32 +8,33 @@ use Rattle.subnet_view.specs.Graph.{edges_at, neighbors}
 use Rattle.subnet_view.specs.GraphLaws.{IsGraph, IsSwitch}
 use Rattle.updown_routes.specs.Ranks.{rank_of, is_before, slopes_of}
 
--- the root of a switch's component: it can be reached, and no switch with a lesser GUID can
+-- `root` is the root of the component of switch `a`: a walk from `a` leads to it, and none to a lesser GUID
 pub record IsRoot (graph : List SwitchEdges) (a root : ℕ) : Type 0 where
   pub reached : (n : ℕ) × Walk (neighbors graph) a root n
   pub least : (b n : ℕ) → Walk (neighbors graph) a b n → root ≤ b
 
--- n is the rank of switch a: the length of a shortest walk from its root
+-- `n` is the rank of switch `a`: the length of a shortest walk to it from its root
 abbrev pub HasRank : List SwitchEdges → ℕ → ℕ → Type 0
 HasRank graph a n = (root : ℕ) × IsRoot graph a root × IsShortest (neighbors graph) root a n
 
--- a is of lesser rank than b, or of equal rank and lesser GUID
+-- switch `a` is before switch `b`: of lesser rank, or of equal rank and lesser GUID; true if one of them has no rank
 abbrev pub IsBefore : List SwitchEdges → ℕ → ℕ → Type 0
 IsBefore graph a b = (m n : ℕ) → HasRank graph a m → HasRank graph b n → (m < n) ⊎ ((m ≡ n) × (a < b))
 
 -- the laws: ------------------------------------------------------------------------
 
--- each switch has a rank, as `HasRank` states
+-- each switch of a graph has a rank, and `rank_of` gives it (`HasRank`)
 abbrev pub RankLaw : Type 0
 RankLaw = (graph : List SwitchEdges) → IsGraph graph → (a : ℕ) → IsSwitch graph a
     → MatchOption (rank_of graph a) ⊥ (HasRank graph a)
 
--- `is_before` agrees with `IsBefore`
+-- for switches of a graph, `is_before` answers true exactly if `IsBefore` holds
 abbrev pub BeforeLaw : Type 0
 BeforeLaw = (graph : List SwitchEdges) → IsGraph graph → (a b : ℕ) → IsSwitch graph a → IsSwitch graph b
     → IsTrue (is_before graph a b) ↔ IsBefore graph a b
 
--- an edge leads up if its end is before the switch, and down if its end is after it
+-- an edge of a switch of a graph leads up exactly if its end is before the switch, and down exactly if its end is after
+-- it (`IsBefore`)
 abbrev pub SlopeLaw : Type 0
 SlopeLaw = (graph : List SwitchEdges) → IsGraph graph → (a : ℕ) (e : Edge) → IsSwitch graph a
     → (Contains (ups_at (slopes_of graph) a) e ↔ (Contains (edges_at graph a) e × IsBefore graph e.to a))

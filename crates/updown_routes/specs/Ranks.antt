@@ -1,4 +1,4 @@
--- Ranks, and what is up and down.
+-- Ranks of switches, and which edges lead up and which down.
 use Rattle.std.specs.Prelude.{◌≡◌, ℕ, Bool, List, map, filter, Option, ◌==◌, ◌&&◌, ◌||◌, nat_lt, unwrap_or, option_and_then}
 use Rattle.port_graph.specs.Slopes.{Slope}
 use Rattle.subnet_view.specs.SwitchEdges.{SwitchEdges}
@@ -6,16 +6,16 @@ use Rattle.subnet_view.specs.Graph.{guids_of}
 use Rattle.subnet_view.specs.GraphLaws.{IsGraph}
 use Rattle.subnet_view.specs.Components.{distance, root_of}
 
--- the fewest wires from the root of a's component to a; None if a is no switch of the graph
+-- the rank of switch `a`: the fewest wires to it from the root of its component; None if it is no switch of the graph
 abbrev pub rank_of : List SwitchEdges → ℕ → Option ℕ
 rank_of graph a = option_and_then (λ root. distance graph root a) (root_of graph a)
 
--- a is before b: by rank, and then by GUID
+-- whether switch `a` is before switch `b`: of lesser rank, or of equal rank and lesser GUID; a missing rank counts as 0
 abbrev pub is_before : List SwitchEdges → ℕ → ℕ → Bool
 is_before graph a b = let ra = unwrap_or (rank_of graph a) 0 in let rb =
     unwrap_or (rank_of graph b) 0 in nat_lt ra rb || (ra == rb && nat_lt a b)
 
--- a switch's wires up, to switches before it, and down, to switches after it
+-- a switch with its edges up, to switches before it, and its edges down, to switches after it
 abbrev pub slope_of : List SwitchEdges → SwitchEdges → Slope
 slope_of graph c = record {
   guid = c.guid;
@@ -24,11 +24,11 @@ slope_of graph c = record {
       filter (λ e. is_before graph c.guid e.to) c.edges;
 }
 
--- the wires up and down of each switch
+-- each switch with its edges up and its edges down
 abbrev pub slopes_of : List SwitchEdges → List Slope
 slopes_of graph = map (slope_of graph) graph
 
--- a graph, and the ranks of its switches
+-- `graph` is a graph, and `ranks` has the rank of each of its switches, by rising GUID
 pub record IsRanked (graph : List SwitchEdges) (ranks : List (Option ℕ)) : Type 0 where
   pub is_graph : IsGraph graph
   pub are_ranks : ranks ≡ map (rank_of graph) (guids_of graph)

@@ -1,4 +1,4 @@
--- Down distances, costs and next ports of a graph of switches, as statements.
+-- Laws of down distances, costs and next ports in a graph of switches.
 use Rattle.std.specs.Prelude.{◌≡◌, ℕ, suc, true, false, List, None, Some, is_some, option_map, MatchOption, if◌then◌else◌}
 use Rattle.std.specs.List.{filter_map}
 use Rattle.port_graph.specs.Walks.{HasNoWalk}
@@ -9,25 +9,26 @@ use Rattle.subnet_view.specs.GraphLaws.{IsGraph, IsSwitch}
 use Rattle.subnet_view.specs.Components.{in_one_component}
 use Rattle.updown_routes.specs.Ranks.{slopes_of}
 
--- the down distance is the length of a shortest walk down; None if no walk down leads to the target
+-- from a switch of a graph, `down_distance` is the length of a shortest walk down to the target; None exactly if no
+-- walk down leads there
 abbrev pub DownDistanceLaw : Type 0
 DownDistanceLaw = (graph : List SwitchEdges) → IsGraph graph → (s t : ℕ) → IsSwitch graph s
     → MatchOption (down_distance (slopes_of graph) s t) (HasNoWalk (below (slopes_of graph)) s t)
     (IsDownDistance (slopes_of graph) s t)
 
--- the cost is the length of a shortest route; None if there is no route
+-- from a switch of a graph, `cost` is as `IsCost` states; None exactly if no route leads to the target
 abbrev pub CostLaw : Type 0
 CostLaw = (graph : List SwitchEdges) → IsGraph graph → (s t : ℕ) → IsSwitch graph s
     → MatchOption (cost (slopes_of graph) s t) ((n : ℕ) → IsRoute (slopes_of graph) s t n
     → ⊥) (IsCost (slopes_of graph) s t)
 
--- the next port is as `IsNextPort` states; None if there is no such port
+-- from a switch of a graph, `next_port` is as `IsNextPort` states; None exactly if no port is a next port
 abbrev pub NextPortLaw : Type 0
 NextPortLaw = (graph : List SwitchEdges) → IsGraph graph → (s t : ℕ) → IsSwitch graph s
     → MatchOption (next_port (slopes_of graph) s t) ((p : ℕ) → IsNextPort (slopes_of graph) s t p
     → ⊥) (IsNextPort (slopes_of graph) s t)
 
--- the cost is the down distance if there is one, otherwise one more than the least cost over the wires up
+-- the cost to a target is the down distance if there is one; else one more than the least cost over the edges up
 abbrev pub CostRecursion : Type 0
 CostRecursion = (graph : List SwitchEdges) → IsGraph graph → (s t : ℕ)
     → cost (slopes_of graph) s t
@@ -35,17 +36,17 @@ CostRecursion = (graph : List SwitchEdges) → IsGraph graph → (s t : ℕ)
     if is_some down then down else option_map suc
     (least_of (filter_map (λ e. cost (slopes_of graph) e.to t) (ups_at (slopes_of graph) s))))
 
--- from each switch with a cost, a way of as many wires leads to the target
+-- in a graph, from each switch with a cost to a target, a way up and then down leads to the target over as many edges
 abbrev pub WayLaw : Type 0
 WayLaw = (graph : List SwitchEdges) → IsGraph graph → (n s t : ℕ) → cost (slopes_of graph) s t ≡ Some n
     → Way (slopes_of graph) s t n
 
--- between components there is no cost, and no next port
+-- from a switch of a graph to a vertex outside its component there is no cost, and no next port
 abbrev pub NoCostBetween : Type 0
 NoCostBetween = (graph : List SwitchEdges) → IsGraph graph → (s t : ℕ) → IsSwitch graph s → in_one_component graph s t
     ≡ false → (cost (slopes_of graph) s t ≡ None) × (next_port (slopes_of graph) s t ≡ None)
 
--- within a component, each switch has a cost to each other switch
+-- each switch of a graph has a cost to each switch of its component
 abbrev pub CostInComponent : Type 0
 CostInComponent = (graph : List SwitchEdges) → IsGraph graph → (s t : ℕ) → IsSwitch graph s → IsSwitch graph t
     → in_one_component graph s t ≡ true → (n : ℕ) × (cost (slopes_of graph) s t ≡ Some n)

@@ -7,7 +7,8 @@ use Rattle.subnet_view.specs.Routing.{Routing, IsRouting}
 use Rattle.updown_routes.specs.Ranks.{slopes_of}
 use Rattle.updown_routes.specs.Channels.{channel_number}
 
--- down if a walk down leads to the target, otherwise up; by the least port, whatever the LID
+-- up/down routing: down if a walk down leads to the target, else up; by the least port of those that are next, whatever
+-- the LID
 abbrev pub updown : List SwitchEdges → Routing
 updown graph = record {
   next = λ lid s t. next_port (slopes_of graph) s t;
@@ -16,6 +17,6 @@ updown graph = record {
       channel_number graph;
 }
 
--- up/down routing is a rule of routing
+-- on each graph, up/down routing is a rule of routing (`IsRouting`)
 abbrev pub UpdownIsRouting : Type 0
 UpdownIsRouting = (graph : List SwitchEdges) → IsGraph graph → IsRouting graph (updown graph)

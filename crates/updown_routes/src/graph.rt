@@ -35,8 +35,9 @@ impl Model for Graph {
 }
 
 impl Graph {
-    /// Builds the graph of the view's usable switches and the wires between them. Takes two searches among the wires
-    /// for each port of a switch, one among the switches for each wire, and a breadth-first search for each component.
+    /// Builds the graph of the view's usable switches and the wires between them. Takes at most two binary searches
+    /// among the ports that can have a wire for each port of a switch, one among the switches for each wire, and a
+    /// breadth-first search for each component.
     pub fn of(alloc: Global, wires: &Wires) -> Result<Self, Refused>
         ensures { IfOk result (λ graph. graph ≡ graph_of (cells_of wires.now)) }
     {
@@ -45,7 +46,7 @@ impl Graph {
         Ok(Graph { graph, ranks })
     }
 
-    /// Returns the number of switches. Takes one step.
+    /// Returns the number of switches. Takes constant time.
     pub fn len(&self) -> usize
         ensures count { result ≡ length self.now }
         ensures is_graph { IsGraph self.now }
@@ -67,22 +68,22 @@ impl Graph {
         self.graph.into_switches()
     }
 
-    /// Returns the switch at an index, by rising GUID from 0 on, or `None` if there is none. Takes one step.
+    /// Returns the switch at `index`, by rising GUID from 0 on, or `None` if there is none. Takes constant time.
     pub fn switch(&self, index: usize) -> Option<Guid>
         ensures { result ≡ slice_get (guids_of self.now) index }
     {
         self.graph.switch(index)
     }
 
-    /// Returns the index of a switch, or `None` if the graph lacks it. Takes a search.
+    /// Returns the index of `switch`, or `None` if the graph lacks it. Takes a binary search among the switches.
     pub fn index_of(&self, switch: Guid) -> Option<usize>
         ensures { IsIndexIn (guids_of self.now) switch result }
     {
         self.graph.index_of(switch)
     }
 
-    /// Returns the fewest wires from the root of a switch's component to the switch, or `None` if the graph lacks the
-    /// switch. Takes a search.
+    /// Returns the rank of `switch`, which is the fewest wires from the root of its component to it, or `None` if the
+    /// graph lacks it. Takes a binary search among the switches.
     pub fn rank(&self, switch: Guid) -> Option<usize>
         ensures { result ≡ rank_of self.now switch }
     {
@@ -106,7 +107,7 @@ impl Graph {
         &self.ranks
     }
 
-    /// Returns the edges of the switch at `index`. Their ends are indices. Takes one step.
+    /// Returns the edges of the switch at `index`, which must exist. Their ends are indices. Takes constant time.
     pub fn edges(&self, index: usize) -> &[Edge]
         requires { index < length self.now }
         ensures edges { AreEdgesAt self.now index result.now }

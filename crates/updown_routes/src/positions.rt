@@ -4,7 +4,7 @@ ghost use Rattle.updown_routes.specs.Order.{ranked, IsOrder, ArePositions};
 
 use std::alloc::{AllocError, Global};
 
-/// Returns the indices of switches by rank, and then by index.
+/// Returns the indices of switches by rank, and then by index. A missing rank counts as 0.
 pub(crate) fn order(alloc: Global, ranks: &[Option<usize>]) -> Result<Vec<usize>, AllocError>
     ensures { IfOk result (λ order. IsOrder ranks.now order.items) }
 {
@@ -13,7 +13,7 @@ pub(crate) fn order(alloc: Global, ranks: &[Option<usize>]) -> Result<Vec<usize>
     indices(alloc, &ranked)
 }
 
-/// Returns the indices, without the ranks.
+/// Returns the indices in `ranked`, without the ranks.
 fn indices(alloc: Global, ranked: &[(usize, usize)]) -> Result<Vec<usize>, AllocError>
     ensures { IfOk result (λ indices. indices.items ≡ map (λ x. x.1) ranked.now) }
 {
@@ -31,7 +31,7 @@ fn ranked(alloc: Global, ranks: &[Option<usize>]) -> Result<Vec<(usize, usize)>,
         .collect(alloc)
 }
 
-/// Returns the position of each index in an order.
+/// Returns the position of each index in `order`, which must have each index once.
 pub(crate) fn positions(alloc: Global, order: &[usize]) -> Result<Vec<usize>, AllocError>
     requires { NamesEachOnce (length order.now) order.now }
     ensures { IfOk result (λ positions. ArePositions order.now positions.items) }

@@ -34,7 +34,7 @@ impl<'g> Model for Routes<'g> {
 }
 
 impl<'g> Routes<'g> {
-    /// Computes the routes of a graph. For each target, takes one step for each switch and each wire.
+    /// Computes the routes of `graph`. For each target, takes at most time linear in the number of switches and wires.
     pub fn of(alloc: Global, graph: &'g Graph) -> Result<Self, Refused>
         ensures { IfOk result (λ routes. routes ≡ graph.now) }
     {
@@ -45,9 +45,9 @@ impl<'g> Routes<'g> {
         Ok(Routes { graph, towards })
     }
 
-    /// Returns the port by which a packet leaves a switch for another: down if a walk down leads to the target,
-    /// otherwise up. Returns `None` at the target, between components, and if either is not a switch of the graph.
-    /// Takes two searches.
+    /// Returns the port by which a packet leaves `switch` for `target`: down if a walk down leads there, otherwise up.
+    /// Returns `None` at the target, between components, and if either is not a switch of the graph. Takes two binary
+    /// searches among the switches.
     pub fn next_port(&self, switch: Guid, target: Guid) -> Option<PortNum>
         ensures { result ≡ next_port (slopes_of self.now) switch target }
     {
@@ -56,8 +56,8 @@ impl<'g> Routes<'g> {
         self.next_port_at(switch, target)
     }
 
-    /// Returns the next port between the switches at two indices of the graph, or `None` if there is none. Takes one
-    /// step.
+    /// Returns the next port of the switch at index `switch` towards that at index `target`, or `None` if there is
+    /// none. Takes constant time.
     pub fn next_port_at(&self, switch: usize, target: usize) -> Option<PortNum>
         ensures { result ≡ next_port_at self.now switch target }
     {
@@ -66,7 +66,7 @@ impl<'g> Routes<'g> {
     }
 }
 
-/// Returns, for each target, the next port of each switch. `positions` has the position of each switch.
+/// Returns, for each target, the next port of each switch. `positions` must have the position of each switch.
 fn towards(
     alloc: Global,
     slopes: &UpDownEdges,

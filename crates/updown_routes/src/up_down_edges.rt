@@ -18,8 +18,8 @@ pub(crate) struct UpDownEdges {
 }
 
 impl UpDownEdges {
-    /// Finds the wires up and down of each switch. `order` has the indices by rank and then by GUID, and `positions`
-    /// has the position of each index in it.
+    /// Finds the wires up and down of each switch. `order` must have the indices by rank and then by GUID, and
+    /// `positions` the position of each index in it.
     pub(crate) fn of(
         alloc: Global,
         graph: &Graph,
@@ -41,7 +41,7 @@ impl UpDownEdges {
     }
 }
 
-/// Replaces the index of each edge's end by its position.
+/// Returns `edges` with the index of each edge's end replaced by its position.
 fn to_positions(alloc: Global, edges: &[Edge], positions: &[usize]) -> Result<Vec<Edge>, AllocError>
     requires { All (λ edge. edge.to < length positions.now) edges.now }
     ensures { IfOk result (λ found. found.items ≡ map (at_position positions.now) edges.now) }
@@ -55,7 +55,7 @@ fn to_positions(alloc: Global, edges: &[Edge], positions: &[usize]) -> Result<Ve
         .collect(alloc)
 }
 
-/// Returns the edges to lesser positions.
+/// Returns those of `edges` that lead to positions less than `position`.
 fn ups_from(alloc: Global, position: usize, edges: &[Edge]) -> Result<Vec<Edge>, AllocError>
     ensures { IfOk result (λ ups. ups.items ≡ ups_from position edges.now) }
 {
@@ -66,7 +66,7 @@ fn ups_from(alloc: Global, position: usize, edges: &[Edge]) -> Result<Vec<Edge>,
         .collect(alloc)
 }
 
-/// Returns the edges to greater positions.
+/// Returns those of `edges` that lead to positions greater than `position`.
 fn downs_from(alloc: Global, position: usize, edges: &[Edge]) -> Result<Vec<Edge>, AllocError>
     ensures { IfOk result (λ downs. downs.items ≡ downs_from position edges.now) }
 {

@@ -175,7 +175,7 @@ fn port_states(rt: HostRuntime) -> Result<(), Fail> {
     Ok(())
 }
 
-/// BaseLIDs and LMCs; for each the status at the port of H1, at port 0 of S2 and at its port 3, which takes neither.
+/// BaseLIDs and LMCs; for each the status at the port of H1, at port 0 of S2, and at port 3 of S2, which takes neither.
 const LMC_SETS: [(u16, u8, u16, u16, u16); 11] = [
     (9, 0, 0, 0, 0),
     (8, 1, 0, 0x1C, 0),
@@ -354,7 +354,7 @@ fn sets_of_a_switch(rt: HostRuntime) -> Result<(), Fail> {
     Ok(())
 }
 
-/// Changes each byte of a Set of PortInfo over no hop: it is then no packet, or gets one of the four statuses.
+/// Changes each byte of a Set of PortInfo over no hop: the bytes are then no packet, or get one of the four statuses.
 #[test]
 fn each_byte_turned(rt: HostRuntime) -> Result<(), Fail> {
     let mut adapter = h1(rt.alloc())?;

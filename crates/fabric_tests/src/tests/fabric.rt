@@ -83,7 +83,8 @@ fn said(delivered: Result<Delivered, FabricFault>) -> (&'static str, u64) {
     }
 }
 
-/// Delivers the packet, and then its answer, until neither moves on, at most 16 times.
+/// Delivers the packet with the serial number `serial`, and then its answer, until neither moves on, at most 16 times.
+/// Returns what the last delivery did.
 fn carried(fabric: &mut Fabric, mut serial: u64) -> (&'static str, u64) {
     let mut last = ("moved", 0);
     for _ in 0..16 {
@@ -134,7 +135,7 @@ fn a_request_comes_and_its_answer_goes_home(rt: HostRuntime) -> Result<(), Fail>
     check_round_trip(&rt, &mut fabric)
 }
 
-/// Returns what becomes of a packet that is sent from the first adapter.
+/// Returns what becomes of `packet` if it is sent from the first adapter.
 fn fate_of(alloc: Global, packet: Packet) -> Result<(&'static str, u64), Fail> {
     let mut fabric = ring(alloc, 0)?;
     let serial = fabric.inject(at(3, 1), packet)?;
@@ -148,7 +149,7 @@ fn turned(offset: u8, byte: u8) -> Packet {
     packet
 }
 
-/// Builds a LID-routed request for NodeInfo.
+/// Builds a LID-routed request for NodeInfo to `dlid`.
 fn routed(dlid: u16) -> Packet {
     Packet {
         bytes: *Smp::lid_routed(Method::GET, AttributeId::NODE_INFO, 0, 1, &[0; 64]).bytes(),
@@ -248,7 +249,8 @@ fn each_refusal(rt: HostRuntime) -> Result<(), Fail> {
     check_refusals(&rt, &mut fabric)
 }
 
-/// Returns where a ping ends: the node, the port and the number of wires, or the node and 99 if it is lost.
+/// Returns where a ping ends: the node, the port and the number of wires, or the node, 0 and 99 if it is lost. Returns
+/// 99 three times if it is refused.
 fn pinged(fabric: &Fabric, lid: u16) -> (usize, u8, usize) {
     match fabric.ping(at(3, 1), Lid::new(lid)) {
         Ok(ping) => spot(&ping),
@@ -268,7 +270,7 @@ fn three_pings(fabric: &Fabric) -> [(usize, u8, usize); 3] {
     [2, 3, 5].map(|lid| pinged(fabric, lid))
 }
 
-/// Returns what becomes of a Set over a path.
+/// Returns what becomes of a Set of `attribute` over `path`.
 fn set_over(
     fabric: &mut Fabric,
     attribute: AttributeId,

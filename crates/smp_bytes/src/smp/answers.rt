@@ -6,8 +6,8 @@ use crate::path::Path;
 use crate::smp::Smp;
 
 impl Smp {
-    /// Returns whether the packet has this TransactionID, attribute and modifier, and is directed over `path` or, if
-    /// `path` is `None`, LID routed. Ignores the method and the status.
+    /// Returns whether the packet has the TransactionID `transaction`, `attribute` and `modifier`, and is directed over
+    /// `path` or, if `path` is `None`, LID routed. Ignores the method and the status.
     pub fn answers(
         &self,
         transaction: u64,

@@ -48,7 +48,8 @@ impl Smp {
     }
 
     /// Creates the answer to this request, with the method GetResp, the status `status`, and `payload` as the
-    /// attribute. If the request is directed, the D bit is set. Everything else is as in the request.
+    /// attribute. If the request is directed, the D bit is set, and `status` must be less than 2^15. Everything else is
+    /// as in the request.
     pub fn answer(&self, status: Status, payload: &[u8; 64]) -> Smp
         requires { is_directed self.now ≡ true → status.0 < 2 ^ 15 }
         ensures { result ≡ answer_packet self.now status.0 payload.now }

@@ -19,7 +19,8 @@ impl Smp {
         put_u8(&mut self.bytes, field::METHOD, to.0);
     }
 
-    /// Writes the status. The D bit of a directed packet stays.
+    /// Writes the status. The D bit of a directed packet stays, and `status` must be less than 2^15 if the packet is
+    /// directed.
     pub fn set_status(&mut self, status: Status)
         requires { is_directed self.old ≡ true → status.0 < 2 ^ 15 }
         ensures { self.new ≡ with_number status_word (word_with_status self.old status.0) self.old }
@@ -33,7 +34,8 @@ impl Smp {
         put_u16(&mut self.bytes, field::STATUS, word);
     }
 
-    /// Writes the D bit of a directed packet, which says whether it is on its way back.
+    /// Writes the D bit: whether a directed packet is on its way back. In a LID-routed packet this bit is the highest
+    /// of the status.
     pub fn set_returning(&mut self, returning: bool)
         ensures { self.new ≡ with_bits direction_bit (flag returning) self.old }
     {
@@ -53,7 +55,7 @@ impl Smp {
         put_u64(&mut self.bytes, field::TRANSACTION_ID, to);
     }
 
-    /// Writes HopPointer. In a directed packet it must be at most HopCount + 1.
+    /// Writes HopPointer. In a directed packet `to` must be at most HopCount + 1.
     pub fn set_hop_pointer(&mut self, to: u8)
         requires { is_directed self.old ≡ true → to ≤ number_in hop_count self.old + 1 }
         ensures { self.new ≡ with_number hop_pointer to self.old }
@@ -61,7 +63,7 @@ impl Smp {
         put_u8(&mut self.bytes, field::HOP_POINTER, to);
     }
 
-    /// Writes the port at index `i` of InitialPath.
+    /// Writes the port at index `i` of InitialPath. `i` must be less than 64.
     pub fn set_initial_path(&mut self, i: usize, port: PortNum)
         requires { i < 64 }
         ensures { self.new ≡ with_number (initial_path i) port self.old }
@@ -69,7 +71,7 @@ impl Smp {
         put_u8(&mut self.bytes, field::INITIAL_PATH + i, port.number());
     }
 
-    /// Writes the port at index `i` of ReturnPath.
+    /// Writes the port at index `i` of ReturnPath. `i` must be less than 64.
     pub fn set_return_path(&mut self, i: usize, port: PortNum)
         requires { i < 64 }
         ensures { self.new ≡ with_number (return_path i) port self.old }

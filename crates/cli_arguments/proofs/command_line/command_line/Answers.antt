@@ -1,4 +1,5 @@
-use Rattle.cli_arguments.specs.CommandLine.{audit_shape, facts_shape, join_shape, next_shape, order_of_shape, order_shape, plan_shape, program_app, run_shape, serve_shape}
+use Rattle.cli_arguments.specs.CommandLine.{audit_shape, facts_shape, join_shape, next_shape, order_of_shape, order_shape, plan_shape, program_app, run_shape}
+use Rattle.cli_arguments.specs.CommandLine.{serve_shape}
 use Rattle.cli_arguments.proofs.command_line.command_line.Goals as goal
 
 pub returns : goal.returns
