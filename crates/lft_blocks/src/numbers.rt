@@ -14,7 +14,7 @@ use subnet_view::SwitchGraph;
 #[derive(Drop)]
 pub(crate) struct Numbering {
     pub(crate) lmc: Lmc,
-    /// The number of each switch among the leaf switches, by rising GUID.
+    /// The leaf number of each switch. Switches are in the order of rising GUIDs.
     pub(crate) leaf_numbers: Vec<u16>,
     /// The most adapters that a switch has.
     pub(crate) most: u16,

@@ -32,7 +32,7 @@ impl ScheduleFault {
         }
     }
 
-    /// Returns the number of the faulty line, from 1, or `None` for lack of memory.
+    /// Returns the number of the faulty line, counted from 1, or `None` if the fault is `Memory`.
     pub fn line(self) -> Option<usize>
         ensures { result ≡ fault_line self }
     {

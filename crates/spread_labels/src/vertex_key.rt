@@ -6,7 +6,8 @@ ghost use Rattle.spread_labels.specs.Keys.{key_less};
 pub struct VertexKey {
     /// The distance class of the vertex.
     pub distance_class: u128,
-    /// The distance of the vertex from the first vertex of its component.
+    /// The distance of the vertex from the first vertex of its component. If vertices are ordered by a list or by
+    /// positions, this is the position of the vertex, and the distance class is 0.
     pub distance: usize,
 }
 

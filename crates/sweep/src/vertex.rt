@@ -28,7 +28,7 @@ impl Vertex {
     }
 }
 
-/// The state of a port, as a reply reported.
+/// The state of a port, as reported by a reply.
 #[derive(Clone, Copy, Debug, PartialEq, Eq)]
 pub struct SeenState {
     pub guid: Guid,

@@ -91,8 +91,8 @@ impl Topology {
     }
 }
 
-/// Parses the text of a topology. Each line, which ends with LF or CR LF, is empty, a node or a link of the node above
-/// it. `#` outside quotes begins a comment:
+/// Parses the text of a topology. A line ends with LF or CR LF, and the last one may end with the text. A line is empty,
+/// a node, or a link of the node above it. `#` outside quotes begins a comment:
 ///
 /// ```text
 /// Switch 4 "S1" guid 0x10 cap 1024
@@ -105,9 +105,8 @@ impl Topology {
 ///
 /// # Errors
 ///
-/// Returns the first fault: of a line if one has a fault, and otherwise of a link (`Peer`, `Port`, `Linked`). Returns
-/// `Memory` only if memory runs out and no line has a fault. The lines are then checked again without memory, but links
-/// cannot be checked without it.
+/// Returns the first fault of a line or, if no line has one, of a link (`Peer`, `Port`, `Linked`). If memory runs out,
+/// the lines are checked again without it. Returns `Memory` only if no line has a fault; a link may have one.
 pub fn parse(alloc: Global, text: &str) -> Result<Topology, TopoFault>
     ensures reads { Reads result (topology_of text.now) }
     ensures memory { result ≡ Err TopoFault.Memory → first_line_fault text.now ≡ None }

@@ -12,7 +12,7 @@ pub fn labels_turn_well()
     ensures law { LabelsTurnWell }
 {}
 
-/// From each vertex that gets a label by `label_all` an edge leads on by that label.
+/// Each vertex that `label_all` labels has an edge that leads on by its label.
 pub fn labelled_go_on()
     ensures law { LabelledGoOn }
 {}
