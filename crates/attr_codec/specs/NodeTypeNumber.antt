@@ -9,6 +9,6 @@ number_of_type ChannelAdapter = 1
 number_of_type Switch = 2
 number_of_type Router = 3
 
--- the node type with the number `number`; None if it is reserved
+-- the node type with the number `number`; None if no node type has this number
 abbrev pub type_of_number : ℕ → Option NodeType
 type_of_number number = find (λ kind. number == number_of_type kind) (ChannelAdapter ∷ Switch ∷ Router ∷ [])

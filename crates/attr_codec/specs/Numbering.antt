@@ -1,4 +1,4 @@
--- Values with numbers.
+-- Values that are read back from their numbers.
 use Rattle.std.specs.Prelude.{◌≡◌, ℕ, Option, Some}
 
 -- each value is read from its number, and from no other number

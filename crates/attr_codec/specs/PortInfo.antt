@@ -69,7 +69,7 @@ number_of_state Initialize = 2
 number_of_state Armed = 3
 number_of_state Active = 4
 
--- the port state with the number `number`; None if it is reserved
+-- the port state with the number `number`; None if no port state has this number
 abbrev pub state_of_number : ℕ → Option PortState
 state_of_number number =
     find (λ state. number == number_of_state state) (NoChange ∷ Down ∷ Initialize ∷ Armed ∷ Active ∷ [])

@@ -10,7 +10,7 @@ use Rattle.attr_codec.specs.declared.sm_info.SmInfo.{SmInfo}
 use Rattle.attr_codec.specs.SmInfo.{FitsSmInfo, guid, sm_key, act_count, priority, sm_state, sm_info_in, sm_info_bytes, sm_info_entries}
 use Rattle.attr_codec.specs.NodeInfo.{FitsNodeInfo, node_info_in, node_info_bytes, entries_of}
 
--- if all entries fit their fields, the one at index `i` does
+-- the entry `e` at index `i` fits its field, if all entries fit theirs
 fits_at : (entries : List Entry) (i : ℕ) (e : Entry) → AllFit entries → slice_get entries i ≡ Some e → e.number
     < 256 ^ e.field.len
 fits_at [] i e fits there = cc
@@ -18,8 +18,8 @@ fits_at (x ∷ entries) zero e fits there = let same : x ≡ e =
     cc in subst (λ (y : Entry). y.number < 256 ^ y.field.len) same fits.0
 fits_at (x ∷ entries) (suc i) e fits there = fits_at entries i e fits.1 there
 
--- if entries fit and their fields are apart and within 64 bytes, the image has the number of the one at index `i` in
--- its field
+-- the image of `entries` has the number of the entry `e` at index `i` in its field, if all entries fit their fields.
+-- The fields must be apart and within 64 bytes
 pub number_in-image : (entries : List Entry) → AllFit entries → (i : ℕ) (e : Entry) → are_all_apart 64 entries ≡ true
     → slice_get entries i ≡ Some e
     → number_in e.field (image entries) ≡ e.number

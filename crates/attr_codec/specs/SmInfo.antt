@@ -36,7 +36,7 @@ sm_info_in bytes =
       state = bits_in sm_state bytes;
     }
 
--- each field of SMInfo that is of bytes with its number in `info`; priority and state have bits of one byte
+-- each field of SMInfo of whole bytes, with its number in `info`; priority and state, which share a byte, are left out
 abbrev pub sm_info_entries : SmInfo → List Entry
 sm_info_entries info =
     record { field = guid; number = info.guid } ∷ record { field = sm_key; number = info.sm_key }

@@ -6,11 +6,12 @@ pub record Are64Bytes (bytes : List ℕ) : Type 0 where
   pub count : length bytes ≡ 64
   pub bytes_fit : All (λ byte. byte < 256) bytes
 
--- any 64 bytes are spelled again by the value that they spell
+-- `bytes_of` gives any 64 bytes again, from the value that `value_in` reads from them
 abbrev pub KeepsAllBytes : {V : Type 0} → (List ℕ → V) → (V → List ℕ) → Type 0
 KeepsAllBytes value_in bytes_of = (bytes : List ℕ) → Are64Bytes bytes → bytes_of (value_in bytes) ≡ bytes
 
--- the value that any 64 bytes spell spells their first `count` bytes again, and 0 for the others, which are reserved
+-- `bytes_of` gives the first `count` of any 64 bytes again, from the value that `value_in` reads from them; the bytes
+-- after these are reserved, and `bytes_of` gives 0 for them
 abbrev pub KeepsFirstBytes : {V : Type 0} → ℕ → (List ℕ → V) → (V → List ℕ) → Type 0
 KeepsFirstBytes count value_in bytes_of =
     (bytes : List ℕ) → Are64Bytes bytes → bytes_of (value_in bytes) ≡ take count bytes ++ replicate (64 - count) 0

@@ -26,6 +26,6 @@ pub trait Attribute: Sized {
         ensures bytes { result ≡ bytes_of self.now }
         ensures fits { is_value self.now };
 
-    /// A value that is encoded is decoded as itself.
+    /// Decoding the bytes that spell a value gives the value, if each part of it fits its field (`is_value`).
     ghost reads_back: { (value : Self) → is_value value → value_in (bytes_of value) ≡ value };
 }

@@ -4,8 +4,8 @@ ghost use Rattle.smp_bytes.specs.Field.{bits_in, with_bits};
 
 use smp_bytes::wire::{bits_at, put_bits};
 
-/// Returns the number in `WIDTH` bits of the byte at `AT`. The lowest of them is bit `SHIFT`. There must be a bit, and
-/// all must lie within this byte.
+/// Returns the number in the `WIDTH` bits from bit `SHIFT` up of the byte at offset `AT`. `AT` must be less than 64,
+/// `WIDTH` at least 1, and `SHIFT + WIDTH` at most 8.
 pub fn bits<const AT: usize, const SHIFT: u32, const WIDTH: u32>(bytes: &[u8; 64]) -> u8
     requires offset { AT < 64 }
     requires some { 1 ≤ WIDTH }
@@ -16,8 +16,8 @@ pub fn bits<const AT: usize, const SHIFT: u32, const WIDTH: u32>(bytes: &[u8; 64
     bits_at(bytes, AT, SHIFT, WIDTH)
 }
 
-/// Writes `number` into `WIDTH` bits of the byte at `AT`. The lowest of them is bit `SHIFT`. There must be a bit, all
-/// must lie within this byte, and `number` must fit in them. All other bits stay.
+/// Writes `number` into the `WIDTH` bits from bit `SHIFT` up of the byte at offset `AT`. All other bits stay. `AT` must
+/// be less than 64, `WIDTH` at least 1, `SHIFT + WIDTH` at most 8, and `number` less than 2^`WIDTH`.
 pub fn with_bits<const AT: usize, const SHIFT: u32, const WIDTH: u32>(
     bytes: &mut [u8; 64],
     number: u8,

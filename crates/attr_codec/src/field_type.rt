@@ -29,7 +29,7 @@ pub trait FieldType: Copy {
         ensures fits { number self < 256 ^ len };
 }
 
-/// Reads the field whose first byte is at `AT`. It must end within the 64 bytes.
+/// Reads the field whose first byte is at offset `AT`. The field must end within the 64 bytes.
 pub fn read<T: FieldType, const AT: usize>(bytes: &[u8; 64]) -> T
     requires { AT + T.len ≤ 64 }
     ensures read { T.number result ≡ number_in (record { at = AT; len = T.len }) bytes.now }
@@ -38,7 +38,8 @@ pub fn read<T: FieldType, const AT: usize>(bytes: &[u8; 64]) -> T
     T::read_at(bytes, AT)
 }
 
-/// Writes `value` into the field whose first byte is at `AT`. It must end within the 64 bytes. All other bytes stay.
+/// Writes `value` into the field whose first byte is at offset `AT`. The field must end within the 64 bytes. All other
+/// bytes stay.
 pub fn write<T: FieldType, const AT: usize>(value: T, bytes: &mut [u8; 64])
     requires { AT + T.len ≤ 64 }
     ensures written { bytes.new

@@ -13,54 +13,57 @@ use crate::port_info::PortInfo;
 use crate::sm_info::SmInfo;
 use crate::switch_info::SwitchInfo;
 
-/// A value of an attribute is read again from the bytes that spell it.
+/// A value of an attribute is read again from the bytes that spell it, if each part of the value fits its field.
 pub fn decode_undoes_encode<A: Attribute>()
     ensures { (value : A) → A.is_value value → A.value_in (A.bytes_of value) ≡ value }
 {}
 
-/// Node information keeps its 40 bytes of fields, and the 24 reserved bytes after them become 0.
+/// If 64 bytes are decoded as NodeInfo and encoded again, the first 40 stay, which have the fields, and the 24 reserved
+/// bytes become 0.
 pub fn node_info_keeps_its_fields()
     ensures { KeepsFirstBytes 40
         ⟦<NodeInfo as Attribute>⟧.value_in
         ⟦<NodeInfo as Attribute>⟧.bytes_of }
 {}
 
-/// A subnet manager's information keeps its 21 bytes of fields, and the 43 reserved bytes after them become 0.
+/// If 64 bytes are decoded as SMInfo and encoded again, the first 21 stay, which have the fields, and the 43 reserved
+/// bytes become 0.
 pub fn sm_info_keeps_its_fields()
     ensures { KeepsFirstBytes 21
         ⟦<SmInfo as Attribute>⟧.value_in
         ⟦<SmInfo as Attribute>⟧.bytes_of }
 {}
 
-/// Port information keeps all 64 bytes, named or not.
+/// If 64 bytes are decoded as PortInfo and encoded again, all bytes stay, even outside the named fields.
 pub fn port_info_keeps_all_bytes()
     ensures { KeepsAllBytes
         ⟦<PortInfo as Attribute>⟧.value_in
         ⟦<PortInfo as Attribute>⟧.bytes_of }
 {}
 
-/// Switch information keeps all 64 bytes, named or not.
+/// If 64 bytes are decoded as SwitchInfo and encoded again, all bytes stay, even outside the named fields.
 pub fn switch_info_keeps_all_bytes()
     ensures { KeepsAllBytes
         ⟦<SwitchInfo as Attribute>⟧.value_in
         ⟦<SwitchInfo as Attribute>⟧.bytes_of }
 {}
 
-/// A block of a forwarding table keeps all 64 bytes.
+/// If 64 bytes are decoded as a block of a linear forwarding table and encoded again, all bytes stay.
 pub fn lft_block_keeps_all_bytes()
     ensures { KeepsAllBytes
         ⟦<LftBlock as Attribute>⟧.value_in
         ⟦<LftBlock as Attribute>⟧.bytes_of }
 {}
 
-/// A description keeps all 64 bytes.
+/// If 64 bytes are decoded as NodeDescription and encoded again, all bytes stay.
 pub fn node_description_keeps_all_bytes()
     ensures { KeepsAllBytes
         ⟦<NodeDescription as Attribute>⟧.value_in
         ⟦<NodeDescription as Attribute>⟧.bytes_of }
 {}
 
-/// Node information is spelled with each field at its offset, and 0 in the 24 bytes after the fields.
+/// If each part of a NodeInfo fits, the 64 bytes that spell it hold each part at its offset, and 0 in the last 24
+/// bytes.
 pub fn node_info_is_spelled_by_its_fields()
     ensures { SpellsEachValue 40
         ⟦<NodeInfo as Attribute>⟧.value_in
@@ -68,7 +71,7 @@ pub fn node_info_is_spelled_by_its_fields()
         ⟦<NodeInfo as Attribute>⟧.is_value }
 {}
 
-/// A subnet manager's information is spelled with each field at its offset, and 0 in the 43 bytes after the fields.
+/// If each part of an SMInfo fits, the 64 bytes that spell it hold each part at its offset, and 0 in the last 43 bytes.
 pub fn sm_info_is_spelled_by_its_fields()
     ensures { SpellsEachValue 21
         ⟦<SmInfo as Attribute>⟧.value_in

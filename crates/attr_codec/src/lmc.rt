@@ -20,10 +20,10 @@ impl Model for Lmc {
 }
 
 impl Lmc {
-    /// The LMC with one LID for each port.
+    /// The LMC by which each port has one LID.
     pub const ZERO: Self = Lmc(0);
 
-    /// Creates an LMC from its number. Returns `None` if it is over 7.
+    /// Creates an LMC from its number. Returns `None` if `number` is over 7.
     pub fn new(number: u8) -> Option<Self>
         ensures fits { IsSome result ↔ (number < 8) }
         ensures value { IfSome result (λ lmc. lmc ≡ number) }

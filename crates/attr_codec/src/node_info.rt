@@ -17,7 +17,7 @@ pub struct NodeInfo {
     pub num_ports: u8,
     pub system_image_guid: Guid,
     pub node_guid: Guid,
-    /// The GUID of the port that was asked. For a switch, this is the GUID of port 0.
+    /// The GUID of the port that received the request. For a switch, the GUID of port 0.
     pub port_guid: Guid,
     pub partition_cap: u16,
     pub device_id: u16,

@@ -56,8 +56,8 @@ impl Attribute for PortInfo {
     ghost reads_back = { λ _ _. refl };
 }
 
-/// The named fields: the type and the first byte of a field of whole bytes, and the byte, the lowest bit and the number
-/// of bits of a bit field.
+/// The named fields. A field of whole bytes has its type and its offset; a bit field has its byte's offset, its lowest
+/// bit and its number of bits.
 macro_rules! port_info {
     ($access:ident m_key $args:tt) => { field_type::$access::<u64, 0> $args };
     ($access:ident gid_prefix $args:tt) => { field_type::$access::<u64, 8> $args };
@@ -103,7 +103,7 @@ impl PortInfo {
         port_info!(write gid_prefix (to, &mut self.bytes));
     }
 
-    /// Returns BaseLID.
+    /// Returns LID: the first LID of the port, or 0 if the port has no LID.
     pub fn base_lid(&self) -> Lid
         ensures number { result ≡ number_in base_lid self.now }
         ensures fits { result < 2 ^ 16 }
@@ -111,7 +111,7 @@ impl PortInfo {
         port_info!(read base_lid (&self.bytes))
     }
 
-    /// Writes BaseLID.
+    /// Writes LID, the first LID of the port. LID 0 says that the port has no LID.
     pub fn set_base_lid(&mut self, to: Lid)
         ensures { self.new ≡ with_number base_lid to self.old }
     {
@@ -224,7 +224,7 @@ impl PortInfo {
         port_info!(with_bits m_key_protect_bits (&mut self.bytes, to));
     }
 
-    /// Returns LMC: the port has 2^LMC LIDs, from BaseLID on.
+    /// Returns LMC. If LID is not 0, the port has 2^LMC LIDs, from LID on.
     pub fn lmc(&self) -> Lmc
         ensures { result ≡ bits_in lmc self.now }
     {
@@ -252,14 +252,14 @@ impl PortInfo {
         port_info!(with_bits port_state (&mut self.bytes, to.number()));
     }
 
-    /// Returns IsSM of the capability mask: whether a subnet manager sits at the port.
+    /// Returns IsSM, a bit of CapabilityMask: whether a subnet manager sits at the port.
     pub fn is_sm(&self) -> bool
         ensures { IsTrue result ↔ (bits_in is_sm_bit self.now ≡ 1) }
     {
         port_info!(bits is_sm (&self.bytes)) == 1
     }
 
-    /// Writes IsSM of the capability mask.
+    /// Writes IsSM, a bit of CapabilityMask.
     pub fn set_is_sm(&mut self, to: bool)
         ensures { self.new ≡ with_bits is_sm_bit (flag to) self.old }
     {

@@ -11,7 +11,7 @@ pub enum PortState {
     Active,
 }
 
-/// All states, by rising number.
+/// All port states, by rising number.
 const STATES: [PortState; 5] = [
     PortState::NoChange,
     PortState::Down,
@@ -21,7 +21,7 @@ const STATES: [PortState; 5] = [
 ];
 
 impl PortState {
-    /// Returns the state with `number`, or `None` for the reserved numbers, 5 and above.
+    /// Returns the state with the number `number`, or `None` if `number` is reserved, which is 5 and above.
     pub fn from_number(number: u8) -> Option<Self>
         ensures { result ≡ state_of_number number }
     {

@@ -19,7 +19,7 @@ impl Model for Priority {
 }
 
 impl Priority {
-    /// Creates a priority from its number. Returns `None` if it is over 15.
+    /// Creates a priority from its number. Returns `None` if `number` is over 15.
     pub fn new(number: u8) -> Option<Self>
         ensures fits { IsSome result ↔ (number < 16) }
         ensures value { IfSome result (λ priority. priority ≡ number) }

@@ -19,7 +19,7 @@ impl Model for SmStateNumber {
 }
 
 impl SmStateNumber {
-    /// Creates the number of a state. Returns `None` if it is over 15.
+    /// Creates the number of a state. Returns `None` if `number` is over 15.
     pub fn new(number: u8) -> Option<Self>
         ensures fits { IsSome result ↔ (number < 16) }
         ensures value { IfSome result (λ state. state ≡ number) }

@@ -54,8 +54,8 @@ impl Attribute for SwitchInfo {
     ghost reads_back = { λ _ _. refl };
 }
 
-/// The named fields: the type and the first byte of a field of whole bytes, and the byte, the lowest bit and the number
-/// of bits of a bit field.
+/// The named fields. A field of whole bytes has its type and its offset; a bit field has its byte's offset, its lowest
+/// bit and its number of bits.
 macro_rules! switch_info {
     ($access:ident linear_fdb_cap $args:tt) => { field_type::$access::<u16, 0> $args };
     ($access:ident random_fdb_cap $args:tt) => { field_type::$access::<u16, 2> $args };
@@ -113,7 +113,7 @@ impl SwitchInfo {
         switch_info!(write multicast_fdb_cap (to, &mut self.bytes));
     }
 
-    /// Returns LinearFDBTop: the greatest LID that the switch forwards.
+    /// Returns LinearFDBTop: the greatest LID for which the switch uses its table.
     pub fn linear_fdb_top(&self) -> Lid
         ensures { result ≡ number_in linear_fdb_top self.now }
     {

@@ -48,9 +48,9 @@ pub record Travels (part : Part) (f : Fabric) (hops : List Hop) : Type 0 where
   pub end : Standing
   pub goes : Goes f lid (sent_from source) hops end
 
--- if `numbers` rise on ways by facts and tables, the facts describe all that is joined to an end port, and the end
--- ports and switches there hold the tables, then of two channels that a packet takes in turn there the second has the
--- greater number
+-- of two channels that a packet takes in turn, the second has the greater number, if three conditions hold: `numbers`
+-- rise on ways by facts and tables; the facts describe all that is joined to the end port `origin`; and the end ports
+-- and switches there hold the tables. The packet is sent by an end port there
 abbrev pub ChannelsRise : Type 0
 ChannelsRise =
     (facts : Facts) (held : HeldPlan) (f : Fabric) (origin : NodePort) (numbers : List ℕ) → IsEndPort f origin

@@ -8,7 +8,7 @@ use Rattle.audit_channels.specs.declared.order.ChannelOrder.TheVariants.{Rises, 
 abbrev pub Follows : List (List ℕ) → ℕ → ℕ → Type 0
 Follows waits channel next = Contains (slice_index_or waits channel []) next
 
--- by `waits`, only numbers of channels follow channels: each is less than how many channels there are
+-- by `waits`, only channels follow channels: the number of each that follows is less than the number of channels
 abbrev pub LeadToChannels : List (List ℕ) → Type 0
 LeadToChannels waits = (channel next : ℕ) → Follows waits channel next → next < length waits
 
@@ -16,7 +16,7 @@ LeadToChannels waits = (channel next : ℕ) → Follows waits channel next → n
 abbrev pub AreWith : List ℕ → ℕ → List ℕ → Type 0
 AreWith old channel new = (c : ℕ) → Contains new c ↔ (Contains old c ⊎ (c ≡ channel))
 
--- in `new` a channel follows another exactly if it does in `old`, or they are `next` and `channel`
+-- in `new` a channel `b` follows a channel `a` exactly if it does in `old`, or if `b` is `next` and `a` is `channel`
 pub record IsWith (old : List (List ℕ)) (channel next : ℕ) (new : List (List ℕ)) : Type 0 where
   pub as_many : length new ≡ length old
   pub follows : (a b : ℕ) → Follows new a b ↔ (Follows old a b ⊎ ((a ≡ channel) × (b ≡ next)))
@@ -46,7 +46,7 @@ abbrev pub IsOrder : List (List ℕ) → ChannelOrder → Type 0
 IsOrder waits (Rises numbers) = Rise waits numbers.items
 IsOrder waits (Cycle channels) = IsCycle waits channels.items
 
--- a channel order is numbers, or channels than which no cycle has fewer
+-- a channel order has numbers; or it has channels, and no cycle has fewer
 abbrev pub IsShortest : List (List ℕ) → ChannelOrder → Type 0
 IsShortest waits (Rises numbers) = Unit {0}
 IsShortest waits (Cycle channels) = NoneShorter waits channels.items

@@ -8,14 +8,14 @@ use Rattle.audit_channels.specs.Orders.{Follows, GoesOn, IsCycle}
 abbrev pub at_index : List Visited → ℕ → Visited
 at_index reached index = slice_index_or reached index (record { channel = 0; from = 0; count = 0 })
 
--- `reached` has `channel`, reached by a way of at most `count` channels
+-- `reached` has `channel`, by a path of at most `count` channels
 pub record HasReached (reached : List Visited) (channel count : ℕ) : Type 0 where
   pub index : ℕ
   pub there : index < length reached
   pub is : (at_index reached index).channel ≡ channel
   pub within : (at_index reached index).count ≤ count
 
--- `next`, at `index`, was reached from an earlier channel that it follows, by a way with one channel more
+-- `next`, at `index`, was reached from an earlier channel that it follows, by a path with one channel more
 pub record IsStep (waits : List (List ℕ)) (reached : List Visited) (next : Visited) (index : ℕ) : Type 0 where
   pub earlier : next.from < index
   pub follows : Follows waits (at_index reached next.from).channel next.channel
@@ -28,8 +28,8 @@ pub record AreWays (waits : List (List ℕ)) (first : ℕ) (reached : List Visit
   pub one : (at_index reached 0).count ≡ 1
   pub steps : (i : ℕ) → 0 < i → i < length reached → IsStep waits reached (at_index reached i) i
 
--- `reached` and `marks` are what a search from `first` has reached, in the order of the lengths of ways, and marked; no
--- way to a reached channel has more than `count` channels
+-- `reached` has the channels that a search from `first` has reached, by rising length of their paths, and `marks` marks
+-- only such channels. No path to a reached channel has more than `count` channels
 pub record IsSearch (waits : List (List ℕ)) (first count : ℕ) (reached : List Visited) (marks : List ℕ) : Type 0 where
   pub ways : AreWays waits first reached
   pub rises : (i k : ℕ) → i ≤ k → k < length reached → (at_index reached i).count ≤ (at_index reached k).count
@@ -47,8 +47,8 @@ pub record Grows (old new : List Visited) : Type 0 where
 abbrev pub NoneBelow : List (List ℕ) → ℕ → ℕ → Type 0
 NoneBelow waits first count = (later : List ℕ) → GoesOn waits first later first → count ≤ length later + 1
 
--- the list is a cycle of at most `least` channels, and no cycle through `first` has fewer channels than it; or it is
--- empty, and no cycle through `first` has fewer than `least` channels
+-- the list is a cycle of at most `least` channels, and no cycle through `first` has fewer channels than this list; or
+-- the list is empty, and no cycle through `first` has fewer than `least` channels
 abbrev pub IsLeast : List (List ℕ) → ℕ → ℕ → List ℕ → Type 0
 IsLeast waits first least [] = NoneBelow waits first least
 IsLeast waits first least (c ∷ later) =

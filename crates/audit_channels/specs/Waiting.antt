@@ -53,7 +53,7 @@ IsOrderOf cells held (Cycle channels) = WaitInCycle cells held channels.items
 abbrev pub NoneShorter : Cells → HeldPlan → List ℕ → Type 0
 NoneShorter cells held channels = (cycle : List ℕ) → WaitInCycle cells held cycle → length channels ≤ length cycle
 
--- a channel order is numbers, or channels than which no credit loop of the held tables has fewer
+-- a channel order has numbers; or it has channels, and no credit loop of the held tables has fewer
 abbrev pub IsShortestOf : Cells → HeldPlan → ChannelOrder → Type 0
 IsShortestOf cells held (Rises numbers) = Unit {0}
 IsShortestOf cells held (Cycle channels) = NoneShorter cells held channels.items

@@ -26,7 +26,7 @@ is_lost_end_for cause (Some (Lost g why)) = is_cause cause why
 abbrev pub is_lost_for : Cause → SentPacket → Bool
 is_lost_for cause packet = is_lost_end_for cause packet.end
 
--- how many of `packets` are lost for each cause
+-- the number of `packets` that are lost, for each cause
 abbrev pub causes_of : List SentPacket → Causes
 causes_of packets = record {
   above_top = count_by (is_lost_for AboveTop) packets;

@@ -31,7 +31,7 @@ site_of cells e = record { port = e; root = root_at cells e; across = across cel
 abbrev pub is_of : EndPort → Site → Bool
 is_of port site = is_same_end port site.port
 
--- the optional site is one of `sites` and the site of `port`; for None, none of them is
+-- the site is one of `sites`, and the site of `port`; for None, none of `sites` is the site of `port`
 abbrev pub IsSiteOf : List Site → EndPort → Option Site → Type 0
 IsSiteOf sites port None = list_any (is_of port) sites ≡ false
 IsSiteOf sites port (Some site) = Contains sites site × (is_of port site ≡ true)

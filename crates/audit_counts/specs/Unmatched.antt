@@ -61,7 +61,7 @@ lidless most cells held = lidless_among most (end_ports cells) held
 abbrev pub unusable : ℕ → Cells → Listed ℕ
 unusable most cells = all_listed most (unusable_nodes cells)
 
--- the ports that the facts name but of which it is unknown where they lead, the first `most` of them
+-- the ports that the facts name and that are not known ports, the first `most` of them
 abbrev pub unjoined : ℕ → Cells → Listed EndPort
 unjoined most cells = all_listed most (unjoined_ports cells)
 

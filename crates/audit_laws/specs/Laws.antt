@@ -1,4 +1,4 @@
--- The laws of audits: plans pass, and where tables pass, packets arrive and the facts know all.
+-- The laws of audits: plans pass, and if tables pass, packets arrive and the facts know all.
 use Rattle.std.specs.Prelude.{◌≡◌, ◌⊎◌, ◌≤◌, ℕ, false, Contains, IsTrue, Some}
 use Rattle.smp_bytes.specs.declared.node_type.NodeType.TheVariants.{Switch}
 use Rattle.fabric_model.specs.declared.cable.NodePort.{NodePort}
@@ -23,19 +23,20 @@ use Rattle.audit_counts.specs.declared.sent_packet.SentPacket.{SentPacket}
 use Rattle.audit_counts.specs.Packets.{arrives, packets_of}
 use Rattle.audit_report.specs.Passing.{EachNodeIsKnown, Passes}
 
--- by each rule and under each LMC, the tables of a view's plan pass by that view if its facts are in range, there is
--- room for the LIDs, the type of each node that the facts name is known, and the table room of each switch
+-- by each rule and under each LMC, the tables of a view's plan pass by that view, if three conditions hold: its facts
+-- are in range; there is room for the LIDs; and the facts have the type of each node that they name, and the table room
+-- of each switch
 abbrev pub PlansPass : Type 0
 PlansPass =
     (rule : RuleValue) (lmc : ℕ) (facts : Facts) → AreInRange facts → ¬ (IsNoRoom lmc (cells_of facts))
     → EachNodeIsKnown (cells_of facts)
     → Passes (cells_of facts) (held_plan (plan_of rule lmc (cells_of facts)))
 
--- it is known where port p of node g leads, or the port is listed as unjoined
+-- it is known where port `p` of node `g` leads, or the port is listed as unjoined
 abbrev pub IsKnownOrTold : Cells → ℕ → ℕ → Type 0
 IsKnownOrTold cells g p = IsKnownPort cells g p ⊎ Contains (unjoined_ports cells) (record { node = g; port = p })
 
--- node g is known, and it is known where its port p leads, or the port is listed as unjoined
+-- node `g` is known, and it is known where its port `p` leads, or the port is listed as unjoined
 abbrev pub AreKnown : Cells → ℕ → ℕ → Type 0
 AreKnown cells g p = IsKnownNode cells g × IsKnownOrTold cells g p
 
@@ -51,26 +52,27 @@ pub record KnowsAll (cells : Cells) : Type 0 where
   pub far_ends : (g p h q : ℕ) → link_of cells g p ≡ Some (h, q) → AreKnown cells h q
   pub switches : (g ports : ℕ) → IsNodeWith cells g Switch ports → AreKnown cells g 0
 
--- if tables pass by the facts, these know all (`KnowsAll`)
+-- if tables pass by the facts, the facts know all (`KnowsAll`)
 abbrev pub PassingAuditsKnowAll : Type 0
 PassingAuditsKnowAll = (facts : Facts) (held : HeldPlan) → Passes (cells_of facts) held → KnowsAll (cells_of facts)
 
--- each packet from an end port of `part` to a LID that an end port of `part` owns is delivered there
+-- each packet from an end port of `part` to a LID that an end port of `part` owns is delivered at the owner
 abbrev pub EachArrivesIn : Part → Fabric → Type 0
 EachArrivesIn part f = (source target : NodePort) (from into : Node) (lid : ℕ) → IsEndPortIn part f source from
     → IsEndPortIn part f target into → 1 ≤ lid
     → IsTrue (owns f target lid) → ArrivesAt f source target lid
 
--- if tables pass by facts, the facts describe all that is joined to an end port, and this part holds the tables, each
--- packet between end ports of the part is delivered at the end port that holds its LID
+-- each packet between end ports of the part that is joined to the end port `origin` is delivered at the end port that
+-- owns its LID, if three conditions hold: the facts describe this part; the part holds the tables; and the tables pass
+-- by the facts
 abbrev pub PassingAuditsDeliver : Type 0
 PassingAuditsDeliver =
     (facts : Facts) (held : HeldPlan) (f : Fabric) (origin : NodePort) → IsEndPort f origin
     → IsSeenIn (IsJoinedTo f origin) (cells_of facts) held f
     → Passes (cells_of facts) held → EachArrivesIn (IsJoinedTo f origin) f
 
--- if the facts describe all that is joined to an end port, and this part holds the tables, a packet that is counted as
--- not arriving is not delivered at the end port of its line
+-- a packet that is counted as not arriving is not delivered at the end port of its line, if the facts describe all that
+-- is joined to the end port `origin`, and this part holds the tables
 abbrev pub MissedPacketsMiss : Type 0
 MissedPacketsMiss =
     (facts : Facts) (held : HeldPlan) (f : Fabric) (origin : NodePort) → IsEndPort f origin

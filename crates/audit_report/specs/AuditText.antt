@@ -44,18 +44,18 @@ pairs_text all between =
 abbrev pub count_text : List ℕ → ℕ → List ℕ
 count_text word count = codes " " ++ word ++ codes " " ++ decimal count
 
--- how many packets are lost for each cause
+-- the numbers of packets that are lost, for each cause
 abbrev pub causes_text : Causes → List ℕ
 causes_text causes =
     count_text (codes "above-top") causes.above_top ++ count_text (codes "no-entry") causes.no_entry
     ++ count_text (codes "no-port") causes.no_port
     ++ count_text (codes "no-link") causes.no_link ++ count_text (codes "foreign") causes.foreign
 
--- how many packets are delivered at another port than that of their LID, and how many loop
+-- the number of packets that are delivered at another port than that of their LID, and the number of those that loop
 abbrev pub others_text : ℕ → ℕ → List ℕ
 others_text misdelivered round = count_text (codes "misdelivered") misdelivered ++ count_text (codes "round") round
 
--- how many packets do not arrive, by what becomes of them
+-- the line of the packets that do not arrive: how many are lost for each cause, are misdelivered, and loop
 abbrev pub missed_line : Causes → ℕ → ℕ → List ℕ
 missed_line causes misdelivered round =
     codes "missed" ++ causes_text causes ++ others_text misdelivered round ++ codes "\n"
@@ -81,7 +81,7 @@ abbrev pub lost_text : Cells → HeldPlan → ℕ → ℕ → Cause → List ℕ
 lost_text cells held lid g cause =
     codes " at " ++ guid_text g ++ entry_text (entry_by cells held g lid) ++ cause_text cause
 
--- where a packet for `lid` ends; empty for None, if it loops
+-- the end of a packet for `lid`; empty for None, if the packet loops
 abbrev pub end_text : Cells → HeldPlan → ℕ → Option End → List ℕ
 end_text cells held lid None = []
 end_text cells held lid (Some (Taken e)) = taken_text e
@@ -169,7 +169,7 @@ tally_text cells held tally =
     pairs_text tally.all tally.between ++ missed_line tally.causes tally.misdelivered.count tally.round.count
     ++ missed_text cells held tally.lost tally.misdelivered tally.round
 
--- where tables and facts differ, and what the facts leave open
+-- the lines of differences between tables and facts, and of gaps in the facts
 abbrev pub unmatched_text : Unmatched → List ℕ
 unmatched_text found =
     kind_text lid_line (codes "unowned") found.unowned ++ kind_text lid_line (codes "twice") found.twice
@@ -179,7 +179,7 @@ unmatched_text found =
     ++ kind_text port_line (codes "lidless") found.lidless
     ++ kind_text port_line (codes "unjoined") found.unjoined
 
--- how many facts are disputed; empty for 0
+-- the line of how many facts are disputed; empty for 0
 abbrev pub disputed_line : ℕ → List ℕ
 disputed_line count = if count == 0 then [] else codes "disputed " ++ decimal count ++ codes "\n"
 
@@ -193,7 +193,7 @@ pairs_told packets =
     counts_told (codes "") packets ++ counts_told (codes "between adapters ") (filter is_between packets)
     ++ counts_told (codes "with a switch ") (filter (λ packet. not (is_between packet)) packets)
 
--- how many of `packets` arrive, how many of each kind do not, and the first `most` of each kind
+-- the lines of `packets`: how many arrive, how many of each kind do not, and the first `most` of each kind
 abbrev pub packets_told : ℕ → Cells → HeldPlan → List SentPacket → List ℕ
 packets_told most cells held packets =
     pairs_told packets

@@ -30,14 +30,15 @@ use Rattle.audit_counts.specs.Sites.{in_one_component}
 use Rattle.audit_counts.specs.PacketTally.{IsTally}
 use Rattle.audit_counts.specs.Unmatched.{IsUnmatched}
 
--- if the port of `line` is an end port of the facts, each packet that an end port of its component sends for its LID is
--- delivered there
+-- each packet for the LID of `line` that an end port in the component of the line's port sends is delivered at the
+-- line's port, if this is an end port of the facts
 abbrev pub ArriveAt : Cells → HeldPlan → HeldLid → Type 0
 ArriveAt cells held line = (e : EndPort) → Contains (end_ports cells) line.port → Contains (end_ports cells) e
     → in_one_component cells e line.port ≡ true
     → IsBrought cells held line.lid e (Some (Taken line.port))
 
--- for each held LID of an end port of the facts, each packet from an end port of its component is delivered there
+-- each packet for a held LID of an end port of the facts is delivered at that end port, if an end port of its component
+-- sends the packet
 abbrev pub EachArrives : Cells → HeldPlan → Type 0
 EachArrives cells held = (line : HeldLid) → Contains held.lids line → ArriveAt cells held line
 
@@ -112,7 +113,7 @@ abbrev pub IsCycle : Cells → HeldPlan → List ℕ → Type 0
 IsCycle cells held [] = CanRise cells held
 IsCycle cells held (channel ∷ later) = WaitInCycle cells held (channel ∷ later)
 
--- what an audit is about: the maximum number of lines of each kind, facts and tables, and the credit loop that was
+-- the subject of an audit: the maximum number of lines of each kind, facts and tables, and the credit loop that was
 -- found
 pub record Audited : Type 0 where
   pub most : ℕ

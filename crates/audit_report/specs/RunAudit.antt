@@ -18,7 +18,7 @@ abbrev pub most_told : Bool → ℕ
 most_told all = if all then 18446744073709551615 else 20
 
 -- `prints` holds of the audit's text, with a shortest credit loop if there is one; `passed` says whether the tables
--- pass and, if `asked` has a maximum load, no channel has a greater one
+-- pass and, if `asked` has a maximum load, no channel has a greater load
 pub record IsAudited (asked : AuditAsked) (facts : Facts) (held : HeldPlan) (prints : List ℕ → Type 0) (passed : Bool)
     : Type 0 where
   pub cycle : List ℕ
@@ -28,27 +28,28 @@ pub record IsAudited (asked : AuditAsked) (facts : Facts) (held : HeldPlan) (pri
       (audit_text (record { most = most_told asked.all; facts = facts; held = held; cycle = cycle }))
   pub judged : IsTrue passed ↔ PassesWithin asked.max_load (cells_of facts) held
 
--- the tables and then the files were read, and `prints` holds of their audit's text; `passed` says whether they pass
+-- the tables and then the files were read, and `prints` holds of their audit's text; `passed` says whether the tables
+-- pass, within the maximum load that `asked` may have
 pub record HasAudited {S : Type 0} (state : S → SourceState) (asked : AuditAsked) (olds news : List S)
     (prints : List ℕ → Type 0) (passed : Bool) : Type 0 where
   pub told : TablesAndFacts
   pub read : AreTablesAndFiles state asked.floor olds news told
   pub audited : IsAudited asked told.store told.held prints passed
 
--- the audit of inputs that were read failed for `fault`: a write, which failed, or memory
+-- the audit of inputs that were read ended with `fault`: a write failed, or memory ran out
 abbrev pub IsAnswerFault : Bool → Fault → Type 0
 IsAnswerFault sink_failed Write = IsTrue sink_failed
 IsAnswerFault sink_failed Memory = Unit {0}
 IsAnswerFault sink_failed fault = ⊥
 
--- the inputs were read as tables and files, and their audit failed for `fault`
+-- the inputs were read as tables and files, and their audit ended with `fault`
 pub record FailsToAudit {S : Type 0} (state : S → SourceState) (floor : ℕ) (olds news : List S)
     (sink_failed : Bool) (fault : Fault) : Type 0 where
   pub told : TablesAndFacts
   pub read : AreTablesAndFiles state floor olds news told
   pub why : IsAnswerFault sink_failed fault
 
--- an audit over open inputs fails for `fault`: the inputs are not read, or their audit fails
+-- an audit over open inputs ends with `fault`: the inputs are not read, or their audit fails
 abbrev pub IsAuditFault : {S : Type 0} → (S → SourceState) → ℕ → List S → List S → Bool
     → Fault → Type 0
 IsAuditFault state floor olds news sink_failed fault =

@@ -20,8 +20,8 @@ use Rattle.audit_ways.specs.Ways.{is_adapter}
 abbrev pub IsWithin : ℕ → Far → Type 0
 IsWithin count far = (index : ℕ) → far ≡ Switch index → index < count
 
--- the sum, over all packets of `groups`, of `number` of the switch that the packet reaches first; of None if it reaches
--- an adapter over one wire
+-- the sum of `number` over all packets of `groups`: at the index of the switch that the packet reaches first, or at
+-- None if the packet reaches an adapter over one wire
 abbrev pub total : (Option ℕ → ℕ) → Groups → ℕ
 total number groups = weighed (λ i. number (Some i)) groups.weights.items + groups.direct * number None
 
@@ -30,7 +30,8 @@ pub record IsGroupedWith (old : Groups) (far : Far) (new : Groups) : Type 0 wher
   pub as_many : length new.weights.items ≡ length old.weights.items
   pub sums : (number : Option ℕ → ℕ) → total number new ≡ total number old + number (switch_over far)
 
--- how many packets of `groups` reach the switch at the index first; for None, how many reach an adapter over one wire
+-- the number of packets of `groups` that reach the switch at the index first; for None, that reach an adapter over one
+-- wire
 abbrev pub packets_at : Groups → Option ℕ → ℕ
 packets_at groups None = groups.direct
 packets_at groups (Some index) = slice_index groups.weights.items index
@@ -72,7 +73,7 @@ pub record LeadsTo (sources : List Sender) (e : EndPort) (far : Far) : Type 0 wh
   pub port_is : source.port ≡ e
   pub far_is : source.far ≡ far
 
--- a target is where the wire in `e` leads, by one of `sources`; it is None exactly if `e` is no adapter port or not in
+-- the target is where the wire in `e` leads, by one of `sources`; it is None if `e` is no adapter port, or not in
 -- `sources`
 abbrev pub IsTargetAmong : List Sender → EndPort → Option Far → Type 0
 IsTargetAmong sources e None = (is_adapter e && list_any (λ source. is_same_end e source.port) sources) ≡ false

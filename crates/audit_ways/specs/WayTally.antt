@@ -39,8 +39,8 @@ abbrev pub weighed : (ℕ → ℕ) → List ℕ → ℕ
 weighed number [] = 0
 weighed number (weight ∷ weights) = weight * number 0 + weighed (λ i. number (suc i)) weights
 
--- the sum over `direct` routes of one wire and, for each switch, over as many routes from it, by `edges`, as its weight
--- says
+-- the sum over `direct` routes of one wire each, and over routes from switches by `edges`, for each switch as many as
+-- its weight
 abbrev pub grouped : List (Option Edge) → List ℕ → ℕ → Sum
 grouped edges weights direct number = weighed (λ i. number (way_from edges i)) weights + direct * number one_wire
 

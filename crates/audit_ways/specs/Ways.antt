@@ -26,7 +26,7 @@ pub record Way : Type 0 where
   pub wires : ℕ
   pub channels : List ℕ
 
--- the channels that a packet takes from `switch` on by `edges`, at most as many as the first number
+-- the channels that a packet takes from `switch` on by `edges`, at most as many as the first argument says
 abbrev pub channels_from : ℕ → List (Option Edge) → ℕ → List ℕ
 channels_from zero edges switch = []
 channels_from (suc steps) edges switch =
@@ -68,13 +68,13 @@ reaches_by line e end = reaches_if line e (is_at line.port end)
 abbrev pub reaches : Cells → HeldPlan → HeldLid → EndPort → Bool
 reaches cells held line e = reaches_by line e (end_for cells held line.lid e)
 
--- all packets that end ports send for the LID of `line` are delivered at its port
+-- all packets that end ports send for the LID of `line` are delivered at the line's port
 abbrev pub AllComeTo : Cells → HeldPlan → HeldLid → Type 0
 AllComeTo cells held line =
     (e : EndPort) → Contains (end_ports cells) e → is_at line.port (end_for cells held line.lid e) ≡ true
 
 -- for each line that `told` marks, by the line's index, all packets that end ports send for its LID are delivered at
--- its port
+-- the line's port
 abbrev pub AreTold : Cells → HeldPlan → List Bool → Type 0
 AreTold cells held told = (index : ℕ) (line : HeldLid) → slice_get (lines_of held) index ≡ Some line
     → slice_index_or told index false ≡ true → AllComeTo cells held line
@@ -83,7 +83,8 @@ AreTold cells held told = (index : ℕ) (line : HeldLid) → slice_get (lines_of
 abbrev pub way_of : Cells → HeldPlan → HeldLid → EndPort → Way
 way_of cells held line e = way_over (edges_of cells held line.lid) (far_of cells e.node e.port)
 
--- the routes of the packets for the LID of `line` that other adapter ports send and that are delivered at its port
+-- the routes of the packets for the LID of `line` that other adapter ports send and that are delivered at the line's
+-- port
 abbrev pub ways_to : Cells → HeldPlan → HeldLid → List Way
 ways_to cells held line = map (way_of cells held line) (filter (reaches cells held line) (end_ports cells))
 
@@ -91,8 +92,8 @@ ways_to cells held line = map (way_of cells held line) (filter (reaches cells he
 abbrev pub is_target : Cells → EndPort → Bool
 is_target cells e = is_adapter e && is_owner (end_ports cells) e
 
--- the routes of the packets that other adapter ports send for the LID of `line` and that are delivered there; none if
--- its port is no adapter port of the facts
+-- the routes of the packets that other adapter ports send for the LID of `line` and that are delivered at the line's
+-- port; none if this is no adapter port of the facts
 abbrev pub ways_for : Cells → HeldPlan → HeldLid → List Way
 ways_for cells held line = if is_target cells line.port then ways_to cells held line else []
 
@@ -104,11 +105,11 @@ ways_of cells held = flat_map (ways_for cells held) (lines_of held)
 abbrev pub hops_of : Cells → HeldPlan → List ℕ
 hops_of cells held = map (λ w. w.wires) (ways_of cells held)
 
--- how often `way` takes `channel`
+-- the number of times that `way` takes `channel`
 abbrev pub times_on : ℕ → Way → ℕ
 times_on channel way = count_by (λ x. x == channel) way.channels
 
--- how often the routes `ways` take `channel`, together
+-- the number of times that the routes `ways`, together, take `channel`
 abbrev pub load_of : List Way → ℕ → ℕ
 load_of ways channel = sum_by (times_on channel) ways
 
@@ -122,7 +123,8 @@ is_to_switch (Port e) = false
 abbrev pub channels_of : Cells → List ℕ
 channels_of cells = filter (λ n. is_to_switch (far_by cells n)) (range_with_len 0 (256 * length (switches cells)))
 
--- how often each channel of the subnet is taken by the routes of all delivered packets from adapter ports to others
+-- the load of each channel of the subnet: the number of times that the routes of all delivered packets from adapter
+-- ports to others take it
 abbrev pub loads_of : Cells → HeldPlan → List ℕ
 loads_of cells held = map (load_of (ways_of cells held)) (channels_of cells)
 

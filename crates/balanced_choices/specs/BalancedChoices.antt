@@ -16,8 +16,8 @@ pub record Chosen : Type 0 where
   pub choices : List ℕ
   pub loads : List ℕ
 
--- the choices once position `p` has chosen the candidate with the number `k`, and the packets that it sends are added
--- along their way
+-- `old` once position `p` has chosen the candidate with the number `k`; the packets that `p` sends are added to the
+-- loads of the channels on their way
 abbrev pub with_choice : List (List Edge) → List ℕ → Chosen → ℕ → ℕ → Chosen
 with_choice ways sent old p k =
     let choices = slice_set old.choices p k in
@@ -36,8 +36,9 @@ choose_each choice ways sent old (p ∷ ps) =
 abbrev pub is_below : List (List Edge) → ℕ → Bool
 is_below ways p = leads_up p (edges_at ways p)
 
--- all positions, each after those that its candidates lead to: first those without a candidate that leads up, from the
--- last to the first; then the others, from the first to the last
+-- all positions: first those without a candidate that leads up, from the last to the first; then the others, from the
+-- first to the last. If `ways` are the candidates towards a target, each position comes after those that its candidates
+-- lead to
 abbrev pub near_first : List (List Edge) → List ℕ
 near_first ways =
     filter (λ p. not (is_below ways p)) (reverse (numbers_from 0 (length ways)))
@@ -53,25 +54,26 @@ abbrev pub digits_from : ℕ → ℕ → ℕ
 digits_from zero n = n
 digits_from (suc w) n = n / suc w
 
--- the number of the candidate that position `p` chooses at first towards the end with the number `number`: that number
--- divided by `weights[p]`, plus `p`, modulo how many candidates there are
+-- the number of the candidate that position `p` chooses at first towards the end with the number `number`: `number`
+-- divided by `weights[p]`, rounded down, plus `p`, modulo the number of candidates; 0 if there are none
 abbrev pub first_choice : List (List Edge) → List ℕ → ℕ → ℕ → ℕ
 first_choice ways weights number p =
     in_turn (length (candidates_at ways p)) (digits_from (slice_index weights p) number + p)
 
--- the first choices towards the end with the number `number`, and the loads with its packets added
+-- the first choices of the positions of `order` towards the end with the number `number`, and the loads with the
+-- packets to that end added
 abbrev pub first_choices : List (List Edge) → List ℕ → List ℕ → List ℕ → ℕ → Chosen → Chosen
 first_choices ways sent weights order number old =
     choose_each (λ now p. first_choice ways weights number p) ways sent old order
 
--- the loads without the packets that the positions of a list send, given the choices
+-- `loads` without the packets that the positions of a list send, given the choices
 abbrev pub without_packets : List (List Edge) → List ℕ → List ℕ → List ℕ → List ℕ → List ℕ
 without_packets ways sent choices loads [] = loads
 without_packets ways sent choices loads (p ∷ ps) =
     without_packets ways sent choices (with_changes (Remove (slice_index sent p)) loads (way_from ways choices p)) ps
 
--- new choices for an end: its packets are taken off the loads, and then each position of `order` chooses the candidate
--- of least peak
+-- new choices for an end: the packets to that end are taken off the loads, and then each position of `order`, one after
+-- the other, chooses the candidate of least peak
 abbrev pub new_choices : List (List Edge) → List ℕ → List ℕ → Chosen → Chosen
 new_choices ways sent order old =
     choose_each (λ now p. lightest ways now.choices now.loads p) ways sent
@@ -91,8 +93,8 @@ pub record Balance : Type 0 where
   pub choices : List (List ℕ)
   pub loads : List ℕ
 
--- the balance once choices for `end` are made in a round; `first` is the first end at its position, with the number
--- `number`
+-- the balance once choices for `end` are made in a round; `first` is the first end at the position of `end`, and has
+-- the number `number`
 abbrev pub with_end : ℕ → List (List Edge) → List ℕ → List ℕ → List ℕ → ℕ → ℕ → Balance → ℕ → Balance
 with_end round ways sent weights order number first old end =
     let before : Chosen = record { choices = slice_index_or old.choices end []; loads = old.loads } in
@@ -100,7 +102,7 @@ with_end round ways sent weights order number first old end =
     record { choices = slice_set old.choices end own.choices; loads = own.loads }
 
 -- the balance once choices for each end of a list, all at one position, are made in a round; `first` is the first end
--- there, with the number `number`
+-- at that position, and has the number `number`
 abbrev pub with_ends : ℕ → List (List Edge) → List ℕ → List ℕ → List ℕ → ℕ → ℕ → Balance → List ℕ → Balance
 with_ends round ways sent weights order number first old [] = old
 with_ends round ways sent weights order number first old (end ∷ ends) =
@@ -120,7 +122,7 @@ with_all round graph sent weights old end (d ∷ ds) =
     (with_ends round ways sent weights (near_first ways) d.number end old (numbers_from end d.ends))
     (end + d.ends) ds
 
--- `n` plus how many ends the destinations have
+-- `n` plus the number of ends of all destinations
 abbrev pub ends_of : ℕ → List Destination → ℕ
 ends_of n [] = n
 ends_of n (d ∷ ds) = ends_of (n + d.ends) ds
@@ -130,16 +132,17 @@ abbrev pub sum_from : ℕ → List ℕ → ℕ
 sum_from n [] = n
 sum_from n (x ∷ xs) = sum_from (min (n + x) (2 ^ 64 - 1)) xs
 
--- the mean of `count` numbers with this sum, rounded down; 0 if there are none
+-- the mean of `count` numbers whose sum is `sum`, rounded down; 0 if `count` is 0
 abbrev pub mean : ℕ → ℕ → ℕ
 mean sum zero = 0
 mean sum (suc count) = sum / suc count
 
--- the mean load of the channels of a graph, rounded down; 0 if it has none
+-- the mean load of the channels of a graph, rounded down; the sum of the loads counts as 2^64 - 1 if it is more; 0 if
+-- the graph has no channels
 abbrev pub mean_load : List (List Edge) → List ℕ → ℕ
 mean_load graph loads = mean (sum_from 0 loads) (sum_from 0 (map length graph))
 
--- whether no load exceeds the mean by more than an eighth of the mean, both rounded down
+-- whether no load exceeds the mean load, rounded down, by more than an eighth of that mean, rounded down too
 abbrev pub are_even : List (List Edge) → List ℕ → Bool
 are_even graph loads = nat_le (greatest 0 loads - mean_load graph loads) (mean_load graph loads / 8)
 
@@ -151,7 +154,7 @@ at_first graph destinations =
       loads = replicate (256 * length graph) 0;
     }
 
--- the balance after the given round; rounds after the first change nothing if loads are even
+-- the balance after the given round; a round after the first changes nothing if the loads of `old` are even
 abbrev pub with_round : ℕ → List (List Edge) → List ℕ → List ℕ → List Destination → Balance → Balance
 with_round zero graph sent weights destinations old = with_all zero graph sent weights old 0 destinations
 with_round (suc round) graph sent weights destinations old =

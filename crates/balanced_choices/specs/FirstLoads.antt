@@ -1,5 +1,5 @@
--- The loads of channels by first choices: for each end of a destination, each position passes on the packets that it
--- sends and those that reach it, once all have reached it.
+-- The loads of channels by first choices. For each end of a destination, each position passes on its own packets and
+-- those that have reached it, once all have.
 use Rattle.std.specs.Prelude.{ℕ, ◌+◌, ◌*◌, List, [], ◌∷◌, Option, length, replicate, reverse, take}
 use Rattle.std.specs.Prelude.{slice_get, slice_index, slice_index_or, slice_set}
 use Rattle.std.specs.Option.{option_map_or}
@@ -17,19 +17,20 @@ pub record Passing : Type 0 where
   pub had : List (List ℕ)
   pub loads : List ℕ
 
--- how many packets for end `k` position `p` has had
+-- the number of packets for end `k` that position `p` has had
 abbrev pub had_at : Passing → ℕ → ℕ → ℕ
 had_at packets k p = slice_index (slice_index_or packets.had k []) p
 
--- the packets once position `p` has passed on by edge `e` those that it had for end `k`
+-- the packets once position `p` has passed on, by edge `e`, the packets that it had for end `k`
 abbrev pub with_passed : ℕ → ℕ → Passing → Edge → Passing
 with_passed p k old e = record {
   had = slice_set old.had k (with_changes (Add (had_at old k p)) (slice_index_or old.had k []) (e.to ∷ []));
   loads = with_changes (Add (had_at old k p)) old.loads (channel_by p e ∷ []);
 }
 
--- the candidate that position `p` takes at first towards the end with the number `number`: that number divided by
--- `weight`, plus `p`, modulo how many there are; None if there are none
+-- the candidate that position `p` takes at first towards the end with the number `number`: the one at `number` divided
+-- by `weight`, rounded down, plus `p`, modulo the number of candidates, or modulo 256 if there are more; None if there
+-- are none
 abbrev pub first_edge : List Edge → ℕ → ℕ → ℕ → Option Edge
 first_edge edges weight p number = slice_get edges (in_turn (length (take 256 edges)) (digits_from weight number + p))
 

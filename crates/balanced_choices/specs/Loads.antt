@@ -12,7 +12,7 @@ use Rattle.balanced_choices.specs.declared.ways.Change.TheVariants.{Add, Remove}
 abbrev pub candidates_at : List (List Edge) → ℕ → List Edge
 candidates_at ways p = take 256 (edges_at ways p)
 
--- the candidate that position `p` takes by its choice; None if it has no such candidate
+-- the candidate that position `p` takes by its choice; None if `p` has no such candidate
 abbrev pub edge_taken : List (List Edge) → List ℕ → ℕ → Option Edge
 edge_taken ways choices p = slice_get (edges_at ways p) (slice_index choices p)
 
@@ -20,7 +20,8 @@ edge_taken ways choices p = slice_get (edges_at ways p) (slice_index choices p)
 abbrev pub channel_by : ℕ → Edge → ℕ
 channel_by p e = 256 * p + e.port
 
--- the channels of the way from position `p` over at most a number of edges, by the edge that is taken at each position
+-- the channels of the way from position `p` over at most a number of edges; `taken` gives the edge that is taken at
+-- each position
 abbrev pub way : (ℕ → Option Edge) → ℕ → ℕ → List ℕ
 way taken zero p = []
 way taken (suc n) p = option_map_or (λ e. channel_by p e ∷ way taken n e.to) (taken p) []
@@ -43,8 +44,7 @@ with_changes change loads (c ∷ cs) = with_changes change (slice_set loads c (c
 abbrev pub peak : List (List Edge) → List ℕ → List ℕ → ℕ → Edge → ℕ
 peak ways choices loads p e = greatest 0 (map (λ c. slice_index loads c) (channel_by p e ∷ way_from ways choices e.to))
 
--- the index of the first least number: `best`, whose number is `least`, or that of a lesser number in a list that
--- begins at index `k`
+-- the index of the first least number: of `least`, at index `best`, and the numbers of a list that begins at index `k`
 abbrev pub least_from : ℕ → ℕ → ℕ → List ℕ → ℕ
 least_from best least k [] = best
 least_from best least k (n ∷ ns) = if nat_lt n least then least_from k n (suc k) ns else least_from best least (suc k) ns
@@ -53,6 +53,7 @@ least_from best least k (n ∷ ns) = if nat_lt n least then least_from k n (suc 
 abbrev pub first_least : List ℕ → ℕ
 first_least ns = least_from 0 (2 ^ 64 - 1) 0 ns
 
--- the number of the candidate of position `p` whose way has the least peak, the first of equals; 0 if it has none
+-- the number of the candidate of position `p` whose way has the least peak, the first of equals; 0 if `p` has no
+-- candidate. Peaks are at most 2^64 - 1
 abbrev pub lightest : List (List Edge) → List ℕ → List ℕ → ℕ → ℕ
 lightest ways choices loads p = first_least (map (peak ways choices loads p) (candidates_at ways p))

@@ -3,8 +3,8 @@
 use Rattle.std.specs.Prelude.{◌≡◌, ◌<◌, ◌+◌, ◌*◌, ◌/◌, ◌%◌, ◌^◌}
 use Rattle.balanced_choices.specs.declared.round_robin.RoundRobin.{RoundRobin}
 
--- `turn.start` is the first of `weight` numbers with one turn, and `turn.choice` is that turn: start divided by weight,
--- plus offset, modulo count
+-- `turn.start` is a multiple of the weight, and so the first of `turn.weight` numbers with one turn. `turn.choice` is
+-- that turn: the start divided by the weight, plus the offset, modulo the count
 pub record IsTurn (turn : RoundRobin) : Type 0 where
   pub weight : 0 < turn.weight
   pub offset : turn.offset < 2 ^ 63

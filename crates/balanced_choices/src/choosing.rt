@@ -15,8 +15,8 @@ use crate::ways::{Change, change_way, lightest};
 use port_graph::{Adjacency, Edge};
 use std::alloc::{AllocError, Global};
 
-/// Returns all positions. If `ways` are candidates towards one target, each comes after the positions that its
-/// candidates lead to.
+/// Returns all positions. If `ways` are the candidates towards one target, each position comes after the positions that
+/// its candidates lead to.
 pub(crate) fn near_first(alloc: Global, ways: &Adjacency) -> Result<Vec<usize>, AllocError>
     ensures order { IfOk result (λ order. order.items ≡ near_first ways.now) }
     ensures positions { IfOk result (λ order. All (λ p. p < length ways.now) order.items) }
@@ -27,7 +27,7 @@ pub(crate) fn near_first(alloc: Global, ways: &Adjacency) -> Result<Vec<usize>, 
     Ok(order)
 }
 
-/// Appends the positions without a candidate that leads up, from the last to the first.
+/// Appends to `order` the positions without a candidate that leads up, from the last to the first.
 fn push_above(ways: &Adjacency, order: &mut Vec<usize>) -> Result<(), AllocError>
     ensures { OnOk result (order.new.items
         ≡ order.old.items ++ filter (λ p. not (is_below ways.now p)) (reverse (numbers_from 0 (length ways.now)))) }
@@ -41,7 +41,7 @@ fn push_above(ways: &Adjacency, order: &mut Vec<usize>) -> Result<(), AllocError
     Ok(())
 }
 
-/// Appends the positions with a candidate that leads up, from the first to the last.
+/// Appends to `order` the positions with a candidate that leads up, from the first to the last.
 fn push_below(ways: &Adjacency, order: &mut Vec<usize>) -> Result<(), AllocError>
     ensures { OnOk result (order.new.items
         ≡ order.old.items ++ filter (is_below ways.now) (numbers_from 0 (length ways.now))) }
@@ -61,8 +61,8 @@ fn is_below(ways: &Adjacency, position: usize) -> bool
     ways.at(position).iter().any(|edge| edge.to < position)
 }
 
-/// Makes the choices for the end with the number `number`: in round 0 the first choices, and in a later round new ones,
-/// before which its packets are removed from their ways.
+/// Makes the choices of `round` for the end with the number `number`: first choices in round 0, and new ones in later
+/// rounds. Before new choices, the packets to the end are taken off `loads`.
 pub(crate) fn choose(
     alloc: Global,
     round: usize,
@@ -96,8 +96,8 @@ pub(crate) fn choose(
     Ok(())
 }
 
-/// Makes the first choices for the end with the number `number`: each position takes its candidates in turn, by the
-/// number's digits from the position's weight on.
+/// Makes the first choices for the end with the number `number`, at each position of `order` in turn. Each position
+/// takes the candidate that `first_choice` gives.
 fn choose_in_turn(
     ways: &Adjacency,
     order: &[usize],
@@ -125,7 +125,8 @@ fn choose_in_turn(
     }
 }
 
-/// Returns the number of the candidate that `position` takes at first towards the end with the number `number`.
+/// Returns the number of the candidate that `position` takes at first towards the end with the number `number`. Returns
+/// 0 if `position` has no candidate.
 pub(crate) fn first_choice(
     ways: &Adjacency,
     weights: &[usize],
@@ -161,7 +162,8 @@ fn in_turn(count: usize, number: usize) -> u8
     }
 }
 
-/// Makes new choices for an end: each position takes the first candidate whose way has the least peak.
+/// Makes new choices for an end, at each position of `order` in turn. Each position takes the candidate whose way has
+/// the least peak load, the first of equals.
 fn choose_lightest(
     ways: &Adjacency,
     order: &[usize],
@@ -185,7 +187,8 @@ fn choose_lightest(
     }
 }
 
-/// Lets `position` take the candidate `choice`. Adds its packets, if it sends any, to its way.
+/// Lets `position` take the candidate with the number `choice`. Adds the packets that `position` sends to the loads of
+/// the channels on their way.
 fn take(
     ways: &Adjacency,
     sent: &[usize],
@@ -213,7 +216,7 @@ fn take(
     }
 }
 
-/// Removes the packets of all positions that send any from their ways.
+/// Takes the packets that each position sends off the loads of the channels on their way.
 fn remove_packets(taken: &[Option<Edge>], sent: &[usize], loads: &mut [usize])
     requires sent { length sent.now ≡ length taken.now }
     requires loads { length loads.old ≡ 256 * length taken.now }

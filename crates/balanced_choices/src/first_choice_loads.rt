@@ -17,8 +17,8 @@ use spread_labels::{CandidateSets, TARGETS};
 use std::alloc::{AllocError, Global};
 
 /// Returns the load of each channel if the packets to all ends of all destinations take first choices. Position p sends
-/// `sent[p]` packets to each end. Finds candidates for 64 destinations at a time. For each end, takes time linear in
-/// the number of positions.
+/// `sent[p]` packets to each end, and has the digit weight `weights[p]`. Finds the candidates towards 64 destinations
+/// at a time. For each end, takes time linear in the number of positions.
 pub fn first_loads(
     alloc: Global,
     graph: &Adjacency,
@@ -49,7 +49,8 @@ pub fn first_loads(
     Ok(loads)
 }
 
-/// Adds the packets to all ends of `destinations` to the loads of channels. There must be at most 64 destinations.
+/// Adds the packets to all ends of `destinations`, by first choices, to the loads of channels. There must be at most 64
+/// destinations.
 fn add_packets(
     alloc: Global,
     graph: &Adjacency,
@@ -76,7 +77,8 @@ fn add_packets(
     Ok(())
 }
 
-/// Adds the packets to all ends of `destination` to the loads of channels. `ways` must have the candidates towards it.
+/// Adds the packets to all ends of `destination`, by first choices, to the loads of channels. `ways` must have the
+/// candidates of each position towards that of `destination`.
 fn add_packets_to(
     alloc: Global,
     ways: &Adjacency,
@@ -100,8 +102,8 @@ fn add_packets_to(
     Ok(())
 }
 
-/// Returns all positions. If `ways` are candidates towards one target, each comes before the positions that its
-/// candidates lead to.
+/// Returns all positions. If `ways` are candidates towards one target, each position comes before the positions that
+/// its candidates lead to.
 fn far_first(alloc: Global, ways: &Adjacency) -> Result<Vec<usize>, AllocError>
     ensures order { IfOk result (λ order. order.items ≡ reverse (near_first ways.now)) }
     ensures positions { IfOk result (λ order. All (λ p. p < length ways.now) order.items) }
@@ -122,8 +124,9 @@ fn copies(alloc: Global, list: &[usize], count: u16) -> Result<Vec<Vec<usize>>, 
     Ok(copies)
 }
 
-/// Lets `position` pass on the packets that it has had for each end of `destination`. `edges` are its candidates, and
-/// `weight` is its digit weight. Adds the packets to the loads of channels.
+/// Lets `position` pass on the packets that it has had for each end of `destination`. `edges` are the candidates of
+/// `position`, and `weight` is its digit weight. Adds the packets to the loads of channels. Does nothing if there is no
+/// candidate.
 fn pass_on(
     edges: &[Edge],
     weight: usize,
@@ -154,7 +157,7 @@ fn pass_on(
     }
 }
 
-/// Lets `position` pass on the packets that it has had by `edge`. Adds them to the load of the edge's channel.
+/// Passes on, by `edge`, the packets that `position` has had. Adds these packets to the load of the channel of `edge`.
 fn pass_by(edge: Edge, position: usize, had: &mut [usize], loads: &mut [usize])
     requires position { position < length had.old }
     requires loads { 256 * position + 256 ≤ length loads.old }

@@ -1,8 +1,8 @@
 //! The law of choices.
 ghost use Rattle.balanced_choices.specs.LeastPeakLaw.{LightestIsLeast};
 
-/// No candidate's way has a lesser peak load than that of the candidate that is chosen, and the candidates before it
-/// have greater ones, if no load exceeds 2^64 - 1.
+/// If a position has a candidate and no peak load exceeds 2^64 - 1, new choices take the first candidate whose way has
+/// the least peak load.
 pub fn lightest_is_least()
     ensures { LightestIsLeast }
 {}

@@ -1,5 +1,4 @@
-//! Choices among the candidates of routes by counted loads: each choice takes the way whose busiest channel has the
-//! least load.
+//! Choices among the candidates of routes, made to balance the loads of channels.
 #![tactic(auto)]
 
 mod choosing;

@@ -2,11 +2,11 @@
 ghost use Rattle.std.specs.Prelude.{◌≡◌, ◌<◌, ◌+◌, ◌/◌, ◌%◌, ◌^◌, max};
 ghost use Rattle.balanced_choices.specs.RoundRobins.{IsTurn, IsOfSame};
 
-/// The candidates in turn by a digit of a number, modulo the number of candidates. The turn of a number that is close
-/// to the one before is found without a division.
+/// The turn of a number among candidates: its digit plus an offset, modulo the number of candidates. Moving to one of
+/// the 2 * `weight` numbers from `start` on takes no division.
 #[derive(Clone, Copy)]
 pub struct RoundRobin {
-    /// The weight of the digit.
+    /// The weight of the digit. The digit of a number is the number divided by the weight, rounded down.
     weight: usize,
     /// The number that is added to the digit.
     offset: usize,
@@ -19,8 +19,8 @@ pub struct RoundRobin {
 }
 
 impl RoundRobin {
-    /// Returns the turn of `number` among `count` candidates, by its digits from `weight` on plus `offset`. `weight`
-    /// and `count` must not be 0, and `offset` and `number` must be less than 2^63.
+    /// Returns the turn of `number` among `count` candidates, with the digit weight `weight` and the offset `offset`.
+    /// `weight` and `count` must not be 0. `offset` and `number` must be less than 2^63.
     pub fn at(weight: usize, offset: usize, count: usize, number: usize) -> Self
         requires weight { 0 < weight }
         requires offset { offset < 2 ^ 63 }
@@ -42,8 +42,8 @@ impl RoundRobin {
         }
     }
 
-    /// Returns the turn of the number 0 among `count` candidates, by digits from `weight` on plus `position`. If
-    /// `weight` is 0, the digits are the number itself. `count` must not be 0, and less than 2^63.
+    /// Returns the turn of the number 0 among `count` candidates, with the digit weight `weight` and the offset
+    /// `position` modulo `count`. A `weight` of 0 counts as 1. `count` must be from 1 to 2^63 - 1.
     pub fn first(weight: usize, position: usize, count: usize) -> Self
         requires { (0 < count) × (count < 2 ^ 63) }
         ensures turn { IsTurn result }
@@ -78,7 +78,7 @@ impl RoundRobin {
         }
     }
 
-    /// Returns the turn as the index of the candidate.
+    /// Returns the index of the candidate that has the turn.
     pub fn choice(&self) -> usize
         ensures { result ≡ self.now.choice }
     {

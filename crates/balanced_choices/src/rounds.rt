@@ -18,21 +18,21 @@ const ROUNDS: usize = 3;
 /// A position at which ends are attached. Packets are sent to these ends.
 #[derive(Clone, Copy, Debug, PartialEq, Eq)]
 pub struct Destination {
-    /// The position at which its ends are attached.
+    /// The position at which the ends are attached.
     pub position: usize,
-    /// The number of its ends.
+    /// The number of ends.
     pub ends: u16,
-    /// The number of its first end. The numbers of the others follow it. The first choices take candidates in turn by
-    /// digits of these numbers.
+    /// The number of the first end. The further ends have the numbers after this one. First choices go by the digits of
+    /// these numbers.
     pub number: u32,
 }
 
-/// Returns for each end of each destination, in their order, the number of the candidate that each position takes.
-/// Position p sends `sent[p]` packets to each end. Its first choice is by the digits of the end's number from
-/// `weights[p]` on. Candidates and their numbers are in the order of the position's edges. A position without
-/// candidates has number 0. Takes at most three rounds. In each, finds candidates for 64 destinations at a time. From
-/// the second round on, walks the ways of all candidates of each position for each end. Keeps a byte for each end and
-/// position.
+/// Returns, for each end of each of `destinations` in order, the number of the candidate that each position takes.
+/// Position p sends `sent[p]` packets to each end. Its first choice goes by the digits of the end's number from the
+/// digit of weight `weights[p]` on. The candidates of a position are numbered in the order of its edges, from 0 on. A
+/// position without candidates has the number 0. Takes at most three rounds. Each round finds the candidates towards 64
+/// destinations at a time. From the second round on, a round walks the ways of all candidates of each position, for
+/// each end. Keeps a byte for each end and position.
 pub fn balanced_choices(
     alloc: Global,
     graph: &Adjacency,
@@ -101,7 +101,7 @@ fn push_choices(
     Ok(())
 }
 
-/// Makes the choices of a round for all ends. If it is not the first round and loads are even, makes none.
+/// Makes the choices of `round` for all ends of `destinations`. Makes none if `round` is not 0 and `loads` are even.
 fn make_round(
     alloc: Global,
     round: usize,
@@ -141,7 +141,7 @@ fn make_round(
     )
 }
 
-/// Makes the choices of a round for all ends of `destinations`. Finds the candidates towards 64 destinations at a time.
+/// Makes the choices of `round` for all ends of `destinations`. Finds the candidates towards 64 destinations at a time.
 fn choose_all(
     alloc: Global,
     round: usize,
@@ -186,8 +186,8 @@ fn choose_all(
     Ok(())
 }
 
-/// Makes the choices for the ends of `destinations`, at most 64. The first end has the index `first`. Returns the index
-/// after the last end.
+/// Makes the choices of `round` for the ends of `destinations`. There must be at most 64 destinations. The first of
+/// these ends has the index `first`. Returns the index after the last of these ends.
 fn choose_some(
     alloc: Global,
     round: usize,
@@ -244,8 +244,8 @@ pub(crate) fn positions_of(
         .collect(alloc)
 }
 
-/// Makes the choices for the ends at one position, from the index `first` up to, but not including, `last`. The end at
-/// `first` has the number `number`, and the numbers of the others follow it.
+/// Makes the choices of `round` for the ends at one position, from the index `first` up to, but not including, `last`.
+/// The end at `first` has the number `number`, and the further ends have the numbers after `number`.
 fn choose_between(
     alloc: Global,
     round: usize,
@@ -300,7 +300,8 @@ pub(crate) fn ways_towards(
     Ok(ways)
 }
 
-/// Finds the edges whose set has `target`, which must be less than 64. Replaces the contents of `found`.
+/// Sets `found` to those of `edges` whose set in `sets` has `target`. `target` must be less than 64. There must be a
+/// set for each edge.
 fn find_having(
     edges: &[Edge],
     sets: &[TargetSet],

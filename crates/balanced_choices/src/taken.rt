@@ -7,7 +7,7 @@ ghost use Rattle.balanced_choices.specs.Loads.{edge_taken};
 use port_graph::{Adjacency, Edge};
 use std::alloc::{AllocError, Global};
 
-/// Returns the edge that is taken at each position, or `None` if none is.
+/// Returns the edge that each position takes by its choice, or `None` for a position that has no such candidate.
 pub(crate) fn edges_taken(
     alloc: Global,
     ways: &Adjacency,
@@ -22,14 +22,14 @@ pub(crate) fn edges_taken(
     Ok(taken)
 }
 
-/// Returns the edge that is taken at `position`, or `None` if none is.
+/// Returns the edge that `position` takes by its choice, or `None` if `position` has no such candidate.
 pub(crate) fn edge_taken(ways: &Adjacency, choices: &[u8], position: usize) -> Option<Edge>
     ensures { result ≡ edge_taken ways.now choices.now position }
 {
     edge_with(ways, position, choice_at(choices, position))
 }
 
-/// Returns the candidate of `position` with the number `number`, or `None` if there is none.
+/// Returns the candidate of `position` with the number `number`, or `None` if there is no such candidate.
 pub(crate) fn edge_with(ways: &Adjacency, position: usize, number: usize) -> Option<Edge>
     ensures { result ≡ slice_get (edges_at ways.now position) number }
 {

@@ -14,7 +14,7 @@ pub(crate) enum Change {
     Remove(usize),
 }
 
-/// Returns `load` after `change`. It stays between 0 and 2^64 - 1.
+/// Returns `load` after `change`: no less than 0 and no more than 2^64 - 1.
 fn changed(change: Change, load: usize) -> usize
     ensures { result ≡ changed change load }
 {
@@ -24,8 +24,8 @@ fn changed(change: Change, load: usize) -> usize
     }
 }
 
-/// Makes `change` to the loads of the channels of the way from `from`, which ends at the latest after as many edges as
-/// there are positions. `taken` must have the edge that is taken at each position.
+/// Makes `change` to the load of each channel of the way from position `from`. `taken` has the edge that is taken at
+/// each position. The way ends at a position where no edge is taken, or after as many edges as there are positions.
 pub(crate) fn change_way(taken: &[Option<Edge>], loads: &mut [usize], from: usize, change: Change)
     requires { length loads.old ≡ 256 * length taken.now }
     ensures { loads.new ≡ with_changes change loads.old (way_by taken.now from) }
@@ -43,7 +43,7 @@ pub(crate) fn change_way(taken: &[Option<Edge>], loads: &mut [usize], from: usiz
     }
 }
 
-/// Returns the edge that is taken at `position`, or `None` if none is.
+/// Returns the edge that is taken at `position`, or `None` if no edge is taken there.
 fn edge_at(taken: &[Option<Edge>], position: usize) -> Option<Edge>
     ensures edge { result ≡ slice_index_or taken.now position None }
     ensures position { IfSome result (λ edge. position < length taken.now) }
@@ -54,8 +54,8 @@ fn edge_at(taken: &[Option<Edge>], position: usize) -> Option<Edge>
     }
 }
 
-/// Returns the number of the candidate of `position` whose way has the least peak, or the first such one. Returns 0 if
-/// there is no candidate. Only the first 256 candidates count.
+/// Returns the number of the candidate of `position` whose way has the least peak load, the first of equals. Returns 0
+/// if `position` has no candidate. Only the first 256 candidates count.
 pub(crate) fn lightest(
     ways: &Adjacency,
     taken: &[Option<Edge>],
@@ -83,8 +83,8 @@ pub(crate) fn lightest(
     best as u8
 }
 
-/// Returns the greatest load on the way that begins with the candidate `edge` of `position`. If some load on the way is
-/// at least `enough`, may return any such load.
+/// Returns the greatest load on the way that begins with the candidate `edge` of `position`. If a load on the way is at
+/// least `enough`, may return any load on the way that is at least `enough`.
 fn peak(
     taken: &[Option<Edge>],
     loads: &[usize],
@@ -100,8 +100,8 @@ fn peak(
     peak_from(taken, loads, edge.to, loads[channel], enough)
 }
 
-/// Returns the greatest of `found` and the loads of the channels of the way from `from`. If one of these is at least
-/// `enough`, may return any such number.
+/// Returns the greatest of `found` and the loads of the channels of the way from `from`. If one of these numbers is at
+/// least `enough`, may return any of them that is at least `enough`.
 fn peak_from(
     taken: &[Option<Edge>],
     loads: &[usize],

@@ -41,17 +41,17 @@ pub record TellsPositions (cells : Cells) (tables : HeldPlan) (by : List ℕ) : 
   pub positions : List ℕ
   pub are : positions ≡ told_positions taken (length (edges_in cells))
 
--- after a step towards the goal between two orders, where the plan's order is preferred, the order that the tables
--- imply agrees with the plan's order at least as far as before
+-- after a step towards the goal between two orders, the order that the tables imply agrees with the plan's order at
+-- least as far as before, if the plan's order is preferred
 abbrev pub StepsKeepAgreement : Type 0
 StepsKeepAgreement =
     (facts : Facts) (held plan : HeldPlan) (by : List ℕ) (goal : Goal) (k : ℕ)
     → IsGoal (cells_of facts) held plan by by (Some goal) → AgreeTo (cells_of facts) held by k
     → AgreeTo (cells_of facts) (next_towards facts held goal) by k
 
--- `next` is right by the first or by the second order of a step from `held`. If it is right by the second, it may count
--- as a goal reached (`later` is one more than `count`), if `held` is right by the order that grows by the order that it
--- implies
+-- `next` is right by the first order of a step from `held`, or by the second. If it is right by the second, it may
+-- count as a goal reached (`goal`): then `later` is one more than `count`, and `held` is right by the order that grows
+-- by the order that it implies. If it does not count (`first`, `second`), `later` is `count`
 pub data IsOnward (cells : Cells) (held next : HeldPlan) (by : List ℕ) (count later : ℕ) : Type 0 where
   first : (told : TellsPositions cells held by)
       → AreRightBy cells (orders_from cells held (edges_in cells) by told.positions).first next → later ≡ count
@@ -64,7 +64,8 @@ pub data IsOnward (cells : Cells) (held next : HeldPlan) (by : List ℕ) (count 
       → IsOnward cells held next by count later
 
 -- if `next` is onward from `held`, and the order of `held` agrees with the plan's on the first `count` switches, the
--- order of `next` agrees with it on the first `later` switches: each goal that is reached takes it one switch further
+-- order of `next` agrees with the plan's on the first `later` switches. So each goal that is reached takes the
+-- agreement one switch further
 abbrev pub GoalsGoFurther : Type 0
 GoalsGoFurther =
     (facts : Facts) (held next : HeldPlan) (by : List ℕ) (count later : ℕ)
@@ -72,7 +73,7 @@ GoalsGoFurther =
     → AgreeTo (cells_of facts) next by later
 
 -- each of `tables` is onward from the one before; the first ones imply an order, and `reached m` is the number of goals
--- that were reached by then
+-- that were reached in the first `m` steps
 pub record AreOnTheWay (cells : Cells) (by : List ℕ) (tables : ℕ → HeldPlan) (reached : ℕ → ℕ) : Type 0 where
   pub told : TellsPositions cells (tables 0) by
   pub none_yet : reached 0 ≡ 0
@@ -87,8 +88,9 @@ GoalsAreFew =
     → AreRightBy (cells_of facts)
     (positions_in (order_of_plan (cells_of facts) by) (length (edges_in (cells_of facts)))) (tables m)
 
--- if tables are right by an order that grew, and are taken to imply an order where this one is preferred, it is the
--- first order of the next step, and the second order grows by the plan's positions over its tree
+-- the order that grew by `told` is the first order of the next step, and the second grows by the plan's positions over
+-- its tree, if two conditions hold: the tables are right by the grown order for every LID; and this order is preferred
+-- among those that they imply
 abbrev pub OrdersStay : Type 0
 OrdersStay =
     (facts : Facts) (tables : HeldPlan) (told by taken : List ℕ)
@@ -111,8 +113,8 @@ ComeEverywhere cells tables =
     (i j k : ℕ) → i < length (switches cells) → j < length (switches cells) → Walk (heads (edges_in cells)) i j k
     → (lid n : ℕ) × (1 ≤ lid) × ComeTo cells tables lid n i j
 
--- if packets get by the tables from each switch to all switches that wires join to it, tables that imply an order are
--- right by the order that grows by it
+-- tables that imply an order are right by the order that grows by the implied one, if packets get by the tables from
+-- each switch to all switches that wires join to it
 abbrev pub WholeTablesGrow : Type 0
 WholeTablesGrow =
     (facts : Facts) (tables : HeldPlan) (preferred taken : List ℕ) → ComeEverywhere (cells_of facts) tables

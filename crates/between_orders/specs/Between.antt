@@ -20,7 +20,7 @@ goal_between cells orders held plan = record {
   tables = tables_between cells (edges_in cells) orders held plan;
 }
 
--- the goal that the code's goal stands for
+-- the goal that a `StepGoal` of the code stands for
 abbrev pub goal_of : StepGoal → Goal
 goal_of goal = record { positions = goal.positions.items; tables = goal.tables }
 

@@ -36,15 +36,15 @@ abbrev pub labels_of_line : Cells → TwoOrders → HeldPlan → HeldLid → Lis
 labels_of_line cells orders plan line =
     labels_towards line.port (edges_in cells) orders (map (switch_step cells plan line.lid) (switches cells))
 
--- the port of `line` is the first that has its LID in the plan, the LID is not 0, and the plan gives no usable switch a
--- top below it
+-- the port of `line` is the first that has its LID in the plan. The LID is not 0, and no usable switch has a top below
+-- the LID in the plan
 pub record IsGoalLine (cells : Cells) (plan : HeldPlan) (line : HeldLid) : Type 0 where
   pub some : 1 ≤ line.lid
   pub first : slice_get (owners_of plan line.lid) 0 ≡ Some line.port
   pub within : (g : ℕ) → Contains (switches cells) g → line.lid ≤ top_of plan g
 
--- if facts are in range and the first order is one of the switches, the tables between two orders deliver from each
--- switch with a label, for the LID of a goal line
+-- for the LID of a goal line, the tables between two orders deliver from each switch with a label, if the facts are in
+-- range and the first order gives each switch a position below the number of switches
 abbrev pub GoalDelivers : Type 0
 GoalDelivers =
     (facts : Facts) → AreInRange facts → (orders : TwoOrders) → IsOrder (cells_of facts) (position_at orders.first)
@@ -52,8 +52,9 @@ GoalDelivers =
     → (i : ℕ) (label : Sides) → label_at (labels_of_line (cells_of facts) orders plan line) i ≡ Some label
     → DeliverFrom (cells_of facts) (tables_between (cells_of facts) (edges_in (cells_of facts)) orders held plan) line i
 
--- if facts are in range, the first order grows and the second grows over its tree, then for the LID of a goal line the
--- tables between them deliver from each switch from which wires lead to a switch whose plan entry leads to the end port
+-- for the LID of a goal line, the tables between two orders deliver from each switch from which wires lead to a switch
+-- whose plan entry leads to the end port, if two conditions hold: the facts are in range; and the first order grows,
+-- and the second grows over its tree
 abbrev pub GoalReachesAll : Type 0
 GoalReachesAll =
     (facts : Facts) → AreInRange facts → (told by : List ℕ) (held plan : HeldPlan) (line : HeldLid)
@@ -85,8 +86,9 @@ GoalsFollowTheRule =
     → IsGoal (cells_of facts) held plan by preferred (Some goal) → IsKept held plan line → 1 ≤ line.lid
     → IsLineStep (cells_of facts) (position_at goal.positions) held goal.tables line (next_towards facts held goal)
 
--- if facts are in range, and each held entry for a goal line is 255 or delivers, the tables between two orders have the
--- same entries for its LID from the next tables as from the held ones, after a step of a line towards them
+-- a step of a line towards the tables between two orders leaves these tables as they are for its LID: they have the
+-- same entries from the next tables as from the held ones. Two conditions are to hold: the facts are in range; and each
+-- held entry for the goal line is 255 or delivers
 abbrev pub GoalStandsStill : Type 0
 GoalStandsStill =
     (facts : Facts) → AreInRange facts → (orders : TwoOrders) (held plan next : HeldPlan) (line : HeldLid)
@@ -99,9 +101,9 @@ GoalStandsStill =
     → entry_for (tables_between (cells_of facts) (edges_in (cells_of facts)) orders next plan) line.lid g
     ≡ entry_for (tables_between (cells_of facts) (edges_in (cells_of facts)) orders held plan) line.lid g
 
--- `tables n` are the tables after n steps towards the tables between an order that grows and one that grows over its
--- tree, each from the tables before it, for the LID of `line`. The first tables are right by the first order, and each
--- of their entries is 255 or delivers
+-- `tables n` are the tables for the LID of `line` after n steps. Each step goes from the tables before it towards the
+-- tables between two orders, one that grows by `told` and one that grows over its tree. The first tables have the
+-- plan's owners of the LID, and are right by the first order; each of their entries is 255 or delivers
 pub record AreGoalSteps (facts : Facts) (told by : List ℕ) (plan : HeldPlan) (line : HeldLid) (tables : ℕ → HeldPlan)
     : Type 0 where
   pub is_line : IsGoalLine (cells_of facts) plan line
@@ -115,9 +117,9 @@ pub record AreGoalSteps (facts : Facts) (told by : List ℕ) (plan : HeldPlan) (
       (tables_between (cells_of facts) (edges_in (cells_of facts)) (grown_twice (edges_in (cells_of facts)) told by)
       (tables n) plan) line (tables (suc n))
 
--- if facts are in range, then in steps towards the tables between two orders that grow (`AreGoalSteps`), from 2n steps
--- on, for n switches, each switch from which the first goal delivers has that goal's entry, and the tables deliver from
--- it
+-- in steps towards the tables between two orders that grow (`AreGoalSteps`), each switch from which the first goal
+-- delivers has that goal's entry from 2n steps on, for n switches, and the tables deliver from this switch, if the
+-- facts are in range
 abbrev pub GoalIsReached : Type 0
 GoalIsReached =
     (facts : Facts) → AreInRange facts → (told by : List ℕ) (plan : HeldPlan) (line : HeldLid) (tables : ℕ → HeldPlan)
@@ -132,9 +134,9 @@ GoalIsReached =
     (grown_twice (edges_in (cells_of facts)) told by) (tables 0) plan) line.lid g)
     × DeliverFrom (cells_of facts) (tables m) line i
 
--- if facts are in range, and in steps towards the tables between two orders that grow (`AreGoalSteps`) the first goal
--- delivers from each switch that sends packets straight to the end port by the first tables, then from 2n steps on, for
--- n switches, and at least one, the tables are right by the second order for the LID
+-- in steps towards the tables between two orders that grow (`AreGoalSteps`), the tables are right by the second order
+-- for the LID from 2n steps on, for n switches, and at least one. Two conditions are to hold: the facts are in range;
+-- and the first goal delivers from each switch that sends packets straight to the end port by the first tables
 abbrev pub GoalEndsRight : Type 0
 GoalEndsRight =
     (facts : Facts) → AreInRange facts → (told by : List ℕ) (plan : HeldPlan) (line : HeldLid) (tables : ℕ → HeldPlan)

@@ -39,9 +39,9 @@ pub record AreHandedSteps (facts : Facts) (by preferred : List ℕ) (plan : Held
       → IsGoal (cells_of facts) (tables n) plan by (handed preferred goals n) (Some (goals n))
   pub step_is : (n : ℕ) → n < count → tables (suc n) ≡ next_towards facts (tables n) (goals n)
 
--- if the first of `tables` are right by the order that grows by the order that they imply, then in all handed steps the
--- first order is that grown order, and the second grows by the plan's positions over its tree; all tables are right by
--- the first order
+-- both orders stay in all handed steps: the first grows by the order that `tables 0` imply, and the second by the
+-- plan's positions over its tree. All tables are right by the first order. The condition is that `tables 0` are right
+-- by this grown order
 abbrev pub HandedOrdersStay : Type 0
 HandedOrdersStay =
     (facts : Facts) (by preferred : List ℕ) (plan : HeldPlan) (tables : ℕ → HeldPlan) (goals : ℕ → Goal) (count : ℕ)
@@ -53,9 +53,9 @@ HandedOrdersStay =
     × ((n : ℕ) → n ≤ count
     → AreRightBy (cells_of facts) (grown_twice (edges_in (cells_of facts)) told.positions by).first (tables n))
 
--- if the first of `tables` are right by the order that grows by the order that they imply, handed steps are goal steps
--- for the LID of each goal line whose end port alone holds it, in these tables and in the plan, and whose entries there
--- are 255 or deliver
+-- handed steps are goal steps for the LID of a goal line, if three conditions hold: `tables 0` are right by the order
+-- that grows by the order that they imply; one end port alone holds the LID, in `tables 0` and in the plan; and each
+-- entry for it in `tables 0` is 255 or delivers
 abbrev pub HandedStepsAreGoalSteps : Type 0
 HandedStepsAreGoalSteps =
     (facts : Facts) (by preferred : List ℕ) (plan : HeldPlan) (tables : ℕ → HeldPlan) (goals : ℕ → Goal) (count : ℕ)
@@ -68,14 +68,15 @@ HandedStepsAreGoalSteps =
     → (all : ℕ → HeldPlan) × AreGoalSteps facts told.positions by plan line all
     × ((n : ℕ) → n ≤ count → tables n ≡ all n)
 
--- `lid` is one of the switch at index `i`: this alone holds it in the plan, and takes its packets by the plan
+-- `lid` is a LID of the switch at index `i`: in the plan this switch alone holds the LID, and takes packets for it
 pub record IsOwnLid (cells : Cells) (plan : HeldPlan) (i lid : ℕ) : Type 0 where
   pub some : 1 ≤ lid
   pub alone : owners_of plan lid ≡ record { node = switch_at cells i; port = 0 } ∷ []
   pub takes : step_at cells plan lid (switch_at cells i) ≡ Ends (Taken (record { node = switch_at cells i; port = 0 }))
 
--- each LID is held by no end port of the plan, or by one alone; then no usable switch has a top below the LID, and the
--- plan delivers at that end port from each switch from which any tables that keep the LID there deliver
+-- in the plan, each LID is held by no end port, or by one alone. In the latter case, no usable switch has a top below
+-- the LID. The plan delivers at that end port from each switch from which any tables do that give the LID to this end
+-- port alone
 pub record IsWholePlan (cells : Cells) (plan : HeldPlan) : Type 0 where
   pub lines : (lid : ℕ) → 1 ≤ lid → (owners_of plan lid ≡ [])
       ⊎ ((port : EndPort) × (owners_of plan lid ≡ port ∷ [])
@@ -87,8 +88,8 @@ pub record IsWholePlan (cells : Cells) (plan : HeldPlan) : Type 0 where
 abbrev pub HaveOwnLids : Cells → HeldPlan → Type 0
 HaveOwnLids cells plan = (i : ℕ) → i < length (switches cells) → (lid : ℕ) × IsOwnLid cells plan i lid
 
--- if facts are in range, and the first tables are right by the order that grows by the order that they imply, then
--- after 2n + 2 handed steps towards a whole plan, for n switches, no further one changes the tables
+-- after 2n + 2 handed steps towards a whole plan, for n switches, no further one changes the tables, if two conditions
+-- hold: the facts are in range; and `tables 0` are right by the order that grows by the order that they imply
 abbrev pub HandedStepsEnd : Type 0
 HandedStepsEnd =
     (facts : Facts) → AreInRange facts → (by preferred : List ℕ) (plan : HeldPlan) (tables : ℕ → HeldPlan)
@@ -115,18 +116,18 @@ pub record IsStage (facts : Facts) (by : List ℕ) (plan start end : HeldPlan) :
   pub begins : tables 0 ≡ start
   pub ends : tables count ≡ end
 
--- if facts are in range, a stage goes towards a whole plan in which each usable switch has a LID, and packets get by
--- the tables at its beginning from each switch to all switches that wires join to it, they do so by the tables at its
--- end
+-- if packets get by the tables at the beginning of a stage from each switch to all switches that wires join to it, they
+-- do so by the tables at its end. Two conditions are to hold: the facts are in range; and the stage goes towards a
+-- whole plan in which each usable switch has a LID
 abbrev pub StagesStayWhole : Type 0
 StagesStayWhole =
     (facts : Facts) → AreInRange facts → (by : List ℕ) (plan start end : HeldPlan) → IsWholePlan (cells_of facts) plan
     → HaveOwnLids (cells_of facts) plan → IsStage facts by plan start end → ComeEverywhere (cells_of facts) start
     → ComeEverywhere (cells_of facts) end
 
--- if facts are in range, the first tables imply an order, and packets get by them from each switch to all switches that
--- wires join to it, then after n - 1 or more stages towards a whole plan in which each usable switch has a LID, for n
--- switches, the tables are right by the plan's order
+-- after n - 1 or more stages, for n switches, the tables are right by the plan's order, if three conditions hold: the
+-- facts are in range; the stages go towards a whole plan in which each usable switch has a LID; and the first tables
+-- imply an order, and packets get by them from each switch to all switches that wires join to it
 abbrev pub StagesAreFew : Type 0
 StagesAreFew =
     (facts : Facts) → AreInRange facts → (by : List ℕ) (plan : HeldPlan) (tables : ℕ → HeldPlan) (count : ℕ)

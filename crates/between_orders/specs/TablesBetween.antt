@@ -65,14 +65,15 @@ unfoldable pub entries_towards : EndPort → List (List Edge) → TwoOrders → 
 entries_towards port edges orders held plan =
     map (entry_between port edges orders (labels_towards port edges orders plan)) (enumerate_from 0 (zip held plan))
 
--- the entries of all switches for `lid` by two orders, towards the first of its owners; 255 if it has none
+-- the entries of all switches for `lid` by two orders, towards the first of the given owners; 255 if there are none
 abbrev pub column_for : Cells → List (List Edge) → TwoOrders → HeldPlan → HeldPlan → ℕ → List EndPort → List ℕ
 column_for cells edges orders held plan lid [] = replicate (length (switches cells)) 255
 column_for cells edges orders held plan lid (port ∷ ports) =
     entries_towards port edges orders (map (switch_step cells held lid) (switches cells))
     (map (switch_step cells plan lid) (switches cells))
 
--- the entries of all switches for `lid` by two orders, towards its first owner in the plan; 255 if it has none
+-- the entries of all switches for `lid` by two orders, towards the first owner of `lid` in the plan; 255 if `lid` has
+-- none there
 abbrev pub column_between : Cells → List (List Edge) → TwoOrders → HeldPlan → HeldPlan → ℕ → List ℕ
 column_between cells edges orders held plan lid = column_for cells edges orders held plan lid (owners_of plan lid)
 

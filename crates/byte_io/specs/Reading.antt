@@ -7,8 +7,8 @@ use Rattle.byte_io.specs.declared.reading.PieceFault.TheVariants.{Read, TooLong}
 use Rattle.byte_io.specs.declared.reading.Reading.{Reading}
 use Rattle.byte_io.specs.Source.{SourceState}
 
--- what a source has left, whether it has failed, how many of its calls were interrupted; and how many bytes the reading
--- took and calls it made
+-- the state of a reading: the bytes that its source has left, if they are known; whether a call of the source has
+-- failed; how many of its calls were interrupted; how many bytes the reading took; and how many calls it made
 pub record ReadingState : Type 0 where
   pub left : Option (List ℕ)
   pub has_failed : Bool
@@ -26,22 +26,23 @@ state_of state r = record {
   calls = r.budget.calls;
 }
 
--- the reading took the bytes `taken` from its source, and at most as many calls were interrupted as were made
+-- from `old` to `new` the reading took the bytes `taken` from its source, and made at least as many calls as were
+-- interrupted
 pub record Takes (old new : ReadingState) (taken : List ℕ) : Type 0 where
   pub consumed : Consumes old.left new.left taken
   pub counted : new.bytes ≡ old.bytes + length taken
   pub asked : new.interruptions + old.calls ≤ old.interruptions + new.calls
 
--- each call took at least a byte, or was interrupted
+-- from `old` to `new` the calls made are at most the bytes taken and the calls interrupted together
 pub record EachCallTakes (old new : ReadingState) : Type 0 where
   pub paid : (new.calls + old.bytes) + old.interruptions ≤ (old.calls + new.bytes) + new.interruptions
 
--- at least one call was made and not interrupted
+-- from `old` to `new` at least one call was not interrupted: more calls were made than interrupted
 pub record IsAnswered (old new : ReadingState) : Type 0 where
   pub answered : new.interruptions + old.calls < old.interruptions + new.calls
 
--- `n` bytes were read into the front of `room`; 0 only at the end of the source; and the 2^40th byte of a reading comes
--- alone
+-- `n` bytes were read into the front of `room`, and no call of the source has failed. `n` is 0 only at the end of the
+-- source; `n` is 1 if the reading has then taken 2^40 bytes
 pub record GivesPiece (n : ℕ) (old new : ReadingState) (room : List ℕ) : Type 0 where
   pub within : n ≤ length room
   pub taken : Takes old new (take n room)
@@ -59,7 +60,7 @@ pub record FailsToGive (old new : ReadingState) : Type 0 where
   pub answered : IsAnswered old new
   pub failed : IsTrue new.has_failed
 
--- no byte was taken, and the reading is used up
+-- no byte was taken, as many calls were interrupted as were made, and the reading is used up
 pub record IsSpentBefore (old new : ReadingState) : Type 0 where
   pub taken : Takes old new []
   pub spent : IsSpent new.bytes new.calls
@@ -67,14 +68,15 @@ pub record IsSpentBefore (old new : ReadingState) : Type 0 where
   pub kept : new.has_failed ≡ old.has_failed
   pub begun : old.bytes < 2 ^ 40 → old.calls < 2 ^ 40 → new.has_failed ≡ false
 
--- what one call of a reading returns and puts into `room`, by its states `old` and `new`: a piece; `Read` if its source
--- failed; `TooLong` if the reading is used up
+-- what one call of a reading returns and puts into `room`, from the state `old` to the state `new`: a piece; `Read` if
+-- a call of the source failed; `TooLong` if the reading is used up
 abbrev pub GivesAt : Result ℕ PieceFault → ReadingState → ReadingState → List ℕ → Type 0
 GivesAt (Ok n) old new room = GivesPiece n old new room
 GivesAt (Err Read) old new room = FailsToGive old new
 GivesAt (Err TooLong) old new room = IsSpentBefore old new
 
--- what one call of the reading `old` returns and puts into `room`, and that it leaves the reading `new`
+-- one call of the reading `old` returns `result`, puts what it read into `room`, and leaves the reading `new`
+-- (`GivesAt`)
 abbrev pub Gives : {S : Type 0} → (S → SourceState) → Result ℕ PieceFault → Reading S
     → Reading S → List ℕ → Type 0
 Gives state result old new room =

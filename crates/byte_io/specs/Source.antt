@@ -3,8 +3,8 @@ use Rattle.std.specs.Prelude.{ℕ, Bool, List, Option, Result, Ok, Err}
 use Rattle.byte_io.specs.declared.source.ReadError.{ReadError}
 use Rattle.byte_io.specs.declared.source.ReadError.TheVariants.{Failed, Interrupted}
 
--- the bytes that a source has left, if they are known; whether a call has failed, after which every later one fails;
--- and how many calls were interrupted
+-- the state of a source: the bytes that it has left, if they are known; whether a call of it has failed; and how many
+-- of its calls were interrupted. After a failed call every later call fails
 pub record SourceState : Type 0 where
   pub left : Option (List ℕ)
   pub has_failed : Bool

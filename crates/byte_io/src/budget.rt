@@ -1,9 +1,10 @@
 ghost use Rattle.std.specs.Prelude.{◌≡◌, ◌≤◌, ◌^◌};
 
-/// The greatest number of bytes that one reading takes, and of calls that it makes to its source.
+/// The greatest number of bytes that one reading takes, and the greatest number of calls that it makes to its source.
 pub const READ_LIMIT: u64 = 1 << 40;
 
-/// The numbers of bytes and of calls that a reading has taken from its source.
+/// The number of bytes that a reading has taken from its source, and the number of calls that it has made. Each is at
+/// most 2^40.
 #[derive(Drop)]
 pub(crate) struct Budget {
     pub(crate) bytes: u64,
@@ -30,8 +31,9 @@ impl Budget {
         self.bytes == READ_LIMIT || self.calls == READ_LIMIT
     }
 
-    /// Returns how many bytes the next call may ask for, at least 1 and at most `wanted`, which must not be 0. A byte
-    /// of the budget must be left. The last one is asked for on its own.
+    /// Returns how many bytes the next call may ask for: at least 1, at most `wanted`, and no more than the budget has
+    /// left. The last byte of the budget is asked for on its own. `wanted` must not be 0, and the budget must have a
+    /// byte left.
     pub(crate) fn share(&self, wanted: usize) -> usize
         requires some { 0 < wanted }
         requires left { self.now.bytes < 2 ^ 40 }

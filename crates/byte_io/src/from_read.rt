@@ -4,8 +4,9 @@ use crate::interruption::is_interruption;
 use crate::source::{ReadError, Source};
 use std::io::Read;
 
-/// A source over any reader. A failed read is remembered: every later call fails too. `Interrupted` is not a failure;
-/// every other error is. Readers' contracts do not say when they fail, so no clause here can.
+/// A source over any reader. After a failed read every later call fails too. The first 2^64 - 1 errors of kind
+/// `Interrupted` are not failures; every other error is. A reader's contract does not say when a read fails, so no
+/// clause here does.
 #[derive(Drop)]
 pub struct FromRead<R> {
     reader: R,

@@ -12,7 +12,8 @@ pub enum PieceFault {
     TooLong,
 }
 
-/// A source, with the numbers of bytes and of calls that one reading has taken from it.
+/// A reading: a source, the number of bytes that the reading has taken from it, and the number of calls that the
+/// reading has made.
 #[derive(Drop)]
 pub struct Reading<'s, S> {
     source: &'s mut S,
@@ -43,12 +44,13 @@ impl<'s, S: Source> Reading<'s, S> {
         self.budget.is_spent()
     }
 
-    /// Reads until a call is not interrupted. Returns the number of bytes put in the front of `room`, which must not be
-    /// empty; 0 means the end.
+    /// Calls the source until a call is not interrupted. Puts the bytes of that call into the front of `room`, and
+    /// returns their number, which is 0 only at the end of the source. `room` must not be empty.
     ///
     /// # Errors
     ///
-    /// Returns `Read` if the source failed, and `TooLong` if no call may follow.
+    /// Returns `Read` if the source failed, and `TooLong` if 2^40 bytes or 2^40 calls are used up before a call is not
+    /// interrupted.
     pub fn piece(&mut self, room: &mut [u8]) -> Result<usize, PieceFault>
         requires some { 0 < length room.old }
         ensures same_source { self.new.source.ghost_name ≡ self.old.source.ghost_name }
@@ -71,8 +73,8 @@ impl<'s, S: Source> Reading<'s, S> {
     }
 }
 
-/// Makes one call, which reads at most `most` bytes into the front of `room`, and returns their number. `room` must be
-/// at least that long.
+/// Makes one call, which reads at most `most` bytes into the front of `room`, and returns their number. `room` must
+/// have at least `most` bytes.
 fn read_front<S: Source>(source: &mut S, room: &mut [u8], most: usize) -> Result<usize, ReadError>
     requires { most ≤ length room.old }
     ensures within { IfOk result (λ n. n ≤ most) }

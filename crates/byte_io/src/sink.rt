@@ -15,22 +15,22 @@ pub enum WriteFault {
 pub trait Sink {
     ghost use Rattle.std.specs.Io.KnownBytes.{Appends, Keeps};
 
-    // The bytes that it holds, if they are known.
+    // The bytes that the sink holds, if they are known.
     ghost written: { Self → Option (List ℕ) };
 
-    // Whether a call has failed; then each later one fails too.
+    // Whether a call has failed; then each later call fails too.
     ghost has_failed: { Self → Bool };
 
     // Whether nothing was written since the last flush, so nothing is held back.
     ghost is_flushed: { Self → Bool };
 
-    /// Writes all of `bytes`, or fails. How many went out before a failure is unspecified.
+    /// Writes all of `bytes`, or fails. How many bytes are written before a failure is unspecified.
     fn write(&mut self, bytes: &[u8]) -> Result<(), WriteFault>
         ensures writes { Writes written has_failed result self.old self.new bytes.now }
         ensures stays { IsTrue (has_failed self.old) → IsTrue (has_failed self.new) }
         ensures held_back { OnOk result (is_flushed self.new ≡ false) };
 
-    /// Passes on all bytes that are held back.
+    /// Passes on all bytes that are held back, or fails.
     fn flush(&mut self) -> Result<(), WriteFault>
         ensures writes { Writes written has_failed result self.old self.new [] }
         ensures stays { IsTrue (has_failed self.old) → IsTrue (has_failed self.new) }

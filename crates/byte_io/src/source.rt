@@ -20,8 +20,8 @@ pub trait Source {
     // The bytes that are left, whether a call has failed, and how many calls were interrupted.
     ghost state: { Self → SourceState };
 
-    /// Reads into the front of `room` and returns the number of bytes read; it is 0 only at the end, or if `room` is
-    /// empty. The rest of `room` is unspecified, and all of it after an error.
+    /// Reads into the front of `room` and returns the number of bytes read. The number is 0 only at the end of the
+    /// source, or if `room` is empty. The rest of `room` is unspecified. After an error, all of `room` is.
     fn read(&mut self, room: &mut [u8]) -> Result<usize, ReadError>
         ensures within { IfOk result (λ n. n ≤ length room.new) }
         ensures bytes { ReadConsumes (state self.old).left (state self.new).left result room.new }

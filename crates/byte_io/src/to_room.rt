@@ -68,7 +68,8 @@ impl Sink for ToRoom {
 
     ghost is_flushed = { λ s. s.is_flushed };
 
-    /// Writes all of `bytes` or none of them. A failed write does not change whether bytes are held back.
+    /// Writes all of `bytes`. Fails and writes none of them if they do not fit, or if a call has failed before. A write
+    /// that fails does not change whether the sink is flushed.
     fn write(&mut self, bytes: &[u8]) -> Result<(), WriteFault>
         ensures ok { IsOk result ↔ HasRoomFor self.old bytes.now }
         ensures refused { OnErr result (self.new.written ≡ self.old.written) }

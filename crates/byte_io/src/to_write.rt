@@ -5,11 +5,11 @@ use crate::interruption::is_interruption;
 use crate::sink::{Sink, WriteFault};
 use std::io::Write;
 
-/// The number of interrupted tries of one call that counts as a failure.
+/// The number of interrupted calls of the writer that fail one write or flush.
 const MOST_INTERRUPTIONS: u64 = 1 << 40;
 
-/// A sink over any writer. A failed write is remembered: every later call fails too. An `Interrupted` call is made
-/// again; every other error is a failure. Writers' contracts do not say when they fail, so no clause here can.
+/// A sink over any writer. After a failed call every later call fails too. An `Interrupted` call of the writer is made
+/// again; every other error is a failure. A writer's contract does not say when a call fails, so no clause here does.
 #[derive(Drop)]
 pub struct ToWrite<W> {
     writer: W,
@@ -18,7 +18,7 @@ pub struct ToWrite<W> {
 }
 
 impl<W: Write> ToWrite<W> {
-    /// Creates a sink over `writer`. The writer may hold bytes back already, so the first flush is passed on.
+    /// Creates a sink over `writer`. `writer` may hold bytes back already, so the sink does not count as flushed.
     pub fn new(writer: W) -> Self
         ensures written { ⟦<ToWrite<W> as Sink>⟧.written result ≡ W.contents writer }
         ensures has_failed { ⟦<ToWrite<W> as Sink>⟧.has_failed result ≡ false }
@@ -39,8 +39,8 @@ impl<W: Write> Sink for ToWrite<W> {
 
     ghost is_flushed = { λ s. s.is_flushed };
 
-    /// Writes all of `bytes`. A write that takes no byte counts as failed, and so does the 2^40th interrupted try of a
-    /// call.
+    /// Writes all of `bytes`. A call of the writer that takes no byte counts as failed. So does the 2^40th interrupted
+    /// call of the writer in one write.
     fn write(&mut self, bytes: &[u8]) -> Result<(), WriteFault> {
         if self.has_failed {
             return Err(WriteFault::Write);
@@ -51,7 +51,7 @@ impl<W: Write> Sink for ToWrite<W> {
         outcome
     }
 
-    /// Passes on what the writer holds back. The 2^40th interrupted try of a call counts as failed.
+    /// Passes on what the writer holds back. The 2^40th interrupted call of the writer in one flush counts as failed.
     fn flush(&mut self) -> Result<(), WriteFault> {
         if self.has_failed {
             return Err(WriteFault::Write);
@@ -63,7 +63,8 @@ impl<W: Write> Sink for ToWrite<W> {
     }
 }
 
-/// Writes all of `bytes`. Tries again after an interrupted write, fewer than 2^40 times.
+/// Writes all of `bytes`. Tries again after an interrupted write, fewer than 2^40 times. Fails if a write takes no
+/// byte.
 fn write_all<W: Write>(writer: &mut W, bytes: &[u8]) -> Result<(), WriteFault>
     ensures { OnOk result (Appends (W.contents writer.old) (W.contents writer.new) bytes.now) }
 {

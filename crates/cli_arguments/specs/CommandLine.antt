@@ -38,11 +38,11 @@ option_rule name = record (new_rule name) { long = Some name; value_names = 1; a
 abbrev pub floor_rule : Rule
 floor_rule = record (option_rule (codes "floor")) { parser = Some (Signed (pos 1) (pos 4294967295)) }
 
--- the option that all items are listed, with no word after it
+-- the option `--all`, with no word after it: all items are listed
 abbrev pub all_rule : Rule
 all_rule = record (new_rule (codes "all")) { long = Some (codes "all"); action = Some SetTrue }
 
--- the option that a step may go by the order that held tables imply, with no word after it
+-- the option `--told-order`, with no word after it: a step may go by the order that held tables imply
 abbrev pub told_order_rule : Rule
 told_order_rule = record (new_rule (codes "told-order")) { long = Some (codes "told-order"); action = Some SetTrue }
 
@@ -58,7 +58,8 @@ max_load_rule = record (option_rule (codes "max-load")) { parser = Some (Signed 
 abbrev pub of_report : List Rule
 of_report = all_rule ∷ max_load_rule ∷ []
 
--- the option that answers have the service level of what they answer, with no word after it
+-- the option `--answers-as-asked`, with no word after it: answers have the service level of the packets that they
+-- answer
 abbrev pub answers_rule : Rule
 answers_rule = record (new_rule (codes "answers-as-asked")) { long = Some (codes "answers-as-asked"); action = Some SetTrue }
 
@@ -146,7 +147,7 @@ run_shape words =
 abbrev pub serve_shape : Bor (List (Bor Text)) → Shape
 serve_shape words = subcommand_shape (codes "serve") (of_seat ++ of_planning words)
 
--- the program without its subcommands; it requires one
+-- the program without its subcommands; a subcommand is required
 abbrev pub program_app : App
 program_app =
     record { top = record (new_shape (codes "ibsm")) { has_version = true; subcommand_required = true }; subs = [] }
@@ -183,8 +184,8 @@ AddsRules rules old new =
 
 -- words --------------------------------------------------------------------------------------------------
 
--- options of the subcommand that `words` name contradict each other, or it is `serve` and its GUID or SM_Key is not 1
--- to 16 hex digits; false if they name none
+-- the subcommand that `words` name has options that contradict each other, or is `serve` with a GUID or an SM_Key that
+-- is not 1 to 16 hex digits; false if `words` name no subcommand
 abbrev pub conflict_of : App → List Text → Bool
 conflict_of app words = has_conflict_behind (subcommand_of app words)
 

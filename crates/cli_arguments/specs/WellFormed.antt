@@ -26,15 +26,16 @@ pub record NamesFiles (word : Text → Option Text) (files : Option (List Text))
   pub named : is_some files ≡ true
   pub floor : IsNumberWithin 1 4294967295 (word (codes "floor"))
 
--- the options of a plan: the LMC, if any, is from 0 to 7, and the rule takes the roots or the order, if one of them is
--- named
+-- the options of a plan: the LMC, if named, is from 0 to 7, and the rule, if named, is a rule of routing. Roots and an
+-- order are not both named, and either is named only with a rule that takes it
 pub record NamesPlanning (word : Text → Option Text) : Type 0 where
   pub lmc : IsNumberWithin 0 7 (word (codes "lmc"))
   pub routing : IsRouting (word (codes "routing"))
   pub apart : has_conflict_of (word (codes "routing")) (is_some (word (codes "roots"))) (is_some (word (codes "order")))
       ≡ false
 
--- the options of an order: the rule, `spread` if none is named, takes the roots or the order, if one of them is named
+-- the options of the subcommand `order`: the rule, if named, is a rule of routing, and else `spread`. Roots and an
+-- order are not both named, and either is named only with a rule that takes it
 pub record NamesOrder (word : Text → Option Text) : Type 0 where
   pub routing : IsRouting (word (codes "routing"))
   pub apart : has_conflict_of (order_rule (word (codes "routing"))) (is_some (word (codes "roots")))

@@ -8,7 +8,7 @@ use Rattle.clap.specs.Simple.{subcommand_rows_of}
 use Rattle.clap.specs.Walk.{Row}
 use Rattle.clap.specs.declared.parser.matches.ArgMatches.{ArgMatches}
 
--- the values of the argument `name` among `rows`; None if it is not there
+-- the values of the argument `name` among `rows`; None if no row has this name
 abbrev pub values_in : List ℕ → List Row → Option (List (List ℕ))
 values_in name rows = option_map (λ r. r.values) (find (λ r. bytes_eq r.id name) rows)
 
@@ -21,7 +21,8 @@ abbrev pub word_behind : Option (List ℕ × List Row) → List ℕ → Option (
 word_behind subcommand name =
     option_and_then (λ s. option_and_then (λ values. slice_get values 0) (values_in name s.1)) subcommand
 
--- the first word of the argument `name` of the subcommand that was parsed; None if there is none
+-- the first word of the argument `name` of the subcommand that was parsed; None if there is no subcommand, or no such
+-- word
 abbrev pub word_named : ArgMatches → List ℕ → Option (List ℕ)
 word_named matches = word_behind (subcommand_rows_of matches)
 
@@ -36,7 +37,7 @@ lacks_rule (Some word) rooted ordered =
 abbrev pub has_conflict_of : Option (List ℕ) → Bool → Bool → Bool
 has_conflict_of routing rooted ordered = (rooted && ordered) || lacks_rule routing rooted ordered
 
--- the rule of an order: `spread` if no word names one
+-- the rule of the subcommand `order`: `spread` if no word names a rule
 abbrev pub order_rule : Option (List ℕ) → Option (List ℕ)
 order_rule None = Some (codes "spread")
 order_rule (Some word) = Some word
@@ -55,7 +56,7 @@ abbrev pub is_key : Option (List ℕ) → Bool
 is_key None = true
 is_key (Some word) = is_guid_word word
 
--- the GUID of a manager's port or its SM_Key is not 1 to 16 hex digits
+-- the GUID of a manager's port is not 1 to 16 hex digits, or its SM_Key is named and is not 1 to 16 hex digits
 abbrev pub is_wrong_seat : (List ℕ → Option (List ℕ)) → Bool
 is_wrong_seat word = not (is_guid (word (codes "GUID"))) || not (is_key (word (codes "sm-key")))
 
@@ -70,11 +71,12 @@ abbrev pub is_set : Option (List ℕ) → Bool
 is_set None = false
 is_set (Some word) = bytes_eq word (codes "true")
 
--- the flag about the service levels of answers is set, but no file of lanes is named
+-- `answers-as-asked` is set, but no file of lanes is named
 abbrev pub lacks_lanes : (List ℕ → Option (List ℕ)) → Bool
 lacks_lanes word = is_set (word (codes "answers-as-asked")) && not (is_some (word (codes "lanes")))
 
--- options contradict each other in the subcommand `name`, or it is `serve` and its GUID or SM_Key is not hex digits
+-- options contradict each other in the subcommand `name`, or it is `serve` and its GUID or SM_Key is not 1 to 16 hex
+-- digits
 abbrev pub has_conflict : List ℕ → (List ℕ → Option (List ℕ)) → Bool
 has_conflict name word =
     if bytes_eq name (codes "serve") then planning_conflict name word || is_wrong_seat word
@@ -82,8 +84,8 @@ has_conflict name word =
     else (if bytes_eq name (codes "next") then planning_conflict name word || lacks_lanes word
     else planning_conflict name word))
 
--- the subcommand has options that contradict each other, or is `serve` with a GUID or an SM_Key that is not hex digits;
--- false if no subcommand was named
+-- the subcommand has options that contradict each other, or is `serve` with a GUID or an SM_Key that is not 1 to 16 hex
+-- digits; false if no subcommand was named
 abbrev pub has_conflict_behind : Option (List ℕ × List Row) → Bool
 has_conflict_behind None = false
 has_conflict_behind (Some s) = has_conflict s.0 (word_behind (Some s))

@@ -45,22 +45,22 @@ pub const TABLES: &str = "TABLES";
 /// The option for the floor, the generation below which facts are ignored.
 pub const FLOOR: &str = "floor";
 
-/// The flag by which an audit prints all lines of each kind.
+/// The flag that makes an audit print all lines of each kind.
 pub const ALL: &str = "all";
 
-/// The option for the maximum load of a channel.
+/// The option for the greatest load of a channel with which tables pass.
 pub const MAX_LOAD: &str = "max-load";
 
 /// The option that names a file of lanes. If it is given, `audit` and `next` judge credit loops lane by lane.
 pub const LANES: &str = "lanes";
 
-/// The flag by which answers may also have the service level of what they answer.
+/// The flag for answers at the service level of the packets that they answer.
 pub const ANSWERS_AS_ASKED: &str = "answers-as-asked";
 
-/// The flag by which a step may go by the order that held tables imply.
+/// The flag that lets a step go by the order that held tables imply.
 pub const TOLD_ORDER: &str = "told-order";
 
-/// The option for the file of the order by which the step before went.
+/// The option for the file of the order that the last step went by.
 pub const LAST_ORDER: &str = "last-order";
 
 /// The option for the LMC of a plan.
@@ -75,10 +75,10 @@ pub const ROOTS: &str = "roots";
 /// The subcommand that prints the order of switches, and the option for the file of an order.
 pub const ORDER: &str = "order";
 
-/// The rule that spreads packets over all wires; roots or an order may be named for it.
+/// The rule that spreads packets over all wires. Roots or an order may be named with this rule.
 pub const SPREAD: &str = "spread";
 
-/// The rule that spreads packets with balanced loads; an order may be named for it, but no roots.
+/// The rule that spreads packets with balanced loads. An order may be named with this rule, but no roots.
 pub const BALANCE: &str = "balance";
 
 /// The up/down rule, which takes neither roots nor an order.

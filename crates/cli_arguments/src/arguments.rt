@@ -83,7 +83,7 @@ pub(crate) fn all<'a>(alloc: Global) -> Arg<'a>
         .action(ArgAction::SetTrue)
 }
 
-/// Builds the flag by which a step may go by the order that held tables imply.
+/// Builds the flag that lets a step go by the order that held tables imply.
 pub(crate) fn told_order<'a>(alloc: Global) -> Arg<'a>
     ensures rule { rule_of result ≡ told_order_rule }
     ensures own { result.global ≡ false }
@@ -142,7 +142,7 @@ pub(crate) fn lanes<'a>(alloc: Global) -> Arg<'a>
         .action(ArgAction::Set)
 }
 
-/// Builds the flag by which answers may also have the service level of what they answer.
+/// Builds the flag for answers at the service level of the packets that they answer.
 pub(crate) fn answers_as_asked<'a>(alloc: Global) -> Arg<'a>
     ensures rule { rule_of result ≡ answers_rule }
     ensures own { result.global ≡ false }
@@ -213,7 +213,7 @@ pub(crate) fn order_file<'a>(alloc: Global) -> Arg<'a>
         .action(ArgAction::Set)
 }
 
-/// Builds the argument for the files, at least one. An option may stand between them.
+/// Builds the argument for the files, at least one. Options may stand between the files.
 pub(crate) fn files<'a>(alloc: Global) -> Arg<'a>
     ensures rule { rule_of result ≡ files_rule }
     ensures own { result.global ≡ false }

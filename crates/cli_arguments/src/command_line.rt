@@ -87,9 +87,14 @@ const SERVE_END: &str =
 ///
 /// # Errors
 ///
-/// Returns `Ok(Err(..))` if `command_line` refuses the words or they ask for help or the version, if options contradict
-/// each other, if a manager's GUID or SM_Key is not 1 to 16 hex digits, or if memory was refused. Returns an outer
-/// `Err` only if memory was refused.
+/// Returns `Ok(Err(..))` if one of these holds:
+///
+/// - `command_line` refuses the words, or the words ask for help or the version;
+/// - options contradict each other;
+/// - a manager's GUID or SM_Key is not 1 to 16 hex digits;
+/// - memory was refused.
+///
+/// Returns an outer `Err` only if memory was refused.
 pub fn matches_of<'a>(
     alloc: Global,
     words: &'a [String],
@@ -125,7 +130,7 @@ fn command_line<'a>(alloc: Global, routings: &'a [&'a str]) -> Result<Command<'a
     with(command, serve(alloc, routings))
 }
 
-/// Adds `subcommand` to `command`. Returns an error if either is one, or if memory is refused.
+/// Adds `subcommand` to `command`. Returns an error if `command` or `subcommand` is an error, or if memory is refused.
 fn with<'a>(
     command: Result<Command<'a>, AllocError>,
     subcommand: Result<Command<'a>, AllocError>,
@@ -295,7 +300,7 @@ fn with_report<'a>(alloc: Global, command: Command<'a>) -> Result<Command<'a>, A
     command.arg(all(alloc))?.arg(max_load(alloc))
 }
 
-/// Adds the options of what is judged by lane: the file of lanes, and which service levels answers have.
+/// Adds the options for judging by lane: the file of lanes, and which service levels answers have.
 fn with_lanes<'a>(alloc: Global, command: Command<'a>) -> Result<Command<'a>, AllocError>
     ensures { IfOk result (AddsRules of_lanes command.entry) }
 {
@@ -340,9 +345,10 @@ fn with_order<'a>(alloc: Global, command: Command<'a>) -> Result<Command<'a>, Al
     command.arg(roots(alloc))?.arg(order_file(alloc))
 }
 
-/// Returns whether options contradict each other: roots and an order are both named, either is named without a rule of
-/// routing that takes it (but `order` takes it without a rule), or a flag about lanes is set without a file of lanes.
-/// Also returns true if `serve` has no GUID of 1 to 16 hex digits, or an SM_Key that is not 1 to 16 hex digits.
+/// Returns whether options contradict each other, or the GUID or the SM_Key of `serve` is wrong. Options contradict
+/// each other if roots and an order are both named, if roots or an order are named without a rule of routing that takes
+/// them, or if `--answers-as-asked` is set without a file of lanes. The subcommand `order` needs no rule. The GUID must
+/// be 1 to 16 hex digits, and an SM_Key too if it is named.
 fn has_conflict(matches: &ArgMatches<'_>) -> bool
     ensures { result ≡ has_conflict_behind (subcommand_rows_of matches.now) }
 {
@@ -352,8 +358,8 @@ fn has_conflict(matches: &ArgMatches<'_>) -> bool
     }
 }
 
-/// Returns whether the options of the subcommand `name` contradict each other, or it is `serve` and its GUID or SM_Key
-/// is not 1 to 16 hex digits.
+/// Returns whether the options of the subcommand `name` contradict each other, or `name` is `serve` and the GUID or the
+/// SM_Key is not 1 to 16 hex digits.
 fn has_conflict_in(name: &str, words: &ArgMatches<'_>) -> bool
     ensures { result ≡ has_conflict name.now (first_value (found_of words.now)) }
 {
@@ -365,8 +371,8 @@ fn has_conflict_in(name: &str, words: &ArgMatches<'_>) -> bool
     }
 }
 
-/// Returns whether options of a plan or an order contradict each other: roots and an order are both named, or one of
-/// them without a rule that takes it.
+/// Returns whether options of a plan or an order contradict each other: roots and an order are both named, or roots or
+/// an order are named without a rule that takes them.
 fn planning_conflict(name: &str, words: &ArgMatches<'_>) -> bool
     ensures { result ≡ planning_conflict name.now (first_value (found_of words.now)) }
 {
@@ -392,14 +398,14 @@ pub fn is_set(words: &ArgMatches<'_>, name: &str) -> bool
     }
 }
 
-/// Returns whether there is no GUID of 1 to 16 hex digits, or there is an SM_Key that is not 1 to 16 hex digits.
+/// Returns whether no GUID of 1 to 16 hex digits is named, or an SM_Key is named that is not 1 to 16 hex digits.
 fn has_wrong_seat(words: &ArgMatches<'_>) -> bool
     ensures { result ≡ is_wrong_seat (first_value (found_of words.now)) }
 {
     !has_guid(words) || !has_key(words)
 }
 
-/// Returns whether the SM_Key is 1 to 16 hex digits. Returns true if no word names one.
+/// Returns whether the SM_Key is 1 to 16 hex digits. Returns true if no SM_Key is named.
 fn has_key(words: &ArgMatches<'_>) -> bool
     ensures { result ≡ is_key (first_value (found_of words.now) (codes "sm-key")) }
 {
@@ -409,7 +415,7 @@ fn has_key(words: &ArgMatches<'_>) -> bool
     }
 }
 
-/// Returns whether there is a word for the GUID, and it is 1 to 16 hex digits.
+/// Returns whether a GUID is named, and is 1 to 16 hex digits.
 fn has_guid(words: &ArgMatches<'_>) -> bool
     ensures { result ≡ is_guid (first_value (found_of words.now) (codes "GUID")) }
 {
@@ -454,8 +460,8 @@ fn is_named(words: &ArgMatches<'_>, name: &str) -> bool
     words.get_str(name).is_some()
 }
 
-/// Returns the error for command lines for which `has_conflict` returns true: options contradict each other, or a GUID
-/// or an SM_Key is not hex digits.
+/// Returns the error for a command line for which `has_conflict` returns true: options contradict each other, or a GUID
+/// or an SM_Key is not 1 to 16 hex digits. Returns an outer `Err` if memory is refused.
 fn conflict(alloc: Global, matches: &ArgMatches<'_>) -> Result<Error, AllocError>
     ensures { IfOk result (λ error. kind_of error ≡ ErrorKind.ArgumentConflict) }
 {

@@ -31,7 +31,8 @@ use Rattle.cli_task.specs.declared.task.Task.TheVariants.{Answer, Audit, AuditBy
 abbrev pub within : ℕ → ℕ → ℕ → Option ℕ
 within least most n = if nat_le least n && nat_le n most then Some n else None
 
--- the number that a word writes in decimal, with or without a sign; None if it writes none; after a minus sign, only 0
+-- the number that a word writes in decimal, with or without a sign; None if the word writes no number. After a minus
+-- sign, only 0 is a number
 abbrev pub number_in : List ℕ → Option ℕ
 number_in word =
     if starts_with_minus word then option_and_then (within 0 0) (number_of 10 (drop 1 word))
@@ -42,12 +43,12 @@ abbrev pub number_or : ℕ → Option (List ℕ) → Option ℕ
 number_or otherwise None = Some otherwise
 number_or otherwise (Some word) = option_and_then (within 0 4294967295) (number_in word)
 
--- the floor: the number of the word, which must be from 1 to 2^32 - 1; 1 if there is no word
+-- the floor: the number of the word, or None if it is not from 1 to 2^32 - 1; 1 if there is no word
 abbrev pub floor_asked : Option (List ℕ) → Option ℕ
 floor_asked None = Some 1
 floor_asked (Some word) = option_and_then (within 1 4294967295) (number_in word)
 
--- the LMC: the number of the word, which must be at most 7; 0 if there is no word
+-- the LMC: the number of the word, or None if it is not from 0 to 7; 0 if there is no word
 abbrev pub lmc_asked : Option (List ℕ) → Option ℕ
 lmc_asked None = Some 0
 lmc_asked (Some word) = option_and_then (within 0 7) (number_in word)
@@ -63,8 +64,8 @@ spread_asked true true = None
 abbrev pub balance_asked : Bool → RuleAsked
 balance_asked ordered = if ordered then BalanceInOrder else Balance
 
--- the rule that the word names; up and down if there is no word; None if it names none, or roots or an order are named
--- with a rule that does not take them
+-- the rule that the word names; up and down if there is no word. None if the word names no rule, or if roots or an
+-- order are named with a rule that does not take them
 abbrev pub rule_asked : Option (List ℕ) → Bool → Bool → Option RuleAsked
 rule_asked None rooted ordered = if rooted || ordered then None else Some UpDown
 rule_asked (Some word) rooted ordered =
@@ -85,7 +86,8 @@ abbrev pub order_asked : (List ℕ → Option (List ℕ)) → Option RuleAsked
 order_asked word =
     rule_asked (order_rule (word (codes "routing"))) (is_some (word (codes "roots"))) (is_some (word (codes "order")))
 
--- the greatest load that passes, if a word names it; None if the word names no number of 32 bits
+-- the greatest load that passes, as the word names it; the inner value is None if there is no word. None if the word
+-- names no number of 32 bits
 abbrev pub max_load_asked : Option (List ℕ) → Option (Option ℕ)
 max_load_asked None = Some None
 max_load_asked (Some word) = option_map Some (option_and_then (within 0 4294967295) (number_in word))
@@ -118,14 +120,14 @@ held_order_asked false false = Ignored
 abbrev pub held_order_of : (List ℕ → Option (List ℕ)) → HeldOrder
 held_order_of word = held_order_asked (is_set (word (codes "told-order"))) (is_some (word (codes "last-order")))
 
--- how credit loops in a step are judged: by lane if a file of lanes is named; None if `answers`, which is about lanes,
--- is set without it
+-- the choice of how credit loops in a step are judged: by lane if a file of lanes is named, otherwise on one lane; None
+-- if `answers`, which is about lanes, is set without a file of lanes
 abbrev pub lanes_asked : Bool → Bool → Option StepLanes
 lanes_asked true answers = Some (ByText answers)
 lanes_asked false false = Some One
 lanes_asked false true = None
 
--- how the words ask that credit loops in a step are judged; None if one of them is wrong
+-- the choice of how credit loops in a step are judged, by the words; None if one of them is wrong
 abbrev pub lanes_of : (List ℕ → Option (List ℕ)) → Option StepLanes
 lanes_of word = lanes_asked (is_some (word (codes "lanes"))) (is_set (word (codes "answers-as-asked")))
 
@@ -152,7 +154,8 @@ abbrev pub sm_key_asked : Option (List ℕ) → Option ℕ
 sm_key_asked None = Some 1
 sm_key_asked (Some word) = hex_number word
 
--- the manager at a port that plans by the LMC and the rule of `by`; None if its GUID, port, priority or SM_Key is
+-- the manager with this GUID, port, priority and SM_Key, which plans by the LMC and the rule of `by`; None if one of
+-- the four is None
 abbrev pub serving_by : ℕ × RuleAsked → Option ℕ → Option ℕ → Option ℕ → Option ℕ → Option Serving
 serving_by by guid port priority sm_key =
     option_and_then (λ g. option_and_then (λ p. option_and_then (λ q. option_map
@@ -164,7 +167,7 @@ serving_asked word = option_and_then (λ by. serving_by by (guid_asked (word (co
     (port_asked (word (codes "PORT"))) (priority_asked (word (codes "PRIORITY"))) (sm_key_asked (word (codes "sm-key"))))
     (planning_asked word)
 
--- what the subcommand `command` writes from facts; None if it writes nothing of the kind, or a word is wrong
+-- the output that the subcommand `command` writes from facts; None if it is another subcommand, or a word is wrong
 abbrev pub output_asked : (List ℕ → Option (List ℕ)) → List ℕ → Option Output
 output_asked word command =
     if bytes_eq command (codes "facts") then Some Facts
@@ -172,7 +175,8 @@ output_asked word command =
     else (if bytes_eq command (codes "plan") then option_map (λ by. Plan by.0 by.1) (planning_asked word)
     else (if bytes_eq command (codes "order") then option_map Order (order_asked word) else None)))
 
--- the task of the subcommand `command` with the words of its arguments; None if one of them is wrong
+-- the task of the subcommand `command` with the words of its arguments; None if one of the words is wrong, or there is
+-- no such subcommand
 abbrev pub task_behind : (List ℕ → Option (List ℕ)) → List ℕ → Option Task
 task_behind word command =
     if bytes_eq command (codes "audit") then audit_task word
@@ -212,13 +216,13 @@ rule_of_task (Serve asked) = asked.rule
 abbrev pub followed_by : Option (List (List ℕ)) → Option (List (List ℕ)) → Option (List (List ℕ))
 followed_by first later = option_and_then (λ names. option_map (λ others. names ++ others) later) first
 
--- the name of a text, if it is to be there (true); None if it is missing then
+-- the name of a text that is asked for (true), None if the name is missing; empty if no text is asked for (false)
 abbrev pub text_if : Bool → Option (List ℕ) → Option (List (List ℕ))
 text_if false name = Some []
 text_if true name = option_map (λ text. text ∷ []) name
 
--- the names of the texts of a step: the text of lanes and that of the last step's order, if there are such, and the
--- tables; None if one is missing
+-- the names of the texts of a step: the text of lanes and that of the last step's order, each only if it is asked for,
+-- and the tables; None if one is missing
 abbrev pub step_texts : (List ℕ → Option (List ℕ)) → Bool → Bool → Option (List (List ℕ))
 step_texts word by_lane ordered =
     followed_by (text_if by_lane (word (codes "lanes"))) (followed_by (text_if ordered (word (codes "last-order")))
@@ -261,6 +265,6 @@ names_in word files task =
 abbrev pub names_asked : ArgMatches → Task → Option (List (List ℕ))
 names_asked matches task = names_in (word_named matches) (files_named matches) task
 
--- the names of the inputs of the task that is asked for; None if one is missing
+-- the names of the inputs of the task that is asked for; None if no task is asked for, or a name is missing
 abbrev pub inputs_asked : ArgMatches → Option (List (List ℕ))
 inputs_asked matches = option_and_then (names_asked matches) (task_asked matches)

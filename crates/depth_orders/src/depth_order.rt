@@ -11,10 +11,10 @@ use port_graph::{Adjacency, Edge};
 use spread_labels::VertexKey;
 use std::alloc::{AllocError, Global};
 
-/// Returns the vertices in their order by depth from `root`. The next vertex is an unplaced neighbor of the latest
-/// vertex that has one. Of its unplaced neighbors, the one with most edges to placed vertices is taken, and `direction`
-/// decides between equals. If no placed vertex has an unplaced neighbor, the first unplaced vertex by `direction` comes
-/// next. There must be a key for each vertex.
+/// Returns the vertices in their order by depth from `root`. The next vertex is an unplaced neighbor of the last placed
+/// vertex that has unplaced neighbors. Of these neighbors, the one with the most edges to placed vertices comes next.
+/// Of equals, it is the one that `direction` takes by `keys`. If no placed vertex has an unplaced neighbor, the first
+/// unplaced vertex by `keys` and `direction` comes next. There must be a key for each vertex.
 pub fn order_by_depth(
     alloc: Global,
     edges: &Adjacency,
@@ -61,8 +61,8 @@ fn next_by_depth(
     }
 }
 
-/// Returns the best unplaced neighbor of the latest vertex in `vertices` that has such a neighbor, or `None` if none
-/// has.
+/// Returns the first unplaced neighbor, by `goes_before`, of the last of `vertices` that has an unplaced neighbor.
+/// Returns `None` if none of `vertices` has one.
 fn deepest(
     edges: &Adjacency,
     keys: &[VertexKey],
@@ -87,7 +87,7 @@ fn deepest(
     None
 }
 
-/// Returns the unplaced neighbor of `vertex` that goes before its other ones, or `None` if none is unplaced.
+/// Returns the first unplaced neighbor, by `goes_before`, of `vertex`, or `None` if no neighbor is unplaced.
 fn best_beside(
     edges: &Adjacency,
     keys: &[VertexKey],
@@ -110,7 +110,7 @@ fn best_beside(
     found
 }
 
-/// Returns `vertex` if it goes before `found` or `found` is `None`, and otherwise `found`.
+/// Returns `vertex` if `found` is `None` or `vertex` goes before `found`, and otherwise `found`.
 fn better(
     edges: &Adjacency,
     keys: &[VertexKey],
@@ -131,8 +131,8 @@ fn better(
     }
 }
 
-/// Returns whether `one` goes before `other`: more of its edges lead to placed vertices, or as many do and `direction`
-/// takes it.
+/// Returns whether `one` goes before `other`: more of its edges lead to placed vertices, or equally many do and
+/// `direction` takes `one` by `keys`.
 fn goes_before(
     edges: &Adjacency,
     keys: &[VertexKey],
@@ -162,7 +162,7 @@ fn count_placed(edges: &[Edge], placed: &[bool]) -> usize
         .count()
 }
 
-/// Returns the first unplaced vertex by `direction`, or `None` if all are placed.
+/// Returns the first unplaced vertex by `keys` and `direction`, or `None` if all vertices are placed.
 fn first_left(keys: &[VertexKey], direction: Direction, placed: &[bool]) -> Option<usize>
     ensures first { result ≡ first_left (turned direction (before_by keys.now)) (flag_at placed.now)
         (length keys.now) }
@@ -177,7 +177,7 @@ fn first_left(keys: &[VertexKey], direction: Direction, placed: &[bool]) -> Opti
     found
 }
 
-/// Returns `vertex` if `direction` takes it rather than `found` or `found` is `None`, and otherwise `found`.
+/// Returns `vertex` if `found` is `None` or `direction` takes `vertex` rather than `found`. Otherwise returns `found`.
 fn earlier(keys: &[VertexKey], direction: Direction, found: Option<usize>, vertex: usize) -> usize
     requires vertex { vertex < length keys.now }
     requires found { MatchOption found (Unit {0}) (λ other. other < length keys.now) }
@@ -189,7 +189,7 @@ fn earlier(keys: &[VertexKey], direction: Direction, found: Option<usize>, verte
     }
 }
 
-/// Returns whether `vertex` is placed. A vertex past the end is not.
+/// Returns whether `vertex` is placed. A vertex past the end of `placed` is not.
 fn is_placed(placed: &[bool], vertex: usize) -> bool
     ensures { result ≡ flag_at placed.now vertex }
 {

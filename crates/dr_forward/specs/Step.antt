@@ -1,6 +1,6 @@
--- One step of a packet on a directed route. Its hop pointer says how far it has come: on its way out each node records
--- the port by which the packet came, and on its way back it leaves by the recorded ports. InfiniBand Architecture
--- Specification, Volume 1: directed route SMPs, outgoing and returning.
+-- One step of a packet on a directed route. The hop pointer says how far the packet has come. On the way out, each node
+-- after the sender records the port by which the packet came in. On the way back, the packet leaves by the recorded
+-- ports. InfiniBand Architecture Specification, Volume 1: directed route SMPs, outgoing and returning.
 use Rattle.std.specs.Prelude.{ℕ, ◌+◌, ◌-◌, Bool, ◌||◌, List, nat_lt, ◌==◌, if◌then◌else◌}
 use Rattle.smp_bytes.specs.Field.{number_in, with_number}
 use Rattle.smp_bytes.specs.Packet.{hop_pointer, hop_count, initial_path, return_path, is_returning}
@@ -11,12 +11,12 @@ use Rattle.dr_forward.specs.declared.verdict.Verdict.TheVariants.{Out, ToAgent, 
 use Rattle.dr_forward.specs.declared.verdict.DiscardReason.{DiscardReason}
 use Rattle.dr_forward.specs.declared.verdict.DiscardReason.TheVariants.{Course, Transit, OutPort}
 
--- the packet after a step, and where it goes from there
+-- the outcome of a step: the packet after the step, and the verdict, which says where the packet goes
 pub record Stepped : Type 0 where
   pub packet : List ℕ
   pub verdict : Verdict
 
--- the packet goes no further for `reason`, and is unchanged
+-- the packet is discarded for `reason`, and is unchanged
 abbrev pub discarded : List ℕ → DiscardReason → Stepped
 discarded packet reason = record { packet = packet; verdict = Discard reason }
 
@@ -37,7 +37,8 @@ abbrev pub leaves_by : Here → ℕ → List ℕ → List ℕ → Stepped
 leaves_by here port packet after =
     if is_port here port then record { packet = after; verdict = Out port } else discarded packet OutPort
 
--- the packet with its pointer advanced, and the port by which it came recorded; at its sender it came by none
+-- the packet with its hop pointer advanced, and the port by which it came in recorded; at its sender, where the pointer
+-- is 0, no port is recorded
 abbrev pub moved_on : Here → List ℕ → List ℕ
 moved_on here packet =
     let at = number_in hop_pointer packet in
@@ -52,8 +53,8 @@ goes_on here packet =
     (moved_on here packet)
     else discarded packet Transit
 
--- a step on the way out: before the end of its path the packet goes on, at the end it is the agent's, and past it it is
--- discarded
+-- a step on the way out: the packet goes on before the end of its path, is for the agent at the end, and is discarded
+-- past the end
 abbrev pub outgoing : Here → List ℕ → Stepped
 outgoing here packet =
     let at = number_in hop_pointer packet in
@@ -68,7 +69,8 @@ goes_back here packet =
     let before = number_in hop_pointer packet - 1 in
     leaves_by here (number_in (return_path before) packet) packet (pointed before packet)
 
--- a step on the way back: the packet turns at the end of its path, goes on at each switch, and ends where it began
+-- a step on the way back: with the hop pointer 0 the packet is discarded, and with 1 it is for the manager. With a
+-- greater one it goes back at the end of its path and at each switch, and is discarded otherwise
 abbrev pub returning : Here → List ℕ → Stepped
 returning here packet =
     let at = number_in hop_pointer packet in

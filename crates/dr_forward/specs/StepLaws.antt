@@ -1,4 +1,4 @@
--- What a step leaves unchanged in a packet, and what it writes.
+-- Laws of a step: by which ports packets leave, and what a step leaves unchanged in a packet.
 use Rattle.std.specs.Prelude.{◌≡◌, ℕ, ◌+◌, ◌≤◌, ◌<◌, true, List, length}
 use Rattle.smp_bytes.specs.Field.{Field, number_in, are_apart}
 use Rattle.smp_bytes.specs.Packet.{hop_pointer}
@@ -17,8 +17,8 @@ abbrev pub LeavesByAPort : Type 0
 LeavesByAPort = (here : Here) (packet : List ℕ) (port : ℕ) → (step here packet).verdict ≡ Out port → (1 ≤ port)
     × (port ≤ here.ports)
 
--- a step changes no field that lies before the return path and apart from the hop pointer, if the hop pointer is below
--- 64
+-- a step of a packet of 256 bytes changes no field that ends before the return path and is apart from the hop pointer.
+-- The hop pointer is below 64
 abbrev pub OtherFieldsStay : Type 0
 OtherFieldsStay =
     (here : Here) (packet : List ℕ) (field : Field) → length packet ≡ 256 → number_in hop_pointer packet < 64

@@ -5,8 +5,8 @@ use smp_bytes::PortNum;
 pub struct Here {
     /// Whether the node is a switch.
     pub is_switch: bool,
-    /// The number of its ports, from 1 on.
+    /// The node's port count; a switch's port 0 is not counted.
     pub ports: u8,
-    /// The port by which the packet came; at the node that sent it, the sender's own port.
+    /// The port where the packet came in; at the node that sent the packet, the sender's own port.
     pub arrival: PortNum,
 }

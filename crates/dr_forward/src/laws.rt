@@ -7,13 +7,13 @@ pub fn discarded_is_unchanged()
     ensures { DiscardedIsUnchanged }
 {}
 
-/// A packet leaves by a port from 1 to the node's port count.
+/// A packet that a step sends out leaves through a port from 1 to the node's port count.
 #[tactic(auto, using(crate::proofs::Steps::leaves_by_a_port))]
 pub fn leaves_by_a_port()
     ensures { LeavesByAPort }
 {}
 
-/// A step writes only the hop pointer and the return path, if the hop pointer is below 64.
+/// If a packet has 256 bytes and a hop pointer below 64, a step writes only the hop pointer and the return path.
 #[tactic(auto, using(crate::proofs::Steps::other_fields_stay))]
 pub fn other_fields_stay()
     ensures { OtherFieldsStay }

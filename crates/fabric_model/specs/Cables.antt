@@ -7,8 +7,8 @@ use Rattle.fabric_model.specs.declared.cable.Cable.{Cable}
 abbrev pub is_same_port : NodePort → NodePort → Bool
 is_same_port a b = a.node == b.node && a.port == b.port
 
--- the port at the other end of the first cable in port `p`, which is `p` itself if the cable is a loop; None if there
--- is no cable
+-- the port at the other end of the first cable in port `p`; `p` itself if that cable is a loop; None if no cable is in
+-- `p`
 abbrev pub other_end : List Cable → NodePort → Option NodePort
 other_end [] p = None
 other_end (c ∷ cables) p =
@@ -28,7 +28,7 @@ cables_in p cables = count_by (is_cable_in p) cables
 abbrev pub IsOneCableAPort : List Cable → Type 0
 IsOneCableAPort cables = (p : NodePort) → cables_in p cables ≤ 1
 
--- if each port has at most one cable, a cable that leads from `p` to `q` leads from `q` to `p`
+-- a cable that leads from `p` to `q` also leads from `q` to `p`, if each port has at most one cable
 abbrev pub CablesLeadBack : Type 0
 CablesLeadBack = (cables : List Cable) (p q : NodePort) → IsOneCableAPort cables → other_end cables p ≡ Some q
     → other_end cables q ≡ Some p

@@ -6,8 +6,8 @@ use Rattle.fabric_model.specs.declared.cable.NodePort.{NodePort}
 use Rattle.smp_bytes.specs.NodeType.{is_switch}
 use Rattle.smp_bytes.specs.LidRange.{has_lid}
 
--- a node as built: its GUID, type, number of ports without port 0, table room, and the GUID of each port, of which only
--- those of end ports are read (subnet management chapter, NodeInfo and SwitchInfo)
+-- a node as built: its GUID, its type, its number of ports without port 0, its table room, and the GUID of each port.
+-- Only the GUIDs of end ports are read (subnet management chapter, NodeInfo and SwitchInfo)
 pub record Node : Type 0 where
   pub guid : ℕ
   pub kind : NodeType
@@ -15,8 +15,8 @@ pub record Node : Type 0 where
   pub cap : ℕ
   pub port_guid : ℕ → ℕ
 
--- the nodes by number; the other end of the cable in each port; the LID and the LMC of each end port; and the
--- forwarding table and the top of each switch
+-- a fabric: its nodes by number; the other end of the cable in each port, None without a cable; the LID and the LMC of
+-- each end port; and the forwarding table and the top of each switch
 pub record Fabric : Type 0 where
   pub nodes : List Node
   pub across : NodePort → Option NodePort
@@ -37,11 +37,12 @@ owns f p lid = has_lid (f.base_lid p) (f.lmc p) lid
 abbrev pub IsNodeAt : Fabric → ℕ → Node → Type 0
 IsNodeAt f number node = slice_get f.nodes number ≡ Some node
 
--- whether the node with the number `number` is there and is a switch
+-- whether there is a node with the number `number`, and it is a switch
 abbrev pub is_switch_at : Fabric → ℕ → Bool
 is_switch_at f number = option_map_or (λ node. is_switch node.kind) (slice_get f.nodes number) false
 
--- a cable may go into port `p`: it is from 1 to the number of ports of a node
+-- a cable may be in port `p`: the node of `p` is in the fabric, and `p` has a number from 1 to the port count of that
+-- node
 abbrev pub IsCablePort : Fabric → NodePort → Type 0
 IsCablePort f p = (node : Node) × IsNodeAt f p.node node × (1 ≤ p.port) × (p.port ≤ node.ports)
 
@@ -53,8 +54,8 @@ IsEndPortNumber node port = MatchBool (is_switch node.kind) (port ≡ 0) ((1 ≤
 abbrev pub IsEndPort : Fabric → NodePort → Type 0
 IsEndPort f p = (node : Node) × IsNodeAt f p.node node × IsEndPortNumber node p.port
 
--- each node has 1 to 254 ports; each cable is in ports of nodes, and leads back from where it leads, so joins two ports
--- or loops one
+-- each node has 1 to 254 ports; each cable is in ports that nodes have; and a cable that leads from `p` to `q` also
+-- leads from `q` to `p`. A cable thus joins two ports or loops one
 pub record IsFabric (f : Fabric) : Type 0 where
   pub counts : (number : ℕ) (node : Node) → IsNodeAt f number node → (1 ≤ node.ports) × (node.ports ≤ 254)
   pub cabled : (p q : NodePort) → f.across p ≡ Some q → IsCablePort f p

@@ -13,8 +13,9 @@ PacketsEndOnce = (f : Fabric) (lid : ℕ) (source : NodePort)
     × ((hops others : List Hop) (target : NodePort) (node : ℕ) → IsDelivered f lid source hops target
     → IsLost f lid source others node → ⊥)
 
--- a directed path of at least one port with the port `out` appended leads where the cable in `out` leads from the
--- path's end, if that is at a switch; else nowhere
+-- a path of at least one port, with the port `out` appended, leads on from the path's end by the cable in `out`
+-- (`on_by`). It leads nowhere if the path itself leads nowhere, if its end is not at a switch, or if no cable is in
+-- `out` there
 abbrev pub WalksGoOn : Type 0
 WalksGoOn = (f : Fabric) (origin : NodePort) (first : ℕ) (path : List ℕ) (out : ℕ)
     → directed_end f origin ((first ∷ path) ++ out ∷ [])

@@ -26,10 +26,10 @@ abbrev pub Walk : Fabric → NodePort → NodePort → ℕ → Type 0
 Walk f a b zero = a ≡ b
 Walk f a b (suc n) = (c : NodePort) × AreNeighbors f a c × ((n ≡ 0) ⊎ IsTrue (is_switch_at f c.node)) × Walk f c b n
 
--- vertex `a` is joined to vertex `b`: some walk leads from one to the other
+-- vertex `a` is joined to vertex `b`: some walk leads from `a` to `b`
 abbrev pub IsJoinedTo : Fabric → NodePort → NodePort → Type 0
 IsJoinedTo f a b = (n : ℕ) × Walk f a b n
 
--- each end port of the fabric is joined to each other one
+-- any two end ports of the fabric are joined
 abbrev pub IsConnected : Fabric → Type 0
 IsConnected f = (a b : NodePort) → IsEndPort f a → IsEndPort f b → IsJoinedTo f a b

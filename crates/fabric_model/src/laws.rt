@@ -3,14 +3,15 @@ ghost use Rattle.fabric_model.specs.Cables.{CablesLeadBack};
 ghost use Rattle.fabric_model.specs.FabricLaws.{PacketsEndOnce, WalksGoOn};
 ghost use Rattle.std.specs.Prelude.{◌≡◌};
 
-/// The cable in a port leads back from the port at its other end.
+/// If each port has at most one cable, the cable in a port leads back to that port from the port at the other end.
 #[tactic(auto, using(crate::proofs::Cabled::cables_lead_back))]
 pub fn cables_lead_back()
     ensures { CablesLeadBack }
 {}
 
-/// A directed path of at least one port, with a port appended, leads where this port leads from the path's end, if that
-/// is at a switch, and nowhere otherwise.
+/// A directed path of at least one port, with a port appended, leads on from the path's end by the cable in that port.
+/// The longer path leads nowhere if the path leads nowhere, if the path's end is not at a switch, or if no cable is in
+/// the appended port.
 #[tactic(auto, using(crate::proofs::DirectedWalks::walks_go_on))]
 pub fn walks_go_on()
     ensures { WalksGoOn }

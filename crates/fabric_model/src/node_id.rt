@@ -2,7 +2,7 @@ ghost use Rattle.std.specs.Prelude.{◌≡◌};
 
 use std::marker::Model;
 
-/// The number of a node among the nodes of a fabric, from 0. It has no meaning in another fabric.
+/// The number of a node among the nodes of a fabric, counted from 0. The number has no meaning in another fabric.
 #[derive(Clone, Copy, Debug, PartialEq, Eq, PartialOrd, Ord)]
 pub struct NodeId(usize);
 

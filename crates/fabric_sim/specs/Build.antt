@@ -25,11 +25,12 @@ agent_node node = record {
 abbrev pub new_agent : Node → Agent
 new_agent node = fresh_agent (agent_node node)
 
--- the other ends of the cables at `node` of a topology, if it has no cables
+-- the other ends of the cables in the ports of `node`, from port 0 on, if there is no cable: None for each port
 abbrev pub no_peers : Node → List (Option NodePort)
 no_peers node = replicate (node.ports + 1) None
 
--- the fabric of `nodes` of a topology, with no cable and nothing in flight, in which switches send no traps
+-- the fabric of `nodes` of a topology, with no cable and nothing in flight, in which switches send no traps; `first` is
+-- the first serial number
 abbrev pub uncabled : List Node → ℕ → Simulation
 uncabled nodes first = record { agents = map new_agent nodes; peers = map no_peers nodes; flights = []; next = first; traps = no_traps }
 

@@ -9,12 +9,12 @@ pub record Called (R : Type 0) : Type 0 where
   pub fabric : Simulation
   pub result : Result R FabricFault
 
--- a call left and returned what `called` says; or it returned `Memory` and left the fabric unchanged, which it does
--- only if it would have succeeded otherwise
+-- a call on the fabric `old` left `new` and returned a result as `called` says; or it returned `Memory` and left the
+-- fabric unchanged, although `called` says that it succeeds
 abbrev pub ComesTo : {R : Type 0} → Result R FabricFault → Simulation → Simulation → Called R → Type 0
 ComesTo (Err Memory) old new called = (new ≡ old) × IsOk called.result
 ComesTo result old new called = (new ≡ called.fabric) × (result ≡ called.result)
 
--- a call that is refused for `fault`, which leaves the fabric unchanged
+-- the outcome of a call that is refused for `fault` and leaves the fabric `s` unchanged
 abbrev pub refused : {R : Type 0} → Simulation → FabricFault → Called R
 refused s fault = record { fabric = s; result = Err fault }

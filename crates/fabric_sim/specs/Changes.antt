@@ -19,19 +19,20 @@ use Rattle.fabric_sim.specs.Delivery.{with_changed, after_enqueue, without}
 abbrev pub addressed : Simulation → NodePort → Packet → Packet
 addressed s p packet = if is_lid_routed packet.bytes then record packet { slid = (fabric_of s).base_lid p } else packet
 
--- the fabric after a packet is sent from the seat `p`, and the packet's serial number; refused if `p` is no seat
+-- the fabric after a packet is sent from the seat `p`, and the packet's serial number; refused if `p` is no seat, or no
+-- serial number is left
 unfoldable pub after_inject : Simulation → NodePort → Packet → Called ℕ
 after_inject s p packet =
     if not (is_seat_at s p) then refused s NoSuchPort else after_enqueue s (Seat p) (addressed s p packet)
 
 -- the fabric after a copy of the packet is added at the same whereabouts, and the copy's serial number; refused if
--- there is no packet (None)
+-- there is no packet (None), or no serial number is left
 abbrev pub copied : Simulation → Option Flight → Called ℕ
 copied s None = refused s NoSuchPacket
 copied s (Some flight) = after_enqueue s flight.whereabouts flight.packet
 
 -- the fabric after the packet with the number `serial` is copied, and the copy's serial number; the copy waits at the
--- same whereabouts; refused if there is no such packet
+-- same whereabouts. Refused if there is no such packet, or no serial number is left
 unfoldable pub after_repeat : Simulation → ℕ → Called ℕ
 after_repeat s serial = copied s (flight_with s.flights serial)
 
@@ -43,7 +44,8 @@ after_lose s serial =
 
 -- ports -------------------------------------------------------------------------------
 
--- the fabric `s` where `change` has changed the agent of the node of `p`, at its port
+-- the fabric `s` after `change` has changed the agent of the node of `p`, at the port of `p`; unchanged if there is no
+-- such node
 abbrev pub changed_at : Simulation → NodePort → (Agent → ℕ → Agent) → Simulation
 changed_at s p change = record s { agents = with_changed s.agents p.node (λ a. change a p.port) }
 
@@ -58,13 +60,13 @@ after_seat s p =
 abbrev pub with_peer : List (List (Option NodePort)) → NodePort → Option NodePort → List (List (Option NodePort))
 with_peer peers p other = slice_set peers p.node (slice_set (slice_index_or peers p.node []) p.port other)
 
--- the fabric after the end of a cable is plugged into the port `p`, whose other end is `other`, or taken out of it
--- (None)
+-- the fabric after one end of a cable is plugged into the port `p`, with the cable's other end at `other`; or, if
+-- `other` is None, after the cable's end is taken out of `p`
 abbrev pub with_end : Simulation → NodePort → Option NodePort → Simulation
 with_end s p other =
     record (changed_at s p (λ a port. after_set_wired a port (is_some other))) { peers = with_peer s.peers p other }
 
--- the fabric after a cable is plugged into the ports `p` and `q`, or as a loop if they are one
+-- the fabric after a cable is plugged into the ports `p` and `q`, as a loop if `p` is `q`
 unfoldable pub cabled_at : Simulation → NodePort → NodePort → Simulation
 cabled_at s p q = with_end (with_end s p (Some q)) q (Some p)
 
@@ -72,19 +74,19 @@ cabled_at s p q = with_end (with_end s p (Some q)) q (Some p)
 unfoldable pub uncabled_at : Simulation → NodePort → NodePort → Simulation
 uncabled_at s p q = with_end (with_end s p None) q None
 
--- the fabric after a cable is plugged into the ports `p` and `q`, or as a loop if they are one; refused if one is no
--- cable port, or not free
+-- the fabric after a cable is plugged into the ports `p` and `q`, as a loop if `p` is `q`; refused if `p` or `q` is no
+-- cable port, or is not free
 unfoldable pub after_plug : Simulation → NodePort → NodePort → Called (Unit {0})
 after_plug s p q =
     if not (is_cable_port s p && is_cable_port s q) then refused s NoSuchPort
     else if not (is_none (across s.peers p) && is_none (across s.peers q)) then refused s PortTaken
     else record { fabric = cabled_at s p q; result = Ok tt }
 
--- the fabric after the cable from `p` to the other end is taken out; refused for None
+-- the fabric after the cable from `p` to the given other end is taken out; refused if there is no cable (None)
 abbrev pub cut_apart : Simulation → NodePort → Option NodePort → Called (Unit {0})
 cut_apart s p None = refused s NoSuchPort
 cut_apart s p (Some q) = record { fabric = uncabled_at s p q; result = Ok tt }
 
--- the fabric after the cable in the port `p` is taken out; refused if there is none
+-- the fabric after the cable in the port `p` is taken out; refused if no cable is in `p`
 unfoldable pub after_cut : Simulation → NodePort → Called (Unit {0})
 after_cut s p = cut_apart s p (across s.peers p)

@@ -38,12 +38,12 @@ use Rattle.fabric_sim.specs.Simulation.{Simulation, agent_at, port_count, is_sea
 
 -- where the packet goes ---------------------------------------------------------------------
 
--- the packet with the bytes `bytes` in place of its own
+-- the packet with its bytes replaced by `bytes`
 abbrev pub carrying : Packet → List ℕ → Packet
 carrying packet bytes = record packet { bytes = bytes }
 
 -- what becomes of a packet that leaves by the port `out`: it moves to the other end of the port's cable, or is dropped
--- if there is none
+-- if the port has no cable
 abbrev pub leaving : Simulation → NodePort → Packet → Outcome
 leaving s out packet = option_map_or (λ into. Moves (Arrived into) packet) (across s.peers out) (Drops Down)
 
@@ -90,8 +90,8 @@ directed_outcome s p packet =
 
 -- a packet that is forwarded by its DLID
 
--- what becomes of a packet at the port that it is for: an answer or a packet for the manager is handed up, a
--- TrapRepress represses a trap, and any other is answered; the answer has the request's SLID and DLID exchanged
+-- what becomes of a packet at the port that it is for: an answer or a packet for the manager is handed up, and a
+-- TrapRepress represses its trap. Any other packet is answered; the answer has the request's SLID and DLID exchanged
 abbrev pub arrived : Simulation → NodePort → Packet → Outcome
 arrived s p packet =
     if is_response packet.bytes || is_for_manager s p packet.bytes then HandsUp packet
@@ -110,8 +110,8 @@ lid_routed_outcome s whereabouts packet =
     by_course s (port_of whereabouts) packet
     (course (fabric_of s) packet.dlid (record { at = port_of whereabouts; by_wire = is_by_wire whereabouts }))
 
--- what becomes of any packet where it waits: it is dropped unless its bytes parse and, if it waits at no seat, a cable
--- is in its port
+-- what becomes of a packet where it waits. It is dropped if its bytes do not parse, or if no cable is in its port and
+-- it does not wait at a seat. Else it goes one step on its directed route, or by its DLID
 unfoldable pub outcome_of : Simulation → Whereabouts → Packet → Outcome
 outcome_of s whereabouts packet =
     if is_some (fault_of packet.bytes) then Drops Unreadable
@@ -121,7 +121,7 @@ outcome_of s whereabouts packet =
 
 -- delivery by index --------------------------------------------------------------------------
 
--- everything about a packet in flight except its bytes
+-- the envelope of a packet in flight: its serial number, whereabouts, SLID and DLID
 abbrev pub envelope_of : Flight → Envelope
 envelope_of flight =
     record {
@@ -166,7 +166,7 @@ CanFare s (Drops reason) = Unit {0}
 
 -- what a delivery leaves ----------------------------------------------------------------------
 
--- `agents`, with the agent at `id` changed; unchanged if there is none
+-- `agents`, with the agent at `id` changed by `change`; unchanged if there is no such agent
 abbrev pub with_changed : List Agent → ℕ → (Agent → Agent) → List Agent
 with_changed agents id change = option_map_or (λ a. slice_set agents id (change a)) (slice_get agents id) agents
 
@@ -196,7 +196,7 @@ without s serial = record s { flights = without_flight s.flights serial }
 abbrev pub repressed_at : Simulation → ℕ → ℕ → Simulation
 repressed_at s id number = record s { traps = without_trap s.traps id number }
 
--- the fabric with the packet with the number `serial` at other whereabouts, and possibly changed
+-- the fabric with the packet with the number `serial` replaced by `packet` at `whereabouts`
 abbrev pub moved_to : Simulation → ℕ → Whereabouts → Packet → Simulation
 moved_to s serial whereabouts packet =
     record s { flights = with_moved s.flights (record { serial = serial; whereabouts = whereabouts; packet = packet }) }
@@ -205,8 +205,8 @@ moved_to s serial whereabouts packet =
 abbrev pub answer_at : Simulation → NodePort → List ℕ → List ℕ
 answer_at s p bytes = option_map_or (λ a. (after_answer a bytes p.port).packet) (agent_at s p.node) bytes
 
--- the fabric after the agent answered `request`, which waited at its port; the answer, from `slid` to `dlid`, replaces
--- it
+-- the fabric after the agent at the port of `flight` answered `request`; `flight` is replaced by the answer, from
+-- `slid` to `dlid`, which has the next serial number
 abbrev pub asked : Simulation → Flight → List ℕ → ℕ → ℕ → Simulation
 asked s flight request slid dlid =
     let p = port_of flight.whereabouts in
@@ -221,8 +221,8 @@ asked s flight request slid dlid =
       dlid = dlid;
     })
 
--- what a call leaves and returns if the packet `flight` has the outcome; an answer needs a serial number of its own,
--- and is refused if none is left
+-- what a delivery of `flight` leaves and returns, by the outcome; an answer needs a serial number of its own, and the
+-- delivery is refused if none is left
 abbrev pub after_outcome : Simulation → Flight → Outcome → Called Delivered
 after_outcome s flight (Moves whereabouts packet) =
     record { fabric = moved_to s flight.serial whereabouts packet; result = Ok (delivered_is.Moved flight.serial) }
@@ -243,11 +243,13 @@ after_outcome s flight (Represses number) =
 after_outcome s flight (Drops reason) =
     record { fabric = without s flight.serial; result = Ok (delivered_is.Discarded reason) }
 
--- the fabric after one step of the packet, and what the step did; refused if there is no packet (None)
+-- the fabric after one step of the packet, and what the step did; refused if there is no packet (None), or no serial
+-- number is left for an answer
 abbrev pub delivered_flight : Simulation → Option Flight → Called Delivered
 delivered_flight s None = refused s NoSuchPacket
 delivered_flight s (Some flight) = after_outcome s flight (outcome_of s flight.whereabouts flight.packet)
 
--- the fabric after one step of the packet with the number `serial`, and what the step did; refused if there is none
+-- the fabric after one step of the packet with the number `serial`, and what the step did; refused if there is no such
+-- packet, or no serial number is left for an answer
 unfoldable pub after_deliver : Simulation → ℕ → Called Delivered
 after_deliver s serial = delivered_flight s (flight_with s.flights serial)

@@ -13,15 +13,15 @@ use Rattle.fabric_sim.specs.Simulation.{Simulation, is_port}
 use Rattle.fabric_sim.specs.declared.ping.Ping.{Ping}
 use Rattle.fabric_sim.specs.declared.ping.Ping.TheVariants.{Reached, Lost}
 
--- where a packet that has taken `hops` wires to `s` ends, by its course there; `on` says where it ends from the other
--- end of a wire
+-- the end of a packet that has taken `hops` wires to `s`, by its course at `s`; `on` says the end of a packet that has
+-- taken one more wire, by the port that it reached
 abbrev pub ping_by : Fabric → Standing → ℕ → (NodePort → Ping) → Course → Ping
 ping_by f s hops on (Delivers p) = Reached p hops
 ping_by f s hops on (LeavesBy out) = option_map_or on (f.across out) (Lost s.at.node)
 ping_by f s hops on Drops = Lost s.at.node
 
--- where a packet for `lid` that has taken `hops` wires to `s` ends, if it may visit so many nodes more; with none left,
--- it is lost where it is
+-- the end of a packet for `lid` that has taken `hops` wires to `s`. The argument after `lid` is how many nodes the
+-- packet may still visit, that of `s` included; if it is 0, the packet is lost at `s`
 abbrev pub ping_on : Fabric → ℕ → ℕ → ℕ → Standing → Ping
 ping_on f lid zero hops s = Lost s.at.node
 ping_on f lid (suc left) hops s =
@@ -41,15 +41,15 @@ pub record DeliversOver (f : Fabric) (lid : ℕ) (source target : NodePort) (cou
   pub length : length hops ≡ count
   pub delivered : IsDelivered f lid source hops target
 
--- what a ping says is true: a packet that reaches a port is delivered there over as many wires as it says, and a packet
--- that is lost at a node is lost there
+-- what a ping says is true: if it reports a port, the packet is delivered at that port over as many wires as it says;
+-- if it reports a loss at a node, the packet is lost at that node
 abbrev pub PingsTell : Type 0
 PingsTell = (f : Fabric) (lid : ℕ) (source : NodePort)
     → ((target : NodePort) (count : ℕ) → ping f lid source ≡ Reached target count
     → DeliversOver f lid source target count)
     × ((id : ℕ) → ping f lid source ≡ Lost id → (hops : List Hop) × IsLost f lid source hops id)
 
--- a packet that is delivered reaches that port in a ping, over as many wires as it takes
+-- if a packet is delivered at `target`, a ping reports `target`, and as many wires as the packet takes
 abbrev pub PingsFind : Type 0
 PingsFind = (f : Fabric) (lid : ℕ) (source target : NodePort) (hops : List Hop) → IsDelivered f lid source hops target
     → ping f lid source ≡ Reached target (length hops)

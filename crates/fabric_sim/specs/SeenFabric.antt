@@ -2,6 +2,7 @@
 use Rattle.fabric_model.specs.Fabric.{IsFabric}
 use Rattle.fabric_sim.specs.Simulation.{Simulation, IsSimulation, fabric_of}
 
--- what packets see is a fabric: the nodes have 1 to 254 ports, and each cable leads back to where it leads from
+-- what packets see of a simulation is a fabric: its nodes have 1 to 254 ports, and each cable leads back from its other
+-- end
 abbrev pub SimulationsAreFabrics : Type 0
 SimulationsAreFabrics = (s : Simulation) → IsSimulation s → IsFabric (fabric_of s)

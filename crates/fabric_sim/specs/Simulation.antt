@@ -11,9 +11,9 @@ use Rattle.fabric_sim.specs.declared.flight.Whereabouts.TheVariants.{Seat, Arriv
 use Rattle.fabric_sim.specs.declared.flight.Flight.{Flight}
 use Rattle.fabric_sim.specs.Traps.{Traps}
 
--- The agents by the ids of their nodes; for each node the other ends of the cables in its ports, from port 0 on, which
--- never has a cable; the packets in flight, by rising serial number; the next serial number, 2 ^ 64 if none is left;
--- and the traps that wait at switches.
+-- a simulated fabric: `agents` has the agents by the ids of their nodes. `peers` has for each node the other ends of
+-- the cables in its ports, from port 0 on, which never has a cable. `flights` has the packets in flight, by rising
+-- serial number. `next` is the next serial number, 2 ^ 64 if none is left. `traps` has the traps that wait at switches
 pub record Simulation : Type 0 where
   pub agents : List Agent
   pub peers : List (List (Option NodePort))
@@ -21,7 +21,7 @@ pub record Simulation : Type 0 where
   pub next : ℕ
   pub traps : Traps
 
--- the next serial number, if there is one; 2 ^ 64 for None, if none is left after 2 ^ 64 - 1
+-- the next serial number as a number: 2 ^ 64 for None, if none is left
 abbrev pub next_serial : Option ℕ → ℕ
 next_serial None = 2 ^ 64
 next_serial (Some serial) = serial
@@ -76,19 +76,20 @@ port_of (Seat p) = p
 port_of (Arrived p) = p
 port_of (Made p) = p
 
--- a packet that waits there waits at a seat
+-- the whereabouts are a seat
 abbrev pub is_at_seat : Whereabouts → Bool
 is_at_seat (Seat p) = true
 is_at_seat (Arrived p) = false
 is_at_seat (Made p) = false
 
--- a packet that waits there came to its port by a wire
+-- the whereabouts are a port to which a packet came by a wire
 abbrev pub is_by_wire : Whereabouts → Bool
 is_by_wire (Seat p) = false
 is_by_wire (Arrived p) = true
 is_by_wire (Made p) = false
 
--- where an answer waits if its request waited there: at the seat, or where the answer is made
+-- the whereabouts of an answer, by those of its request: the seat if the request waited at one, else `Made` at the same
+-- port
 abbrev pub answer_whereabouts : Whereabouts → Whereabouts
 answer_whereabouts (Seat p) = Seat p
 answer_whereabouts (Arrived p) = Made p
@@ -100,7 +101,7 @@ answer_whereabouts (Made p) = Made p
 abbrev pub is_numbered : ℕ → Flight → Bool
 is_numbered serial flight = flight.serial == serial
 
--- the packet in flight with the number `serial`; None if there is none
+-- the packet in flight with the number `serial`; None if no packet has this number
 abbrev pub flight_with : List Flight → ℕ → Option Flight
 flight_with flights serial = find (is_numbered serial) flights
 
@@ -108,7 +109,7 @@ flight_with flights serial = find (is_numbered serial) flights
 abbrev pub IsFlightAt : List Flight → ℕ → ℕ → Type 0
 IsFlightAt flights i serial = option_map (λ flight. flight.serial) (slice_get flights i) ≡ Some serial
 
--- the index of the packet with the number `serial` is found; for None, no packet has this number
+-- the packet at the given index is the one with the number `serial`; for None, no packet has this number
 abbrev pub Finds : List Flight → ℕ → Option ℕ → Type 0
 Finds flights serial None = flight_with flights serial ≡ None
 Finds flights serial (Some i) = IsFlightAt flights i serial × (slice_get flights i ≡ flight_with flights serial)
@@ -117,7 +118,7 @@ Finds flights serial (Some i) = IsFlightAt flights i serial × (slice_get flight
 abbrev pub without_flight : List Flight → ℕ → List Flight
 without_flight flights serial = filter (λ flight. not (is_numbered serial flight)) flights
 
--- the packets in flight, with `moved` in place of the packet that has its serial number
+-- the packets in flight, with the one that has the serial number of `moved` replaced by `moved`
 abbrev pub with_moved : List Flight → Flight → List Flight
 with_moved flights moved = map (λ flight. if is_numbered moved.serial flight then moved else flight) flights
 
@@ -127,7 +128,7 @@ with_moved flights moved = map (λ flight. if is_numbered moved.serial flight th
 abbrev pub HasPeerSlot : List (List (Option NodePort)) → NodePort → Type 0
 HasPeerSlot peers p = p.port < length (slice_index_or peers p.node [])
 
--- each node of the fabric has a list of the other ends of its cables, with a slot for each of its ports and for port 0
+-- each node has a list of the other ends of its cables, with a slot for port 0 and for each of its ports
 abbrev pub FitsPorts : Simulation → Type 0
 FitsPorts s = (id : ℕ) (a : Agent) → agent_at s id ≡ Some a → length (slice_index_or s.peers id []) ≡ a.node.ports + 1
 
@@ -137,8 +138,8 @@ AreUncabledDown s =
     (p : NodePort) (a : Agent) → agent_at s p.node ≡ Some a → is_cable_port s p ≡ true → (state_at a p.port ≡ Down)
     ↔ (across s.peers p ≡ None)
 
--- the cables fit the nodes and their agents: each leads from a cable port to another and back, or loops, and ports
--- without one are Down
+-- the cables fit the nodes and their agents: each end is in a cable port, and each cable leads back from its other end.
+-- A cable port is Down exactly if no cable is in it
 pub record AreCables (s : Simulation) : Type 0 where
   pub lists : length s.peers ≡ length s.agents
   pub fit : FitsPorts s
@@ -146,12 +147,13 @@ pub record AreCables (s : Simulation) : Type 0 where
   pub lead_back : (p q : NodePort) → across s.peers p ≡ Some q → across s.peers q ≡ Some p
   pub down : AreUncabledDown s
 
--- a packet can wait at `whereabouts`: the port there is one for a cable, and a seat if the whereabouts are a seat
+-- a packet can wait at `whereabouts`: the port there is a cable port, and a manager sits there if the whereabouts are a
+-- seat
 pub record CanWait (s : Simulation) (whereabouts : Whereabouts) : Type 0 where
   pub port : is_cable_port s (port_of whereabouts) ≡ true
   pub seat : is_at_seat whereabouts ≡ true → is_seat_at s (port_of whereabouts) ≡ true
 
--- a packet in flight waits where it can, and its serial number was given
+-- `flight` has whereabouts where a packet can wait, and a serial number below the next one
 pub record IsWaiting (s : Simulation) (flight : Flight) : Type 0 where
   pub whereabouts : CanWait s flight.whereabouts
   pub given : flight.serial < s.next
@@ -160,8 +162,8 @@ pub record IsWaiting (s : Simulation) (flight : Flight) : Type 0 where
 abbrev pub AreRising : List Flight → Type 0
 AreRising flights = AllPairs (λ before after. before.serial < after.serial) flights
 
--- at most 1024 nodes with their agents, managers only at cable ports, cables that fit them, and packets in flight that
--- wait where they can, by rising serial numbers below the next one
+-- `s` has at most 1024 nodes with their agents, managers only at cable ports, and cables that fit. Packets in flight
+-- wait where they can. Their serial numbers rise and are below the next one, which is at most 2 ^ 64
 pub record IsSimulation (s : Simulation) : Type 0 where
   pub few : length s.agents ≤ 1024
   pub agents : All IsAgent s.agents

@@ -18,17 +18,17 @@ use Rattle.fabric_sim.specs.Delivery.{after_deliver}
 use Rattle.fabric_sim.specs.Changes.{after_inject}
 use Rattle.fabric_sim.specs.Calls.{Call, Lose, after_calls, is_delivery_of}
 
--- a directed request as a packet; it has no LID-routed part
+-- a directed request as a packet; no part of its route goes by LIDs, so SLID and DLID are the permissive LID
 abbrev pub directed_packet : List ℕ → Packet
 directed_packet bytes = record { bytes = bytes; slid = permissive_lid; dlid = permissive_lid }
 
--- a path leaves by the port `port` of its sender, if it leaves at all
+-- the given path is empty, or its first port is `port`
 abbrev pub BeginsWith : ℕ → List ℕ → Type 0
 BeginsWith port [] = Unit {0}
 BeginsWith port (first ∷ path) = first ≡ port
 
--- `answer` is the answer to `request` over `path`: it has the request's numbers, and the status and the attribute of
--- `told`, which the agent answered
+-- `answer` is the answer to `request` over `path`: a GetResp that has returned to its sender, with the request's
+-- TransactionID, attribute and modifier. Its status and data are those of `told`, the agent's answer
 pub record IsAnswerOver (path : List ℕ) (request told answer : List ℕ) : Type 0 where
   pub method : number_in field.method answer ≡ get_resp
   pub returning : is_returning answer ≡ true
@@ -55,16 +55,17 @@ pub record IsAnsweredAt (s : Simulation) (serial : ℕ) (request : List ℕ) (at
   pub result : (after_deliver s serial).result ≡ Ok (delivered_is.Answered s.next)
   pub after : agent_at (after_deliver s serial).fabric at.node ≡ Some (after_answer agent request at.port).agent
 
--- the delivery of the packet with the number `serial` hands it up to the manager at the port `at`, as an answer over
--- `path` to `request`, with what the agent answered, `told`
+-- the delivery of the packet with the number `serial` hands it up to the manager at the port `at`. The packet answers
+-- `request` over `path`, with the status and the data of `told`, the agent's answer
 pub record ComesHome (s : Simulation) (serial : ℕ) (at : NodePort) (path request told : List ℕ) : Type 0 where
   pub packet : Packet
   pub result : (after_deliver s serial).result ≡ Ok (delivered_is.ToManager at packet)
   pub answer : IsAnswerOver path request told packet.bytes
 
--- Whatever else is called, as long as no cable changes, serial numbers are left, and the packet is not lost: on a path
--- of n ports, the agent at the path's end answers the request's delivery n + 1, if the attribute is not SMInfo; and the
--- answer's delivery n + 1, if it is not lost, hands the answer up at the port that the request was sent from.
+-- on a path of n ports, the agent at the path's end answers the request's delivery n + 1. The answer's delivery n + 1
+-- hands the answer up at the port that the request was sent from. The attribute is not SMInfo. If the path has ports,
+-- the first is the port that the request was sent from. Any other calls may come between, if no cable changes, neither
+-- packet is lost, and serial numbers are left
 abbrev pub ThereAndBack : Type 0
 ThereAndBack =
     (s : Simulation) (origin end : NodePort) (method attribute modifier tid : ℕ) (path payload : List ℕ)

@@ -18,7 +18,7 @@ use Rattle.attr_codec.specs.SwitchInfo.{linear_fdb_cap}
 abbrev pub path_of : List ℕ → List ℕ
 path_of packet = bytes_in (record { at = 129; len = number_in hop_count packet }) packet
 
--- `info` says what the node is, as seen by its port `port`
+-- `info` says the GUID, the type and the port count of `node`, and the GUID and the number of its port `port`
 pub record SaysNode (node : Node) (port : ℕ) (info : NodeInfo) : Type 0 where
   pub guid : info.node_guid ≡ node.guid
   pub kind : info.node_type ≡ number_of_type node.kind
@@ -40,7 +40,7 @@ IsUpState state = (2 ≤ state) × (state ≤ 4)
 abbrev pub port_asked : Node → ℕ → ℕ → ℕ
 port_asked node modifier arrival = if is_switch node.kind then modifier else arrival
 
--- PortInfo is about `port`, which the node has, and says as its `state` one that is up exactly if the port is
+-- `port` is a port of the node, and `state`, the port state in PortInfo, is up exactly if this port is up
 pub record SaysPort (f : Fabric) (id : ℕ) (node : Node) (port state : ℕ) : Type 0 where
   pub within : port ≤ node.ports
   pub up : IsUpState state ↔ IsUp f id node port
@@ -50,8 +50,8 @@ pub record SaysSwitch (node : Node) (entries : ℕ) : Type 0 where
   pub kind : is_switch node.kind ≡ true
   pub cap : entries ≡ node.cap
 
--- what an answer says with status 0, by its attribute, is true of the node at the port `at` that its request reached:
--- of its NodeInfo, a port's state, or a switch's table room
+-- what the answer `packet` says, by its attribute, is true of the node at the port `at`, which its request reached: the
+-- NodeInfo, whether a port is up, or a switch's table room
 pub record SaysOf (f : Fabric) (at : NodePort) (packet : List ℕ) : Type 0 where
   pub node : Node
   pub there : IsNodeAt f at.node node
@@ -63,8 +63,8 @@ pub record SaysOf (f : Fabric) (at : NodePort) (packet : List ℕ) : Type 0 wher
   pub switch_info : number_in attribute_id packet ≡ switch_info
       → SaysSwitch node (number_in linear_fdb_cap (bytes_in attribute_data packet))
 
--- a packet handed up at the port `at` has a path that ends somewhere; if its status is 0, what it says is true of the
--- node there
+-- the path of `packet`, which was handed up at the port `at`, leads from `at` to some port; if the status is 0, what
+-- `packet` says is true of the node at that port
 pub record TellsOfEnd (f : Fabric) (at : NodePort) (packet : List ℕ) : Type 0 where
   pub end : NodePort
   pub leads : directed_end f at (path_of packet) ≡ Some end

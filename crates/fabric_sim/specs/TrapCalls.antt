@@ -16,11 +16,11 @@ use Rattle.fabric_sim.specs.Notices.{link_trap}
 use Rattle.fabric_sim.specs.Simulation.{Simulation, across, agent_at, fabric_of}
 use Rattle.fabric_sim.specs.Delivery.{after_enqueue}
 
--- the fabric with `traps` in place of its traps
+-- the fabric with its traps replaced by `traps`
 abbrev pub with_traps : Simulation → Traps → Simulation
 with_traps s traps = record s { traps = traps }
 
--- a call that leaves `s`, and fails only for lack of memory
+-- the outcome of a call that leaves `s`, and fails only for lack of memory
 abbrev pub leaving_just : Simulation → Called (Unit {0})
 leaving_just s = record { fabric = s; result = Ok tt }
 
@@ -70,7 +70,8 @@ trap_sent s id number = with_trap_sent s id number (trap_out s id)
 
 -- calls ------------------------------------------------------------------------------------------
 
--- the fabric after the trap that waits at the node `id`, if one does, is sent
+-- the fabric after the trap that waits at the node `id` is sent; unchanged if none waits, the trap cannot leave, or no
+-- serial number is left
 unfoldable pub after_send_trap : Simulation → ℕ → Called (Unit {0})
 after_send_trap s id = leaving_just (option_map_or (trap_sent s id) (trap_at s.traps id) s)
 

@@ -16,8 +16,8 @@ use Rattle.fabric_sim.specs.Notices.{trap_repress}
 use Rattle.fabric_sim.specs.Simulation.{Simulation, IsSimulation, across, fabric_of, flight_with, is_by_wire, port_of}
 use Rattle.fabric_sim.specs.Traps.{trap_at}
 
--- the packet is LID-routed, with the method TrapRepress and the TransactionID `number`, and waits at a port with a
--- cable of the switch `id`, which delivers it to itself
+-- the packet of `flight` parses, is LID-routed, and is a TrapRepress with the TransactionID `number`. It waits at a
+-- port of the switch `id` that has a cable, and the switch delivers it to itself
 pub record IsRepress (s : Simulation) (flight : Flight) (id number : ℕ) : Type 0 where
   pub parses : fault_of flight.packet.bytes ≡ None
   pub by_lids : is_directed flight.packet.bytes ≡ false

@@ -3,8 +3,8 @@
 use Rattle.std.specs.Prelude.{ℕ, ◌+◌, ◌%◌, ◌^◌, ◌==◌, Bool, List, [], length, replicate, slice_index_or, slice_set, if◌then◌else◌, Option, Some, None, false}
 use Rattle.std.specs.Option.{option_map_or}
 
--- for each node the TransactionID of the trap that waits there, or an empty list while switches send none; and the
--- TransactionID of the trap that began last
+-- `waiting` has for each node the TransactionID of the trap that waits there, or None; it is empty while switches send
+-- no traps. `last` is the TransactionID of the trap that began last, and 0 if none began
 pub record Traps : Type 0 where
   pub waiting : List (Option ℕ)
   pub last : ℕ
@@ -17,7 +17,7 @@ no_traps = record { waiting = []; last = 0 }
 abbrev pub trap_at : Traps → ℕ → Option ℕ
 trap_at t id = slice_index_or t.waiting id None
 
--- the traps after switches among n nodes begin to send traps; unchanged if they send traps already
+-- the traps after switches among `nodes` nodes begin to send traps; unchanged if they send traps already
 abbrev pub begun : Traps → ℕ → Traps
 begun t nodes = if length t.waiting == 0 then record t { waiting = replicate nodes None } else t
 
@@ -25,7 +25,7 @@ begun t nodes = if length t.waiting == 0 then record t { waiting = replicate nod
 abbrev pub next_trap : Traps → ℕ
 next_trap t = (t.last + 1) % 2 ^ 64
 
--- the traps with a new trap waiting at the node `id`, in place of the one before
+-- the traps with a new trap waiting at the node `id`, which replaces any that waited there
 abbrev pub with_new_trap : Traps → ℕ → Traps
 with_new_trap t id = record { waiting = slice_set t.waiting id (Some (next_trap t)); last = next_trap t }
 

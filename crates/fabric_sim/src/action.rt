@@ -11,7 +11,7 @@ pub(crate) enum Action {
     Asks(Lid, Lid),
     /// The packet is handed up, for the subnet manager at its port.
     HandsUp,
-    /// The packet is discarded, and the trap with its TransactionID ends, if that waits at the node.
+    /// The packet is discarded, and the trap with the packet's TransactionID ends if it waits at the node.
     Represses,
     /// The packet is discarded.
     Drops(Reason),

@@ -17,9 +17,9 @@ use std::collections::VecDeque;
 use topo_file::{Node, Topology};
 
 impl Fabric {
-    /// Builds the fabric of a topology: an agent for each of its nodes, to which nothing was written, and a cable for
-    /// each of its links. Nothing is in flight, serial numbers count from `first_serial`, and switches send no traps.
-    /// Takes time linear in the ports and table entries of all nodes, and in the links.
+    /// Builds the fabric of `topology`: an agent for each node, to which nothing was written, and a cable for each
+    /// link. Nothing is in flight, serial numbers count from `first_serial`, and switches send no traps. Returns an
+    /// error if memory runs out. Takes time linear in the ports and table entries of all nodes, and in the links.
     pub fn of(alloc: Global, topology: &Topology, first_serial: u64) -> Result<Fabric, AllocError>
         ensures fabric { IfOk result (λ fabric.
             fabric ≡ simulation_of topology.now first_serial) }
@@ -34,7 +34,7 @@ impl Fabric {
     }
 }
 
-/// Builds the fabric of the topology's nodes, with no cable.
+/// Builds the fabric of the nodes of `topology`, with no cable. Returns an error if memory runs out.
 fn uncabled(alloc: Global, topology: &Topology, first_serial: u64) -> Result<Fabric, AllocError>
     ensures fabric { IfOk result (λ fabric. fabric ≡ uncabled topology.now.nodes first_serial) }
     ensures is_topology { IsTopology topology.now }
@@ -54,7 +54,7 @@ fn uncabled(alloc: Global, topology: &Topology, first_serial: u64) -> Result<Fab
     })
 }
 
-/// Returns the agent's node for `node`, whose name must have at most 64 bytes. Its description is the name.
+/// Returns the agent's node for `node`, with the name as its description. The name must have at most 64 bytes.
 fn agent_node(node: &Node) -> AgentNode
     requires { length node.now.name ≤ 64 }
     ensures { result ≡ agent_node node.now }

@@ -11,13 +11,13 @@ use fabric_model::NodePort;
 use node_agents::Agent;
 
 impl Fabric {
-    /// Plugs a cable into two ports, or a loop into one port that is given twice. Both become Initialize. Does not
-    /// allocate.
+    /// Plugs a cable into the ports `one` and `other`, or a loop if they are one port. Each port becomes Initialize.
+    /// Does not allocate.
     ///
     /// # Errors
     ///
-    /// Returns `NoSuchPort` if either is not a port from 1 to its node's port count, and `PortTaken` if a cable is in
-    /// either.
+    /// Returns `NoSuchPort` if `one` or `other` is not from 1 to its node's port count. Otherwise returns `PortTaken`
+    /// if a cable is in `one` or `other`.
     #[tactic(auto, unfolding(crate::specs::Changes::after_plug))]
     pub fn plug(&mut self, one: NodePort, other: NodePort) -> Result<(), FabricFault>
         ensures fabric { self.new ≡ (after_plug self.old one other).fabric }
@@ -33,8 +33,8 @@ impl Fabric {
         Ok(())
     }
 
-    /// Plugs a cable into the ports `one` and `other`, or a loop into one that is given twice. Each must be from 1 to
-    /// its node's port count, and free.
+    /// Plugs a cable into the ports `one` and `other`, or a loop if they are one port. Each port must be from 1 to its
+    /// node's port count, and without a cable.
     #[tactic(auto, unfolding(crate::specs::Changes::cabled_at))]
     pub(crate) fn join(&mut self, one: &NodePort, other: &NodePort)
         requires one { is_cable_port self.old one.now ≡ true }
@@ -49,7 +49,7 @@ impl Fabric {
         set_peer(&mut self.peers, other, Some(*one));
     }
 
-    /// Cuts the cable in a port. The ports at its two ends become Down. Does not allocate.
+    /// Takes out the cable in `at`. The ports at the cable's two ends become Down. Does not allocate.
     ///
     /// # Errors
     ///
@@ -66,7 +66,7 @@ impl Fabric {
         Ok(())
     }
 
-    /// Takes the cable out of its two ports. It must lead from `one` to `other`.
+    /// Takes out the cable in the ports `one` and `other`. The cable must lead from `one` to `other`.
     #[tactic(auto, unfolding(crate::specs::Changes::uncabled_at))]
     fn part(&mut self, one: &NodePort, other: &NodePort)
         requires { across self.old.peers one.now ≡ Some other.now }
@@ -79,8 +79,8 @@ impl Fabric {
     }
 }
 
-/// Wires a port of one of the agents if `is_wired`, and otherwise removes its wire. The port must be from 1 to its
-/// node's port count.
+/// Sets the state of `port` to Initialize if `is_wired`, and otherwise to Down. `agents` must have the agent of the
+/// port's node, and `port` must be from 1 to the node's port count.
 fn set_wired(agents: &mut [Agent], port: &NodePort, is_wired: bool)
     requires { has_cable_port agents.old port.now ≡ true }
     ensures { agents.new
@@ -90,7 +90,7 @@ fn set_wired(agents: &mut [Agent], port: &NodePort, is_wired: bool)
     agent.set_wired(port.port, is_wired);
 }
 
-/// Sets `other` as the port at the other end of the cable in `port`, or none if `other` is `None`. `peers` must have a
+/// Sets `other` as the port at the other end of the cable in `port`; `None` stands for no cable. `peers` must have a
 /// slot for `port`.
 fn set_peer(peers: &mut [Peers], port: &NodePort, other: Option<NodePort>)
     requires { HasPeerSlot peers.old port.now }

@@ -23,8 +23,8 @@ use smp_bytes::{AttributeId, Lid, Smp, SmpClass};
 
 impl Fabric {
     /// Performs one step of the packet in flight with the serial number `serial`: it moves over a wire, is answered, is
-    /// handed up, or is discarded. A TrapRepress that reaches its port ends its trap. Takes constant time to find the
-    /// first packet in flight, and a binary search to find any other. Does not allocate.
+    /// handed up, or is discarded. A TrapRepress at the port of its DLID ends the trap with its TransactionID. Takes
+    /// constant time to find the first packet in flight, and a binary search to find any other. Does not allocate.
     ///
     /// # Errors
     ///
@@ -94,7 +94,7 @@ impl Fabric {
         self.traps.repress(node, number);
     }
 
-    /// Discards the packet at index `i` among the packets in flight, which must have the serial number `serial`.
+    /// Discards the packet at index `i` among the packets in flight. The packet's serial number must be `serial`.
     fn discard(&mut self, i: usize, serial: u64, reason: Reason) -> Delivered
         requires { IsFlightAt self.old.flights i serial }
         ensures fabric { self.new ≡ without self.old serial }
@@ -104,9 +104,9 @@ impl Fabric {
         Delivered::Discarded(reason)
     }
 
-    /// Lets the agent answer the request at index `i` among the packets in flight, which must have the envelope
-    /// `envelope`. The answer replaces the request, under a serial number of its own. Returns `SerialsSpent` if none is
-    /// left.
+    /// Lets the agent answer the request at index `i` among the packets in flight. The request must have the envelope
+    /// `envelope`; `request` has its bytes after its step. The answer replaces the request, under a serial number of
+    /// its own. Returns `SerialsSpent` if no serial number is left.
     fn ask(
         &mut self,
         i: usize,
@@ -141,7 +141,8 @@ impl Fabric {
         Ok(Delivered::Answered(serial))
     }
 
-    /// Returns what to do with the packet `smp` where it waits. A packet on a directed route takes its step in `smp`.
+    /// Returns what to do with the packet `smp`, which waits as `envelope` says. A packet on a directed route takes its
+    /// step in `smp`.
     #[tactic(auto, using(crate::proofs::AgentLists::within_agents), unfolding(crate::specs::Delivery::outcome_of))]
     fn action(&self, envelope: &Envelope, smp: &mut Smp) -> Action
         requires parses { fault_of smp.old ≡ None }
@@ -159,8 +160,8 @@ impl Fabric {
         }
     }
 
-    /// Performs a step of `smp`, which must be on a directed route, and returns what to do with it. The node of `at`
-    /// must exist.
+    /// Performs a step of `smp`, which must be on a directed route, and returns what to do with the packet. The node of
+    /// `at` must exist.
     fn directed_action(&self, at: &NodePort, envelope: &Envelope, smp: &mut Smp) -> Action
         requires directed { is_directed smp.old ≡ true }
         requires port { at.now.node < length self.now.agents }
@@ -192,7 +193,7 @@ impl Fabric {
     }
 
     /// Returns what to do with a packet that has reached the end of its path: an answer is dropped, a packet for the
-    /// manager is handed up, and the agent answers any other.
+    /// manager is handed up, and the agent answers any other packet.
     fn at_agent(&self, at: &NodePort, envelope: &Envelope, smp: &Smp) -> Action
         ensures { outcome_by (packet_in envelope.now smp.now) result
             ≡ at_agent self.now at.now (packet_in envelope.now smp.now) }
@@ -221,7 +222,7 @@ impl Fabric {
     }
 
     /// Returns what to do with a packet that has reached the port of its DLID: an answer or a packet for the manager is
-    /// handed up, a TrapRepress ends its trap, and the agent answers any other.
+    /// handed up, a TrapRepress is discarded and ends its trap, and the agent answers any other packet.
     fn arrival(&self, at: &NodePort, envelope: &Envelope, smp: &Smp) -> Action
         ensures { outcome_by (packet_in envelope.now smp.now) result
             ≡ arrived self.now at.now (packet_in envelope.now smp.now) }
@@ -235,8 +236,8 @@ impl Fabric {
         }
     }
 
-    /// Returns the action for a packet that leaves by the port `out`: it moves to the other end of the port's cable, or
-    /// is dropped if there is no cable.
+    /// Returns the action for a packet that leaves through the port `out`: it moves to the other end of the cable in
+    /// `out`, or is dropped if no cable is in `out`.
     fn leaving(&self, out: &NodePort) -> Action
         ensures { (packet : Packet) → outcome_by packet result ≡ leaving self.now out.now packet }
     {
@@ -246,7 +247,8 @@ impl Fabric {
         }
     }
 
-    /// Returns whether a manager sits at `at`, and `smp` is for it: its attribute is SMInfo, or it is a trap by LIDs.
+    /// Returns whether a manager sits at `at`, and `smp` is for a manager: a LID-routed trap, or a packet with the
+    /// attribute SMInfo.
     fn is_for_manager(&self, at: &NodePort, smp: &Smp) -> bool
         ensures { result ≡ is_for_manager self.now at.now smp.now }
     {

@@ -7,16 +7,15 @@ use fabric_model::NodePort;
 pub enum Reason {
     /// The hop pointer of a directed packet is off its path, or an answer arrives at an agent.
     Course,
-    /// The path of a directed packet goes on at a node that is not a switch.
+    /// The path of a directed packet leads on through a node that is not a switch.
     Transit,
-    /// The port by which the path of a directed packet goes on is 0 or above the node's port count.
+    /// The outgoing port of a directed packet is 0 or above the node's port count.
     OutPort,
-    /// No cable is in the port by which the packet leaves or, unless the packet waits at a seat, in the port where it
-    /// waits.
+    /// No cable is in the packet's outgoing port or, unless the packet waits at a seat, in the port where it waits.
     Down,
     /// The bytes are not a packet.
     Unreadable,
-    /// The node neither takes nor forwards packets for its DLID.
+    /// The node neither takes nor forwards packets for the packet's DLID.
     NoRoute,
     /// The packet is a TrapRepress, which asks for no answer.
     Repress,
@@ -42,7 +41,7 @@ impl From<DiscardReason> for Reason {
 pub enum Delivered {
     /// The packet, with this serial number, moved to the other end of a cable.
     Moved(u64),
-    /// The agent answered the request, and its answer waits with this serial number.
+    /// The agent answered the request, and the answer waits with this serial number.
     Answered(u64),
     /// The packet was handed up at this port. An answer is handed up even if no manager sits there.
     ToManager(NodePort, Packet),

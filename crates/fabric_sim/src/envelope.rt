@@ -15,7 +15,7 @@ pub(crate) struct Envelope {
 }
 
 impl Envelope {
-    /// Returns the packet with the bytes of `smp`.
+    /// Returns the packet with the bytes of `smp` and the LIDs of `self`.
     pub(crate) fn packet(&self, smp: &Smp) -> Packet
         ensures { result ≡ packet_in self.now smp.now }
     {

@@ -20,7 +20,7 @@ pub struct Fabric {
     pub(crate) peers: Vec<Peers>,
     /// The packets in flight, by rising serial number.
     pub(crate) flights: VecDeque<Flight>,
-    /// The next serial number, or `None` after the greatest.
+    /// The next serial number, or `None` if no serial number is left.
     pub(crate) next: Option<u64>,
     /// The traps that wait at switches.
     pub(crate) traps: Traps,
@@ -58,7 +58,7 @@ impl Fabric {
         self.agents.len()
     }
 
-    /// Returns the agent of `node`, or `None` if there is no such node. Takes constant time.
+    /// Returns the agent of `node`, or `None` if the fabric has no such node. Takes constant time.
     pub fn agent(&self, node: NodeId) -> Option<&Agent>
         ensures { option_copied result ≡ agent_at self.now node }
     {
@@ -72,16 +72,16 @@ impl Fabric {
         self.flights.len()
     }
 
-    /// Returns the packet at index `i` among the packets in flight, by rising serial number, or `None` if there are
-    /// fewer. Takes constant time.
+    /// Returns the packet at index `i` among the packets in flight, by rising serial number, or `None` if no more than
+    /// `i` packets are in flight. Takes constant time.
     pub fn in_flight(&self, i: usize) -> Option<&Flight>
         ensures { option_copied result ≡ slice_get self.now.flights i }
     {
         self.flights.get(i)
     }
 
-    /// Returns the port at the other end of the cable in `port`, or `None` if no cable is in it. For a loop, this is
-    /// `port` itself.
+    /// Returns the port at the other end of the cable in `port`, or `None` if no cable is in `port`. For a loop, this
+    /// is `port` itself.
     pub fn across(&self, port: &NodePort) -> Option<NodePort>
         ensures other { result ≡ across self.now.peers port.now }
         ensures port { IfSome result (λ other. is_cable_port self.now other ≡ true) }
@@ -139,7 +139,7 @@ impl Fabric {
         }
     }
 
-    /// Returns the base LID of `port`, or 0 if it has none or does not exist.
+    /// Returns the base LID of `port`, or 0 if `port` has none or does not exist.
     pub(crate) fn base_lid(&self, port: &NodePort) -> Lid
         ensures { result ≡ (fabric_of self.now).base_lid port.now }
     {

@@ -9,11 +9,12 @@ pub enum FabricFault {
     /// No packet in flight has the serial number.
     #[error("NoSuchPacket")]
     NoSuchPacket,
-    /// The port does not exist, or is not one that the call can use: one to plug into, one with a cable to cut, one of
-    /// an adapter, a seat, or one to send a ping from.
+    /// The port does not exist, or the call cannot use it. `seat` needs an adapter's port from 1 on, and `inject` needs
+    /// a seat. `plug` needs ports from 1 on, and `cut` needs a port with a cable. `ping` needs a port from 1 on, or a
+    /// switch's port 0.
     #[error("NoSuchPort")]
     NoSuchPort,
-    /// A subnet manager sits at the port, or a cable is in it.
+    /// A subnet manager sits at the port, or a cable is in the port.
     #[error("PortTaken")]
     PortTaken,
     /// Memory ran out.

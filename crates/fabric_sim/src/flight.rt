@@ -8,11 +8,11 @@ use fabric_model::NodePort;
 /// Where a packet in flight waits.
 #[derive(Clone, Copy, Debug, PartialEq, Eq)]
 pub enum Whereabouts {
-    /// At the port of the subnet manager that sent it, or that sent the request that it answers.
+    /// At a seat, from which the packet or the request that it answers was sent.
     Seat(NodePort),
-    /// At a port to which it came by a wire.
+    /// At a port where the packet arrived by a wire.
     Arrived(NodePort),
-    /// At a port of the node that made it: an answer to a request that did not wait at a seat, or a trap.
+    /// At a port of the node that made the packet: a trap, or an answer to a request that did not wait at a seat.
     Made(NodePort),
 }
 
@@ -33,14 +33,14 @@ impl Whereabouts {
         matches!(*self, Whereabouts::Seat(_))
     }
 
-    /// Returns whether the packet came to its port by a wire.
+    /// Returns whether the packet arrived at its port by a wire.
     pub(crate) fn is_by_wire(&self) -> bool
         ensures { result ≡ is_by_wire self.now }
     {
         matches!(*self, Whereabouts::Arrived(_))
     }
 
-    /// Returns where an answer waits if its request waited here.
+    /// Returns where the answer to a request that waited at `self` waits.
     pub(crate) fn answer_whereabouts(&self) -> Whereabouts
         ensures { result ≡ answer_whereabouts self.now }
     {

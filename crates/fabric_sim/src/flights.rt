@@ -10,8 +10,8 @@ use crate::flight::{Flight, Whereabouts};
 use crate::packet::Packet;
 
 impl Fabric {
-    /// Returns the index of the packet with the serial number `serial` among the packets in flight, or `None` if there
-    /// is none. Takes constant time for the first packet, and a binary search for any other.
+    /// Returns the index of the packet with the serial number `serial` among the packets in flight, or `None` if no
+    /// packet in flight has this number. Takes constant time for the first packet, and a binary search for any other.
     pub(crate) fn find(&self, serial: u64) -> Option<usize>
         ensures { Finds self.now.flights serial result }
     {
@@ -22,8 +22,8 @@ impl Fabric {
         self.search(serial)
     }
 
-    /// Returns the index of the packet with the serial number `serial`, or `None` if there is none. Takes a binary
-    /// search.
+    /// Returns the index of the packet with the serial number `serial` among the packets in flight, or `None` if no
+    /// packet in flight has this number. Takes a binary search.
     fn search(&self, serial: u64) -> Option<usize>
         ensures { Finds self.now.flights serial result }
     {
@@ -32,8 +32,9 @@ impl Fabric {
             .ok()
     }
 
-    /// Adds a packet in flight, and returns its serial number. A packet must be able to wait at `whereabouts`. Returns
-    /// `SerialsSpent` if no serial number is left, and `Memory` if memory runs out.
+    /// Adds `packet`, which waits at `whereabouts`, to the packets in flight, and returns its serial number. A packet
+    /// must be able to wait at `whereabouts`. Returns `SerialsSpent` if no serial number is left, and `Memory` if
+    /// memory runs out.
     pub(crate) fn enqueue(
         &mut self,
         whereabouts: Whereabouts,
@@ -57,8 +58,8 @@ impl Fabric {
         Ok(serial)
     }
 
-    /// Replaces the packet at index `i` among the packets in flight by `packet`, which waits at `whereabouts`. Both
-    /// must have the serial number `serial`, and a packet must be able to wait there.
+    /// Replaces the packet at index `i` among the packets in flight by `packet`, which waits at `whereabouts` and keeps
+    /// the serial number. This number must be `serial`, and a packet must be able to wait at `whereabouts`.
     pub(crate) fn move_to(
         &mut self,
         i: usize,
@@ -77,7 +78,7 @@ impl Fabric {
         };
     }
 
-    /// Removes the packet at index `i` among the packets in flight, which must have the serial number `serial`.
+    /// Removes the packet at index `i` among the packets in flight. The packet's serial number must be `serial`.
     pub(crate) fn remove(&mut self, i: usize, serial: u64)
         requires { IsFlightAt self.old.flights i serial }
         ensures { self.new ≡ without self.old serial }

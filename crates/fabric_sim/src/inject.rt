@@ -15,8 +15,8 @@ const MGMT_CLASS: usize = 1;
 const LID_ROUTED: u8 = 0x01;
 
 impl Fabric {
-    /// Sends `packet` from the seat `from`, and returns its serial number. If switches forward the packet by LIDs, its
-    /// SLID becomes the LID of `from`, or 0 if `from` has none.
+    /// Sends `packet` from the seat `from`, and returns the packet's serial number. If switches forward the packet by
+    /// LIDs, its SLID becomes the LID of `from`, or 0 if `from` has none.
     ///
     /// # Errors
     ///

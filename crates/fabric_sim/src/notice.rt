@@ -20,7 +20,7 @@ const URGENT: u8 = 0x81;
 /// The type of a producer that is a switch.
 const SWITCH: u32 = 2;
 
-/// The number of the trap.
+/// The trap number for a change of a link's state.
 const LINK_STATE_CHANGE: u16 = 128;
 
 /// Builds the trap of the switch with the LID `lid` and the TransactionID `number`.

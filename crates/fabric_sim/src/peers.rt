@@ -21,7 +21,7 @@ impl Model for Peers {
 }
 
 impl Peers {
-    /// Creates the list for a node with the ports 1 to `ports`, without a cable.
+    /// Creates the list for a node with the ports 1 to `ports` and no cable. Returns an error if memory runs out.
     pub(crate) fn new(alloc: Global, ports: u8) -> Result<Peers, AllocError>
         ensures { IfOk result (λ peers. peers ≡ replicate (ports + 1) None) }
     {
@@ -29,7 +29,7 @@ impl Peers {
         Ok(Peers { others })
     }
 
-    /// Returns the port at the other end of the cable in `port`, or `None` if no cable is in it.
+    /// Returns the port at the other end of the cable in `port`, or `None` if no cable is in `port`.
     pub(crate) fn across(&self, port: PortNum) -> Option<NodePort>
         ensures { result ≡ slice_index_or self.now port None }
     {
@@ -39,8 +39,8 @@ impl Peers {
             .flatten()
     }
 
-    /// Sets `other` as the port at the other end of the cable in `port`, or none if `other` is `None`. `port` must be
-    /// at most the node's port count.
+    /// Sets `other` as the port at the other end of the cable in `port`; `None` stands for no cable. `port` must be at
+    /// most the node's port count.
     pub(crate) fn set(&mut self, port: PortNum, other: Option<NodePort>)
         requires { port < length self.old }
         ensures { self.new ≡ slice_set self.old port other }

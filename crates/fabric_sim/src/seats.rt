@@ -7,11 +7,12 @@ use crate::fault::FabricFault;
 use fabric_model::NodePort;
 
 impl Fabric {
-    /// Seats a subnet manager at a port of an adapter, and sets IsSM there. Does not allocate.
+    /// Seats a subnet manager at `at`, a port of an adapter, and sets IsSM there. Does not allocate.
     ///
     /// # Errors
     ///
-    /// Returns `NoSuchPort` if `at` does not exist or is a switch's, and `PortTaken` if a manager sits there.
+    /// Returns `NoSuchPort` if `at` is not a port from 1 to the port count of an adapter. Otherwise returns `PortTaken`
+    /// if a manager sits there.
     #[tactic(auto, using(crate::proofs::AgentLists::within_agents), unfolding(crate::specs::Changes::after_seat))]
     pub fn seat(&mut self, at: NodePort) -> Result<(), FabricFault>
         ensures fabric { self.new ≡ (after_seat self.old at).fabric }

@@ -17,7 +17,7 @@ use smp_bytes::{Lid, PortNum};
 use std::alloc::Global;
 
 impl Fabric {
-    /// Lets the agents of switches send traps from now on. Does nothing if they do already.
+    /// Lets the agents of switches send traps from now on. Does nothing if switches send traps already.
     ///
     /// # Errors
     ///
@@ -33,8 +33,8 @@ impl Fabric {
     }
 
     /// Tells the agent of `node` that the state of one of its ports has changed. If the node is a switch and switches
-    /// send traps, a new trap waits there, in place of any other. It is sent if it can leave and a serial number is
-    /// left.
+    /// send traps, a new trap waits there, in place of any other. The trap is sent if it can leave and a serial number
+    /// is left.
     ///
     /// # Errors
     ///
@@ -52,8 +52,8 @@ impl Fabric {
         Ok(())
     }
 
-    /// Sends the trap that waits at `node`, if there is one. It is not sent if the node has no LID, its table leads to
-    /// no port with a cable, or no serial number is left.
+    /// Sends the trap that waits at `node`, if a trap waits there. The trap is not sent if the node has no LID, its
+    /// table has no port with a cable for the manager's LID, or no serial number is left.
     ///
     /// # Errors
     ///
@@ -83,7 +83,7 @@ impl Fabric {
         }
     }
 
-    /// Makes a new trap wait at `node`, in place of any other. There must be room for it.
+    /// Makes a new trap wait at `node`, in place of any other. `node` must have room for a trap.
     fn add_trap(&mut self, node: NodeId)
         requires { node < length self.old.traps.waiting }
         ensures { self.new ≡ with_traps self.old (with_new_trap self.old.traps node) }
@@ -98,7 +98,7 @@ impl Fabric {
         self.traps.has_room(node) && self.is_switch_at(node)
     }
 
-    /// Returns the port by which the trap of `node` leaves. Returns `None` if the node has no LID, its table leads to
+    /// Returns the port through which the trap of `node` leaves. Returns `None` if the node has no LID, its table has
     /// no port for the manager's LID, or no cable is in the port.
     fn trap_out(&self, node: NodeId) -> Option<NodePort>
         ensures out { result ≡ trap_out self.now node }

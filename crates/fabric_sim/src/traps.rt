@@ -9,7 +9,8 @@ use std::marker::Model;
 /// The traps that wait at nodes until they are repressed. At most one waits at a node.
 #[derive(Drop)]
 pub(crate) struct Traps {
-    /// The TransactionIDs by node. The list is empty while switches send no traps.
+    /// For each node the TransactionID of the trap that waits there, or `None`. The list is empty while switches send
+    /// no traps.
     waiting: Vec<Option<u64>>,
     /// The TransactionID of the last trap that began, or 0 if none began.
     last: u64,
@@ -24,7 +25,7 @@ impl Model for Traps {
 }
 
 impl Traps {
-    /// Creates the traps of switches that send none.
+    /// Creates the traps of a fabric whose switches send no traps.
     pub(crate) fn none(alloc: Global) -> Traps
         ensures { result ≡ no_traps }
     {
@@ -34,7 +35,8 @@ impl Traps {
         }
     }
 
-    /// Makes room for a trap at each of `nodes` nodes, so that switches send traps. Does nothing if they do already.
+    /// Makes room for a trap at each of `nodes` nodes, so that switches send traps. Does nothing if switches send traps
+    /// already. Returns an error if memory runs out.
     pub(crate) fn begin(&mut self, alloc: Global, nodes: usize) -> Result<(), AllocError>
         ensures ok { OnOk result (self.new ≡ begun self.old nodes) }
         ensures err { OnErr result (self.new ≡ self.old) }
@@ -52,21 +54,21 @@ impl Traps {
         node.number() < self.waiting.len()
     }
 
-    /// Returns the TransactionID of the trap that waits at `node`, or `None` if none waits.
+    /// Returns the TransactionID of the trap that waits at `node`, or `None` if no trap waits there.
     pub(crate) fn at(&self, node: NodeId) -> Option<u64>
         ensures { result ≡ trap_at self.now node }
     {
         self.waiting.get(node.number()).copied().flatten()
     }
 
-    /// Returns the TransactionID of the next trap, which is 0 after the greatest.
+    /// Returns the TransactionID of the next trap: one more than the last, or 0 after the greatest.
     pub(crate) fn next(&self) -> u64
         ensures { result ≡ next_trap self.now }
     {
         self.last.wrapping_add(1)
     }
 
-    /// Makes a new trap wait at `node`, in place of any other. There must be room for it.
+    /// Makes a new trap wait at `node`, in place of any that waits there. The list must have room for a trap at `node`.
     pub(crate) fn add(&mut self, node: NodeId)
         requires { node < length self.old.waiting }
         ensures { self.new ≡ with_new_trap self.old node }

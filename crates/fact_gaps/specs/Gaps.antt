@@ -1,4 +1,5 @@
--- What facts leave open: nodes of unknown type or table room, and ports of which it is unknown where they lead.
+-- What facts leave open: nodes whose type or table room is unknown, and ports that are not known to lead to a far end,
+-- or to be down.
 use Rattle.std.specs.Prelude.{◌≡◌, ◌⊎◌, ◌≤◌, ◌<◌, ℕ, Bool, true, false, ◌==◌, ◌||◌, not, List, filter, map, Contains, Option, Some, IsSome, is_some, MatchBool, if◌then◌else◌}
 use Rattle.std.specs.Option.{option_map_or}
 use Rattle.std.specs.List.{AllPairs}
@@ -14,11 +15,11 @@ use Rattle.subnet_view.specs.Wires.{IsWire, across}
 use Rattle.fact_gaps.specs.InOrder.{each_once, port_cmp}
 use Rattle.fact_gaps.specs.Named.{IsNamedNode, IsNamedPort, named_nodes, named_ports}
 
--- a node whose type, if known, is `node` is known: its type is and, if it is a switch, its table room (`room`)
+-- a node is known if its type is known (`node`) and, for a switch, its table room is known (`room`)
 abbrev pub is_known_type : Option (NodeType × ℕ) → Bool → Bool
 is_known_type node room = option_map_or (λ n. not (is_switch n.0) || room) node false
 
--- the type of node g is known and, if it is a switch, its table room
+-- the type of the node `g` is known and, if it is a switch, its table room
 abbrev pub is_known_node : Cells → ℕ → Bool
 is_known_node cells g = is_known_type (node_of cells g) (is_some (cap_of cells g))
 
@@ -30,7 +31,7 @@ unusable_nodes cells = each_once nat_cmp (filter (λ g. not (is_known_node cells
 abbrev pub is_said_down : Option Bool → Bool
 is_said_down up = option_map_or not up false
 
--- it is known where the port `e` leads: it has a wire, or is known to be down; of port 0, it is an end port
+-- the port `e` is known: port 0 if it is an end port, any other port if it has a wire or is known to be down
 abbrev pub is_known_port : Cells → ℕ × ℕ → Bool
 is_known_port cells e =
     if e.1 == 0 then is_end_port cells e.0 e.1
@@ -40,7 +41,7 @@ is_known_port cells e =
 abbrev pub port_at : ℕ × ℕ → EndPort
 port_at e = record { node = e.0; port = e.1 }
 
--- the named ports of which it is unknown where they lead, each once, by node and port
+-- the named ports that are not known (`is_known_port`), each once, by node and port
 abbrev pub unjoined_ports : Cells → List EndPort
 unjoined_ports cells =
     map port_at (each_once port_cmp (filter (λ e. not (is_known_port cells e)) (named_ports cells)))
@@ -49,31 +50,31 @@ unjoined_ports cells =
 abbrev pub AreKnownNodes : Cells → List ℕ → Type 0
 AreKnownNodes cells guids = (g : ℕ) → Contains guids g → is_known_node cells g ≡ true
 
--- of each of `ports` it is known where it leads
+-- each of `ports` is known (`is_known_port`)
 abbrev pub AreKnownPorts : Cells → List (ℕ × ℕ) → Type 0
 AreKnownPorts cells ports = (e : ℕ × ℕ) → Contains ports e → is_known_port cells e ≡ true
 
--- the laws of these words: -----------------------------------------------------------
+-- laws -------------------------------------------------------------------------------------------
 
--- the type of node g and its number of ports are known and, if it is a switch, its table room
+-- the type of the node `g` and its number of ports are known and, if it is a switch, its table room
 abbrev pub IsKnownNode : Cells → ℕ → Type 0
 IsKnownNode cells g = (kind : NodeType) × (ports : ℕ) × IsNodeWith cells g kind ports
     × MatchBool (is_switch kind) (IsSome (cap_of cells g)) (Unit {0})
 
--- port p is the management port of the switch g, and the port's GUID is known
+-- the port `p` is the management port of the switch `g`, and the port's GUID is known
 abbrev pub IsManagementPort : Cells → ℕ → ℕ → Type 0
 IsManagementPort cells g p = (p ≡ 0) × IsEndPort cells g p
 
--- port p of node g is not port 0, and is known to be down
+-- the port `p` of the node `g` is not port 0, and is known to be down
 abbrev pub IsDown : Cells → ℕ → ℕ → Type 0
 IsDown cells g p = (1 ≤ p) × (up_of cells g p ≡ Some false)
 
--- port p of node g has a wire: the links of both ends name each other, both ends are known to be up, and each is a port
--- of a usable switch or an end port
+-- the port `p` of the node `g` has a wire: the links of both ends name each other, both ends are known to be up, and
+-- each is a port of a usable switch or an end port
 abbrev pub IsWired : Cells → ℕ → ℕ → Type 0
 IsWired cells g p = (h q : ℕ) × IsWire cells g p h q
 
--- it is known where port p of node g leads: it is a switch's end port, is known to be down, or has a wire
+-- the port `p` of the node `g` is known: it is a switch's end port, is known to be down, or has a wire
 abbrev pub IsKnownPort : Cells → ℕ → ℕ → Type 0
 IsKnownPort cells g p = IsManagementPort cells g p ⊎ IsDown cells g p ⊎ IsWired cells g p
 
@@ -95,6 +96,6 @@ pub record ListsPorts (cells : Cells) (ports : List EndPort) : Type 0 where
 abbrev pub NodesLaw : Type 0
 NodesLaw = (cells : Cells) → ListsNodes cells (unusable_nodes cells)
 
--- `unjoined_ports` lists exactly the named ports of which it is unknown where they lead, each once, by node and port
+-- `unjoined_ports` lists exactly the named ports that are not known, each once, by node and port
 abbrev pub PortsLaw : Type 0
 PortsLaw = (cells : Cells) → ListsPorts cells (unjoined_ports cells)

@@ -4,7 +4,8 @@ use Rattle.std.specs.declared.cmp.Ordering.{Ordering}
 use Rattle.std.specs.declared.cmp.Ordering.TheVariants.{Less, Equal, Greater}
 use Rattle.std.specs.Ordering.{nat_cmp, ordering_then}
 
--- y ∷ ys with x inserted: before y if x is less, not at all if x is equal, and after y, as in `later`, if x is greater
+-- `y` ∷ `ys` with `x` inserted, by how `x` compares with `y`: before `y` if `x` is less, and not at all if `x` is
+-- equal; if `x` is greater, `y` and then `later`
 abbrev pub put_beside : {X : Type 0} → Ordering → X → X → List X → List X → List X
 put_beside Less x y ys later = x ∷ y ∷ ys
 put_beside Equal x y ys later = y ∷ ys

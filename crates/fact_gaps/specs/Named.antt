@@ -9,11 +9,12 @@ use Rattle.reply_facts.specs.Key.{key_guid}
 use Rattle.reply_facts.specs.Known.{kind_in, peer_in, value_in}
 use Rattle.subnet_view.specs.Reading.{Cells, is_switch_in}
 
--- the GUID of the node that a cell is about; there always is one
+-- the GUID of the node that a cell is about; never None
 abbrev pub own_node : Key × Cell Value → Option ℕ
 own_node s = Some (key_guid s.0)
 
--- the port that a cell is about; of the cell of a node that is known as a switch, port 0; None if there is none
+-- the port that a cell is about; port 0 for the cell of a node that is known to be a switch; None for the cell of any
+-- other node, and for that of a table room
 abbrev pub own_port : Key × Cell Value → Option (ℕ × ℕ)
 own_port ((Node g), c) = if is_switch_in (kind_in (value_in (Some c))) then Some (g, 0) else None
 own_port ((PortGuid g p), c) = Some (g, p)
@@ -41,15 +42,15 @@ far_port (_, c) = None
 abbrev pub far_node : Key × Cell Value → Option ℕ
 far_node s = option_map (λ q. q.0) (far_port s)
 
--- the cell `s` names node `g`: it is about g or a port of g, or says that a link leads to g
+-- the cell `s` names the node `g`: the cell is about `g` or a port of `g`, or says that a link leads to `g`
 abbrev pub NamesNode : Key × Cell Value → ℕ → Type 0
 NamesNode s g = (key_guid s.0 ≡ g) ⊎ (far_node s ≡ Some g)
 
--- the cell `s` names the port `e`: it is about e, or says that a link leads to e
+-- the cell `s` names the port `e`: the cell is about `e`, or says that a link leads to `e`
 abbrev pub NamesPort : Key × Cell Value → ℕ × ℕ → Type 0
 NamesPort s e = (own_port s ≡ Some e) ⊎ (far_port s ≡ Some e)
 
--- some cell of the facts names node `g`
+-- some cell of the facts names the node `g`
 abbrev pub IsNamedNode : Cells → ℕ → Type 0
 IsNamedNode cells g = (s : Key × Cell Value) × Contains cells s × NamesNode s g
 

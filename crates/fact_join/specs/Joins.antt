@@ -54,7 +54,7 @@ pub data JoinCase {V : Type 0} (same : V → V → Bool) (a b : Cell V) : Type 0
   second_newer : generation_of a < generation_of b → joined_by same a b ≡ b → JoinCase same a b
   alike : generation_of a ≡ generation_of b → joined_by same a b ≡ joined_alike same a b → JoinCase same a b
 
--- each two cells are in one of the cases of `JoinCase`
+-- any two cells are in one of the cases of `JoinCase`
 pub join_case : {V : Type 0} (same : V → V → Bool) (a b : Cell V) → JoinCase same a b
 join_case same a b =
     elim (nat_lt (generation_of b) (generation_of a)) as (λ t. nat_lt (generation_of b) (generation_of a) ≡ t

@@ -10,13 +10,13 @@ pub trait Exact: Eq + Copy {
 
 /// A type with an order in which any two values have a least value above both.
 pub trait Join: Sized {
-    /// The first value says no more than the second.
+    /// The first value is below the second, or equal to it.
     ghost below: { Self → Self → Type 0 };
 
-    /// The least value above both.
+    /// The least value above the two.
     ghost joined: { Self → Self → Self };
 
-    /// Returns whether `other` says at least as much as this value.
+    /// Returns whether this value is below `other`, or equal to it.
     fn below(&self, other: &Self) -> bool
         ensures { IsTrue result ↔ below self.now other.now };
 
@@ -37,8 +37,8 @@ pub trait Join: Sized {
     ghost least: { (x y z : Self) → below x z → below y z → below (joined x y) z };
 }
 
-/// A cell of a newer generation is above one of an older generation. Within a generation, a disputed cell is above all
-/// others, and cells with different values are not ordered.
+/// A cell of a newer generation is above a cell of an older generation. Within a generation, a disputed cell is above
+/// all others, and cells with different values are not ordered.
 impl<V: Exact> Join for Cell<V> {
     ghost use Rattle.fact_join.specs.Cell.{IsBelow, joined_by};
 

@@ -18,7 +18,7 @@ pub fn join_is_idempotent<T: Join>()
     ensures { (x : T) → T.joined x x ≡ x }
 {}
 
-/// The join is the only least value above both.
+/// The join of two values is the only least value above both.
 pub fn join_is_unique<T: Join>()
     ensures { (x y z : T) → T.below x z → T.below y z → ((w : T) → T.below x w → T.below y w → T.below z w) → z
         ≡ T.joined x y }

@@ -15,8 +15,8 @@ pub record AreCells (cells : List (Key × Cell Value)) : Type 0 where
   pub rising : IsTrue (is_sorted key_cmp cells)
   pub in_range : All IsSighting cells
 
--- `cells` can be those of a store with `floor`: their keys rise strictly, each is in range, none is below `floor`, and
--- `floor` is at least 1
+-- `cells` can be those of a store with `floor`: their keys rise strictly, each cell with its key is a sighting, none is
+-- below `floor`, and `floor` is at least 1
 pub record AreHeld (floor : ℕ) (cells : List (Key × Cell Value)) : Type 0 where
   pub from_one : 1 ≤ floor
   pub are : AreCells cells
@@ -28,8 +28,8 @@ pub record IsIndexFor (key : Key) (cells : List (Key × Cell Value)) (index : �
   pub absent : get (seen cells) key ≡ None
   pub rising : (c : Cell Value) → IsTrue (is_sorted key_cmp (insert cells index (key, c)))
 
--- a search for `key` in `cells` answers `Ok` with the index of its cell, or `Err` with the index at which it would be
--- inserted if it has none
+-- a search for `key` in `cells` answers `Ok` with the index of the cell of `key`; if `key` has no cell, `Err` with the
+-- index at which one would be inserted
 abbrev pub IsSearched : Key → List (Key × Cell Value) → Result ℕ ℕ → Type 0
 IsSearched key cells (Ok index) = (c : Cell Value) × (slice_get cells index ≡ Some (key, c))
 IsSearched key cells (Err index) = IsIndexFor key cells index

@@ -9,8 +9,9 @@ use Rattle.reply_facts.specs.Key.{key_cmp}
 
 -- a search: -----------------------------------------------------------------------
 
--- after comparing the keys `compared`, latest first, a search for `key` has the indices from `low` up to, but not
--- including, `high` left: each key was at an index that was left then, and only the indices on its side of `key` stayed
+-- a search for `key` that compared the keys `compared`, latest first, has the indices from `low` up to, but not
+-- including, `high` left. Each compared key was at an index that was left then. If it was less than `key`, the indices
+-- after it stayed; if it was greater, the indices before it
 pub data Leaves (key : Key) (cells : List (Key × Cell Value)) : List Key → ℕ → ℕ → Type 0 where
   all : Leaves key cells [] 0 (length cells)
   later : (compared : List Key) (low high index : ℕ) (e : Key × Cell Value) → Leaves key cells compared low high → low
@@ -20,8 +21,8 @@ pub data Leaves (key : Key) (cells : List (Key × Cell Value)) : List Key → �
       ≤ index → index < high
       → slice_get cells index ≡ Some e → key_cmp e.0 key ≡ Greater → Leaves key cells (e.0 ∷ compared) low index
 
--- `compared` are the keys that a search for `key` compares, latest first: it ends if no index is left, or if it meets
--- `key` at an index that is left
+-- `compared` are the keys that a search for `key` compares, latest first. The search ends if no index is left, or if it
+-- compares an equal key at an index that is left
 pub data IsSearch (key : Key) (cells : List (Key × Cell Value)) : List Key → Type 0 where
   without : (compared : List Key) (low high : ℕ) → Leaves key cells compared low high → high ≤ low
       → IsSearch key cells compared
@@ -40,8 +41,8 @@ abbrev pub HasDigits : ℕ → ℕ → Type 0
 HasDigits n zero = Unit {0}
 HasDigits n (suc digits) = 2 ^ digits ≤ n
 
--- a search of `n` indices that has made `steps` comparisons may make `left` more, in all at most one for each binary
--- digit of `n`; they suffice for `most` indices, which is 2^left - 1
+-- a search of `n` indices that has made `steps` comparisons may make `left` more; `n` has at least `steps + left`
+-- binary digits. These `left` comparisons suffice for `most` indices, which is 2^left - 1
 pub record IsBudget (n steps most : ℕ) : Type 0 where
   pub left : ℕ
   pub digits : HasDigits n (steps + left)
@@ -55,9 +56,9 @@ by_order Less less equal greater = less
 by_order Equal less equal greater = equal
 by_order Greater less equal greater = greater
 
--- how many comparisons a walk makes from cell `x` of the first list on: the key of `x` is compared with the next key of
--- the second list, and the lesser key is passed, or both if they are equal; `after` counts those after `x` is passed; 0
--- if the second list is empty
+-- how many comparisons a walk of two lists makes from cell `x` of the first list on; 0 if the second list is empty. The
+-- key of `x` is compared with the next key of the second list, and the lesser key is passed, or both if they are equal.
+-- `after` counts the comparisons after `x` is passed
 abbrev pub compared_at : Key × Cell Value → (List (Key × Cell Value) → ℕ) → List (Key × Cell Value) → ℕ
 compared_at x after [] = 0
 compared_at x after (y ∷ t) = 1 + by_order (key_cmp x.0 y.0) (after (y ∷ t)) (after t) (compared_at x after t)

@@ -20,7 +20,7 @@ is_kept floor c = nat_le floor (max 1 (generation_of c))
 abbrev pub kept : ℕ → List (Key × Cell Value) → List (Key × Cell Value)
 kept floor sightings = filter (λ s. is_kept floor s.1) sightings
 
--- the cell if there is one and it is at `floor` or above it, else None
+-- the cell if it is at `floor` or above it; None if it is not, or if there is no cell
 abbrev pub kept_there : ℕ → Option (Cell Value) → Option (Cell Value)
 kept_there floor None = None
 kept_there floor (Some c) = if is_kept floor c then Some c else None
@@ -90,7 +90,7 @@ all_kept floor (e ∷ es) =
 at_least_one : (floor : ℕ) → T (nat_le 1 (max 1 floor))
 at_least_one floor = subst T (sym (le-leb 1 (max 1 floor) (omega arith))) tt
 
--- a map dropped to the greater of `floor` and 1 has that floor
+-- the map `found` without its cells below the greater of `floor` and 1 has that floor (`has_floor`)
 pub dropped_has_floor : (floor : ℕ) (found : CellMap) → T (has_floor (max 1 floor) (dropped (max 1 floor) found))
 dropped_has_floor floor found =
     both_true _ _ (at_least_one floor)

@@ -5,7 +5,7 @@ use Rattle.fact_store.specs.declared.ingest.IngestFault.{IngestFault}
 use Rattle.fact_store.specs.declared.ingest.IngestFault.TheVariants as refuses
 use Rattle.reply_facts.specs.Report.{report_fault}
 
--- the first fault of `report`, as a reason not to add it; None if it has none
+-- the first fault of `report`, as a reason not to add the report; None if the report has no fault
 abbrev pub ingest_fault : Report → Option IngestFault
 ingest_fault report = option_map refuses.Report (report_fault report)
 

@@ -12,7 +12,7 @@ use Rattle.fact_store.specs.Seen.{CellMap}
 use Rattle.reply_facts.specs.Value.{is_same_value}
 use Rattle.fact_store.specs.View.{Facts, at_floor, cell_for, no_facts, raised, view_at}
 
--- the join of two cells: the newer one; of one generation, known if both say one value, else disputed
+-- the join of two cells: the newer one; if they have one generation, known if both say one value, else disputed
 abbrev pub join : Cell Value → Cell Value → Cell Value
 join = joined_by is_same_value
 
@@ -20,13 +20,13 @@ join = joined_by is_same_value
 abbrev pub merge_maps : CellMap → CellMap → CellMap
 merge_maps x y = from_entries (map (λ e. (e.0, option_map_or (join e.1) (get y e.0) e.1)) (entries x) ++ entries y)
 
--- the merge of two facts: their floor is the greater of both floors, and their cells are those of `merge_maps` that are
--- not below it
+-- the merge of `x` and `y`: facts with the greater of both floors, and with the cells of `merge_maps` that are not
+-- below this floor
 abbrev pub merge : Facts → Facts → Facts
 merge x y = at_floor (max x.floor y.floor) (merge_maps x.found y.found)
 
--- `x` is below `y`: the floor of `y` is not less, and for each cell of `x` that is not below this floor, `y` has a cell
--- of its key that is above it
+-- `x` is below `y`: the floor of `y` is not less than that of `x`. For each cell of `x` that is not below the floor of
+-- `y`, `y` has a cell above it with the same key
 pub record IsBelowView (x y : Facts) : Type 0 where
   pub floors : x.floor ≤ y.floor
   pub cells : (key : Key) (c : Cell Value) → cell_for x key ≡ Some c → is_kept y.floor c ≡ true → (d : Cell Value)
@@ -50,7 +50,7 @@ MergeIsUnique = (x y z w : Facts) → IsMerge x y z → IsMerge x y w → z ≡ 
 abbrev pub ViewOfBoth : Type 0
 ViewOfBoth = (f h : ℕ) (s t : List (Key × Cell Value)) → view_at (max f h) (s ++ t) ≡ merge (view_at f s) (view_at h t)
 
--- the merge of two facts does not depend on which come first
+-- the merge of two facts does not depend on their order
 abbrev pub MergeIsCommutative : Type 0
 MergeIsCommutative = (x y : Facts) → merge x y ≡ merge y x
 
@@ -74,7 +74,7 @@ all_of (of_sightings s) = s
 all_of (of_raised m floor) = all_of m
 all_of (of_two a b) = all_of a ++ all_of b
 
--- the greatest floor that was raised in a `Merging`; 1 if none was greater
+-- the greatest floor to which facts were raised in a `Merging`; 1 if none was greater
 abbrev pub floor_of : Merging → ℕ
 floor_of (of_sightings s) = 1
 floor_of (of_raised m floor) = max (floor_of m) floor
@@ -90,8 +90,8 @@ merged (of_two a b) = merge (merged a) (merged b)
 abbrev pub GroupingIsFree : Type 0
 GroupingIsFree = (m : Merging) → merged m ≡ view_at (floor_of m) (all_of m)
 
--- views that are merged into empty facts, one after the other, give the view of all their sightings at the greatest
--- floor; at 1 if there is no view
+-- views that are merged into empty facts, one after the other, give the view of all their sightings at the greatest of
+-- their floors; at floor 1 if there is no view
 abbrev pub MergingInTurn : Type 0
 MergingInTurn = (views : List (ℕ × List (Key × Cell Value))) → fold merge no_facts (map (λ v. view_at v.0 v.1) views)
     ≡ view_at (fold max 1 (map (λ v. v.0) views)) (flat_map (λ v. v.1) views)

@@ -9,7 +9,7 @@ use Rattle.reply_facts.specs.Sighting.{IsSighting}
 use Rattle.fact_store.specs.Floor.{dropped, dropped_has_floor, has_floor, kept}
 use Rattle.fact_store.specs.Seen.{CellMap, HaveSameMembers, IsSeen, seen}
 
--- a floor, 1 or more, and a map from keys to cells, none of them below the floor
+-- facts: a floor, 1 or more, and a map from keys to cells that are not below the floor
 pub record Facts : Type 0 where
   pub floor : ℕ
   pub found : CellMap
@@ -23,12 +23,13 @@ cells_of facts = entries facts.found
 abbrev pub cell_for : Facts → Key → Option (Cell Value)
 cell_for facts key = get facts.found key
 
--- facts with the floor `floor`, or 1 if it is 0, and the cells of `found` that are not below it
+-- facts with the floor `floor`, or 1 if `floor` is 0, and with the cells of `found` that are not below this floor
 abbrev pub at_floor : ℕ → CellMap → Facts
 at_floor floor found =
     record { floor = max 1 floor; found = dropped (max 1 floor) found; above = dropped_has_floor floor found }
 
--- `facts` with their floor raised to `floor` if that is greater, and without the cells below it
+-- `facts` with their floor raised to `floor` if that is greater, and without the cells below the floor that they then
+-- have
 abbrev pub raised : Facts → ℕ → Facts
 raised facts floor = at_floor (max facts.floor floor) facts.found
 
@@ -75,7 +76,7 @@ abbrev pub MembersDecideView : Type 0
 MembersDecideView =
     (floor : ℕ) (s t : List (Key × Cell Value)) → HaveSameMembers s t → view_at floor s ≡ view_at floor t
 
--- facts are the view of their own cells at their floor; thus a store stands for any sightings that it was made of
+-- facts are the view of their own cells at their floor; so the cells of a view can stand for its sightings
 abbrev pub ViewOfItsCells : Type 0
 ViewOfItsCells = (x : Facts) → view_at x.floor (cells_of x) ≡ x
 

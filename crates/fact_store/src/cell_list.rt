@@ -18,7 +18,7 @@ use smp_bytes::Generation;
 use std::alloc::AllocError;
 use std::cmp::Ordering;
 
-/// Returns the cell that `first` and `second` give together. Both must be of one key.
+/// Returns the join of the cells `first` and `second`, which must be of one key.
 fn join_cells(first: &Sighting, second: &Sighting) -> Sighting
     requires { first.now.0 ≡ second.now.0 }
     ensures value { result ≡ (first.now.0, join first.now.1 second.now.1) }
@@ -27,8 +27,8 @@ fn join_cells(first: &Sighting, second: &Sighting) -> Sighting
     Sighting::new(first.key(), first.cell().join(&second.cell())).unwrap()
 }
 
-/// Adds a cell: joins it with the cell of its key, or inserts it if the key has none. There must be room for a cell.
-/// Notes its slot in `fingers`.
+/// Adds the cell of `sighting`: joins it with the cell of its key, or inserts it if the key has no cell. Notes the slot
+/// of the cell in `fingers`. `cells` must have room for one more cell.
 pub(crate) fn put(cells: &mut PageList<Sighting>, fingers: &mut Fingers, sighting: Sighting)
     requires cells { AreCells cells.old.items }
     requires room { 0 < cells.old.room }
@@ -42,8 +42,9 @@ pub(crate) fn put(cells: &mut PageList<Sighting>, fingers: &mut Fingers, sightin
     fingers.put(&key, slot);
 }
 
-/// Adds a cell where `found` says: joins it with its key's cell, or inserts it. `found` must be the result for its key,
-/// and there must be room for a cell. Returns its slot.
+/// Adds the cell of `sighting` at the index of `found`. Joins it with the cell of its key, or inserts it if the key has
+/// no cell. Returns the slot of the cell. `found` must be the result of looking for the key of `sighting`, and `cells`
+/// must have room for one more cell.
 fn put_found(cells: &mut PageList<Sighting>, found: Found, sighting: Sighting) -> Slot
     requires cells { AreCells cells.old.items }
     requires in_range { IsSighting sighting }
@@ -62,7 +63,8 @@ fn put_found(cells: &mut PageList<Sighting>, found: Found, sighting: Sighting) -
     }
 }
 
-/// Adds a cell if it is at `floor` or above it. Otherwise changes nothing. There must be room for a cell.
+/// Adds the cell of `sighting` if the cell is at `floor` or above it. Otherwise changes nothing. No cell of `cells` may
+/// be below `floor`, and `cells` must have room for one more cell.
 pub(crate) fn put_kept(
     cells: &mut PageList<Sighting>,
     fingers: &mut Fingers,
@@ -81,8 +83,9 @@ pub(crate) fn put_kept(
     }
 }
 
-/// Merges the cells of `first` and `second`, which are walked in step. Each step passes a key of one list or of both.
-/// Counts the comparisons of keys in `steps`, which must be 0 before.
+/// Returns the merge of the cells of `first` and `second`, by a walk of the two lists in step. Each step passes a key
+/// of one list or of both. Counts the comparisons of keys in `steps`, which must be 0 before. Returns an error if
+/// memory runs out.
 pub(crate) fn merge_cells(
     first: &PageList<Sighting>,
     second: &PageList<Sighting>,
@@ -125,7 +128,7 @@ pub(crate) fn merge_cells(
     Ok(cells)
 }
 
-/// Appends `first`, if there is one, and then `others`.
+/// Appends `first`, unless it is `None`, and then `others`. Returns an error if memory runs out.
 fn append(
     cells: &mut PageList<Sighting>,
     first: Option<Sighting>,

@@ -25,8 +25,8 @@ impl Store {
     ///
     /// # Errors
     ///
-    /// Returns the report's first fault. Returns `Memory` if the report has none and memory runs out. Nothing changes
-    /// in either case.
+    /// Returns the report's first fault. Returns `Memory` if the report has no fault and memory runs out. Nothing
+    /// changes in either case.
     pub fn ingest(&mut self, report: &Report) -> Result<(), IngestFault>
         ensures judged { JudgesButFor is_memory result (ingest_fault report.now) }
         ensures ok { OnOk result (self.new ≡ merge self.old (view (sightings_of report.now))) }

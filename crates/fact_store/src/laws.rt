@@ -1,12 +1,12 @@
-//! The laws of views and merges: what a store holds depends only on the sightings that were put in and on the greatest
-//! floor raised, not on their order, their repetition or the stores that they came through.
+//! The laws of views and merges. What a store holds depends only on the sightings that were put in, and on the greatest
+//! floor. The order of the sightings, their repetition and the stores that they came through do not matter.
 ghost use Rattle.fact_store.specs.View.{ViewLaw, ViewIsUnique, MembersDecideView, ViewOfItsCells, RaisingForgets};
 ghost use Rattle.fact_store.specs.Merge.{MergeLaw, MergeIsUnique, ViewOfBoth, MergeIsCommutative};
 ghost use Rattle.fact_store.specs.Merge.{MergeIsAssociative, MergeIsIdempotent, GroupingIsFree, MergingInTurn};
 
 /// A view at a floor has a cell for each key that was sighted at the floor or above it, and for no other key. The cell
-/// has the newest generation of the key's sightings. It has their value if all sightings of that generation agree, and
-/// is disputed otherwise.
+/// has the newest generation of the key's sightings. It is known with a value if all sightings of that generation say
+/// that value, and disputed otherwise.
 pub fn view_has_its_law()
     ensures { ViewLaw }
 {}
@@ -26,7 +26,7 @@ pub fn view_of_its_cells()
     ensures { ViewOfItsCells }
 {}
 
-/// Raising a floor later gives the view that the greater floor would have given from the start.
+/// Raising the floor of a view gives the view that the greater of the two floors would have given from the start.
 pub fn raising_forgets()
     ensures { RaisingForgets }
 {}
@@ -36,7 +36,7 @@ pub fn view_of_both()
     ensures { ViewOfBoth }
 {}
 
-/// A merge is above both facts, and below all facts that are above both.
+/// The merge of two facts is above both, and below all facts that are above both.
 pub fn merge_is_least_above_both()
     ensures { MergeLaw }
 {}
@@ -61,14 +61,14 @@ pub fn merge_is_idempotent()
     ensures { MergeIsIdempotent }
 {}
 
-/// Stores hold the view of all their sightings at the greatest floor, however they are grouped for merging and whenever
-/// floors are raised.
+/// However sightings are grouped for merging and whenever floors are raised, the facts are the view of all sightings at
+/// the greatest floor.
 pub fn grouping_is_free()
     ensures { GroupingIsFree }
 {}
 
-/// An empty store into which any number of stores are merged in turn holds the view of all their sightings at the
-/// greatest of their floors.
+/// An empty store that merges any number of stores in turn holds the view of all their sightings at the greatest of
+/// their floors.
 pub fn merging_in_turn()
     ensures { MergingInTurn }
 {}

@@ -21,8 +21,8 @@ pub(crate) fn compare(held: &Sighting, key: &Key, steps: &mut u128) -> Ordering
     held.key_cmp(key)
 }
 
-/// The result of looking for a key's cell: `index` is `Ok` with the cell's index, or `Err` with the index at which it
-/// would be inserted.
+/// The result of looking for a key's cell. `index` is `Ok` with the index of the cell. If the key has no cell, `index`
+/// is `Err` with the index at which its cell would be inserted.
 #[derive(Clone, Copy)]
 pub(crate) struct Found {
     pub index: Result<usize, usize>,
@@ -30,8 +30,8 @@ pub(crate) struct Found {
     pub near: Slot,
 }
 
-/// Returns the index of the cell of `key`, or the index at which it would be inserted. Tries the fingers, then the end
-/// of the list, and then searches.
+/// Returns the index of the cell of `key` or, if `key` has no cell, the index at which it would be inserted. Tries the
+/// fingers, then the end of the list, and then a binary search.
 pub(crate) fn index_of(cells: &PageList<Sighting>, key: &Key, fingers: &Fingers) -> Found
     requires { AreCells cells.now.items }
     ensures { IsSearched key.now cells.now.items result.index }
@@ -52,8 +52,8 @@ pub(crate) fn index_of(cells: &PageList<Sighting>, key: &Key, fingers: &Fingers)
     find(cells, key).found
 }
 
-/// Looks for `key` at the finger of its kind, and then at that of its GUID's hash, if its kind has such fingers.
-/// Returns `None` if neither tells its index.
+/// Looks for `key` at the finger of its kind, and then at the finger of its GUID's hash, if its kind has such fingers.
+/// Returns `None` if neither finger gives the index of `key`.
 fn found_by_fingers(cells: &PageList<Sighting>, key: &Key, fingers: &Fingers) -> Option<Found>
     requires { AreCells cells.now.items }
     ensures { IfSome result (λ found. IsSearched key.now cells.now.items found.index) }
@@ -76,8 +76,8 @@ fn found_at_finger(cells: &PageList<Sighting>, key: &Key, finger: Slot) -> Optio
     })
 }
 
-/// Returns the index of the cell of `key` if that is the cell at `finger` or the next one. Returns the index after
-/// `finger` if `key` is greater than the key at `finger` and less than the next one, or if there is no next one.
+/// Returns `Ok` with the index of the cell of `key` if this cell is the one at `finger` or the next one. Returns `Err`
+/// with the index after `finger` if `key` is greater than the key at `finger`, and less than the next key, if any.
 /// Returns `None` otherwise. Takes at most two comparisons.
 fn index_at_finger(
     cells: &PageList<Sighting>,
@@ -101,7 +101,7 @@ fn index_at_finger(
     }
 }
 
-/// Compares the key of the cell at index `i` with `key`. Returns `Greater` if there is no such cell.
+/// Compares the key of the cell at index `i` with `key`. Returns `Greater` if no cell has the index `i`.
 fn order_at(cells: &PageList<Sighting>, i: usize, near: Slot, key: &Key) -> Ordering
     ensures { result ≡ option_map_or (λ s. key_cmp s.0 key.now) (slice_get cells.now.items i) Greater }
 {
@@ -115,12 +115,12 @@ fn order_at(cells: &PageList<Sighting>, i: usize, near: Slot, key: &Key) -> Orde
 #[derive(Clone, Copy)]
 pub(crate) struct SearchResult {
     pub found: Found,
-    /// The number of cells whose keys were compared with the key that was looked for.
+    /// The number of keys of cells that were compared with the wanted key.
     pub steps: u32,
 }
 
-/// Searches for the index of the cell of `key`, or the index at which it would be inserted. Compares at most as many
-/// keys as the number of cells has binary digits.
+/// Searches for the index of the cell of `key` or, if `key` has no cell, for the index at which it would be inserted.
+/// Compares at most as many keys as the number of cells has binary digits.
 pub(crate) fn find(cells: &PageList<Sighting>, key: &Key) -> SearchResult
     requires { AreCells cells.now.items }
     ensures index { IsSearched key.now cells.now.items result.found.index }

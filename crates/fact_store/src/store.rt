@@ -35,15 +35,15 @@ impl From<AllocError> for Refused {
 /// The greatest number of sightings that `add_all` adds one by one. A report has no more.
 const SIGHTINGS_PER_REPORT: usize = 4;
 
-/// What is known of a subnet: one cell for each key. Together the cells are the view, at the store's floor, of all
-/// sightings that were put in. What is below the floor is forgotten for good.
+/// What is known of a subnet: at most one cell for each key. Together the cells are the view, at the store's floor, of
+/// all sightings that were put in. What is below the floor is forgotten for good.
 #[derive(Drop)]
 pub struct Store {
     /// The least generation that counts.
     floor: Generation,
     /// The cells with their keys, in the order of keys.
     cells: PageList<Sighting>,
-    /// Where the next key is looked for first.
+    /// The slots where the next key is looked for first.
     fingers: Fingers,
 }
 
@@ -93,8 +93,8 @@ impl Store {
     }
 
     /// Adds `sighting`, unless it is below the floor. Looks for its key first at the slots where cells of its kind were
-    /// put last, and then at the end, which takes at most five comparisons. Otherwise takes a binary search. If memory
-    /// runs out, returns an error, and nothing changes.
+    /// put last, and then at the end. This takes at most five comparisons. If this does not give the index, takes a
+    /// binary search. If memory runs out, returns an error, and nothing changes.
     pub fn add(&mut self, sighting: Sighting) -> Result<(), Refused>
         ensures ok { OnOk result (self.new ≡ merge self.old (view (sighting ∷ []))) }
         ensures err { OnErr result (self.new ≡ self.old) }
@@ -105,7 +105,7 @@ impl Store {
     }
 
     /// Adds all `sightings` that are not below the floor. If memory runs out, returns an error, and nothing changes.
-    /// More than four are first put into a store of their own, which is then merged.
+    /// More than four sightings are first put into a store of their own, which is then merged.
     pub fn add_all(&mut self, sightings: &[Sighting]) -> Result<(), Refused>
         ensures ok { OnOk result (self.new ≡ merge self.old (view sightings.now)) }
         ensures err { OnErr result (self.new ≡ self.old) }
@@ -117,8 +117,8 @@ impl Store {
         }
     }
 
-    /// Builds a store of `sightings`, and merges it. This is a function of its own because a `Store` is large on the
-    /// stack and a report has few sightings.
+    /// Builds a store of `sightings`, and merges it. If memory runs out, returns an error, and nothing changes. This is
+    /// a function of its own because a `Store` is large on the stack and a report has few sightings.
     fn add_many(&mut self, sightings: &[Sighting]) -> Result<(), Refused>
         ensures ok { OnOk result (self.new ≡ merge self.old (view sightings.now)) }
         ensures err { OnErr result (self.new ≡ self.old) }
@@ -128,7 +128,8 @@ impl Store {
         Ok(())
     }
 
-    /// Reserves room for all `sightings`, and then adds, one by one, those that are not below the floor.
+    /// Reserves room for all `sightings`, and then adds, one by one, those that are not below the floor. If memory runs
+    /// out, returns an error, and nothing changes.
     fn add_few(&mut self, sightings: &[Sighting]) -> Result<(), Refused>
         ensures ok { OnOk result (self.new ≡ merge self.old (view sightings.now)) }
         ensures err { OnErr result (self.new ≡ self.old) }
@@ -140,8 +141,9 @@ impl Store {
         Ok(())
     }
 
-    /// Adds all that `other` holds, raises the floor to the greater of the two, and forgets what is below it. Takes
-    /// time linear in the number of cells of both. If memory runs out, returns an error, and nothing changes.
+    /// Adds all cells of `other`, raises the floor to the greater of the two floors, and forgets the cells below it.
+    /// Takes time linear in the number of cells of the two stores. If memory runs out, returns an error, and nothing
+    /// changes.
     pub fn merge(&mut self, other: &Store) -> Result<(), Refused>
         ensures ok { OnOk result (self.new ≡ merge self.old other.now) }
         ensures least { OnOk result (IsMerge self.old other.now self.new) }
@@ -175,8 +177,8 @@ impl Store {
         Ok(steps)
     }
 
-    /// Merges `other` as `merge` does. If this store is empty, it takes over the contents of `other`, and walks them
-    /// only if its own floor is greater. Then it does not allocate.
+    /// Merges `other` as `merge` does. A store without cells takes over the contents of `other` instead, and walks them
+    /// only if its own floor is greater. It then does not allocate.
     pub fn merge_owned(&mut self, other: Store) -> Result<(), Refused>
         ensures ok { OnOk result (self.new ≡ merge self.old other) }
         ensures err { OnErr result (self.new ≡ self.old) }
@@ -190,7 +192,8 @@ impl Store {
         self.merge(&other)
     }
 
-    /// Creates an equal store with the same allocator. Takes time linear in the number of cells.
+    /// Creates an equal store with the same allocator. Returns an error if memory runs out. Takes time linear in the
+    /// number of cells.
     pub fn try_clone(&self) -> Result<Store, Refused>
         ensures ok { IfOk result (λ store. store ≡ self.now) }
     {
@@ -199,7 +202,7 @@ impl Store {
         Ok(store)
     }
 
-    /// Returns the cell of `key`, or `None` if there is none. Takes a binary search.
+    /// Returns the cell of `key`, or `None` if `key` has no cell. Takes a binary search.
     pub fn get(&self, key: Key) -> Option<Cell<Value>>
         ensures found { result ≡ cell_for self.now key }
         ensures in_range { AreInRange self.now }
@@ -207,7 +210,7 @@ impl Store {
         self.get_steps(key).0
     }
 
-    /// Returns the cell of `key`, or `None` if there is none, and the number of comparisons of two keys.
+    /// Returns the cell of `key`, or `None` if `key` has no cell, and the number of comparisons of two keys.
     pub fn get_steps(&self, key: Key) -> (Option<Cell<Value>>, u32)
         ensures found { result.0 ≡ cell_for self.now key }
         ensures counted { CountsSearch key (cells_of self.now) result.1 }
@@ -235,8 +238,8 @@ impl Store {
         self.cells.len()
     }
 
-    /// Returns the cell at index `i` with its key, in the order of keys and counted from 0, or `None` if there are at
-    /// most `i` cells. Takes a binary search among the pages.
+    /// Returns the cell at index `i` with its key, or `None` if the store has at most `i` cells. Cells are in the order
+    /// of keys, and counted from 0. Takes a binary search among the pages.
     pub fn cell(&self, i: usize) -> Option<Sighting>
         ensures exact { result ≡ slice_get (cells_of self.now) i }
         ensures in_range { AreInRange self.now }
@@ -278,7 +281,7 @@ fn newer(held: Option<Generation>, other: Generation) -> Generation
     }
 }
 
-/// Creates a store at `floor` of those `sightings` that are not below it.
+/// Creates a store at `floor` of those `sightings` that are not below `floor`. Returns an error if memory runs out.
 fn store_of(alloc: Global, floor: Generation, sightings: &[Sighting]) -> Result<Store, Refused>
     ensures { IfOk result (λ store. store ≡ view_at floor sightings.now) }
 {

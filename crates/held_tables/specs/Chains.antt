@@ -9,8 +9,8 @@ pub record IsNext (numbers : List ℕ) (number from index : ℕ) : Type 0 where
   pub is : index < length numbers → slice_index_or numbers index 0 ≡ number
   pub none : (other : ℕ) → from ≤ other → other < index → slice_index_or numbers other 0 ≢ number
 
--- `chains` has the index of the first occurrence of each number below 65536 and, for each index, that of the next
--- occurrence of the number there; in both the list's length stands for none
+-- `chains` has the index of the first occurrence of each number below 65536 and, for each index, the index of the next
+-- occurrence of the number there. In both, the list's length stands for none
 pub record AreChains (numbers : List ℕ) (chains : Chains) : Type 0 where
   pub firsts : (number : ℕ) → number < 65536 → IsNext numbers number 0 (slice_index_or chains.firsts.items number 0)
   pub nexts : (index : ℕ) → index < length numbers

@@ -8,7 +8,7 @@ use Rattle.held_tables.specs.Tables.{holders, is_owner, is_same_end, owners_of}
 use Rattle.held_tables.specs.declared.owners.Owner.{Owner}
 use Rattle.held_tables.specs.declared.owners.Owner.TheVariants.{Nobody, Sole, Several}
 
--- who holds a LID, by the list of end ports that hold it
+-- the owner of a LID, by the list of end ports that hold it: nobody, one end port alone, or several
 abbrev pub owner_among : List EndPort → Owner
 owner_among [] = Nobody
 owner_among (e ∷ []) = Sole e
@@ -26,7 +26,7 @@ is_several Nobody = false
 is_several (Sole e) = false
 is_several Several = true
 
--- who holds a LID if `e` holds it as well
+-- the owner of a LID once `e` holds it as well
 abbrev pub owner_more : Owner → EndPort → Owner
 owner_more Nobody e = Sole e
 owner_more (Sole x) e = Several

@@ -20,7 +20,7 @@ pub record IsBlock (entries : List ℕ) : Type 0 where
   pub whole : length entries ≡ 64
   pub bytes : IsBytes entries
 
--- the GUID of `table` has at most 64 bits, and it has at most 768 blocks, each of 64 bytes
+-- the GUID of `table` is below 2^64, and `table` has at most 768 blocks, each of 64 bytes
 pub record IsTableInRange (table : SwitchTable) : Type 0 where
   pub guid : table.guid < 2 ^ 64
   pub blocks : AllByRecursion IsBlock table.blocks

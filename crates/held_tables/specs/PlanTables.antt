@@ -15,7 +15,7 @@ use Rattle.held_tables.specs.Held.{HeldPlan, LidRange, lids_of, nothing_held}
 abbrev pub range_from : Given → ℕ → EndPort → LidRange
 range_from given lid port = record { first = record { lid = lid; port = port }; lmc = lmc_of given port }
 
--- the LIDs of the end port whose first LID is `lid`; None if no end port owns it
+-- the LIDs of the end port whose first LID is `lid`; None if no end port owns `lid`
 abbrev pub owned_range : Given → ℕ → Option LidRange
 owned_range given lid = option_map (range_from given lid) (owner_of given lid)
 
@@ -37,8 +37,8 @@ blocks_of index (table ∷ tables) = blocks_from index 0 table.blocks ++ blocks_
 abbrev pub with_top : ℕ → SwitchTable → HeldSwitch
 with_top top table = record { guid = table.guid; top = top }
 
--- what `plan` holds: the LIDs with their owners, and the switches with their blocks and the greatest LID as their top;
--- nothing if there is no LID
+-- the tables that `plan` holds: the LIDs with their owners, and the switches with their blocks and the greatest LID as
+-- their top; empty if there is no LID
 abbrev pub held_plan : PlanValue → HeldPlan
 held_plan plan =
     option_map_or (λ top. record {

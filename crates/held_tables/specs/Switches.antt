@@ -16,34 +16,34 @@ use Rattle.held_tables.specs.declared.senders.Sender.{Sender}
 abbrev pub index_in : List ℕ → ℕ → Option ℕ
 index_in guids guid = position (λ g. g == guid) guids
 
--- where a wire to the port `q` leads: to the usable switch at the given index, or to `q` itself, if its node is no
--- usable switch (None)
+-- the far end of a wire to the port `q`: the usable switch at the given index, or `q` itself, if its node is no usable
+-- switch (None)
 abbrev pub far_at : ℕ × ℕ → Option ℕ → Far
 far_at q None = Port (record { node = q.0; port = q.1 })
 far_at q (Some index) = Switch index
 
--- where a wire to the port `q` leads, if `guids` are those of the usable switches; nowhere for None, if there is no
--- wire
+-- the far end of a wire to the given port, if `guids` are those of the usable switches; `Nothing` for None, if there is
+-- no wire
 abbrev pub far_to : List ℕ → Option (ℕ × ℕ) → Far
 far_to guids None = Nothing
 far_to guids (Some q) = far_at q (index_in guids q.0)
 
--- where the wire in port `p` of node `g` leads: to a usable switch, to another port, or nowhere
+-- the far end of the wire in port `p` of node `g`: a usable switch, another port, or `Nothing` if there is no wire
 abbrev pub far_of : Cells → ℕ → ℕ → Far
 far_of cells g p = far_to (switches cells) (across cells g p)
 
--- where the wires in ports 0 to 254 of node `g` lead; 255 is no port
+-- the far ends of the wires in ports 0 to 254 of node `g`; 255 is no port
 abbrev pub row_of : Cells → ℕ → List Far
 row_of cells g = map (far_of cells g) (range_with_len 0 255)
 
--- where the wire in port n % 256 of the usable switch at index n / 256 leads; nowhere if there is no wire or no such
--- switch
+-- the far end of the wire in port n % 256 of the usable switch at index n / 256; `Nothing` if there is no wire or no
+-- such switch
 abbrev pub far_by : Cells → ℕ → Far
 far_by cells n =
     option_map_or (λ g. slice_index_or (row_of cells g) (n % 256) Nothing) (slice_get (switches cells) (n / 256))
     Nothing
 
--- an end port as a sender: the index of its node, if that is a usable switch, and where its wire leads
+-- an end port as a sender: the index of its node, if that is a usable switch, and the far end of its wire
 abbrev pub sender_of : Cells → EndPort → Sender
 sender_of cells e = record { port = e; switch = index_in (switches cells) e.node; far = far_of cells e.node e.port }
 

@@ -36,7 +36,7 @@ owners_of held lid = holders (lines_of held) lid
 abbrev pub is_owner : List EndPort → EndPort → Bool
 is_owner owners e = list_any (is_same_end e) owners
 
--- the index of switch g among the held switches; None if it is not held
+-- the index of switch `g` among the held switches; None if `g` is not one of them
 abbrev pub index_of : HeldPlan → ℕ → Option ℕ
 index_of held g = position (λ s. s.guid == g) held.switches
 
@@ -60,15 +60,15 @@ block_at held index number = find (is_block_of index number) (reverse held.block
 abbrev pub entry_in : Option HeldBlock → ℕ → ℕ
 entry_in block i = option_map_or (λ x. slice_index_or x.entries i 255) block 255
 
--- the entry for `lid` of the held switch at `index`, 255 if it is not held
+-- the entry for `lid` of the held switch at `index`; 255 if no such entry is held
 abbrev pub entry_at : HeldPlan → Option ℕ → ℕ → ℕ
 entry_at held index lid = option_map_or (λ k. entry_in (block_at held k (lid / 64)) (lid % 64)) index 255
 
--- the top of switch g, 0 if it is not held
+-- the top of switch `g`; 0 if `g` is not held
 abbrev pub top_of : HeldPlan → ℕ → ℕ
 top_of held g = top_at held (index_of held g)
 
--- the entry of switch g for `lid`, 255 if it is not held
+-- the entry of switch `g` for `lid`; 255 if no such entry is held
 abbrev pub entry_of : HeldPlan → ℕ → ℕ → ℕ
 entry_of held g lid = entry_at held (index_of held g) lid
 
@@ -77,6 +77,7 @@ entry_of held g lid = entry_at held (index_of held g) lid
 abbrev pub counted : ℕ → ℕ → ℕ → ℕ
 counted lid top entry = if lid == 0 || nat_lt top lid then 255 else entry
 
--- the effective entry of switch g for `lid` by the held tables: 255 for LID 0, above its top, or if it is not held
+-- the effective entry of switch `g` for `lid` by the held tables: 255 for LID 0, for a LID above the top of `g`, or if
+-- no entry is held
 abbrev pub entry_for : HeldPlan → ℕ → ℕ → ℕ
 entry_for held lid g = counted lid (top_of held g) (entry_of held g lid)

@@ -92,8 +92,8 @@ IsDone status = (passed : Bool) × (status ≡ status_after passed)
 
 -- faults ----------------------------------------------------------------------------------------
 
--- a task over open inputs ends early for `fault`; if memory ran out, `prints` holds of what it would have printed; if
--- no more lines could be read, `whole` holds of what was printed
+-- a task over open inputs ends early with `fault`. If memory ran out, `prints` holds of what the task would have
+-- printed. If no more lines could be read, `whole` holds of what was printed
 abbrev pub IsFaultOver : {S : Type 0} → (S → SourceState) → Task → List S → List S
     → (List ℕ → Type 0) → (List ℕ → Type 0) → Bool → Fault → Type 0
 IsFaultOver state (Answer request) olds news prints whole output_failed fault =
@@ -111,7 +111,7 @@ IsFaultOver state (Run lmc rule) olds news prints whole output_failed fault =
 IsFaultOver state (Serve asked) olds news prints whole output_failed fault =
     IsServeFault state asked olds news prints whole output_failed fault
 
--- the files `names` were opened, and the task over them ends for `fault`
+-- the files `names` were opened, and the task over them ends with `fault`
 pub record FailsOverFiles {S : Type 0} (answers : List ℕ → Result S OpenFault → Type 0) (state : S → SourceState)
     (task : Task) (names : List (Bor (List ℕ))) (prints whole : List ℕ → Type 0) (output_failed : Bool)
     (fault : Fault) : Type 0 where
@@ -120,21 +120,22 @@ pub record FailsOverFiles {S : Type 0} (answers : List ℕ → Result S OpenFaul
   pub opened : AreOpened answers names olds
   pub fails : IsFaultOver state task olds news prints whole output_failed fault
 
--- a task fails for `fault`: a file does not open, or the task over the files ends early
+-- a task ends with `fault`: a file does not open, or the task over the files ends early
 abbrev pub IsTaskFault : {S : Type 0} → (List ℕ → Result S OpenFault → Type 0) → (S → SourceState) → Task
     → List (Bor (List ℕ)) → (List ℕ → Type 0) → (List ℕ → Type 0) → Bool → Fault → Type 0
 IsTaskFault answers state task names prints whole output_failed fault =
     IsOpenFault answers names fault
     ⊎ FailsOverFiles answers state task names prints whole output_failed fault
 
--- `fault` may come after a part was printed: a run prints as it goes on, and may then lack memory, and so does a
--- manager, whose lines may also fail to be read; each other task prints once it is done
+-- `fault` may occur after a part of the output was printed. A run of a schedule may lack memory then; serving a manager
+-- may lack memory, or fail to read more lines. Each other task prints only once it is done
 abbrev pub StopsAsItGoes : Task → Fault → Type 0
 StopsAsItGoes (Run lmc rule) fault = fault ≡ Memory
 StopsAsItGoes (Serve asked) fault = (fault ≡ Memory) ⊎ (fault ≡ File (texts_for asked.rule) Read)
 StopsAsItGoes task fault = ⊥
 
--- if a task ends for `fault`, the output is unchanged (`stays`), unless a write failed or a part was already printed
+-- a task that ends with `fault` leaves the output unchanged (`stays`), unless a write failed or a part was already
+-- printed
 abbrev pub KeepsOutput : Task → Type 0 → Fault → Type 0
 KeepsOutput task stays fault = (fault ≡ Write) ⊎ (StopsAsItGoes task fault ⊎ stays)
 
@@ -156,8 +157,8 @@ name_of names Memory = []
 abbrev pub fault_line : List (Bor (List ℕ)) → Fault → List ℕ
 fault_line names fault = program_line (fault_text (name_of names fault) fault)
 
--- a task over the files `names` has a fault: it ends with the fault's status, `says` holds of the fault's line, and the
--- output stays if it is kept
+-- a task over the files `names` has a fault: it ends with the fault's status, and `says` holds of the fault's line. The
+-- output is unchanged (`stays`), unless a write failed or a part was already printed
 pub record SaysWhy (task : Task) (names : List (Bor (List ℕ))) (IsFault : Fault → Type 0) (stays : Type 0)
     (status : ExitStatus) (says : List ℕ → Type 0) : Type 0 where
   pub fault : Fault
@@ -166,8 +167,9 @@ pub record SaysWhy (task : Task) (names : List (Bor (List ℕ))) (IsFault : Faul
   pub ends : status ≡ status_of fault
   pub said : says (fault_line names fault)
 
--- the words ask for a task and name its inputs, and the task over them has a fault: it ends with the fault's status,
--- `says` holds of the fault's line, and the output stays if it is kept
+-- the words ask for a task and name its inputs, and the task over these has a fault: it ends with the fault's status,
+-- and `says` holds of the fault's line. The output is unchanged (`stays`), unless a write failed or a part was already
+-- printed
 pub record SaysWhyOfWords {S : Type 0} (answers : List ℕ → Result S OpenFault → Type 0) (state : S → SourceState)
     (matches : ArgMatches) (prints whole : List ℕ → Type 0) (output_failed : Bool) (stays : Type 0)
     (status : ExitStatus) (says : List ℕ → Type 0) : Type 0 where

@@ -51,8 +51,8 @@ pub record LacksMemory {S : Type 0} (answers : List ℕ → Result S OpenFault
   pub refused : WasRefusedMemory answers names
   pub there : AreThere answers names (length names)
 
--- the files `names` are not open for a fault: a name is the first that is missing, or none is missing and memory ran
--- out
+-- opening the files `names` ends with a fault: the fault names the first name that is missing, or none is missing and
+-- memory ran out
 abbrev pub IsOpenFault : {S : Type 0} → (List ℕ → Result S OpenFault → Type 0) → List (Bor (List ℕ)) → Fault → Type 0
 IsOpenFault answers names (faults.Open input) = IsFirstMissing answers names input
 IsOpenFault answers names faults.Memory = LacksMemory answers names

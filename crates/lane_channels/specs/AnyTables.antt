@@ -1,6 +1,6 @@
--- What packets do by lane while a switch may hold any of several tables: it forwards a packet by its entry in the table
--- that it holds when the packet comes, the first table or one of `others`. LIDs and service levels are those of the
--- first. InfiniBand Architecture Specification, Volume 1: link layer, virtual lanes, flow control by credits.
+-- What packets do by lane while each switch may hold any of several tables: the first, or one of `others`. A switch
+-- forwards a packet by the table that it holds when the packet comes. LIDs and service levels are those of the first
+-- table. InfiniBand Architecture Specification, Volume 1: link layer, virtual lanes, flow control by credits.
 use Rattle.std.specs.Prelude.{◌≡◌, ◌↔◌, ◌<◌, ◌≤◌, ◌*◌, ℕ, Bool, List, [], ◌∷◌, Option, None, Some, length, map}
 use Rattle.fact_store.specs.View.{cells_of}
 use Rattle.subnet_view.specs.Reading.{switches}

@@ -20,7 +20,8 @@ use Rattle.lane_channels.specs.LaneNetwork.{SeenByLane}
 use Rattle.lane_channels.specs.Levels.{HasLevel}
 use Rattle.lane_channels.specs.Waiting.{RiseByLane}
 
--- for a node, the port by which packets come in, the port by which they leave, and their service level: their lane
+-- the lane of a packet, by the node, the port by which the packet comes in, the port by which it leaves, and its
+-- service level
 abbrev pub LaneMaps : Type 0
 LaneMaps = ℕ → ℕ → ℕ → ℕ → ℕ
 
@@ -48,8 +49,7 @@ pub record IsLaneChannel (cells : Cells) (f : Fabric) (vl : LaneMaps) (level : �
   pub is : IsChannel cells f hop one_lane
   pub channel_is : channel ≡ 16 * one_lane + lane_at vl level hops nth hop
 
--- a packet of `level` is dropped for want of a lane on none of the first `count` of `hops` that go from one switch to
--- another
+-- among the first `count` of `hops`, a packet of `level` has a lane below 15 on each hop from one switch to another
 abbrev pub IsCarried : Cells → Fabric → LaneMaps → ℕ → List Hop → ℕ → Type 0
 IsCarried cells f vl level hops count =
     (nth : ℕ) (hop : Hop) (one_lane : ℕ) → nth < count → slice_get hops nth ≡ Some hop → IsChannel cells f hop one_lane
@@ -67,9 +67,10 @@ pub record TravelsAt (s : SeenByLane) (answers : Bool) (part : Part) (f : Fabric
     pub end : Standing
     pub goes : Goes f lid (sent_from source) hops end
 
--- two channels by lane that a packet takes one right after the other, without being dropped, have rising numbers, if
--- numbers rise by facts, tables and lanes, the facts describe all that is joined to an end port, the end ports and
--- switches there hold the tables and the lanes, and the packet is sent there at a level that it has
+-- of two channels by lane that a packet takes one right after the other, without being dropped, the second has the
+-- greater number. An end port that is joined to the end port `origin` sends the packet, at a level that it has. Three
+-- conditions are to hold: numbers rise by facts, tables and lanes; the facts describe all that is joined to `origin`;
+-- and the end ports and switches there hold the tables and the lanes
 abbrev pub LaneChannelsRise : Type 0
 LaneChannelsRise =
     (s : SeenByLane) (answers : Bool) (f : Fabric) (origin : NodePort) (vl : LaneMaps) → IsEndPort f origin
@@ -81,10 +82,11 @@ LaneChannelsRise =
     → IsLaneChannel (cells_of s.seen.facts) f vl level hops (nth + 1) next
     → r.number channel < r.number next
 
--- in a step, two channels by lane that a packet takes one right after the other, without being dropped, have rising
--- numbers, if numbers rise by the tables of `s` and by those of `next_held`, the facts describe all that is joined to
--- an end port, its switches hold the lanes and, for the packet's LID, each its entry of one of the two tables, and the
--- packet is sent there at a level that it has
+-- in a step, of two channels by lane that a packet takes one right after the other, without being dropped, the second
+-- has the greater number. An end port that is joined to the end port `origin` sends the packet, at a level that it has.
+-- Three conditions are to hold: numbers rise by the tables of `s` and by those of `next_held`; the facts describe all
+-- that is joined to `origin`; and this part holds the lanes, and tables that for the packet's LID are a mixture of the
+-- two
 abbrev pub StepLaneChannelsRise : Type 0
 StepLaneChannelsRise =
     (s : SeenByLane) (next_held : HeldPlan) (answers : Bool) (f : Fabric) (origin : NodePort) (vl : LaneMaps)

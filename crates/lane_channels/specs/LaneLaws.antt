@@ -1,4 +1,4 @@
--- That numbers of channels by lane rule out credit loops, and lanes below 15 rule out drops.
+-- Numbers of channels by lane rule out credit loops, and lanes below 15 rule out drops.
 use Rattle.std.specs.Prelude.{ℕ, Bool, List}
 use Rattle.fact_store.specs.View.{cells_of}
 use Rattle.audit_channels.specs.Waiting.{RiseOnWays}

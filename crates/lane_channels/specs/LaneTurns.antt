@@ -7,7 +7,7 @@ use Rattle.lanes_file.specs.Lanes.{LanesSaid}
 use Rattle.lane_channels.specs.Stops.{Columns, HasEdge, lane_between, lane_by, lane_number, port_across}
 
 -- a packet of `level` at `stop` leaves that switch by `channel` and the next one by `next`, channels by lane, each
--- along the switch's edge in some column; it is dropped at neither
+-- along the switch's edge in some column; the packet is dropped at neither switch
 pub record TakesByLane (said : LanesSaid) (cells : Cells) (columns : Columns) (level : ℕ) (stop : ℕ) (channel next : ℕ)
     : Type 0 where
   pub first : Edge

@@ -10,7 +10,7 @@ use Rattle.lane_channels.specs.Levels.{HasLevel, IsAsked, lids_held}
 use Rattle.lane_channels.specs.Stops.{first_stop}
 use Rattle.lane_channels.specs.Walks.{Walked}
 
--- packets of `level` that begin at `first`, which `begin` is, answer those that `asker` sends for one of the first
+-- `begin` is `first`, and packets of `level` that begin there answer packets that `asker` sends for one of the first
 -- `count` of `lids`
 pub record AnswersOf (said : LanesSaid) (asker : EndPort) (lids : List ℕ) (count : ℕ) (first : Option ℕ) (level : ℕ)
     (begin : Option ℕ) : Type 0 where
@@ -21,7 +21,8 @@ pub record AnswersOf (said : LanesSaid) (asker : EndPort) (lids : List ℕ) (cou
   pub asked_is : slice_get lids index ≡ Some asked
   pub level_is : level_of said asker.node asker.port asked ≡ Some level
 
--- packets of `level` that begin at `first`, which `begin` is, answer those that one of `owners` sends for one of `lids`
+-- `begin` is `first`, and packets of `level` that begin there answer packets that one of `owners` sends for one of
+-- `lids`
 abbrev pub AnswersTo : LanesSaid → List EndPort → List ℕ → Option ℕ → ℕ → Option ℕ → Type 0
 AnswersTo said owners lids first level begin = (begin ≡ first) × IsAsked said owners lids level
 
@@ -38,7 +39,7 @@ pub record SentFrom (s : SeenByLane) (answers : Bool) (lid index level : ℕ) (b
 abbrev pub SentFor : SeenByLane → Bool → ℕ → ℕ → Option ℕ → Type 0
 SentFor s answers lid level begin = (index : ℕ) × SentFrom s answers lid index level begin
 
--- `asked` has, for each end port, the LIDs that it holds; it is free if answers are not followed
+-- if answers are followed, `asked` has, for each end port, the LIDs that it holds
 abbrev pub HasAsked : SeenByLane → Asked → Type 0
 HasAsked s asked =
     asked.answers ≡ true

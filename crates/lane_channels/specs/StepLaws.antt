@@ -1,5 +1,5 @@
--- That numbers of channels by lane that rise in a step rule out credit loops by lane. A step is from the tables of `s`
--- to those of `next`.
+-- Numbers of channels by lane that rise in a step rule out credit loops by lane. A step is from the tables of `s` to
+-- those of `next`.
 use Rattle.std.specs.Prelude.{ℕ, Bool, List, [], ◌∷◌}
 use Rattle.fact_store.specs.View.{cells_of}
 use Rattle.held_tables.specs.Held.{HeldPlan}

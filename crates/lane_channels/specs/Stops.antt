@@ -21,17 +21,18 @@ stop_at index port = 256 * index + port
 abbrev pub port_in : ℕ × ℕ → ℕ
 port_in q = q.1
 
--- the port at the far end of the wire in port p of node g; 0 if there is none
+-- the port at the far end of the wire in port `p` of node `g`; 0 if there is no wire
 abbrev pub far_port : Cells → ℕ → ℕ → ℕ
 far_port cells g p = option_map_or port_in (across cells g p) 0
 
--- the port at the far end of the wire in port `number` % 256 of the usable switch at `number` / 256; 0 if there is none
+-- the port at the far end of the wire in port `number` % 256 of the usable switch at index `number` / 256; 0 if there
+-- is no wire or no such switch
 abbrev pub far_port_by : Cells → ℕ → ℕ
 far_port_by cells number =
     option_map_or (λ g. far_port cells g (number % 256)) (slice_get (switches cells) (number / 256)) 0
 
--- the stop at which a sender's packets first reach a usable switch: at its own switch, if it has an index, by port 0,
--- or else at the far end of its wire, by port `port` there; None if they reach none
+-- the stop at which a sender's packets first reach a usable switch: port 0 of the sender's own switch, if it has an
+-- index, or else port `port` of the switch to which its wire leads; None if they reach none
 abbrev pub stop_by : Option ℕ → Far → ℕ → Option ℕ
 stop_by (Some index) far port = Some (stop_at index 0)
 stop_by None (Switch index) port = Some (stop_at index port)
@@ -71,8 +72,8 @@ lane_number index out lane = 16 * (256 * index + out) + lane
 abbrev pub port_across : Cells → ℕ → ℕ → ℕ
 port_across cells index out = far_port_by cells (256 * index + out)
 
--- the stop to which a packet of `level` at `stop` goes along `edge`; None if it is dropped, or if `edge` leads to no
--- switch
+-- the stop to which a packet of `level` at `stop` goes along `edge`; None if the packet is dropped, or if `edge` leads
+-- to no switch
 abbrev pub carried : LanesSaid → Cells → ℕ → ℕ → Edge → Option ℕ
 carried said cells level stop edge =
     if nat_lt edge.to (length (switches cells)) && nat_lt (lane_by said cells level stop edge) 15
@@ -82,7 +83,7 @@ carried said cells level stop edge =
 abbrev pub Columns : Type 0
 Columns = List (List (Option Edge))
 
--- the edge of the switch at `index` by the column at `nth`; None if it has none there
+-- the edge of the switch at `index` by the column at `nth`; None if the switch has none there
 abbrev pub edge_by : Columns → ℕ → ℕ → Option Edge
 edge_by columns index nth = slice_index_or (slice_index_or columns nth []) index None
 
@@ -96,7 +97,7 @@ pub record IsNextStop (said : LanesSaid) (cells : Cells) (columns : Columns) (le
   pub leaves : HasEdge columns (stop / 256) edge
   pub carried_is : carried said cells level stop edge ≡ Some next
 
--- a packet of `level` that begins at `first` comes to `stop` in `count` steps, each along the switch's edge in some
+-- a packet of `level` that begins at `first` reaches `stop` in `count` steps, each along the switch's edge in some
 -- column
 abbrev pub ComesAfter : LanesSaid → Cells → Columns → ℕ → ℕ → Option ℕ → ℕ → Type 0
 ComesAfter said cells columns level zero first stop = first ≡ Some stop

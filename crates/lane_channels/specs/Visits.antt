@@ -1,4 +1,5 @@
--- Visits of stops: what a packet of a level, for one LID, does there along the edges of several tables is kept.
+-- Visits of stops. A visit records what packets of one level, for one LID, do at a stop along the edges of several
+-- tables.
 use Rattle.std.specs.Prelude.{◌≡◌, ◌⊎◌, ◌↔◌, ◌<◌, ◌≤◌, ◌*◌, ◌/◌, ℕ, List, [], Contains, None, Some, length, map, slice_index_or, slice_set}
 use Rattle.port_graph.specs.declared.edge.Edge.{Edge}
 use Rattle.subnet_view.specs.Reading.{Cells, switches}
@@ -31,7 +32,8 @@ pub record LeavesAlong (said : LanesSaid) (cells : Cells) (these : Edges) (level
   pub lane_is : lane_between said cells level index into edge.port < 15
   pub channel_is : channel ≡ lane_number index edge.port (lane_between said cells level index into edge.port)
 
--- in `new` a channel follows another exactly if it does in `old`, or is one of `nexts` and the other is `channel`
+-- in `new` a channel `b` follows a channel `a` exactly if it does in `old`, or if `b` is one of `nexts` and `a` is
+-- `channel`
 pub record IsWithNexts (old : List (List ℕ)) (channel : ℕ) (nexts : ℕ → Type 0) (new : List (List ℕ)) : Type 0 where
   pub as_many : length new ≡ length old
   pub follows : (a b : ℕ) → Follows new a b ↔ (Follows old a b ⊎ ((a ≡ channel) × nexts b))
@@ -51,21 +53,21 @@ abbrev pub GoesAlong : LanesSaid → Cells → Columns → Edges → ℕ → ℕ
 GoesAlong said cells columns these level stop next =
     (n : IsNextStop said cells columns level stop next) × these n.edge
 
--- what is kept of the packets followed so far, and the stops that are left to visit
+-- the record of the packets followed so far, and the stops that are left to visit
 pub record Walking : Type 0 where
   pub kept : Walked
   pub stops : List ℕ
 
--- what is kept of packets, without the stops that are left to visit
+-- the record of packets, without the stops that are left to visit
 abbrev pub walked : Walks → Walked
 walked walks = record { marks = walks.marks.items; waits = walks.waits; dropped = walks.dropped }
 
--- what is kept of packets, and the stops that are left to visit
+-- the record of packets, and the stops that are left to visit
 abbrev pub walking : Walks → Walking
 walking walks = record { kept = walked walks; stops = walks.stops.items }
 
--- `new` is `old`, where what a packet of `level` for `lid` does at `stop` along the edges `these` is kept, and the
--- stops to which it goes are left to visit
+-- `new` is `old` with a record of what a packet of `level` for `lid` does at `stop` along the edges `these`: the
+-- channels that it takes in turn, and a drop, if there is one. The stops to which the packet goes are left to visit
 pub record AreLeft (said : LanesSaid) (cells : Cells) (columns : Columns) (lid level stop : ℕ) (these : Edges)
     (old new : Walking) : Type 0 where
   pub as_many : length new.kept.waits ≡ length old.kept.waits
@@ -79,14 +81,15 @@ pub record AreLeft (said : LanesSaid) (cells : Cells) (columns : Columns) (lid l
   pub stops : (s : ℕ) → Contains new.stops s
       ↔ (Contains old.stops s ⊎ GoesAlong said cells columns these level stop s)
 
--- `new` is `old` after a visit: `stop` is marked for `level` with `lid`, and what a packet does there along any edge is
--- kept
+-- `new` is `old` after a visit: `stop` is marked for `level` with `lid`, and `new` records what a packet does at `stop`
+-- along any edge
 pub record IsVisit (said : LanesSaid) (cells : Cells) (columns : Columns) (lid level stop : ℕ) (old new : Walking)
     : Type 0 where
   pub marks : new.kept.marks ≡ slice_set old.kept.marks (mark_number level stop) lid
   pub left : AreLeft said cells columns lid level stop (HasEdge columns (stop / 256)) old new
 
--- nothing is left to follow from `stop` for packets of `level` and nothing changes, or `stop` is visited
+-- nothing is left to follow from `stop` for packets of `level`, and `new` is `old`; or `new` is `old` after a visit of
+-- `stop`
 abbrev pub IsVisitIfNew : LanesSaid → Cells → Columns → ℕ → ℕ → ℕ → Walking → Walking → Type 0
 IsVisitIfNew said cells columns lid level stop old new =
     (IsDone (length (switches cells)) lid old.kept.marks level stop × (new ≡ old))

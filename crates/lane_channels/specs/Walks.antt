@@ -46,11 +46,11 @@ IsNoted said cells columns lid marks dropped =
     dropped ≡ None → (level stop : ℕ) (out : ℕ) → level < 16 → IsMarked lid marks level stop
     → DropsBefore said cells columns level stop out → ⊥
 
--- packets of a level that begin at a stop, or nowhere
+-- packets, by their level and the stop at which they begin; None if they begin at no stop
 abbrev pub Beginnings : Type 1
 Beginnings = ℕ → Option ℕ → Type 0
 
--- a packet of `level`, one of `these`, comes to `stop`
+-- a packet of `level`, one of `these`, reaches `stop`
 pub record Reaches (said : LanesSaid) (cells : Cells) (columns : Columns) (these : Beginnings) (level : ℕ)
     (stop : ℕ) : Type 0 where
   pub first : Option ℕ
@@ -73,14 +73,15 @@ pub record IsDroppedOne (said : LanesSaid) (cells : Cells) (columns : Columns) (
   pub reaches : Reaches said cells columns these dropped.level dropped.stop
   pub drops : DropsBefore said cells columns dropped.level dropped.stop dropped.out
 
--- what is kept of packets that were followed: marks, the channels that follow each channel, and a dropped packet
+-- the record of packets that were followed: marks, the channels that follow each channel, and a dropped packet, if one
+-- was noted
 pub record Walked : Type 0 where
   pub marks : List ℕ
   pub waits : List (List ℕ)
   pub dropped : Option Dropped
 
--- packets for `lid` that were followed at all are followed to their ends, what they take in turn is recorded and, if
--- one is dropped, some dropped packet is noted
+-- packets for `lid` that were followed at all are followed to their ends. The channels that they take in turn are
+-- recorded; if one is dropped, some dropped packet is noted
 pub record IsWhole (said : LanesSaid) (cells : Cells) (columns : Columns) (lid : ℕ) (w : Walked) : Type 0 where
   pub closed : IsClosed said cells columns lid w.marks
   pub recorded : AreRecorded said cells columns lid w.marks w.waits

@@ -30,7 +30,7 @@ abbrev pub dropped_text : Cells → Option Dropped → List ℕ
 dropped_text cells None = []
 dropped_text cells (Some d) = drop_line cells d
 
--- a blank, and the switch, the port and the lane of `channel`
+-- a space, and the switch, the port and the lane of `channel`
 abbrev pub channel_text : Cells → ℕ → List ℕ
 channel_text cells channel =
     codes " " ++ port_text (guid_at cells (channel / 4096)) (channel / 16 % 256) ++ codes " vl " ++ decimal (channel % 16)
@@ -44,7 +44,7 @@ channels_text cells (channel ∷ later) = codes " by lane" ++ flat_map (channel_
 abbrev pub cycle_line : Cells → List ℕ → List ℕ
 cycle_line cells cycle = codes "credit loop" ++ channels_text cells cycle ++ codes "\n"
 
--- what is found by lane, as lines: the first packets without a service level, a packet that is dropped, if one is, and
--- the credit loop, if there is one
+-- the findings by lane, as lines: the first packets without a service level, a dropped packet and a credit loop, each
+-- if there is one
 abbrev pub lanes_text : Cells → Listed PacketPair → Option Dropped → List ℕ → List ℕ
 lanes_text cells few dropped cycle = missing_text few ++ dropped_text cells dropped ++ cycle_line cells cycle

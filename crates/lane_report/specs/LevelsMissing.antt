@@ -66,8 +66,8 @@ row_of said sites number = filter (λ sender. not (is_full sender.block)) (map (
 abbrev pub IsRow : LanesSaid → List Site → ℕ → List RowSender → Type 0
 IsRow said sites number senders = senders ≡ row_of said sites number
 
--- both are adapter ports, `sender` is another one in the component of `owner`, and by its block its packets for the LID
--- of `line` have no service level
+-- `sender` and `owner` are different adapter ports of one component, and by the block of `sender` its packets for the
+-- LID of `line` have no service level
 abbrev pub sender_lacks : LanesSaid → HeldLid → Site → RowSender → Bool
 sender_lacks said line owner sender =
     are_joined sender.site owner && are_adapters sender.site.port owner.port

@@ -24,8 +24,8 @@ use Rattle.sm_cli.specs.declared.input_lanes.LanesAndFiles.{LanesAndFiles}
 abbrev pub seen_of : Facts → HeldPlan → LanesSaid → SeenByLane
 seen_of facts held said = record { seen = record { facts = facts; held = held }; said = said }
 
--- the findings by lane are right: packets without a service level, at most `most` of them listed, a packet that is
--- dropped for want of a lane, if one is, and a shortest credit loop, if there is one
+-- the findings by lane are right: packets without a service level, at most `most` of them listed; a packet that is
+-- dropped for want of a lane, and a shortest credit loop, each if there is one
 pub record IsFoundByLane (most : ℕ) (s : SeenByLane) (answers : Bool) (missing : Listed PacketPair)
     (dropped : Option Dropped) (cycle : List ℕ) : Type 0 where
   pub missing_are : missing ≡ all_listed most (missing_levels s.said (cells_of s.seen.facts) s.seen.held)
@@ -40,9 +40,9 @@ pub record IsSoundByLane (missing : Listed PacketPair) (dropped : Option Dropped
   pub none_dropped : dropped ≡ None
   pub no_cycle : cycle ≡ []
 
--- the tables pass by lane: they are whole for the facts, packets arrive, each between adapters has a service level,
--- none is dropped for want of a lane, and channels by lane can be numbered so that numbers rise; if there is a bound,
--- no channel has a load above it
+-- the tables pass by lane: they are whole for the facts; packets arrive; each packet between adapters has a service
+-- level; no packet is dropped for want of a lane; and channels by lane can be numbered so that numbers rise. If there
+-- is a bound, no channel has a load above it
 pub record PassesByLane (bound : Option ℕ) (s : SeenByLane) (answers : Bool) : Type 0 where
   pub delivers : DeliversWithin bound (cells_of s.seen.facts) s.seen.held
   pub leveled : missing_levels s.said (cells_of s.seen.facts) s.seen.held ≡ []
@@ -75,14 +75,14 @@ pub record HasAuditedByLane {S : Type 0} (state : S → SourceState) (asked : La
   pub read : AreLanesAndFiles state asked.audit.floor olds news told
   pub audited : IsAuditedByLane asked told.read.store told.read.held told.lanes prints passed
 
--- the lanes, the tables and the files were read, and their audit by lane failed for `fault`
+-- the lanes, the tables and the files were read, and their audit by lane ended with `fault`
 pub record FailsToAuditByLane {S : Type 0} (state : S → SourceState) (floor : ℕ) (olds news : List S)
     (sink_failed : Bool) (fault : Fault) : Type 0 where
   pub told : LanesAndFiles
   pub read : AreLanesAndFiles state floor olds news told
   pub why : IsAnswerFault sink_failed fault
 
--- an audit by lane over open inputs fails for `fault`: the inputs are not read, or their audit fails
+-- an audit by lane over open inputs ends with `fault`: the inputs are not read, or their audit fails
 abbrev pub IsLaneAuditFault : {S : Type 0} → (S → SourceState) → ℕ → List S → List S → Bool → Fault → Type 0
 IsLaneAuditFault state floor olds news sink_failed fault =
     AreNoLanesAndFiles state olds news fault ⊎ FailsToAuditByLane state floor olds news sink_failed fault

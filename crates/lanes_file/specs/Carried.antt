@@ -26,7 +26,8 @@ abbrev pub is_level : Option ℕ → ℕ → Bool
 is_level None level = false
 is_level (Some own) level = own == level
 
--- some packets have the service level `level`, by one of `blocks` or as the others, whose level is `own`
+-- some packets have the service level `level`: a block of `blocks` gives it, or it is `own`, the level of packets that
+-- no block gives one
 abbrev pub gives : Option ℕ → List LevelBlock → ℕ → Bool
 gives own blocks level = is_level own level || list_any (block_gives level) blocks
 
@@ -36,7 +37,8 @@ abbrev pub each_is_carried : List ℕ → List LaneMap → Option ℕ → List L
 each_is_carried lanes maps own blocks =
     list_all (λ level. carries lanes maps level || not (gives own blocks level)) (range_with_len 0 16)
 
--- each service level that `said` gives to some packets has a lane below 15 by each of its maps and its other lanes
+-- each service level that `said` gives to some packets has a lane below 15 by each map of `said` and, for packets
+-- without a map, by its lanes
 abbrev pub carries_all : LanesSaid → Bool
 carries_all said = each_is_carried said.lanes said.maps said.level said.levels
 

@@ -13,7 +13,7 @@ Key = (ℕ × ℕ) × ℕ
 abbrev pub key_cmp : Key → Key → Ordering
 key_cmp a b = ordering_then (ordering_then (nat_cmp a.0.0 b.0.0) (nat_cmp a.0.1 b.0.1)) (nat_cmp a.1 b.1)
 
--- `key` is greater than the key before, or there is none before (None)
+-- `key` is greater than the key `last` before it, or there is no key before (None)
 abbrev pub is_after : Option Key → Key → Bool
 is_after None key = true
 is_after (Some last) key = is_lt (key_cmp last key)

@@ -8,43 +8,44 @@ use Rattle.lanes_file.specs.declared.line.MapLine.{MapLine}
 use Rattle.lanes_file.specs.declared.line.LevelsLine.{LevelsLine}
 use Rattle.lanes_file.specs.Words.{small_of, bare_guid_of, port_of, bytes_of}
 
--- the word of a list of one; None if it has more or none
+-- the only word of a list; None if the list has no word or several
 abbrev pub alone : List (List ℕ) → Option (List ℕ)
 alone (word ∷ []) = Some word
 alone _ = None
 
--- reads the part of a `lanes` line after its first word: 16 bytes; None for other words
+-- the 16 bytes of a `lanes` line, given the words after its first; None if these are not one word that spells 16 bytes
 abbrev pub lanes_line : List (List ℕ) → Option (List ℕ)
 lanes_line words = option_and_then (bytes_of 16) (alone words)
 
--- reads a `sl2vl` line with these words after its first; None if one of them is not what it should be
+-- the `sl2vl` line with these words after its first; None if one of them does not spell a GUID, a number for each port,
+-- or 16 bytes. A port above 254 is None in the line
 abbrev pub map_of : List ℕ → List ℕ → List ℕ → List ℕ → Option MapLine
 map_of node into out lanes =
     option_and_then (λ g. option_and_then (λ i. option_and_then (λ o. option_map
     (λ h. record { node = g; into = i; out = o; lanes = h }) (bytes_of 16 lanes)) (small_of 254 out))
     (small_of 254 into)) (bare_guid_of node)
 
--- reads the part of a `sl2vl` line after its first word: a GUID, two ports and 16 bytes; None for other words
+-- the `sl2vl` line with these words after its first: a GUID, two ports and 16 bytes; None for other words
 abbrev pub map_line : List (List ℕ) → Option MapLine
 map_line [] = None
 map_line (node ∷ []) = None
 map_line (node ∷ into ∷ []) = None
 map_line (node ∷ into ∷ out ∷ rest) = option_and_then (map_of node into out) (alone rest)
 
--- reads the part of a `level` line after its first word: a number; None for other words, and the inner value is
--- None if the level is above 15
+-- the level of a `level` line, given the words after its first: one word, a decimal number; None for other words. The
+-- inner value is None if the number is above 15
 abbrev pub level_line : List (List ℕ) → Option (Option ℕ)
 level_line words = option_and_then (small_of 15) (alone words)
 
--- reads a `levels` line with these words after its first; None if one of them is not what it should be
+-- the `levels` line with these words after its first; None if one of them does not spell a node with a port, a number,
+-- or 64 bytes. A port above 254 or a number above 767 is None in the line
 abbrev pub block_of : List ℕ → List ℕ → List ℕ → Option LevelsLine
 block_of port number levels =
     option_and_then (λ p. option_and_then (λ n. option_map
     (λ h. record { node = p.0; port = p.1; number = n; levels = h }) (bytes_of 64 levels)) (small_of 767 number))
     (port_of port)
 
--- reads the part of a `levels` line after its first word: a node with a port, a number and 64 bytes; None if it is no
--- such part
+-- the `levels` line with these words after its first: a node with a port, a number and 64 bytes; None for other words
 abbrev pub block_line : List (List ℕ) → Option LevelsLine
 block_line [] = None
 block_line (port ∷ []) = None

@@ -9,7 +9,7 @@ use Rattle.lanes_file.specs.declared.fault.LanesTextError.TheVariants.{Syntax, P
 abbrev pub LanesLineFault : Type 0
 LanesLineFault = LineFault LanesTextError
 
--- why a text of lanes is refused: the fault of a line, or memory
+-- why a text of lanes is refused: the fault of a line, or lack of memory
 abbrev pub LanesTextFault : Type 0
 LanesTextFault = LinesFault LanesTextError
 

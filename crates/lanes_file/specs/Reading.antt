@@ -21,7 +21,7 @@ use Rattle.lanes_file.specs.LanesLine.{line_of}
 abbrev pub start : LinesBefore
 start = record { has_lanes = false; map = None; has_level = false; block = None }
 
--- the state after a line that says an item, from the state before it; later lines are checked by it
+-- the state after a line that says an item, given the state before the line; it says which later lines are refused
 abbrev pub lines_after : LinesBefore → LanesItem → LinesBefore
 lines_after before Nothing = before
 lines_after before (Lanes lanes) = record before { has_lanes = true }
@@ -37,53 +37,58 @@ fault_at number what = Err (record { line = number; wrong = what })
 abbrev pub is_no_lane : ℕ → Bool
 is_no_lane b = nat_lt 15 b
 
--- the byte `b` is no service level, nor 255, which says that a LID has none of its own
+-- the byte `b` is neither a service level nor 255, which stands for no level of the LID's own
 abbrev pub is_no_level : ℕ → Bool
 is_no_level b = nat_lt 15 b && not (b == 255)
 
--- the lanes of packets that no map is for, if each is up to 15 and there is no `lanes` line before (`is_second`)
+-- the item of a `lanes` line: the lanes of packets that no map is for. The fault is `Lane` if a lane is over 15, else
+-- `Repeated` if a `lanes` line came before (`is_second`)
 abbrev pub lanes_with : ℕ → Bool → List ℕ → Result LanesItem LanesLineFault
 lanes_with number is_second lanes =
     if list_any is_no_lane lanes then fault_at number wrong.Lane
     else if is_second then fault_at number wrong.Repeated
     else Ok (Lanes lanes)
 
--- a map, if its lanes are up to 15 and its key is greater than `last`, that of the map before, if there is one
+-- the item of a `sl2vl` line: the map. The fault is `Lane` if a lane is over 15. Else it is `Repeated` if the key is
+-- not greater than `last`, the key of the map before, which is None if there is no such map
 abbrev pub map_after : ℕ → Option Key → LaneMap → Result LanesItem LanesLineFault
 map_after number last map =
     if list_any is_no_lane map.lanes then fault_at number wrong.Lane
     else if is_after last (map_key map) then Ok (Map map)
     else fault_at number wrong.Repeated
 
--- a map, by the numbers on its line; None stands for a port over 254, which is a fault
+-- the item of a `sl2vl` line with these numbers: a map; the fault is `Port` if a port is None, which stands for one
+-- over 254
 abbrev pub map_with : ℕ → Option Key → ℕ → Option ℕ → Option ℕ → List ℕ → Result LanesItem LanesLineFault
 map_with number last node None out lanes = fault_at number wrong.Port
 map_with number last node (Some into) None lanes = fault_at number wrong.Port
 map_with number last node (Some into) (Some out) lanes =
     map_after number last (record { node = node; into = into; out = out; lanes = lanes })
 
--- the service level of packets that no block gives one, if it is up to 15 (None stands for a greater one) and there is
--- no `level` line before (`is_second`)
+-- the item of a `level` line: the service level of packets that no block gives one. The fault is `Level` if the level
+-- is None, which stands for one over 15; else `Repeated` if a `level` line came before (`is_second`)
 abbrev pub level_with : ℕ → Bool → Option ℕ → Result LanesItem LanesLineFault
 level_with number is_second None = fault_at number wrong.Level
 level_with number is_second (Some level) = if is_second then fault_at number wrong.Repeated else Ok (Level level)
 
--- a block, if its levels are in range and its key is greater than `last`, that of the block before, if there is one
+-- the item of a `levels` line: the block. The fault is `Level` if a byte is over 15 and not 255. Else it is `Repeated`
+-- if the key is not greater than `last`, the key of the block before, which is None if there is no such block
 abbrev pub block_after : ℕ → Option Key → LevelBlock → Result LanesItem LanesLineFault
 block_after number last block =
     if list_any is_no_level block.levels then fault_at number wrong.Level
     else if is_after last (block_key block) then Ok (Block block)
     else fault_at number wrong.Repeated
 
--- a block, by the numbers on its line; None stands for a number out of range, which is a fault
+-- the item of a `levels` line with these numbers: a block. The fault is `Port` if the port is None, which stands for
+-- one over 254; else `Block` if the number is None, which stands for one over 767
 abbrev pub block_with : ℕ → Option Key → ℕ → Option ℕ → Option ℕ → List ℕ → Result LanesItem LanesLineFault
 block_with number last node None block levels = fault_at number wrong.Port
 block_with number last node (Some port) None levels = fault_at number wrong.Block
 block_with number last node (Some port) (Some block) levels =
     block_after number last (record { node = node; port = port; number = block; levels = levels })
 
--- what the line `number` says, after the lines before it; a fault if the grammar has no such line (None) or it may not
--- follow
+-- what the line `number` says, after the lines before it; a fault if the grammar has no such line (None), or if the
+-- line may not follow those before it
 abbrev pub item_of : ℕ → LinesBefore → Option LanesLine → Result LanesItem LanesLineFault
 item_of number before None = fault_at number wrong.Syntax
 item_of number before (Some line.Empty) = Ok Nothing
@@ -97,7 +102,7 @@ abbrev pub then_or : {T : Type 0} → Result LanesItem LanesLineFault → (Lanes
 then_or (Ok item) next last = next item
 then_or (Err fault) next last = last fault
 
--- the first fault of the lines; the first line has the number `number`
+-- the first fault of the lines, the first of which has the number `number`; None if they have no fault
 abbrev pub first_fault_from : ℕ → LinesBefore → List (List ℕ) → Option LanesLineFault
 first_fault_from number before [] = None
 first_fault_from number before (l ∷ later) =
@@ -111,7 +116,7 @@ items_from number before (l ∷ later) =
     then_or (item_of number before (line_of l))
     (λ item. item ∷ items_from (number + 1) (lines_after before item) later) (λ fault. [])
 
--- the first fault of a text
+-- the first fault of a text; None if it has none
 unfoldable pub first_fault : List ℕ → Option LanesLineFault
 first_fault text = first_fault_from 1 start (lines text)
 

@@ -11,10 +11,10 @@ pub enum LanesTextError {
     Block,
     /// A lane is above 15.
     Lane,
-    /// A service level is above 15, and is not `ff` of a block.
+    /// A service level is above 15. In a block, `ff` is no fault.
     Level,
-    /// The line is a second `lanes` or `level`, or it is a `sl2vl` or `levels` whose GUID and two numbers after it are
-    /// not greater than those of the line of its kind before it.
+    /// The line is a second `lanes` or `level`. Or it is a `sl2vl` or `levels` whose GUID and next two numbers do not
+    /// come after those of the last line of its kind.
     Repeated,
 }
 
@@ -35,8 +35,8 @@ impl LineError for LanesTextError {
     }
 }
 
-/// The number of the first faulty line of a text of lanes, from 1, and what is wrong with it.
+/// The number of the first faulty line of a text of lanes, counted from 1, and the fault of this line.
 pub type LanesLineFault = LineFault<LanesTextError>;
 
-/// Why a text of lanes could not be read: its first fault, or a lack of memory.
+/// Why a text of lanes is refused: the fault of its first faulty line, or a lack of memory.
 pub type LanesTextFault = LinesFault<LanesTextError>;

@@ -10,7 +10,7 @@ use crate::lanes_builder::LanesBuilder;
 use smp_bytes::{Guid, Lid, PortNum};
 use std::marker::Model;
 
-/// The lane of packets that the text says nothing of.
+/// The lane of packets for which the text gives no lane.
 const NO_LANE: u8 = 15;
 
 /// The first number above all service levels.
@@ -34,7 +34,7 @@ pub struct LevelBlock {
     pub node: Guid,
     /// The number of the end port, up to 254.
     pub port: PortNum,
-    /// The number of the block, up to 767. It has the levels of the LIDs from 64 times this number on.
+    /// The number of the block, up to 767. The block has the levels of the 64 LIDs from 64 times this number on.
     pub number: u16,
     /// The service level for each LID, up to 15, or 255 if the LID has no level of its own.
     pub levels: [u8; 64],
@@ -81,7 +81,7 @@ impl Lanes {
     }
 
     /// Returns the lane of packets of service level `level` that come into the switch `node` by port `into` and leave
-    /// by port `out`. Returns 15 if the text says none. Takes a binary search among the maps.
+    /// by port `out`. Returns 15 if the text gives no lane. Takes a binary search among the maps.
     pub fn lane(&self, node: Guid, into: PortNum, out: PortNum, level: u8) -> u8
         ensures is { result ≡ lane_of self.now node into out level }
         ensures within { result < 16 }
@@ -89,8 +89,8 @@ impl Lanes {
         lane_at(self.lanes_between(node, into, out), level)
     }
 
-    /// Returns the service level of packets from `port` of `node` to `lid`, or `None` if the text says none. Takes a
-    /// binary search among the blocks.
+    /// Returns the service level of packets from `port` of `node` to `lid`, or `None` if the text gives no level. Takes
+    /// a binary search among the blocks.
     pub fn level(&self, node: Guid, port: PortNum, lid: Lid) -> Option<u8>
         ensures is { result ≡ level_of self.now node port lid }
         ensures within { IfSome result (λ s. s < 16) }
@@ -98,9 +98,9 @@ impl Lanes {
         self.level_by(self.block(node, port, lid.block()), lid)
     }
 
-    /// Returns the service level of packets to `lid` from an end port whose block with this LID is `block`, if it has
-    /// one. If the block has no level for the LID, or there is no block, returns the level of the line `level`, or
-    /// `None` without such a line.
+    /// Returns the service level of packets to `lid` from an end port. `block` is the end port's block with this LID,
+    /// or `None` if there is no such block. If no block gives the LID a level, returns the level of the line `level`,
+    /// or `None` without such a line.
     pub fn level_by(&self, block: Option<&LevelBlock>, lid: Lid) -> Option<u8>
         ensures is { result ≡ level_by self.now.level (lid % 64) (option_copied block.entry) }
         ensures within { IfSome result (λ s. s < 16) }
@@ -130,8 +130,9 @@ impl Lanes {
         Some(&self.levels[index])
     }
 
-    /// Returns whether each service level that the text gives to some packets has a lane below 15, in each switch. If
-    /// so, no packet is dropped for want of a lane. Takes time linear in the numbers of maps and blocks.
+    /// Returns whether each service level that the text gives to some packets has a lane below 15 by each map and by
+    /// the line `lanes`. If so, each packet with a service level has a lane below 15 in each switch. Takes time linear
+    /// in the numbers of maps and blocks.
     pub fn carries_all(&self) -> bool
         ensures is { result ≡ carries_all self.now }
         ensures carried { IsTrue result → CarriesAll self.now }
@@ -152,7 +153,7 @@ impl Lanes {
     }
 
     /// Returns the lane of each service level from port `into` to port `out` of `node`, or an empty list if the text
-    /// says none.
+    /// gives no lanes.
     fn lanes_between(&self, node: Guid, into: PortNum, out: PortNum) -> &[u8]
         ensures is { result.now ≡ lanes_between self.now node into out }
         ensures lanes { AreLanes result.now }
@@ -163,7 +164,8 @@ impl Lanes {
         }
     }
 
-    /// Returns the lane of each service level of packets that no map is for, or an empty list if the text says none.
+    /// Returns the lane of each service level of packets for which there is no map, or an empty list if the text gives
+    /// no lanes.
     fn lanes_without_map(&self) -> &[u8]
         ensures is { result.now ≡ self.now.lanes }
         ensures lanes { AreLanes result.now }
@@ -174,8 +176,8 @@ impl Lanes {
         }
     }
 
-    /// Returns the map for packets from port `into` to port `out` of `node`, or `None` if there is none. Takes a binary
-    /// search.
+    /// Returns the map for packets from port `into` to port `out` of `node`, or `None` if there is no such map. Takes a
+    /// binary search.
     fn map(&self, node: Guid, into: PortNum, out: PortNum) -> Option<&LaneMap>
         ensures is { option_copied result ≡ find (is_map node into out) self.now.maps }
         ensures lanes { IfSome result (λ map. HasLanes map.now) }
@@ -188,7 +190,7 @@ impl Lanes {
     }
 }
 
-/// Returns the lane of service level `level` in `lanes`, or 15 if there are fewer.
+/// Returns the lane of service level `level` in `lanes`, or 15 if `lanes` is too short.
 fn lane_at(lanes: &[u8], level: u8) -> u8
     ensures is { result ≡ slice_index_or lanes.now level 15 }
     ensures within { AreLanes lanes.now → result < 16 }
@@ -199,8 +201,8 @@ fn lane_at(lanes: &[u8], level: u8) -> u8
     }
 }
 
-/// Returns whether each service level that some packets have has a lane below 15 by each map, and by `lanes`, which are
-/// for packets without a map. `own` is the level of packets that no block gives one.
+/// Returns whether each service level that some packets have gets a lane below 15 from each map and from `lanes`.
+/// `lanes` are for packets without a map. `own` is the level of packets to which no block gives a level.
 fn each_is_carried(lanes: &[u8], maps: &[LaneMap], own: Option<u8>, blocks: &[LevelBlock]) -> bool
     ensures { result ≡ each_is_carried lanes.now maps.now own blocks.now }
 {
@@ -222,8 +224,8 @@ fn each_has_lane(maps: &[LaneMap], level: u8) -> bool
     maps.iter().all(|map| has_lane(&map.lanes, level))
 }
 
-/// Returns whether some packets have service level `level`: it is `own`, that of packets that no block gives one, or a
-/// block gives it to a LID.
+/// Returns whether some packets have service level `level`: `level` is `own`, or a block gives `level` to a LID. `own`
+/// is the level of packets to which no block gives a level.
 fn gives(own: Option<u8>, blocks: &[LevelBlock], level: u8) -> bool
     ensures { result ≡ gives own blocks.now level }
 {

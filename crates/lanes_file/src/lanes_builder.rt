@@ -25,7 +25,7 @@ impl Model for LanesBuilder {
 }
 
 impl LanesBuilder {
-    /// Returns what no line says.
+    /// Returns what is said before the first line, which is nothing.
     pub(crate) fn new(alloc: Global) -> Self
         ensures { result ≡ nothing_said }
     {
@@ -37,7 +37,7 @@ impl LanesBuilder {
         }
     }
 
-    /// Returns what the lines say together with another line, which says `item`.
+    /// Returns what the lines so far say together with a further line that says `item`.
     pub(crate) fn with(self, item: LanesItem) -> Result<Self, AllocError>
         ensures { IfOk result (λ said. said ≡ said_with self item) }
     {

@@ -4,10 +4,10 @@ use crate::lanes::{LaneMap, LevelBlock};
 #[derive(Clone, Copy)]
 pub(crate) enum LanesItem {
     Nothing,
-    /// The lanes of all packets that no map is for.
+    /// The lanes of all packets for which there is no map.
     Lanes([u8; 16]),
     Map(LaneMap),
-    /// The level of all packets that no block gives one, up to 15.
+    /// The level, up to 15, of all packets to which no block gives a level.
     Level(u8),
     Block(LevelBlock),
 }

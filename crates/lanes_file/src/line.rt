@@ -6,7 +6,7 @@ use crate::words::{bare_guid, block_number, bytes, node_port, port, small};
 use smp_bytes::{Guid, PortNum};
 use text_words::{is_word, split_word};
 
-/// What a line says, before it is checked whether it may come there.
+/// What a line says. Ranges and the order of lines are not checked yet.
 #[derive(Clone, Copy)]
 pub(crate) enum LanesLine {
     Empty,
@@ -58,7 +58,7 @@ pub(crate) fn read_line(line: &[u8]) -> Option<LanesLine>
     }
 }
 
-/// Returns the only word of `line`, or `None` if it has more or none.
+/// Returns the only word of `line`, or `None` if `line` has no word or more than one.
 fn alone(line: &[u8]) -> Option<&[u8]>
     ensures { option_map (λ x. x.now) result ≡ alone (words line.now) }
 {

@@ -17,7 +17,7 @@ const MAX_LANE: u8 = 15;
 /// The byte of a block for a LID that has no service level of its own.
 const NO_LEVEL: u8 = 0xFF;
 
-/// What must be known of the lines so far to check later ones.
+/// The facts about the lines so far that are needed to check the next line.
 #[derive(Clone, Copy)]
 pub(crate) struct LinesBefore {
     /// Whether there is a line `lanes`.

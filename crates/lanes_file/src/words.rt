@@ -55,7 +55,7 @@ pub(crate) fn bare_guid(word: &[u8]) -> Option<Guid>
 }
 
 /// Parses a node's GUID and a port of it, as in `0000000000000100/1`. The port is `None` if it is above 254. Returns
-/// `None` if `word` is not written so.
+/// `None` if `word` has another form.
 pub(crate) fn node_port(word: &[u8]) -> Option<(Guid, Option<PortNum>)>
     ensures { result ≡ port_of word.now }
 {
@@ -65,7 +65,7 @@ pub(crate) fn node_port(word: &[u8]) -> Option<(Guid, Option<PortNum>)>
     Some((node, port))
 }
 
-/// Returns the part of `word` before its first slash and the part after it, or `None` if it has no slash.
+/// Returns the part of `word` before its first slash and the part after it, or `None` if `word` has no slash.
 #[tactic(auto, using(text_words::proofs::Splits::until_at, text_words::proofs::Splits::until_none))]
 fn before_slash(word: &[u8]) -> Option<(&[u8], &[u8])>
     ensures { option_map (λ x. (x.0.now, x.1.now)) result ≡ until 47 word.now }
@@ -74,7 +74,7 @@ fn before_slash(word: &[u8]) -> Option<(&[u8], &[u8])>
     Some((&word[..len], &word[len + 1..]))
 }
 
-/// Returns the index of the first slash of `word`, or `None` if there is none.
+/// Returns the index of the first slash of `word`, or `None` if `word` has no slash.
 fn slash(word: &[u8]) -> Option<usize>
     ensures { result ≡ position (λ b. b == 47) word.now }
 {

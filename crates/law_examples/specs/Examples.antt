@@ -24,7 +24,7 @@ pub record PartSeen : Type 0 where
   pub is_end : IsEndPort fabric origin
   pub seen : IsSeenIn (IsJoinedTo fabric origin) (cells_of facts) held fabric
 
--- in some example, facts describe the whole fabric exactly, and it holds the tables
+-- in some example, facts describe the whole fabric exactly, and the fabric holds the tables
 abbrev pub SomeFabricIsSeen : Type 0
 SomeFabricIsSeen = (part : PartSeen) × IsSeen (cells_of part.facts) part.held part.fabric
 
@@ -47,8 +47,8 @@ pub record SwitchThere (part : PartSeen) : Type 0 where
   pub there : IsEndPortIn (IsJoinedTo part.fabric part.origin) part.fabric port node
   pub kind : IsTrue (is_switch node.kind)
 
--- in a change towards a plan by settled entries, one switch of the part has another entry than before for a LID that
--- one end port keeps, and one does not have its next entry yet
+-- tables are in a change towards a plan by settled entries, for a LID that one end port keeps. One switch of the part
+-- has another entry than before, and one does not have its next entry yet
 pub record ChangesThere (part : PartSeen) : Type 0 where
   pub plan : HeldPlan
   pub line : HeldLid
@@ -62,6 +62,6 @@ pub record ChangesThere (part : PartSeen) : Type 0 where
   pub behind : entry_now now line.lid waiting.port.node
       ≢ entry_for (next_tables (cells_of part.facts) settled_first part.held plan) line.lid waiting.node.guid
 
--- in some part, tables change, and some entries are new and some are not yet
+-- in some part, tables change: one switch has another entry than before, and one does not have its next entry yet
 abbrev pub SomeTablesChange : Type 0
 SomeTablesChange = (part : PartSeen) × ChangesThere part

@@ -14,16 +14,16 @@ use Rattle.fact_store.specs.View.{cells_of}
 use Rattle.subnet_view.specs.Routing.{Routing}
 use Rattle.lft_blocks.specs.Arrival.{IsRoutedWay, switches_met}
 
--- a port was up in generation 1
+-- a sighting of a port that was up in generation 1
 abbrev pub up_before : Key × Cell Value
 up_before = (key.Port 16 1, Known 1 (Up true))
 
--- another port is down in generation 3
+-- a sighting of another port that is down in generation 3
 abbrev pub down_now : Key × Cell Value
 down_now = (key.Port 16 2, Known 3 (Up false))
 
--- what one store forgot is not brought back by another store that has it, whether the floor is raised before or after
--- the merge
+-- a fact that one store forgot is not brought back by another store that has it, whether the floor is raised before or
+-- after the merge
 abbrev pub FloorsStayInGroupings : Type 0
 FloorsStayInGroupings =
     (cells_of (merged (of_two (of_raised (of_sightings (up_before ∷ [])) 2) (of_sightings (up_before ∷ down_now ∷ []))))

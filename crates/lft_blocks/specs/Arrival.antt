@@ -23,15 +23,15 @@ use Rattle.lft_blocks.specs.Plan.{PlanValue, plan_by, plan_of, block_at}
 abbrev pub HoldsBlock : Fabric → ℕ → ℕ → List ℕ → Type 0
 HoldsBlock f node b block = (i : ℕ) → i < 64 → slice_get block i ≡ Some (f.entry node (64 * b + i))
 
--- the end port `port` has the LID and the LMC that the plan gives it; if it is a switch's, the switch's top is at least
--- the plan's greatest LID, and its table has the plan's blocks
+-- the end port `port` has the LID and the LMC that the plan gives it. If `node` is a switch, its top is at least the
+-- plan's greatest LID, and its table has the plan's blocks
 pub record HoldsPlanAt (plan : PlanValue) (f : Fabric) (port : NodePort) (node : Node) : Type 0 where
   pub lids : range_of plan.given (record { node = node.guid; port = port.port }) ≡ Some (range_at f port)
   pub top : IsTrue (is_switch node.kind) → (top : ℕ) → top_of plan.given ≡ Some top → top ≤ f.top port.node
   pub blocks : (b : ℕ) (block : List ℕ) → block_at plan node.guid b ≡ Some block → HoldsBlock f port.node b block
 
--- the part holds the plan: each end port of it has the LID, and each switch of it the top and the blocks, as in
--- `HoldsPlanAt`
+-- the part holds the plan: each of its end ports has the LID, and each of its switches has the top and the blocks, as
+-- in `HoldsPlanAt`
 abbrev pub HoldsPlan : Part → PlanValue → Fabric → Type 0
 HoldsPlan part plan f = (port : NodePort) (node : Node) → IsEndPortIn part f port node → HoldsPlanAt plan f port node
 
@@ -72,13 +72,13 @@ abbrev pub last_or : ℕ → List ℕ → ℕ
 last_or d [] = d
 last_or d (x ∷ xs) = last_or x xs
 
--- `n` is the cost of `rule` from the first of the switches to the last; true if there is none
+-- `n` is the cost of `rule` from the first of the switches to the last; true if there are no switches
 abbrev pub IsCostAlong : Routing → List ℕ → ℕ → Type 0
 IsCostAlong rule [] n = Unit {0}
 IsCostAlong rule (s ∷ switches) n = rule.cost s (last_or s switches) ≡ Some n
 
--- the hops are a way of `rule`: from its first switch to its last it takes as many wires between switches as the cost;
--- it meets no switch twice; it takes at most two other wires; its channels' numbers rise
+-- the hops are a way of `rule`. They take as many wires between switches as the cost from the first switch to the last,
+-- and at most two other wires. They meet no switch twice, and the numbers of their channels rise
 pub record IsRoutedWay (rule : Routing) (f : Fabric) (source : NodePort) (hops : List Hop) : Type 0 where
   pub at_cost : IsCostAlong rule (switches_met f source hops) (length (switch_hops f hops))
   pub no_switch_twice : AllPairs (λ a b. a ≢ b) (switches_met f source hops)
@@ -100,8 +100,8 @@ pub record ArrivesBy (rule : Routing) (part : Part) (f : Fabric) (lid : ℕ) (so
 abbrev pub Arrives : RuleValue → Part → Cells → Fabric → ℕ → NodePort → EndPort → Type 0
 Arrives rule part cells f lid source owner = ArrivesBy (routing_by rule cells) part f lid source owner
 
--- if the plan is in force in the part that an end port is joined to, a packet from each end port of the part, for each
--- LID of the plan, is delivered at the LID's owner, over a way of `rule`
+-- a packet from each end port of a part, for each LID of the plan, is delivered at the LID's owner, over a way of
+-- `rule`. The part is what an end port is joined to, and the plan is in force there
 abbrev pub EveryPacketArrivesBy : Routing → Cells → PlanValue → Type 0
 EveryPacketArrivesBy rule cells plan =
     (f : Fabric) (origin : NodePort) → IsEndPort f origin → IsInForce (IsJoinedTo f origin) cells plan f
@@ -109,14 +109,14 @@ EveryPacketArrivesBy rule cells plan =
     → (lid : ℕ) (owner : EndPort) → owner_of plan.given lid ≡ Some owner
     → ArrivesBy rule (IsJoinedTo f origin) f lid source owner
 
--- by the plan of facts with room, by any rule of routing, every packet arrives where the plan is in force
+-- every packet arrives where the plan of facts with room, by any rule of routing, is in force (`EveryPacketArrivesBy`)
 abbrev pub PacketsArriveByEachRouting : Type 0
 PacketsArriveByEachRouting = (lmc : ℕ) (facts : Facts) (rule : Routing) → IsRouting (graph_of (cells_of facts)) rule
     → ¬ (IsNoRoom lmc (cells_of facts))
     → EveryPacketArrivesBy rule (cells_of facts) (plan_by rule lmc (cells_of facts))
 
--- if the facts of a view with room describe the part that an end port is joined to, and the part holds the plan, a
--- packet for each LID of the plan that an end port of the part owns arrives, whatever else the facts contain
+-- a packet for each LID of the plan that an end port of the part owns arrives, whatever else the facts contain. The
+-- facts have room and describe the part, which is what an end port is joined to. The part holds their plan
 abbrev pub PacketsArriveWhereCovered : Type 0
 PacketsArriveWhereCovered =
     (lmc : ℕ) (facts : Facts) (rule : Routing) → IsRouting (graph_of (cells_of facts)) rule
@@ -133,8 +133,8 @@ PacketsArriveWhereCovered =
 abbrev pub EveryPacketArrives : RuleValue → Cells → PlanValue → Type 0
 EveryPacketArrives rule cells plan = EveryPacketArrivesBy (routing_by rule cells) cells plan
 
--- if the plan is in force in the whole of a connected fabric, a packet from each end port for each LID of the plan
--- arrives
+-- a packet from each end port for each LID of the plan arrives, if the plan is in force in the whole of a connected
+-- fabric
 abbrev pub EveryPacketArrivesIfConnected : RuleValue → Cells → PlanValue → Type 0
 EveryPacketArrivesIfConnected rule cells plan = (f : Fabric) → IsConnected f → IsInForce WholeFabric cells plan f
     → (source : NodePort) → IsEndPort f source

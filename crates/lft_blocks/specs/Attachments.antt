@@ -1,5 +1,5 @@
--- The attachments of LIDs, the switch and port where their owners are, with switches by index; and table entries by
--- such attachments.
+-- The attachments of LIDs: for each LID, the switch, by index, and the port where its owner is attached. Also table
+-- entries by these attachments.
 use Rattle.std.specs.Prelude.{◌≡◌, ◌<◌, ℕ, ◌+◌, ◌*◌, List, map, length, Option, None, MatchOption, ◌==◌, unwrap_or, option_map, slice_index, slice_index_or, if◌then◌else◌}
 use Rattle.std.specs.Option.{option_map_or}
 use Rattle.std.specs.List.{range_with_len}
@@ -12,7 +12,7 @@ use Rattle.lft_blocks.specs.Plan.{SwitchTable}
 abbrev pub meant : List ℕ → Attachment → ℕ × ℕ
 meant guids h = (slice_index guids h.switch, h.port)
 
--- `indexed` is `attachment` with its switch by index in `guids`; None if that is None
+-- `indexed` is `attachment` with its switch by index in `guids`; None if `attachment` is None
 pub record IsIndexed (guids : List ℕ) (attachment : Option (ℕ × ℕ)) (indexed : Option Attachment) : Type 0 where
   pub same : option_map (meant guids) indexed ≡ attachment
   pub within : MatchOption indexed (Unit {0}) (λ h. h.switch < length guids)
@@ -25,7 +25,7 @@ AreIndexed guids attachments indexed = (lid : ℕ) → IsIndexed guids (attachme
 abbrev pub AreWithin : ℕ → List (Option Attachment) → Type 0
 AreWithin n indexed = (lid : ℕ) → MatchOption (slice_index_or indexed lid None) (Unit {0}) (λ h. h.switch < n)
 
--- the next port from the switch at index `own` towards each of the first `n` switches; 255 if there is none
+-- the next port from the switch at index `own` towards each of the first `n` switches; 255 for a switch without one
 abbrev pub row_of : List SwitchEdges → ℕ → ℕ → List ℕ
 row_of graph own n = map (λ to. unwrap_or (next_port_at graph own to) 255) (range_with_len 0 n)
 

@@ -1,5 +1,5 @@
--- The numbers of LIDs, by which they take turns among the ports of switches. They depend on the ports at which LIDs are
--- attached, and on the LIDs themselves only modulo 2^LMC.
+-- The numbers of LIDs, by which LIDs take turns among the ports of switches. A number depends on the port at which the
+-- LID is attached, and on the LID itself only modulo 2^LMC.
 use Rattle.std.specs.Prelude.{ℕ, ◌+◌, ◌*◌, ◌%◌, ◌^◌, List, Option, None, map, length, slice_index, slice_index_or}
 use Rattle.std.specs.List.{range_with_len}
 use Rattle.std.specs.Option.{option_map_or}
@@ -22,18 +22,19 @@ pub record Numbering : Type 0 where
   pub leaf_numbers : List ℕ
   pub most : ℕ
 
--- the number of `lid` if it is attached at `port` of the switch at index `switch`, modulo 2^16: each leaf number stands
--- for as many ports as the most adapters of a switch, and each port for 2^LMC numbers
+-- the number of `lid`, attached at `port` of the switch at index `switch`: the switch's leaf number times the most
+-- adapters of a switch, plus the port. This is multiplied by 2^LMC, and `lid` modulo 2^LMC is added. The number is the
+-- result modulo 2^16
 abbrev pub number_at : Numbering → ℕ → ℕ → ℕ → ℕ
 number_at by switch port lid =
     ((slice_index by.leaf_numbers switch * by.most + port) * 2 ^ by.lmc + lid % 2 ^ by.lmc) % 2 ^ 16
 
--- the number of `lid`, given the attachments by GUID; 0 if it has none
+-- the number of `lid`, given the attachments by GUID; 0 if `lid` has no attachment
 abbrev pub number_of : Numbering → List ℕ → (ℕ → Option (ℕ × ℕ)) → ℕ → ℕ
 number_of by guids attachments lid =
     option_map_or (λ a. number_at by (position_of guids a.0) a.1 lid) (attachments lid) 0
 
--- the number of `lid`, given the attachments by index; 0 if it has none
+-- the number of `lid`, given the attachments by index; 0 if `lid` has no attachment
 abbrev pub indexed_number : Numbering → List (Option Attachment) → ℕ → ℕ
 indexed_number by attachments lid =
     option_map_or (λ h. number_at by h.switch h.port lid) (slice_index_or attachments lid None) 0
@@ -42,7 +43,7 @@ indexed_number by attachments lid =
 abbrev pub indexed_numbers : Numbering → List (Option Attachment) → List ℕ
 indexed_numbers by attachments = map (indexed_number by attachments) (range_with_len 0 (length attachments))
 
--- what the numbers of LIDs are computed from, for a graph, if `adapters` has how many adapters each switch has
+-- what the numbers of LIDs are computed from, for a graph; `adapters` has the number of adapters of each switch
 abbrev pub numbering_by : ℕ → List SwitchEdges → List ℕ → Numbering
 numbering_by lmc graph adapters = record {
   lmc = lmc;

@@ -38,7 +38,7 @@ plan_by rule lmc cells =
           tables_of (attachment_of_lid cells given) rule.next (block_count (top_of given)) (switches cells);
     }
 
--- the routing of LIDs by a rule that can be asked for, which routes each LID as its number
+-- the routing of LIDs by a rule that can be asked for: each LID takes the routes that `rule` has for its number
 abbrev pub lid_routing : RuleValue → ℕ → Cells → Given → Routing
 lid_routing rule lmc cells given = numbered (lid_numbers lmc cells given) (routing_by rule cells)
 
@@ -51,7 +51,7 @@ abbrev pub block_at : PlanValue → ℕ → ℕ → Option (List ℕ)
 block_at plan guid b =
     option_and_then (λ table. slice_get table.blocks b) (find (λ table. table.guid == guid) plan.tables)
 
--- the GUIDs of the switches of a plan, rising
+-- the GUIDs of the switches of a plan, in the order of its tables
 abbrev pub switches_of : PlanValue → List ℕ
 switches_of plan = map (λ table. table.guid) plan.tables
 

@@ -11,13 +11,14 @@ use Rattle.lft_blocks.specs.Rules.{RuleValue, order_of, spread_in}
 use Rattle.lft_blocks.specs.Entries.{Next, attachment_of_lid, entry, block, block_count, blocks}
 use Rattle.lft_blocks.specs.Plan.{plan_by, plan_of, block_at}
 
--- if there is room, each end port claims its LID and nothing else changes, there is still room and the plan is equal
+-- if `x` has room, `y` has room too, and the plan of `y` is that of `x`. The facts `y` are `x`, except that each end
+-- port claims the LID that it has by `x`
 abbrev pub PlansStay : Type 0
 PlansStay = (rule : RuleValue) (lmc : ℕ) (x y : Facts) → ¬ (IsNoRoom lmc (cells_of x)) → IsClaimed lmc x y
     → ¬ (IsNoRoom lmc (cells_of y)) × (plan_of rule lmc (cells_of y) ≡ plan_of rule lmc (cells_of x))
 
--- if there is room before and after, end ports that claim their LIDs keep them in plans when others are added that
--- claim nothing
+-- end ports keep the LIDs of the plan of `x` in the plan of `z`, if `x` and `z` have room. In `z` these end ports claim
+-- their LIDs, and others claim nothing (`GrowsFrom`)
 abbrev pub LidsStayInPlans : Type 0
 LidsStayInPlans = (rule : RuleValue) (lmc : ℕ) (x z : Facts) → ¬ (IsNoRoom lmc (cells_of x))
     → ¬ (IsNoRoom lmc (cells_of z)) → GrowsFrom lmc (cells_of x) (cells_of z)
@@ -45,8 +46,7 @@ BlocksAreOfSwitches = (rule : Routing) (lmc : ℕ) (facts : Facts) (g b : ℕ)
     → MatchOption (block_at (plan_by rule lmc (cells_of facts)) g b) (¬ (HasBlock lmc (cells_of facts) g b))
     (λ x. HasBlock lmc (cells_of facts) g b × (x ≡ block_of rule lmc (cells_of facts) g b))
 
--- if a list names the switches in the order of a plan, the order that grows by the list is that order, and the plan is
--- equal
+-- a list that names the switches in the order of a plan gives that order again, and an equal plan
 pub record OrderHolds (order : OrderValue) (lmc : ℕ) (cells : Cells) : Type 0 where
   pub order_stands : order_of (named_in order (order_of order cells)) cells ≡ order_of order cells
   pub plan_stands : plan_of (spread_in (named_in order (order_of order cells))) lmc cells

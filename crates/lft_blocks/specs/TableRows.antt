@@ -7,11 +7,11 @@ use Rattle.lft_blocks.specs.Entries.{Next}
 use Rattle.lft_blocks.specs.Attachments.{meant}
 use Rattle.lft_blocks.specs.Plan.{SwitchTable}
 
--- the attachment of `lid`, which is stored by index, with the GUID of its switch; None if it has none
+-- the attachment of `lid`, which is stored by index, with the GUID of its switch; None if `lid` has no attachment
 abbrev pub attachment_by_index : List ℕ → List (Option Attachment) → ℕ → Option (ℕ × ℕ)
 attachment_by_index guids attachments lid = option_map (meant guids) (slice_index_or attachments lid None)
 
--- whether an attachment is at the switch at index `t`; false if there is none
+-- whether an attachment is at the switch at index `t`; false if there is no attachment
 abbrev pub is_attachment_at : ℕ → Option Attachment → Bool
 is_attachment_at t None = false
 is_attachment_at t (Some h) = h.switch == t
@@ -31,18 +31,18 @@ pub record AreLidsAt (attachments : List (Option Attachment)) (n switches : ℕ)
   pub all : length lists ≡ switches
   pub each : (t : ℕ) → t < switches → slice_index_or lists t [] ≡ lids_before attachments n t
 
--- the port of an attachment; 255 if there is none
+-- the port of an attachment; 255 if there is no attachment
 abbrev pub attachment_port : Option Attachment → ℕ
 attachment_port None = 255
 attachment_port (Some h) = h.port
 
--- the entry for `lid`: the port of its attachment if `is_own`, else `port`; 255 if there is none
+-- the entry for `lid`: the port of its attachment if `is_own`, else `port`; 255 if that is None
 abbrev pub entry_by : List (Option Attachment) → Bool → ℕ → Option ℕ → ℕ
 entry_by attachments is_own lid port =
     if is_own then attachment_port (slice_index_or attachments lid None) else unwrap_or port 255
 
--- the entry for `lid` of the switch at index `own`; 255 if it has no attachment, or one whose switch has no index below
--- `t`
+-- the entry for `lid`, with the given attachment, of the switch at index `own`; 255 if there is no attachment, if the
+-- index of its switch is not below `t`, or if there is no next port
 abbrev pub entry_before : Next → List ℕ → ℕ → ℕ → ℕ → Option Attachment → ℕ
 entry_before next guids t own lid None = 255
 entry_before next guids t own lid (Some h) =

@@ -21,8 +21,9 @@ pub(crate) struct Attachment {
     pub(crate) port: PortNum,
 }
 
-/// Returns the attachment of each LID that has an entry in the first `count` blocks. The index of an attachment is its
-/// LID. `guids` must be the usable switches by rising GUID, and `count` the number of blocks that hold all LIDs.
+/// Returns, for each LID with an entry in the first `count` blocks, the LID's attachment, or `None` if the LID has
+/// none. The index of an item is its LID. `guids` must be the usable switches, by rising GUID. `count` must be the
+/// number of blocks that hold all LIDs.
 pub(crate) fn attachments(
     alloc: Global,
     wires: &Wires,
@@ -55,8 +56,8 @@ fn attachment_of_lid(wires: &Wires, guids: &[Guid], lids: &LidMap, lid: Lid) -> 
     Some(Attachment { switch, port })
 }
 
-/// Returns the GUID of the usable switch and its port at which `port` is attached, or `None` if there is none. A port
-/// of a usable switch is attached at the switch's own port 0.
+/// Returns the GUID of the usable switch and its port at which `port` is attached, or `None` if `port` is attached to
+/// none. A port of a usable switch is attached at the switch's own port 0.
 fn attachment_of(wires: &Wires, port: EndPort) -> Option<(Guid, PortNum)>
     ensures { result ≡ attachment_of (cells_of wires.now) port }
 {
@@ -67,8 +68,8 @@ fn attachment_of(wires: &Wires, port: EndPort) -> Option<(Guid, PortNum)>
     }
 }
 
-/// Returns the index of `guid` among `guids`, which must rise strictly, or `None` if it is not there. Takes a binary
-/// search.
+/// Returns the index of `guid` among `guids`, which must rise strictly, or `None` if `guid` is not there. Takes a
+/// binary search.
 pub(crate) fn index_of(guids: &[Guid], guid: Guid) -> Option<usize>
     requires { IsStrictlyIncreasing guids.now }
     ensures { IsIndexIn guids.now guid result }

@@ -18,8 +18,8 @@ pub fn block_count(top: Option<Lid>) -> usize
     }
 }
 
-/// Returns the first `count` blocks of the switch at the index `own`, at most 1024. `row` must have its port towards
-/// the switch of each attachment.
+/// Returns the first `count` blocks of the switch at the index `own`. `count` must be at most 1024. `row` must have
+/// this switch's port towards the switch of each attachment.
 pub(crate) fn blocks(
     alloc: Global,
     attachments: &[Option<Attachment>],
@@ -39,8 +39,8 @@ pub(crate) fn blocks(
     Ok(blocks)
 }
 
-/// Returns block `b` of the switch at the index `own`. `row` must have its port towards the switch of each attachment,
-/// and `b` must be below 1024.
+/// Returns block `b` of the switch at the index `own`. `b` must be below 1024. `row` must have this switch's port
+/// towards the switch of each attachment.
 fn block(attachments: &[Option<Attachment>], row: &[u8], own: usize, b: usize) -> [u8; 64]
     requires within { AreWithin (length row.now) attachments.now }
     requires few { b < 1024 }
@@ -53,9 +53,9 @@ fn block(attachments: &[Option<Attachment>], row: &[u8], own: usize, b: usize) -
     block
 }
 
-/// Returns the entry for `lid` of the switch at the index `own`: the port of the attachment if that is at this switch,
-/// the port in `row` towards its switch if it is at another one, and 255 if `lid` has no attachment. `row` must have a
-/// port towards the switch of each attachment.
+/// Returns the entry for `lid` of the switch at the index `own`: the port of the LID's attachment if the attachment is
+/// at this switch, the port in `row` towards the attachment's switch if that is another one, and 255 if `lid` has no
+/// attachment. `row` must have a port towards the switch of each attachment.
 fn entry(attachments: &[Option<Attachment>], row: &[u8], own: usize, lid: usize) -> u8
     requires { AreWithin (length row.now) attachments.now }
     ensures { result ≡ entry_in attachments.now row.now own lid }

@@ -5,14 +5,15 @@ ghost use Rattle.lft_blocks.specs.PlanLaws.{PlansStay, LidsStayInPlans, BlocksHo
 ghost use Rattle.lft_blocks.specs.PlanLaws.{OrdersHold};
 ghost use Rattle.lft_blocks.specs.Rules.{RulesAreRoutings, RulesStay};
 
-/// If the facts of a view with room change only in claims, and each end port claims the LID that it has, there is still
+/// If facts with room change only in claims, and each end port claims the LID that it has in their plan, there is still
 /// room and the plan stays.
 pub fn plans_stay()
     ensures { PlansStay }
 {}
 
-/// If end ports claim the LIDs that they have in one plan, they have them in the plan of each view with room, as long
-/// as the other end ports claim nothing or 0 there and the tables have room for the greatest of these LIDs.
+/// If end ports claim the LIDs that they have in the plan of a view with room, they keep these LIDs in the plan of each
+/// view with room, as long as the other end ports claim nothing or 0 there and the tables have room for the greatest of
+/// these LIDs.
 pub fn lids_stay_in_plans()
     ensures { LidsStayInPlans }
 {}
@@ -28,9 +29,9 @@ pub fn blocks_are_of_switches()
     ensures { BlocksAreOfSwitches }
 {}
 
-/// If a view with room describes the part around an end port exactly, and the part holds the view's plan by a rule of
-/// routing, a packet from each end port of the part, for each LID of the plan, is delivered at the end port that owns
-/// the LID, over as many wires between switches as the rule's cost, past no switch twice, and over rising channels. The
+/// If the plan of a view with room, by a rule of routing, is in force in the part around an end port, a packet from
+/// each end port of the part for each LID of the plan is delivered at the end port that owns the LID. The packet takes
+/// as many wires between switches as the rule's cost, passes no switch twice, and takes channels of rising numbers. The
 /// rule may be any that keeps `IsRouting`.
 pub fn packets_arrive_by_each_routing()
     ensures { PacketsArriveByEachRouting }
@@ -43,9 +44,9 @@ pub fn packets_arrive_where_covered()
     ensures { PacketsArriveWhereCovered }
 {}
 
-/// If a view with room describes a connected fabric exactly, and the fabric holds the view's plan, a packet from each
-/// end port for each LID of the plan is delivered at the end port that owns the LID. `Plan::of` promises this for the
-/// part around one end port, in any fabric.
+/// If the plan of a view with room is in force in the whole of a connected fabric, a packet from each end port for each
+/// LID of the plan is delivered at the end port that owns the LID. `Plan::of` promises this for the part around one end
+/// port, in any fabric.
 pub fn packets_arrive_if_connected()
     ensures { PacketsArriveIfConnected }
 {}
@@ -61,8 +62,8 @@ pub fn rules_stay()
     ensures { RulesStay }
 {}
 
-/// If the usable switches of a view are named in the order of the rule that spreads, the order stays the same and
-/// the plan is equal.
+/// If the usable switches of a view are named in the order of the rule that spreads, the order and the plan stay the
+/// same.
 pub fn orders_hold()
     ensures { OrdersHold }
 {}

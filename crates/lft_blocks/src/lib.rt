@@ -1,5 +1,5 @@
-//! The plan of a subnet: a LID for each end port, and the forwarding table of each switch, in blocks of
-//! 64 entries.
+//! The plan of a subnet: a LID for each end port, and the forwarding table of each usable switch, in blocks of 64
+//! entries.
 #![tactic(auto)]
 
 mod attachment;

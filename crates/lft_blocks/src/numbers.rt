@@ -14,9 +14,9 @@ use subnet_view::SwitchGraph;
 #[derive(Drop)]
 pub(crate) struct Numbering {
     pub(crate) lmc: Lmc,
-    /// The leaf number of each switch. Switches are in the order of rising GUIDs.
+    /// The leaf number of each switch, by rising GUID.
     pub(crate) leaf_numbers: Vec<u16>,
-    /// The most adapters that a switch has.
+    /// The most adapters that one switch has.
     pub(crate) most: u16,
 }
 
@@ -47,8 +47,8 @@ pub(crate) fn find_numbering(
     })
 }
 
-/// Returns the number of each LID that has an entry, or 0 if it has no attachment. The index of a number is its LID.
-/// `by` must have a leaf number for the switch of each attachment.
+/// Returns, for each LID with an item in `attachments`, the LID's number, or 0 if the LID has no attachment. The index
+/// of a number is its LID. `by` must have a leaf number for the switch of each attachment.
 pub(crate) fn lid_numbers(
     alloc: Global,
     by: &Numbering,
@@ -76,7 +76,8 @@ fn number_of(by: &Numbering, attachments: &[Option<Attachment>], lid: usize) -> 
     }
 }
 
-/// Returns the number of `lid` at `attachment`, modulo 2^16. `by` must have a leaf number for the attachment's switch.
+/// Returns the number of `lid`, which is attached at `attachment`. `by` must have a leaf number for the attachment's
+/// switch.
 fn number_at(by: &Numbering, attachment: Attachment, lid: usize) -> u16
     requires { attachment.switch < length by.now.leaf_numbers }
     ensures { result ≡ number_at by.now attachment.switch attachment.port lid }

@@ -38,7 +38,7 @@ pub struct Plan {
     lids: LidMap,
     /// The usable switches, by rising GUID.
     switches: Vec<Guid>,
-    /// The table of each switch.
+    /// The table of each switch, by rising GUID.
     tables: Vec<Table>,
 }
 
@@ -53,8 +53,8 @@ impl Model for Plan {
 }
 
 impl Plan {
-    /// Plans a view by a rule of routing, with 2^LMC LIDs for each adapter port. Where the plan is in force, every
-    /// packet arrives. The plan takes 64 bytes for each block of each switch.
+    /// Plans the view that `store` has by `rule`, with 2^LMC LIDs for each adapter port. If the plan is in force in a
+    /// part, every packet arrives there. The plan takes 64 bytes for each block of each switch.
     ///
     /// # Errors
     ///
@@ -98,9 +98,9 @@ impl Plan {
     }
 
     /// Returns block `b` of the switch `guid`. Entry `i` is the port by which packets for the LID `64 * b + i` leave.
-    /// It is 0 if the switch has that LID itself, and 255 if nobody has it or no way leads to its owner. Returns `None`
-    /// exactly if `guid` is not the GUID of a usable switch, or `b` is greater than the number of the greatest LID's
-    /// block. Takes a binary search among the switches.
+    /// It is 0 if the switch has that LID itself, and 255 if nobody has the LID or no way leads to its owner. Returns
+    /// `None` exactly if `guid` is not the GUID of a usable switch, or `b` is greater than the number of the greatest
+    /// LID's block. Takes a binary search among the switches.
     pub fn block(&self, guid: Guid, b: usize) -> Option<&[u8; 64]>
         ensures { option_copied result ≡ block_at self.now guid b }
     {
@@ -172,8 +172,8 @@ fn by_updown(
     Ok((graph.into_switches(), tables))
 }
 
-/// Returns the table of each switch of `graph`, with `count` blocks, by routes that go up and then down. The switches
-/// of `graph` must be by rising GUID, and those of `attachments` among them. `count` must be at most 1024.
+/// Returns the table of each switch of `graph`, with `count` blocks, by routes that go up and then down. The GUIDs of
+/// the switches of `graph` must rise strictly. The attachments must be at these switches. `count` must be at most 1024.
 fn updown_tables(
     alloc: Global,
     graph: &Graph,

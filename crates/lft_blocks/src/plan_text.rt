@@ -16,7 +16,7 @@ use lid_assign::LidMap;
 use smp_bytes::{Guid, Lid};
 use subnet_view::EndPort;
 
-/// Writes a line for each LID, in rising order, and then for each usable switch, by rising GUID, a line with the
+/// Writes a line for each LID, in rising order. Then writes, for each usable switch by rising GUID, a line with the
 /// greatest LID and a line for each block. Flushes at the end. Without end ports there are no lines. Returns an error
 /// only if `sink` has failed. Does not allocate.
 pub fn write_plan<W: Sink>(sink: &mut W, plan: &Plan) -> Result<(), WriteFault>
@@ -51,7 +51,7 @@ fn write_owner<W: Sink>(sink: &mut W, lids: &LidMap, lid: Lid) -> Result<(), Wri
     }
 }
 
-/// Writes the line of `lid`: `lid`, the LID, the end port `port` that has it, and `lmc` if that is not 0.
+/// Writes the line of `lid`: the word `lid`, the number of the LID, the end port `port`, and `lmc` if it is not 0.
 pub fn write_lid<W: Sink>(sink: &mut W, lid: Lid, lmc: Lmc, port: EndPort) -> Result<(), WriteFault>
     ensures { Writes W.written W.has_failed result sink.old sink.new (lid_line (lid, lmc, port)) }
 {
@@ -63,7 +63,7 @@ pub fn write_lid<W: Sink>(sink: &mut W, lid: Lid, lmc: Lmc, port: EndPort) -> Re
     sink.write(b"\n")
 }
 
-/// Writes ` lmc ` and the number of `lmc`, or nothing if that is 0.
+/// Writes ` lmc ` and the number of `lmc`, or nothing if the number is 0.
 fn write_lmc<W: Sink>(sink: &mut W, lmc: Lmc) -> Result<(), WriteFault>
     ensures { WritesPart W.written W.has_failed result sink.old sink.new (lmc_text lmc) }
 {
@@ -84,7 +84,7 @@ fn write_tables<W: Sink>(sink: &mut W, plan: &Plan) -> Result<(), WriteFault>
     }
 }
 
-/// Writes the lines of the switches of `tables`, with `top` as the greatest LID, and of their blocks.
+/// Writes, for each of `tables`, the line of its switch, with `top` as the greatest LID, and the lines of its blocks.
 fn write_each_table<W: Sink>(sink: &mut W, top: Lid, tables: &[Table]) -> Result<(), WriteFault>
     ensures { WritesPart W.written W.has_failed result sink.old sink.new
         (flat_map (table_text top) tables.now) }
@@ -95,7 +95,7 @@ fn write_each_table<W: Sink>(sink: &mut W, top: Lid, tables: &[Table]) -> Result
     Ok(())
 }
 
-/// Writes the line of a switch with `top` as the greatest LID, and the lines of its blocks.
+/// Writes the line of the switch of `table`, with `top` as the greatest LID, and the lines of its blocks.
 fn write_table<W: Sink>(sink: &mut W, top: Lid, table: &Table) -> Result<(), WriteFault>
     ensures { WritesPart W.written W.has_failed result sink.old sink.new (table_text top table.now) }
 {
@@ -103,7 +103,8 @@ fn write_table<W: Sink>(sink: &mut W, top: Lid, table: &Table) -> Result<(), Wri
     write_blocks(sink, table.blocks())
 }
 
-/// Writes the line of a switch: `switch`, `guid`, `top`, and the number of `top`, the greatest LID.
+/// Writes the line of a switch: the word `switch`, the GUID `guid`, the word `top`, and the number of `top`, the
+/// greatest LID.
 pub fn write_switch<W: Sink>(sink: &mut W, top: Lid, guid: Guid) -> Result<(), WriteFault>
     ensures { Writes W.written W.has_failed result sink.old sink.new (switch_line top guid) }
 {
@@ -124,7 +125,8 @@ fn write_blocks<W: Sink>(sink: &mut W, blocks: &[[u8; 64]]) -> Result<(), WriteF
     Ok(())
 }
 
-/// Writes the line of a block: `block`, its number `b`, and two hex digits for each of its entries.
+/// Writes the line of a block: the word `block`, the number `b` of the block, and two hex digits for each of its
+/// entries.
 pub fn write_block<W: Sink>(sink: &mut W, b: usize, block: &[u8; 64]) -> Result<(), WriteFault>
     ensures { Writes W.written W.has_failed result sink.old sink.new (block_line (b, block.now)) }
 {

@@ -50,7 +50,7 @@ impl Planning {
         })
     }
 
-    /// Plans the view that `store` holds. Where the plan is in force, every packet arrives.
+    /// Plans the view that `store` has. If the plan is in force in a part, every packet arrives there.
     ///
     /// # Errors
     ///

@@ -7,7 +7,8 @@ use std::alloc::{AllocError, Global};
 /// A rule of routing: how packets are routed between switches.
 #[derive(Drop)]
 pub enum Rule {
-    /// Goes up towards the root of the component as far as needed, and then down. Takes the least port at each switch.
+    /// Goes up until a walk down leads to the target, and then down. Of equally good ports, takes the least at each
+    /// switch.
     UpDown,
     /// Spreads packets over the wires, by an order of switches.
     Spread {

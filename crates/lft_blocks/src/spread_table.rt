@@ -23,8 +23,9 @@ use std::alloc::{AllocError, Global};
 use std::mem;
 use subnet_view::{SwitchGraph, Wires};
 
-/// Returns the table of each switch by the rule that spreads by `order`. Each table has `count` blocks, at most 1024.
-/// `graph` must be that of `wires`, and `attachments` must have `64 * count` items, at switches of `graph`.
+/// Returns the table of each switch of `graph`, with `count` blocks, by the rule that spreads by `order`. `count` must
+/// be at most 1024. `graph` must be the graph of `wires`. `attachments` must have `64 * count` items, with attachments
+/// at switches of `graph`.
 pub(crate) fn spread_tables(
     alloc: Global,
     wires: &Wires,
@@ -54,8 +55,8 @@ pub(crate) fn spread_tables(
     tables_of(alloc, guids, &mut rows, count)
 }
 
-/// Returns the row of entries of each switch. There must be `switches` switches, with those of the attachments among
-/// them, and a number for each attachment.
+/// Returns the row of entries of each switch. `switches` must be the number of switches. The attachments must be at
+/// these switches. `numbers` must have a number for each item of `attachments`.
 fn rows(
     alloc: Global,
     spread: &Spread,
@@ -90,7 +91,8 @@ fn rows(
 }
 
 /// Writes the entries of all switches for the LIDs that are attached to one of the targets of `towards`. `rows` must
-/// have the entries for all targets before these, and `lids` the LIDs that are attached to each switch.
+/// have the entries for LIDs that are attached to earlier switches, and 255 for the others. `lids` must have the LIDs
+/// that are attached to each switch.
 fn write_rows<'s>(
     alloc: Global,
     rows: &mut [TableRow],
@@ -127,8 +129,8 @@ fn write_rows<'s>(
 }
 
 /// Writes the entries of the switch at the index `own` for the LIDs that are attached to one of the targets of
-/// `towards`. `row` must have its entries for all targets before these, and `lids` the LIDs that are attached to each
-/// switch. Replaces the contents of `exits`.
+/// `towards`. `row` must have its entries for LIDs that are attached to earlier switches, and 255 for the others.
+/// `lids` must have the LIDs that are attached to each switch. Replaces the contents of `exits`.
 fn write_row<'s>(
     row: &mut TableRow,
     own: usize,
@@ -165,7 +167,7 @@ fn write_row<'s>(
     Ok(())
 }
 
-/// Returns `switches` rows of `len` entries that have no way to any LID.
+/// Returns `switches` rows of `len` entries, each of which is 255.
 fn no_ways(alloc: Global, switches: usize, len: usize) -> Result<Vec<TableRow>, AllocError>
     ensures { IfOk result (λ rows. rows.items ≡ replicate switches (replicate len 255)) }
 {

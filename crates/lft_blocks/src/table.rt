@@ -5,8 +5,8 @@ use crate::block::blocks;
 use smp_bytes::Guid;
 use std::marker::Model;
 
-/// The forwarding table of a switch, in blocks of 64 entries. It has at most 1024 blocks, which hold all LIDs that a
-/// packet can name.
+/// The forwarding table of a switch, in blocks of 64 entries. A table has at most 1024 blocks, enough for all LIDs that
+/// a packet can name.
 #[derive(Drop)]
 pub struct Table {
     pub(crate) guid: Guid,
@@ -25,7 +25,7 @@ impl Model for Table {
 }
 
 impl Table {
-    /// Creates the table of the switch `guid` with `blocks`, at most 1024.
+    /// Creates the table of the switch `guid` with `blocks`. There must be at most 1024 blocks.
     pub(crate) fn new(guid: Guid, blocks: Vec<[u8; 64]>) -> Self
         requires { length blocks.items ≤ 1024 }
         ensures { result ≡ record { guid = guid; blocks = blocks.items } }
@@ -40,7 +40,7 @@ impl Table {
         self.guid
     }
 
-    /// Returns block `b`, or `None` if there are fewer blocks.
+    /// Returns block `b`, or `None` past the last block.
     pub(crate) fn block(&self, b: usize) -> Option<&[u8; 64]>
         ensures { option_copied result ≡ slice_get self.now.blocks b }
     {

@@ -26,7 +26,7 @@ impl Model for TableRow {
 }
 
 impl TableRow {
-    /// Creates a row of `len` entries, from LID 0 on, that has no way to any LID.
+    /// Creates a row of `len` entries, from LID 0 on, each of which is 255.
     pub(crate) fn new(alloc: Global, len: usize) -> Result<Self, AllocError>
         ensures { IfOk result (λ row. row ≡ replicate len 255) }
     {
@@ -43,10 +43,10 @@ impl TableRow {
         }
     }
 
-    /// Writes the entries for `lids`, which are attached to `target` of the exits. If `is_own`, these are the ports of
-    /// the attachments, and otherwise the ports by which packets leave for `target`. Each LID chooses by its number in
-    /// `numbers`. The row must have an entry for each of `lids`, with an attachment and a number each, and `target`
-    /// must be below 64.
+    /// Writes the entries for `lids`, which are attached to `target` of `exits`. If `is_own`, the entries are the ports
+    /// of the attachments. Otherwise they are the ports by which packets leave for `target`, or 255 if no port leads
+    /// there. Each LID chooses by its number in `numbers`. The row must have an entry for each of `lids`. `attachments`
+    /// and `numbers` must be as long as the row. `target` must be below 64.
     pub(crate) fn write(
         &mut self,
         attachments: &[Option<Attachment>],
@@ -85,8 +85,8 @@ impl TableRow {
     }
 }
 
-/// Sets the entry for each of `lids` to the port of its attachment, or to 255 if it has none. `entries` must have an
-/// entry for each of `lids`, with an attachment each.
+/// Sets the entry for each of `lids` to the port of its attachment, or to 255 if the LID has none. `entries` must have
+/// an entry for each of `lids`. `attachments` must be as long as `entries`.
 fn write_own(entries: &mut [u8], attachments: &[Option<Attachment>], lids: &[Lid])
     requires lids { All (λ lid. lid < length entries.old) lids.now }
     requires attachments { length entries.old ≡ length attachments.now }
@@ -98,7 +98,7 @@ fn write_own(entries: &mut [u8], attachments: &[Option<Attachment>], lids: &[Lid
     }
 }
 
-/// Returns block `b` of `entries`, which must have all of it.
+/// Returns block `b` of `entries`. `entries` must have all 64 entries of the block.
 fn block(entries: &[u8], b: usize) -> [u8; 64]
     requires few { b < 1024 }
     requires within { 64 * b + 64 ≤ length entries.now }
@@ -122,8 +122,8 @@ fn own_entry(attachments: &[Option<Attachment>], lid: Lid) -> u8
     }
 }
 
-/// Returns for each of `switches` switches the LIDs that are attached to it, in rising order. The attachments must be
-/// at these switches, and at most 65536.
+/// Returns, for each of `switches` switches, the LIDs that are attached to the switch, in rising order. `attachments`
+/// must have at most 65536 items, with attachments at these switches.
 pub(crate) fn lids_by_switch(
     alloc: Global,
     attachments: &[Option<Attachment>],

@@ -27,7 +27,7 @@ room cells = least_room (filter_map (cap_of cells) (switches cells))
 abbrev pub if_fits : ℕ → ℕ → EndPort → ℕ → Option ℕ
 if_fits room lmc e c = if fits room (range_at lmc e c) then Some c else None
 
--- the number that the end port `e` claims, if its range from there on fits; else None
+-- the number that the end port `e` claims, if the range of `e` from that number on fits; else None
 abbrev pub fitting_claim : ℕ → Cells → EndPort → Option ℕ
 fitting_claim lmc cells e = option_and_then (if_fits (room cells) lmc e) (claim_of cells e.node e.port)
 
@@ -35,12 +35,12 @@ fitting_claim lmc cells e = option_and_then (if_fits (room cells) lmc e) (claim_
 abbrev pub claims : ℕ → Cells → Range → EndPort → Bool
 claims lmc cells r e = option_map_or (λ c. meets r (range_at lmc e c)) (fitting_claim lmc cells e) false
 
--- `c` if no end port of `earlier` claims a range that fits and has a number in common with that of `e` from `c` on;
--- else None
+-- `c` if no end port of `earlier` claims a range that fits and has a number in common with the range of `e` from `c`
+-- on; else None
 abbrev pub if_first : ℕ → Cells → List EndPort → EndPort → ℕ → Option ℕ
 if_first lmc cells earlier e c = if list_any (claims lmc cells (range_at lmc e c)) earlier then None else Some c
 
--- the claim that the end port `e` keeps, if `earlier` are the end ports before it; None if it keeps none
+-- the claim that the end port `e` keeps, if `earlier` are the end ports before `e`; None if `e` keeps no claim
 abbrev pub kept_claim : ℕ → Cells → List EndPort → EndPort → Option ℕ
 kept_claim lmc cells earlier e = option_and_then (if_first lmc cells earlier e) (fitting_claim lmc cells e)
 
@@ -68,14 +68,14 @@ count_up start (suc n) = start ∷ count_up (suc start) n
 abbrev pub is_open : ℕ → List Range → Range → Bool
 is_open room taken r = fits room r && not (list_any (meets r) taken)
 
--- the least number from which on a range of `width` fits and has no number in common with the ranges `taken`; None if
--- there is none
+-- the least number that begins a range of `width` that fits and has no number in common with the ranges `taken`; None
+-- if there is no such number
 abbrev pub least_open : ℕ → List Range → ℕ → Option ℕ
 least_open room taken width =
     find (λ c. is_open room taken (record { first = c; width = width })) (count_up 1 (room - 1))
 
--- each end port of a list with its LID: the claim that it keeps or, in order, the least number from which on its range
--- fits and meets neither `taken` nor what was handed out; None if one finds none
+-- each end port of a list with its LID: the claim that it keeps, or else the least number that begins a range for it
+-- that fits and meets neither `taken` nor a range handed out before. None if an end port finds no such number
 abbrev pub hand_out : ℕ → ℕ → List Range → List (EndPort × Option ℕ) → Option (List (EndPort × ℕ))
 hand_out room lmc taken [] = Some []
 hand_out room lmc taken ((e, Some c) ∷ rest) = option_map (λ given. (e, c) ∷ given) (hand_out room lmc taken rest)
@@ -83,7 +83,7 @@ hand_out room lmc taken ((e, None) ∷ rest) =
     option_and_then (λ c. option_map (λ given. (e, c) ∷ given) (hand_out room lmc (range_at lmc e c ∷ taken) rest))
     (least_open room taken (width_of lmc e))
 
--- each end port in order, with its LID; None if one of them finds none
+-- each end port in order, with its LID; None if an end port finds no LID
 abbrev pub handed_out : ℕ → Cells → Option (List (EndPort × ℕ))
 handed_out lmc cells = hand_out (room cells) lmc (filter_map (kept_range lmc) (kept lmc cells)) (kept lmc cells)
 
@@ -92,7 +92,7 @@ pub record Given : Type 0 where
   pub lmc : ℕ
   pub ports : List (EndPort × ℕ)
 
--- the LIDs of a view under the LMC `lmc`; if an end port finds none, no end port has one
+-- the LIDs of a view under the LMC `lmc`; if an end port finds no LID, no end port has one
 abbrev pub lids : ℕ → Cells → Given
 lids lmc cells = record { lmc = lmc; ports = unwrap_or (handed_out lmc cells) [] }
 
@@ -100,7 +100,7 @@ lids lmc cells = record { lmc = lmc; ports = unwrap_or (handed_out lmc cells) []
 abbrev pub is_no_room : ℕ → Cells → Bool
 is_no_room lmc cells = not (is_some (handed_out lmc cells))
 
--- an end port finds no LID (`is_no_room`), so none are assigned
+-- an end port finds no LID (`is_no_room`), so no LIDs are assigned
 abbrev pub IsNoRoom : ℕ → Cells → Type 0
 IsNoRoom lmc cells = IsTrue (is_no_room lmc cells)
 
@@ -118,11 +118,11 @@ owner_of given n = option_map (λ x. x.0) (find (has_number given.lmc n) given.p
 abbrev pub is_end_port_at : EndPort → EndPort × ℕ → Bool
 is_end_port_at e x = e.node == x.0.node && e.port == x.0.port
 
--- the LID of the end port `e` in a list, which is the first number of its range; None if it has none
+-- the LID of the end port `e` in a list, which is the first number of its range; None if the list does not have `e`
 abbrev pub lid_among : List (EndPort × ℕ) → EndPort → Option ℕ
 lid_among given e = option_map (λ x. x.1) (find (is_end_port_at e) given)
 
--- the LID of the end port `e`, which is the first number of its range; None if it has none
+-- the LID of the end port `e`, which is the first number of its range; None if `e` has no LID
 abbrev pub lid_of : Given → EndPort → Option ℕ
 lid_of given e = lid_among given.ports e
 
@@ -130,7 +130,7 @@ lid_of given e = lid_among given.ports e
 abbrev pub lmc_of : Given → EndPort → ℕ
 lmc_of given e = lmc_at given.lmc e
 
--- the LID and the LMC of the end port `e`; None if it has no LID
+-- the LID and the LMC of the end port `e`; None if `e` has no LID
 abbrev pub range_of : Given → EndPort → Option (ℕ × ℕ)
 range_of given e = option_map (λ lid. (lid, lmc_of given e)) (lid_of given e)
 
@@ -143,7 +143,7 @@ greatest (n ∷ ns) = max n (greatest ns)
 abbrev pub last_of : ℕ → EndPort × ℕ → ℕ
 last_of lmc x = x.1 + width_of lmc x.0 - 1
 
--- the greatest number in the ranges of a list; None if it is empty
+-- the greatest number in the ranges of a list; None if the list is empty
 abbrev pub top_among : ℕ → List (EndPort × ℕ) → Option ℕ
 top_among lmc [] = None
 top_among lmc (x ∷ given) = Some (max (last_of lmc x) (greatest (map (last_of lmc) given)))
@@ -171,13 +171,13 @@ rising_lids given = filter (is_lid given.ports) (count_up 0 (end_of (top_of give
 abbrev pub Stands : {X : Type 0} → List X → X → List X → List X → Type 0
 Stands earlier x later all = all ≡ earlier ++ x ∷ later
 
--- the end port `e` claims the number `c`, and its range from there on fits
+-- the end port `e` claims the number `c`, and the range of `e` from `c` on fits
 pub record ClaimsFitting (lmc : ℕ) (cells : Cells) (e : EndPort) (c : ℕ) : Type 0 where
   pub claimed : claim_of cells e.node e.port ≡ Some c
   pub claim_fits : Fits (room cells) (range_at lmc e c)
 
--- the end port `e` keeps the claim `c`: its range from there on fits, and no end port before it claims a range that
--- fits and has a number in common with it
+-- the end port `e` keeps the claim `c`: the range of `e` from `c` on fits, and no end port before `e` claims a range
+-- that fits and has a number in common with that range. True of any `e` that is no end port
 abbrev pub Keeps : ℕ → Cells → EndPort → ℕ → Type 0
 Keeps lmc cells e c =
     (earlier later : List EndPort) → Stands earlier e later (end_ports cells) → ClaimsFitting lmc cells e c
@@ -196,8 +196,9 @@ pub record WasTaken (lmc : ℕ) (cells : Cells) (earlier given : List (EndPort �
   pub is_before : Contains earlier (by, lid) ⊎ Keeps lmc cells by lid
   pub is_its : IsIn (range_at lmc by lid) n
 
--- `given` has the end ports in order, each with a LID; ranges fit and have no number in common; each has the claim that
--- it keeps or, if it keeps none, the least number from which on its range fits and has no number that was taken
+-- `given` has the end ports in order, each with a LID; their ranges fit and have no number in common. An end port has
+-- the claim that it keeps, or else the least number that begins a range for it that fits and has no number that was
+-- taken (`WasTaken`)
 pub record AreLids (lmc : ℕ) (cells : Cells) (given : List (EndPort × ℕ)) : Type 0 where
   pub end_ports_in_order : map (λ x. x.0) given ≡ end_ports cells
   pub each_fits : (e : EndPort) (n : ℕ) → Contains given (e, n) → Fits (room cells) (range_at lmc e n)
@@ -224,7 +225,7 @@ abbrev pub NoRoomLaw : Type 0
 NoRoomLaw = (lmc : ℕ) (facts : Facts) → IsNoRoom lmc (cells_of facts)
     ↔ ((given : List (EndPort × ℕ)) → AreLids lmc (cells_of facts) given → ⊥)
 
--- under LMC 0 there is no room exactly if there are end ports, and at least as many as the room
+-- under LMC 0 an end port finds no LID exactly if there are end ports, and at least as many as the room
 abbrev pub NoRoomAtLmc0 : Type 0
 NoRoomAtLmc0 = (cells : Cells) → IsNoRoom 0 cells
     ↔ ((0 < length (end_ports cells)) × (room cells ≤ length (end_ports cells)))

@@ -19,11 +19,11 @@ any_marked marks r = list_any (is_marked marks) (count_up r.first r.width)
 abbrev pub from_on : ℕ → ℕ → Range
 from_on width c = record { first = c; width = width }
 
--- whether the number `n` is in the range `r`; false if there is none
+-- whether the number `n` is in the range `r`; false if `r` is None
 abbrev pub is_in_some : Option Range → ℕ → Bool
 is_in_some r n = option_map_or (λ r. is_in r n) r false
 
--- `new` is `old` with each number of the range `r` marked, if there is one
+-- `new` is as long as `old`, and marks what `old` marks and, if `r` is a range, each number of `r` below that length
 pub record AreMarkedMore (r : Option Range) (old new : List Bool) : Type 0 where
   pub all : length new ≡ length old
   pub each : (n : ℕ) → n < length old → is_marked new n ≡ (is_in_some r n || is_marked old n)
@@ -32,7 +32,7 @@ pub record AreMarkedMore (r : Option Range) (old new : List Bool) : Type 0 where
 abbrev pub if_within : ℕ → ℕ → ℕ → Option ℕ
 if_within room width c = if fits room (from_on width c) then Some c else None
 
--- the claim if there is one and its range fits, else None
+-- `claim` if its range of `width` fits; None if it does not, or if `claim` is None
 abbrev pub fitting : ℕ → ℕ → Option ℕ → Option ℕ
 fitting room width claim = option_and_then (if_within room width) claim
 
@@ -40,7 +40,7 @@ fitting room width claim = option_and_then (if_within room width) claim
 abbrev pub if_unmarked : List Bool → ℕ → ℕ → Option ℕ
 if_unmarked marks width c = if any_marked marks (from_on width c) then None else Some c
 
--- the claim if there is one, its range fits, and none of its numbers is marked; else None
+-- `claim` if its range of `width` fits and has no marked number; None if not, or if `claim` is None
 abbrev pub unmarked : List Bool → ℕ → Option ℕ → Option ℕ
 unmarked marks width claim = option_and_then (if_unmarked marks width) (fitting (length marks) width claim)
 
@@ -72,11 +72,12 @@ pub record IsPassed (marks : List Bool) (width next : ℕ) : Type 0 where
   pub near : next ≤ length marks + width
   pub none_before : NoneUnmarked marks width 0 next
 
--- `next.switch` is passed (`IsPassed`) for switches, and `next.adapter` for adapter ports
+-- `next.switch` is passed (`IsPassed`) for ranges of width 1, as switches have, and `next.adapter` for ranges of width
+-- 2^LMC, as adapter ports have
 pub record ArePassed (lmc : ℕ) (marks : List Bool) (next : Next) : Type 0 where
   pub switches : IsPassed marks 1 next.switch
   pub adapters : IsPassed marks (2 ^ lmc) next.adapter
 
--- `found` is the LIDs that `handed` has; None if that is None
+-- `found` has the LIDs that `handed` has; `found` is None exactly if `handed` is None
 abbrev pub IsFound : {V : Type 0} → (V → List (EndPort × ℕ)) → Option (List (EndPort × ℕ)) → Option V → Type 0
 IsFound items handed found = option_map items found ≡ handed

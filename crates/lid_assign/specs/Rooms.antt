@@ -6,11 +6,11 @@ use Rattle.reply_facts.specs.declared.value.Value.{Value}
 use Rattle.reply_facts.specs.Known.{cap_of}
 use Rattle.subnet_view.specs.Reading.{Cells, usable_guid}
 
--- the table room of the node, if one is given and its room is known; else None
+-- the table room of the node that is given; None if its room is not known, or if no node is given
 abbrev pub cap_if : Cells → Option ℕ → Option ℕ
 cap_if cells None = None
 cap_if cells (Some guid) = cap_of cells guid
 
--- the table room of the node of a cell that says what a node is, if that is a usable switch; else None
+-- the table room of the node whose type a cell gives, if this node is a usable switch; else None
 abbrev pub usable_cap : Cells → Key × Cell Value → Option ℕ
 usable_cap cells cell = cap_if cells (usable_guid cells cell)

@@ -18,15 +18,15 @@ use std::alloc::Global;
 use subnet_view::{EndPort, end_ports};
 
 /// Assigns a LID to each end port of the view. A switch has a range of one number, its LID, and an adapter's port has a
-/// range of 2^`lmc` numbers, from its LID on. A range fits if it begins at a multiple of its width, not at 0, and ends
-/// below the room of every usable switch's table and within the unicast LIDs. An end port keeps its claim if the
-/// claim's range fits and meets no range that fits and that an earlier end port claims. Each other end port, in order,
-/// takes the least number whose range fits and has no number that is taken. Unless memory runs out, walks the cells at
-/// most four times.
+/// range of 2^`lmc` numbers, from its LID on. A range fits if it begins at a multiple of its width, but not at 0, and
+/// ends below the room. The room is the least table room of a usable switch, but at most 49152, where unicast LIDs end.
+/// An end port keeps its claim if the claim's range fits, and meets no fitting range that an earlier end port claims.
+/// Each other end port, in order, takes the least number whose range fits and has no number that is taken. Unless
+/// memory runs out, walks the cells at most four times.
 ///
 /// # Errors
 ///
-/// Returns `NoRoom` if an end port finds no LID, and `Memory` if each would find one but memory runs out.
+/// Returns `NoRoom` if an end port finds no LID, and `Memory` if each would find a LID but memory runs out.
 pub fn assign(alloc: Global, store: &Store, lmc: Lmc) -> Result<LidMap, LidFault>
     ensures judged { JudgesButFor is_memory result (lid_fault (no_room lmc (cells_of store.now))) }
     ensures lids { IfOk result (λ map. map ≡ lids lmc (cells_of store.now)) }
@@ -49,7 +49,8 @@ fn out_of_memory(store: &Store, lmc: Lmc) -> LidFault
     }
 }
 
-/// Returns the end ports in their order, each with its LID, or `None` if one of them finds none.
+/// Returns the end ports in their order, each with its LID, or `None` if an end port finds no LID. Returns an error if
+/// memory runs out.
 fn handed_out(
     alloc: Global,
     store: &Store,

@@ -16,10 +16,10 @@ pub struct NoRoom {
 /// Why no LIDs are assigned.
 #[derive(Clone, Copy, Debug, PartialEq, Eq, Error)]
 pub enum LidFault {
-    /// There is no room for the LIDs.
+    /// An end port finds no LID.
     #[error("NoRoom")]
     NoRoom(NoRoom),
-    /// There was no memory for the LIDs.
+    /// Memory for the LIDs was refused. Each end port would find a LID.
     #[error("Memory")]
     Memory,
 }

@@ -11,16 +11,18 @@ use smp_bytes::Lid;
 use std::alloc::{AllocError, Global};
 use subnet_view::EndPort;
 
-/// The next number to try, for switches and for adapter ports. No range below it is open.
+/// The next number to try for switches, and the next for adapter ports. A range is open if it fits and has no number
+/// that is taken. No open range of a switch begins below `switch`, and none of an adapter port below `adapter`.
 #[derive(Clone, Copy)]
 pub(crate) struct Next {
     switch: usize,
     adapter: usize,
 }
 
-/// Returns the end ports in their order, each with its LID: the claim that it keeps, or the least number whose range
-/// fits and has no number that is taken. Returns `None` if one of them finds none. The ranges of kept claims, and no
-/// others, must be marked in `taken`.
+/// Returns the end ports of `keepers` in their order, each with its LID. This is the claim that the end port keeps, or
+/// the least number whose range fits and has no number that is taken. Returns `None` if an end port finds no LID. In
+/// `taken` the ranges of kept claims, and no others, must be marked. `taken` is as long as the room, and must have at
+/// most 49152 numbers.
 pub(crate) fn hand_out(
     alloc: Global,
     lmc: Lmc,
@@ -57,8 +59,9 @@ pub(crate) fn first(lmc: Lmc) -> Next
     }
 }
 
-/// Takes and returns the least number whose range, as wide as that of `port`, is open, or returns `None` if there is
-/// none. No range from a number below `next` on may be open.
+/// Returns the least number whose range, as wide as that of `port`, is open, and marks this range in `taken`. Returns
+/// `None` if no range of that width is open. `taken` must have at most 49152 numbers. `next` must be passed
+/// (`ArePassed`): no open range begins below its numbers.
 pub(crate) fn take(taken: &mut [bool], next: &mut Next, lmc: Lmc, port: EndPort) -> Option<Lid>
     requires room { length taken.old ≤ 0xC000 }
     requires passed { ArePassed lmc taken.old next.old }
@@ -76,8 +79,9 @@ pub(crate) fn take(taken: &mut [bool], next: &mut Next, lmc: Lmc, port: EndPort)
     }
 }
 
-/// Takes and returns the least number whose range of `width` numbers is open, or returns `None` if there is none. No
-/// range from a number below `next` on may be open.
+/// Returns the least number whose range of `width` numbers is open, and marks this range in `taken`. Returns `None` if
+/// no range of that width is open. `width` must be from 1 to 128, and `taken` have at most 49152 numbers. `next` must
+/// be passed (`IsPassed`): no open range begins below it.
 fn take_from(taken: &mut [bool], next: &mut usize, width: usize) -> Option<Lid>
     requires some { 1 ≤ width }
     requires few { width ≤ 128 }
@@ -94,8 +98,9 @@ fn take_from(taken: &mut [bool], next: &mut usize, width: usize) -> Option<Lid>
     Some(Lid::new(first as u16))
 }
 
-/// Returns the least number from `next` on whose range of `width` numbers fits and has no mark, or `None` if there is
-/// none. `next` must be a multiple of `width`, not 0, and no range from a number below it on may be open.
+/// Returns the least number from `next` on whose range of `width` numbers fits and has no mark, or `None` if no such
+/// number exists. `width` must be from 1 to 128, and `marks` have at most 49152 numbers. `next` must be passed
+/// (`IsPassed`), which includes that it is a multiple of `width`, and not 0.
 fn least_unmarked(marks: &[bool], mut next: usize, width: usize) -> Option<usize>
     requires some { 1 ≤ width }
     requires few { width ≤ 128 }

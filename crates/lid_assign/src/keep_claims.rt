@@ -13,9 +13,10 @@ use smp_bytes::Lid;
 use std::alloc::{AllocError, Global};
 use subnet_view::EndPort;
 
-/// Returns the end ports in their order, each with the claim that it keeps, or `None` if it keeps none. A claim is kept
-/// if its range fits, and meets no range that fits and that an earlier end port claims. Marks the ranges of fitting
-/// claims in `claimed`, and the ranges of kept claims in `taken`. Neither may have a mark before.
+/// Returns the end ports in their order, each with the claim that it keeps, or `None` if it keeps no claim. A claim is
+/// kept if its range fits, and meets no fitting range that an earlier end port claims. Marks the ranges of fitting
+/// claims in `claimed`, and the ranges of kept claims in `taken`. `ports` must be the end ports of `store` in their
+/// order. `claimed` and `taken` must be as long as the room, and without marks.
 pub(crate) fn keep_claims(
     alloc: Global,
     store: &Store,
@@ -39,7 +40,7 @@ pub(crate) fn keep_claims(
     Ok(keepers)
 }
 
-/// Returns the LID that `port` claims, or `None` if it claims none. Takes a binary search among the cells.
+/// Returns the LID that `port` claims, or `None` if no claim is known. Takes a binary search among the cells.
 pub(crate) fn claim(store: &Store, port: EndPort) -> Option<Lid>
     ensures { result ≡ claim_of (cells_of store.now) port.node port.port }
 {
@@ -47,7 +48,8 @@ pub(crate) fn claim(store: &Store, port: EndPort) -> Option<Lid>
 }
 
 /// Returns `claim` if its range of `width` numbers fits and has no mark in `claimed`, otherwise `None`. Marks the range
-/// in `claimed` if it fits, and in `taken` if the claim is returned.
+/// in `claimed` if the range fits, and in `taken` if the claim is returned. `width` must be from 1 to 128, and
+/// `claimed` and `taken` be equally long.
 pub(crate) fn keep(
     claim: Option<Lid>,
     width: usize,
@@ -68,7 +70,7 @@ pub(crate) fn keep(
 }
 
 /// Returns `claim` if its range of `width` numbers fits and has no mark in `claimed`, otherwise `None`. Marks the range
-/// there if it fits.
+/// in `claimed` if the range fits. `width` must be from 1 to 128.
 pub(crate) fn claims_first(claim: Option<Lid>, width: usize, claimed: &mut [bool]) -> Option<Lid>
     requires some { 1 ≤ width }
     requires few { width ≤ 128 }

@@ -4,20 +4,19 @@ ghost use Rattle.lid_assign.specs.Lids.{OwnersAreInverse, RisingLidsLaw};
 ghost use Rattle.lid_assign.specs.Ranges.{RangesLaw};
 ghost use Rattle.lid_assign.specs.Stability.{LidsSettle, LidsStay};
 
-/// The tests of a number in a range, of two ranges that meet, and of a range that fits below a room agree with `IsIn`,
-/// `IsInBoth` and `Fits`, if the ranges are not empty.
+/// For ranges that are not empty, the tests `is_in`, `meets` and `fits` agree with `IsIn`, `IsInBoth` and `Fits`.
 pub fn ranges_law()
     ensures { RangesLaw }
 {}
 
 /// If there is room, each end port has one LID, whose range fits below the room, and no two ranges have a number in
-/// common. An end port keeps its claim if the claim's range fits and meets no range that fits and that an earlier end
-/// port claims. Each other end port has the least number whose range fits and has no number that was taken before.
+/// common. An end port keeps its claim if the claim's range fits, and meets no fitting range that an earlier end port
+/// claims. Each other end port has the least number whose range fits and has no number that was taken before.
 pub fn lids_law()
     ensures { LidsLaw }
 {}
 
-/// No other LIDs satisfy `AreLids`.
+/// Only the LIDs that are assigned satisfy `AreLids`.
 pub fn lids_are_unique()
     ensures { LidsAreUnique }
 {}
@@ -27,18 +26,17 @@ pub fn no_room_law()
     ensures { NoRoomLaw }
 {}
 
-/// With one LID for each port, there is no room exactly if there are end ports, and at least as many as numbers below
-/// the room, including 0.
+/// Under LMC 0 an end port finds no LID exactly if the view has end ports, and at least as many as the room.
 pub fn no_room_at_lmc_0()
     ensures { NoRoomAtLmc0 }
 {}
 
-/// End ports of one width that keep no claim have rising LIDs.
+/// End ports of one width that keep no claim have rising LIDs, in the order of end ports.
 pub fn others_rise()
     ensures { OthersRise }
 {}
 
-/// An end port owns a number exactly if it has a LID whose range has the number, if there is room.
+/// If there is room, an end port is the owner of a number exactly if the end port has a LID whose range has the number.
 pub fn owners_are_inverse()
     ensures { OwnersAreInverse }
 {}
@@ -48,14 +46,16 @@ pub fn rising_lids_law()
     ensures { RisingLidsLaw }
 {}
 
-/// If facts differ only in claims from the facts of a view with room, and each end port claims the LID that it has in
-/// that view, there is room and all LIDs stay.
+/// If the claims of facts with room are replaced by the LIDs that the end ports have, there is still room, and all LIDs
+/// stay. Claims of ports that are no end ports may be anything.
 pub fn lids_settle()
     ensures { LidsSettle }
 {}
 
-/// If end ports claim in a view with room the LIDs that they have in another view with room, all other end ports claim
-/// nothing or 0, and the tables have room for the ranges of these LIDs, the end ports keep them.
+/// If a later view grows from an earlier view (`GrowsFrom`) and both have room, each end port of the earlier view keeps
+/// its LID. The later view has these end ports, and each claims the LID that it has by the earlier view. All other end
+/// ports claim nothing or 0. The room of the later view is above the greatest number that an end port has by the
+/// earlier view.
 pub fn lids_stay()
     ensures { LidsStay }
 {}

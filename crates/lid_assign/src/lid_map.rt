@@ -11,19 +11,20 @@ use std::collections::BTreeMap;
 use std::marker::Model;
 use subnet_view::EndPort;
 
-/// The LID of each end port. Its range begins there: one number for a switch, and 2^LMC for an adapter's port.
+/// A map from end ports to LIDs. The range of an end port begins at its LID: one number for a switch, and 2^LMC numbers
+/// for an adapter's port. Contracts see the LMC, and the end ports in their order, each with its LID.
 #[derive(Drop)]
 pub struct LidMap {
     lmc: Lmc,
     /// The end ports in their order, each with its LID.
     given: Vec<(EndPort, Lid)>,
-    /// For each number up to the greatest one in a range, the end port that has it.
+    /// For each number up to the greatest that an end port has, the end port whose range has the number, or `None`.
     owners: Vec<Option<EndPort>>,
     /// The LID of each end port, by node and port.
     by_port: BTreeMap<(Guid, PortNum), Lid>,
-    /// The greatest number that an end port has.
+    /// The greatest number that an end port has, or `None` without end ports.
     top: Option<Lid>,
-    /// The LIDs that are assigned, rising.
+    /// The LIDs that are assigned, each once, rising.
     rising: Vec<Lid>,
 }
 
@@ -77,7 +78,7 @@ impl LidMap {
         &self.given
     }
 
-    /// Returns the end port whose range has the number `lid`, or `None` if there is none. Takes constant time.
+    /// Returns the end port whose range has the number `lid`, or `None` if no range has it. Takes constant time.
     pub fn owner(&self, lid: Lid) -> Option<EndPort>
         ensures owner { result ≡ owner_of self.now lid }
         ensures unicast { IfSome result (λ port. lid < 0xC000) }
@@ -88,15 +89,15 @@ impl LidMap {
             .flatten()
     }
 
-    /// Returns the LID of `port`, the first number of its range, or `None` if it has none. Takes time logarithmic in
-    /// the number of end ports.
+    /// Returns the LID of `port`, the first number of its range, or `None` if `port` has no LID. Takes time logarithmic
+    /// in the number of end ports.
     pub fn lid_of(&self, port: EndPort) -> Option<Lid>
         ensures { result ≡ lid_of self.now port }
     {
         self.by_port.get(&(port.node, port.port)).copied()
     }
 
-    /// Returns the LIDs that are assigned, one for each end port, rising.
+    /// Returns the LIDs that are assigned, each once, rising.
     pub fn lids(&self) -> &[Lid]
         ensures { result.now ≡ rising_lids self.now }
     {
@@ -111,8 +112,8 @@ impl LidMap {
     }
 }
 
-/// Returns, for each number below `end`, the end port that has it. All ranges must be below `end`. Writes the entries
-/// of the first end port last, so that the first owner of a number wins.
+/// Returns, for each number below `end`, the end port whose range has the number, or `None`. All ranges must be below
+/// `end`. Writes the entries of the first end port last, so that the first owner of a number wins.
 fn owners(
     alloc: Global,
     lmc: Lmc,
@@ -130,7 +131,7 @@ fn owners(
     Ok(owners)
 }
 
-/// Writes an end port at each number of its range, which must be within `owners`.
+/// Writes the end port of `given` at each number of its range, which must be within `owners`.
 fn own(owners: &mut Vec<Option<EndPort>>, lmc: Lmc, given: &(EndPort, Lid))
     requires { given.now.1 + width_of lmc given.now.0 ≤ vec_len owners.old }
     ensures owned { AreOwnersMore given.now.0 (range_at lmc given.now.0 given.now.1)
@@ -143,7 +144,7 @@ fn own(owners: &mut Vec<Option<EndPort>>, lmc: Lmc, given: &(EndPort, Lid))
     }
 }
 
-/// Returns, for each number below `end`, whether it is an end port's LID. All ranges must be below `end`.
+/// Returns, for each number below `end`, whether the number is an end port's LID. All ranges must be below `end`.
 fn lid_marks(
     alloc: Global,
     lmc: Lmc,
@@ -161,7 +162,7 @@ fn lid_marks(
     Ok(marks)
 }
 
-/// Returns the marked numbers, rising. There must be at most 2^16 marks.
+/// Returns the marked numbers, rising. `marks` must have at most 2^16 entries.
 fn rising(alloc: Global, marks: &[bool]) -> Result<Vec<Lid>, AllocError>
     requires { length marks.now ≤ 2 ^ 16 }
     ensures { IfOk result (λ lids. lids.items ≡ marked_from marks.now 0) }
@@ -175,7 +176,7 @@ fn rising(alloc: Global, marks: &[bool]) -> Result<Vec<Lid>, AllocError>
     Ok(lids)
 }
 
-/// Returns one more than `top`, or 0 if it is `None`.
+/// Returns one more than `top`, or 0 if `top` is `None`.
 fn end(top: &Option<Lid>) -> usize
     ensures { result ≡ end_of top.now }
 {
@@ -221,7 +222,7 @@ fn last(lmc: Lmc, port: EndPort, lid: Lid) -> Lid
     Lid::new(lid.number() + width(lmc, port) as u16 - 1)
 }
 
-/// Returns the greater of `top`, if there is one, and `lid`.
+/// Returns the greater of `top` and `lid`, or `lid` if `top` is `None`.
 fn greater(top: Option<Lid>, lid: Lid) -> Lid
     ensures { result ≡ max lid (unwrap_or top 0) }
 {

@@ -37,7 +37,7 @@ pub(crate) fn fits(room: usize, first: usize, width: usize) -> bool
     1 <= first && first % width == 0 && first + width <= room
 }
 
-/// Returns whether any of the `width` numbers from `first` on is marked. All must be within `marks`.
+/// Returns whether any of the `width` numbers from `first` on is marked. All these numbers must be within `marks`.
 pub(crate) fn any_marked(marks: &[bool], first: usize, width: usize) -> bool
     requires { first + width ≤ length marks.now }
     ensures { result ≡ any_marked marks.now (from_on width first) }

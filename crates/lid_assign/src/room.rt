@@ -12,10 +12,10 @@ use fact_store::{Sighting, Store};
 use smp_bytes::Lid;
 use subnet_view::{count_end_ports, usable_guid};
 
-/// Returns the room and the number of end ports if an end port of the view finds no LID, otherwise `None`. Walks the
-/// cells at most four times if there are at least as many end ports as the room, or if their ranges fit side by side
-/// (as they always do otherwise with LMC 0). Otherwise walks them a number of times that is linear in the number of end
-/// ports. Does not allocate.
+/// Returns the room and the number of end ports if an end port of the view finds no LID, otherwise `None`. Takes at
+/// most four walks over the cells if the end ports are at least as many as the room. The same holds if their number
+/// plus 1, times 2^`lmc`, is at most the room. Under LMC 0 one of the two is always so. Otherwise the number of walks
+/// is linear in the number of end ports. Does not allocate.
 pub fn no_room(store: &Store, lmc: Lmc) -> Option<NoRoom>
     ensures { result ≡ no_room lmc (cells_of store.now) }
 {
@@ -66,8 +66,8 @@ pub(crate) fn room(store: &Store) -> u16
     least
 }
 
-/// Returns the table room of the node of `sighting` if that is a usable switch, otherwise `None`. `sighting` must be a
-/// cell of `store`.
+/// Returns the table room of the node whose type `sighting` reports, if this node is a usable switch, otherwise `None`.
+/// `sighting` must be a cell of `store`.
 fn usable_cap(store: &Store, sighting: &Sighting) -> Option<u16>
     requires { cell_for store.now sighting.now.0 ≡ Some sighting.now.1 }
     ensures { result ≡ usable_cap (cells_of store.now) sighting.now }

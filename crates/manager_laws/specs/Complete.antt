@@ -18,8 +18,8 @@ use Rattle.lft_blocks.specs.Arrival.{HoldsPlan}
 use Rattle.manager_laws.specs.Pings.{EachPingArrives}
 use Rattle.manager_laws.specs.Sweeping.{Sweeping, SweepEvent, CanBe, Begins, after_sweep_events}
 
--- the sweep has every answer: nothing is to be sent or waits, only requests for SMInfo, which has no facts, were not
--- answered, and no request needed a path that is too long
+-- the sweep has every answer: nothing waits to be sent or for a reply. Only requests for SMInfo, which has no facts,
+-- were not answered. No request would have needed a path of more than 63 ports
 pub record IsWhole (s : Sweep) : Type 0 where
   pub done : is_done s ≡ true
   pub answered : s.unanswered ≡ s.silent_managers
@@ -29,11 +29,12 @@ pub record IsWhole (s : Sweep) : Type 0 where
 abbrev pub facts_of : List Report → Facts
 facts_of reports = view (flat_map sightings_of reports)
 
--- the facts of `reports` describe exactly the part of a simulated fabric that is joined to the end port `seat`
+-- the facts of `reports` describe exactly the part of the simulated fabric `s` that is joined to the end port `seat`
 abbrev pub AgreeWith : List Report → Simulation → NodePort → Type 0
 AgreeWith reports s seat = AgreesOn (IsJoinedTo (fabric_of s) seat) (cells_of (facts_of reports)) (fabric_of s)
 
--- the sweep has a path for the end port, and it leads to it from the seat: to the port of an adapter, or to a switch
+-- the sweep has a path to the port `port` of the node with the GUID `guid`. In `f` this path leads from `seat` to that
+-- port of an adapter, or to any port of that switch, whose `port` is then 0
 pub record HasWay (f : Fabric) (seat : NodePort) (s : Sweep) (guid port : ℕ) : Type 0 where
   pub path : List ℕ
   pub told : path_to s guid port ≡ Some path
@@ -44,23 +45,23 @@ pub record HasWay (f : Fabric) (seat : NodePort) (s : Sweep) (guid port : ℕ) :
   pub named : node.guid ≡ guid
   pub vertex : vertex_of f end ≡ record { node = end.node; port = port }
 
--- the reports describe exactly the part that is joined to the seat, as it was when the sweep began and as it is when it
--- has ended, and the sweep has a path to each end port there
+-- the reports of `ended` describe exactly the part that is joined to the seat, both as the part is in `begun` and as it
+-- is in `ended`; and the sweep of `ended` has a path to each end port of these reports
 pub record HasFoundAll (begun ended : Sweeping) : Type 0 where
   pub at_first : AgreeWith ended.reports begun.scene.fabric begun.seat
   pub at_last : AgreeWith ended.reports ended.scene.fabric begun.seat
   pub ways : (guid port : ℕ) → IsEndPort (cells_of (facts_of ended.reports)) guid port
       → HasWay (fabric_of begun.scene.fabric) begun.seat ended.sweep guid port
 
--- if a sweep begins on a quiet scene whose nodes have different GUIDs, and has every answer after some events, it has
--- found exactly what is joined to its seat, whatever else happened
+-- a sweep with every answer has found exactly what is joined to its seat, if it began on a quiet scene whose nodes have
+-- different GUIDs (`Begins`). Any events that can be may have happened since
 abbrev pub DoneSweepsAreComplete : Type 0
 DoneSweepsAreComplete =
     (w : Sweeping) (generation first : ℕ) (events : List SweepEvent) → Begins w generation first → All CanBe events
     → IsWhole (after_sweep_events events w).sweep → HasFoundAll w (after_sweep_events events w)
 
--- if a sweep has every answer, and the part that is joined to its seat holds the plan, with room, of what it has found,
--- each ping there arrives
+-- each ping within the part that is joined to a sweep's seat arrives, if three conditions hold: the sweep has every
+-- answer; its facts have room; and the part holds their plan
 abbrev pub SweptPingsArrive : Type 0
 SweptPingsArrive =
     (rule : RuleValue) (lmc : ℕ) (w : Sweeping) (generation first : ℕ) (events : List SweepEvent)

@@ -26,11 +26,12 @@ pub record Managing : Type 0 where
   pub manager : Manager
   pub out : List Outgoing
 
--- Something happens on the fabric; the manager is told to begin a sweep, or to write its plan; it gives out its first
--- queued packet; a packet that it gave out is sent from its seat, and may be sent again; a packet that was handed up at
--- its seat is given to it, and may be given again; one of its requests times out; its floor is raised; facts of others
--- at a floor are merged with its own; it is told to poll a LID, or a manager that its last sweep saw; it is told to
--- hand over.
+-- an event: something happens on the fabric (`Around`); the manager is called to begin a sweep (`Begin`) or to write
+-- its plan (`Write`); it gives out its first queued packet (`Take`). A packet that it gave out is sent from its seat,
+-- perhaps again (`Send`, by index); a packet that was handed up at its seat is given to it, perhaps again (`Hear`, by
+-- index); one of its requests times out (`TimeOut`). Its floor is raised (`Raise`), or facts of others at a floor are
+-- merged with its own (`Merge`). It is called to poll a LID or, with None, a manager that its last sweep saw (`Poll`),
+-- or to hand over (`HandOver`)
 pub data ManagerEvent : Type 0 where
   Around : (event : Event) → ManagerEvent
   Begin : ManagerEvent
@@ -46,13 +47,13 @@ pub data ManagerEvent : Type 0 where
 
 -- which events there are --------------------------------------------------------------------------
 
--- the event is not a packet that another manager sends from the port `seat`
+-- in the event, no other manager sends a packet from the port `seat`
 abbrev pub IsElsewhere : NodePort → Event → Type 0
 IsElsewhere seat (around.Send other sending) = other ≢ seat
 IsElsewhere seat event = Unit {0}
 
--- the event can be: one on the fabric can happen and is not a packet that another manager sends from `seat`; a floor
--- and merged facts are in range
+-- the event can be: one on the fabric can happen, and in it no other manager sends a packet from `seat`; a floor is a
+-- generation; merged sightings are in range
 abbrev pub CanBe : NodePort → ManagerEvent → Type 0
 CanBe seat (Around event) = CanHappen event × IsElsewhere seat event
 CanBe seat (Raise floor) = IsTrue (is_generation floor)
@@ -61,7 +62,7 @@ CanBe seat event = Unit {0}
 
 -- what events do ---------------------------------------------------------------------------------
 
--- the managing once its manager was called; a call that the manager refuses leaves it unchanged
+-- `w` once its manager was called; a call that the manager refuses leaves `w` unchanged
 abbrev pub calling : Managing → Call → Managing
 calling w call = record w { manager = after_call w.manager call }
 
@@ -74,7 +75,8 @@ one_more out (Some packet) = out ++ packet ∷ []
 abbrev pub taking : Managing → Taken → Managing
 taking w t = record w { manager = t.manager; out = one_more w.out t.packet }
 
--- the packet that a manager gives out, as it is sent: along the path that it carries, or to a LID
+-- the packet `o` as it is sent: to the LID that `o` names or, if `o` names none, to the permissive LID, along the path
+-- in its bytes
 abbrev pub packet_of : Outgoing → Packet
 packet_of o = record { bytes = o.packet; slid = permissive_lid; dlid = unwrap_or o.to permissive_lid }
 
@@ -83,14 +85,14 @@ abbrev pub sending : Managing → Option Outgoing → Managing
 sending w None = w
 sending w (Some o) = record w { scene = sent_from w.scene w.seat (packet_of o) }
 
--- the managing once its manager was given the packet, with the LID that it came from, if it was handed up at its seat;
--- otherwise unchanged
+-- `w` once its manager was given the packet, with its source LID; unchanged if there is no packet, or if it was not
+-- handed up at the manager's seat
 abbrev pub hearing : Managing → Option Handed → Managing
 hearing w None = w
 hearing w (Some h) =
     if is_same_port h.at w.seat then calling w (calls.Packet h.packet.bytes (Some h.packet.slid)) else w
 
--- the managing after an event; a call that its manager refuses leaves that one unchanged
+-- `w` after an event; a call that the manager refuses leaves `w` unchanged
 abbrev pub after_manager_event : Managing → ManagerEvent → Managing
 after_manager_event w (Around event) = record w { scene = after_event w.scene event }
 after_manager_event w Begin = calling w calls.BeginSweep
@@ -119,7 +121,7 @@ pub record IsAtRest (m : Manager) : Type 0 where
   pub pending : m.pending ≡ []
   -- no packet is to be sent
   pub outgoing : m.outgoing ≡ []
-  -- the facts that it knows have keys, generations and values in their ranges
+  -- the keys, generations and values of the manager's facts are in range, and its floor is a generation
   pub facts : AreInRange m.store
   pub floor : IsTrue (is_generation m.store.floor)
 

@@ -16,8 +16,8 @@ use Rattle.fabric_sim.specs.declared.ping.Ping.TheVariants.{Reached}
 use Rattle.fabric_sim.specs.Simulation.{Simulation, IsSimulation, fabric_of}
 use Rattle.fabric_sim.specs.Ping.{ping, ping_fault}
 
--- the ping from `source` for `lid` is not refused, and reaches the end port `owner` over the way of a packet that
--- arrives there
+-- the ping from `source` for `lid` is not refused. A packet for `lid` from `source` arrives at the end port `owner`,
+-- and the ping returns the port that takes the packet and the number of hops
 pub record PingArrives (rule : RuleValue) (part : Part) (cells : Cells) (s : Simulation) (lid : ℕ) (source : NodePort)
     (owner : EndPort) : Type 0 where
   pub accepted : ping_fault s source ≡ None
@@ -31,8 +31,8 @@ EachPingArrives rule cells plan s origin =
     → (lid : ℕ) (owner : EndPort) → owner_of plan.given lid ≡ Some owner
     → PingArrives rule (IsJoinedTo (fabric_of s) origin) cells s lid source owner
 
--- if facts with room describe exactly the part of a simulated fabric that an end port is joined to, and it holds their
--- plan, each ping there arrives at its LID's owner
+-- each ping among the end ports that the end port `origin` is joined to arrives, if three conditions hold: the facts
+-- have room; they describe exactly the part that `origin` is joined to; and this part holds their plan
 abbrev pub PingsArrive : Type 0
 PingsArrive = (rule : RuleValue) (lmc : ℕ) (facts : Facts) (s : Simulation) (origin : NodePort)
     → ¬ (IsNoRoom lmc (cells_of facts)) → IsSimulation s → IsEndPort (fabric_of s) origin

@@ -17,7 +17,7 @@ use Rattle.fabric_sim.specs.Delivery.{after_deliver}
 use Rattle.fabric_sim.specs.Changes.{after_inject, after_repeat, after_lose}
 use Rattle.fabric_sim.specs.ThereAndBack.{BeginsWith, directed_packet}
 
--- a packet that was handed up, and the port at which it was
+-- a packet, and the port at which it was handed up
 pub record Handed : Type 0 where
   pub at : NodePort
   pub packet : Packet
@@ -27,8 +27,9 @@ pub record Scene : Type 0 where
   pub fabric : Simulation
   pub handed : List Handed
 
--- what a manager may send from its port: any packet that is forwarded by LIDs, a request along a path, or the answer to
--- a request for SMInfo that was handed up there
+-- a packet that a manager may send from its port: any packet that is forwarded by LIDs (`ByLid`), a request along a
+-- path (`ByPath`), or the answer to a request for SMInfo that was handed up there (`Answer`). `which` is the request's
+-- index among all packets handed up
 pub data Sending : Type 0 where
   ByLid : (packet : Packet) → Sending
   ByPath : (method attribute modifier tid : ℕ) (path payload : List ℕ) → Sending
@@ -43,8 +44,9 @@ pub data Event : Type 0 where
 
 -- which events there are --------------------------------------------------------------------------
 
--- a manager may send this from `seat`: a packet of 256 bytes that is forwarded by LIDs; a request whose path has at
--- most `max_hops` ports and leaves by the seat's port; or an answer whose status and attribute fit
+-- a manager may send this from `seat`: a packet of 256 bytes that is forwarded by LIDs; a request with a method below
+-- 2^7, fields in range, and a path of at most `max_hops` ports that leaves by the seat's port; or an answer with a
+-- status below 2^15 and an attribute of 64 bytes
 abbrev pub CanSend : NodePort → Sending → Type 0
 CanSend seat (ByLid packet) = (length packet.bytes ≡ 256) × (is_directed packet.bytes ≡ false)
 CanSend seat (ByPath method attribute modifier tid path payload) =
@@ -52,7 +54,7 @@ CanSend seat (ByPath method attribute modifier tid path payload) =
     × BeginsWith seat.port path
 CanSend seat (Answer which status payload) = (status < 2 ^ 15) × (length payload ≡ 64)
 
--- the event can happen: if a manager sends in it, then only what it may
+-- the event can happen; if a manager sends in it, the manager may send this (`CanSend`)
 abbrev pub CanHappen : Event → Type 0
 CanHappen (Send seat sending) = CanSend seat sending
 CanHappen (Deliver serial) = Unit {0}
@@ -65,7 +67,7 @@ CanHappen (Repeat serial) = Unit {0}
 abbrev pub with_fabric : Scene → Simulation → Scene
 with_fabric s fabric = record s { fabric = fabric }
 
--- what a delivery handed up; nothing if it did not hand the packet up
+-- the packet that a delivery handed up, and its port; none if the delivery handed up no packet
 abbrev pub handed_by : Result Delivered FabricFault → List Handed
 handed_by (Ok (ToManager at packet)) = record { at = at; packet = packet } ∷ []
 handed_by (Ok (Moved serial)) = []
@@ -73,7 +75,7 @@ handed_by (Ok (Answered serial)) = []
 handed_by (Ok (Discarded reason)) = []
 handed_by (Err fault) = []
 
--- the scene once the packet was sent from the port `seat`; unchanged if it is no seat, or no serial number is left
+-- the scene once the packet was sent from the port `seat`; unchanged if `seat` is no seat, or no serial number is left
 abbrev pub sent_from : Scene → NodePort → Packet → Scene
 sent_from s seat packet = with_fabric s (after_inject s.fabric seat packet).fabric
 
@@ -82,7 +84,7 @@ abbrev pub asks_manager : NodePort → Handed → Bool
 asks_manager seat h =
     is_same_port h.at seat && not (is_response h.packet.bytes) && number_in attribute_id h.packet.bytes == sm_info
 
--- the answer to a request: if it is directed, back along its path; otherwise to the LID that it came from
+-- the answer to `request`: back along its path if `request` is directed, else to the LID that `request` came from
 abbrev pub answer_to : Packet → ℕ → List ℕ → Packet
 answer_to request status payload =
     let answer = answer_packet request.bytes status payload in
@@ -90,7 +92,7 @@ answer_to request status payload =
     else record { bytes = answer; slid = request.dlid; dlid = request.slid }
 
 -- the scene once the answer to a request for SMInfo that was handed up at `seat` was sent from there; unchanged if
--- there is no such request
+-- there is no packet, or if it is not such a request
 abbrev pub answered_from : Scene → NodePort → ℕ → List ℕ → Option Handed → Scene
 answered_from s seat status payload None = s
 answered_from s seat status payload (Some h) =
@@ -103,7 +105,7 @@ sent s seat (ByPath method attribute modifier tid path payload) =
     sent_from s seat (directed_packet (directed method attribute modifier tid path payload))
 sent s seat (Answer which status payload) = answered_from s seat status payload (slice_get s.handed which)
 
--- the scene after an event; a refused call of the fabric leaves it unchanged
+-- the scene after an event; a call that the fabric refuses leaves the scene unchanged
 abbrev pub after_event : Scene → Event → Scene
 after_event s (Deliver serial) =
     let done = after_deliver s.fabric serial in

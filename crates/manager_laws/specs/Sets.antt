@@ -1,4 +1,4 @@
--- Sets that agents take, and when they carry the values of a plan. InfiniBand Architecture Specification, Volume 1:
+-- Sets that agents take, and when a Set carries the values of a plan. InfiniBand Architecture Specification, Volume 1:
 -- subnet management, PortInfo (LID), SwitchInfo (LinearFDBTop) and LinearForwardingTable.
 use Rattle.std.specs.Prelude.{◌≡◌, ◌⊎◌, ℕ, List, Contains, Ok, Some}
 use Rattle.fabric_model.specs.declared.cable.NodePort.{NodePort}
@@ -48,7 +48,8 @@ pub record Carries (plan : PlanValue) (a : Agent) (arrival : ℕ) (packet : List
       → (block : List ℕ) → block_at plan a.node.guid (number_in attribute_modifier packet) ≡ Some block
       → bytes_in attribute_data packet ≡ block
 
--- the packet asks for what a step of `phases` sets, and the step's path leads from `seat` to the port `at`, where it is
+-- the packet has the attribute, the modifier and the data of a step of `phases`; that step's path leads in `f` from
+-- `seat` to the port `at`
 pub record IsOwnSet (f : Fabric) (seat : NodePort) (phases : List Phase) (at : NodePort) (packet : List ℕ) : Type 0
   where
     pub phase : Phase
@@ -60,7 +61,7 @@ pub record IsOwnSet (f : Fabric) (seat : NodePort) (phases : List Phase) (at : N
     pub modifier : number_in attribute_modifier packet ≡ step.modifier
     pub payload : bytes_in attribute_data packet ≡ step.payload
 
--- which packets, at the ports that they reach, are the Sets of one writing's own steps
+-- the packets, at the ports that they reach, that are Sets of one writing's own steps
 abbrev pub OwnSets : Type 1
 OwnSets = NodePort → List ℕ → Type 0
 

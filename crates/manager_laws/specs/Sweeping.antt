@@ -14,7 +14,7 @@ use Rattle.fabric_sim.specs.ThereAndBack.{directed_packet}
 use Rattle.manager_laws.specs.Scene.{Handed, Scene, Event, CanHappen, IsQuiet, after_event, sent_from}
 use Rattle.manager_laws.specs.Truth.{AreGuidsDistinct, IsTrueSighting}
 
--- the scene, the sweep's seat, the requests that it gave out, and the reports that it accepted
+-- a sweep at work: the scene, the sweep with its seat, the requests that it gave out, and the reports that it accepted
 pub record Sweeping : Type 0 where
   pub scene : Scene
   pub seat : NodePort
@@ -22,9 +22,9 @@ pub record Sweeping : Type 0 where
   pub asked : List (List ℕ)
   pub reports : List Report
 
--- something happens on the fabric; the sweep gives out its next request; a request that it gave out is sent from its
--- seat, and may be sent again; a packet that was handed up at its seat is given to it, and may be given again; one of
--- its requests times out
+-- an event: something happens on the fabric (`Around`); the sweep gives out its next request (`Ask`); a request that it
+-- gave out is sent from its seat, perhaps again (`Send`, by index). A packet that was handed up at its seat is given to
+-- it, perhaps again (`Hear`, by index), or one of its requests times out (`TimeOut`)
 pub data SweepEvent : Type 0 where
   Around : (event : Event) → SweepEvent
   Ask : SweepEvent
@@ -32,7 +32,7 @@ pub data SweepEvent : Type 0 where
   Hear : (which : ℕ) → SweepEvent
   TimeOut : (transaction : ℕ) → SweepEvent
 
--- the event can be: one on the fabric can happen
+-- the event can be: if it is on the fabric, it can happen (`CanHappen`)
 abbrev pub CanBe : SweepEvent → Type 0
 CanBe (Around event) = CanHappen event
 CanBe Ask = Unit {0}
@@ -56,18 +56,19 @@ abbrev pub sending : Sweeping → Option (List ℕ) → Sweeping
 sending w None = w
 sending w (Some packet) = record w { scene = sent_from w.scene w.seat (directed_packet packet) }
 
--- the report that an answer is; none if it is what a manager says of itself
+-- the report that an answer gives; none if the answer is what a manager says of itself
 abbrev pub reports_of : Answer → List Report
 reports_of (Facts report) = report ∷ []
 reports_of (Seen guid port info) = []
 
--- the sweeping once the sweep has taken the reply `packet`, unless it refuses it
+-- `w` once its sweep has taken the reply `packet`; unchanged if the sweep refuses it
 abbrev pub with_answer : Sweeping → List ℕ → Result Answer SweepFault → Sweeping
 with_answer w packet (Ok answer) =
     record w { sweep = after_reply w.sweep packet; reports = w.reports ++ reports_of answer }
 with_answer w packet (Err fault) = w
 
--- the sweeping once the sweep was given the packet, if it was handed up at its seat; otherwise unchanged
+-- `w` once its sweep was given the packet; unchanged if there is no packet, or if it was not handed up at the sweep's
+-- seat
 abbrev pub hearing : Sweeping → Option Handed → Sweeping
 hearing w None = w
 hearing w (Some h) =
@@ -92,8 +93,8 @@ AlwaysSo is_so [] w = Unit {0}
 AlwaysSo is_so (event ∷ events) w =
     is_so (after_sweep_event w event).scene × AlwaysSo is_so events (after_sweep_event w event)
 
--- the scene is quiet, its nodes have different GUIDs, and a sweep of the generation `at` has just begun at a seat, with
--- the number of the seat's port; the sweep may keep images
+-- the scene is quiet, and its nodes have different GUIDs. A sweep of the generation `at` has just begun at a seat, with
+-- the number of the seat's port and with `from` as its first request number; the sweep may keep images
 pub record Begins (w : Sweeping) (at from : ℕ) : Type 0 where
   pub quiet : IsQuiet w.scene
   pub distinct : AreGuidsDistinct (fabric_of w.scene.fabric)

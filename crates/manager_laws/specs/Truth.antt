@@ -13,7 +13,7 @@ use Rattle.reply_facts.specs.declared.value.Value.{Value}
 use Rattle.reply_facts.specs.declared.value.Value.TheVariants.{Kind, Guid, Peer, Up, Lid, Count}
 use Rattle.fabric_sim.specs.ToldOfEnd.{IsUp}
 
--- `node` is that with the id `id`, and has the GUID `guid`
+-- `node` is the node `id` of the fabric, and has the GUID `guid`
 pub record HasNode (f : Fabric) (guid id : ℕ) (node : fabric.Node) : Type 0 where
   pub there : IsNodeAt f id node
   pub named : node.guid ≡ guid
@@ -26,7 +26,7 @@ pub record HasCable (f : Fabric) (id port peer via : ℕ) : Type 0 where
   pub node : HasNode f peer far.node other
   pub port_is : far.port ≡ via
 
--- the fabric has the value for the key; any LID will do for a claim, and no value of another kind than the key's
+-- the fabric has the value for the key. For a claim any LID will do; a value of another kind than the key's is not true
 abbrev pub IsTrueOf : Fabric → Key → Value → Type 0
 IsTrueOf f (Node guid) (Kind kind ports) =
     (id : ℕ) × (node : fabric.Node) × HasNode f guid id node × (node.kind ≡ kind) × (node.ports ≡ ports)
@@ -46,7 +46,7 @@ abbrev pub IsTrueSighting : Fabric → Key × Cell Value → Type 0
 IsTrueSighting f (key, Known generation value) = IsTrueOf f key value
 IsTrueSighting f (key, Disputed generation) = ⊥
 
--- no two nodes of the fabric have one GUID
+-- no two nodes of the fabric have the same GUID
 abbrev pub AreGuidsDistinct : Fabric → Type 0
 AreGuidsDistinct f = (here there : ℕ) (one other : fabric.Node) → IsNodeAt f here one → IsNodeAt f there other
     → one.guid ≡ other.guid → here ≡ there

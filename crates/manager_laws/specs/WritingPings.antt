@@ -23,13 +23,13 @@ abbrev pub AreNoSweeps : List ManagerEvent → Managing → Type 0
 AreNoSweeps [] w = Unit {0}
 AreNoSweeps (event ∷ events) w = BeginsNoSweep w event × AreNoSweeps events (after_manager_event w event)
 
--- A manager without facts sweeps, and writes the plan of what it learned from this sweep alone, which has every answer;
--- in the end the plan counts as written.
+-- a manager without facts sweeps, and the sweep has every answer. Until the writing it learns only from this sweep;
+-- then it writes the plan of its facts. In the end the plan counts as written
 pub record BringsUp (w : Managing) (before between after : List ManagerEvent) : Type 0 where
   pub run : IsWritingRun w before between after
   -- the manager holds no facts when the sweep begins; its floor may have been raised
   pub knew_nothing : cells_of (after_manager_events before w).manager.store ≡ []
-  -- until the writing it learns only from this sweep
+  -- until the writing the manager learns only from this sweep
   pub alone : AreNoSweeps between (after_manager_event (after_manager_events before w) Begin)
   -- the sweep has every answer, and nothing was out of its reach
   pub sweep : Sweep
@@ -38,8 +38,8 @@ pub record BringsUp (w : Managing) (before between after : List ManagerEvent) : 
   -- the plan is written in the end
   pub written : is_written (at_end w before between after).manager ≡ true
 
--- if a manager brings the subnet up, each ping from an end port that the seat is joined to, for each LID of the plan,
--- reaches the LID's owner
+-- each ping from an end port that the seat is joined to, for each LID of the plan, reaches the LID's owner, if the
+-- manager brings the subnet up
 abbrev pub PingsArriveOnceWritten : Type 0
 PingsArriveOnceWritten =
     (w : Managing) (before between after : List ManagerEvent) → BringsUp w before between after

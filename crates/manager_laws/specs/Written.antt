@@ -98,8 +98,9 @@ at_first_steps w before between = after_manager_event (at_writing w before betwe
 abbrev pub at_end : Managing → List ManagerEvent → List ManagerEvent → List ManagerEvent → Managing
 at_end w before between after = after_manager_events after (at_first_steps w before between)
 
--- A run that may start begins a sweep and, after the events `between`, a writing; no other writing begins after this or
--- before a sweep, and what agents take meanwhile keeps the plan.
+-- a run that may start begins a sweep and, after the events `between`, a writing. Before the first sweep and after this
+-- writing no other writing begins. Each Set that an agent takes after the writing began is one of the writing's own or
+-- carries the plan's values
 pub record IsWritingRun (w : Managing) (before between after : List ManagerEvent) : Type 0 where
   pub starts : Starts w
   -- only events that can be happen before the sweep, between the sweep and the writing, and after the writing began
@@ -117,7 +118,7 @@ pub record IsWritingRun (w : Managing) (before between after : List ManagerEvent
       (at_first_steps w before between)
 
 -- at the end of a writing run, if the plan counts as written, each end port and switch that the last sweep before the
--- writing reached holds it
+-- writing reached holds the plan
 abbrev pub WrittenPlansAreHeld : Type 0
 WrittenPlansAreHeld =
     (w : Managing) (before between after : List ManagerEvent) → IsWritingRun w before between after

@@ -31,8 +31,8 @@ abbrev pub HoldsLids : Part → PlanValue → Fabric → Type 0
 HoldsLids part plan f = (port : NodePort) (node : fabric.Node) → IsEndPortIn part f port node
     → range_of plan.given (record { node = node.guid; port = port.port }) ≡ Some (range_at f port)
 
--- Managers start together, and plan by `planning`. Facts with room describe exactly the part that is joined to each
--- seat, and its end ports have the LIDs and the LMC of their plan.
+-- managers start together, and all plan by `planning`. The facts have room, and describe exactly the part that is
+-- joined to each seat. The end ports there have the LIDs and the LMC of the plan of these facts
 pub record ShareLids (facts : Facts) (planning : Planning) (t : Masters) : Type 0 where
   pub starts : StartTogether t
   pub has_room : ¬ (IsNoRoom planning.lmc (cells_of facts))
@@ -42,9 +42,10 @@ pub record ShareLids (facts : Facts) (planning : Planning) (t : Masters) : Type 
   pub lids : (which : ℕ) (m : Seated) → IsAt t which m
       → HoldsLids (IsJoinedTo (fabric_of t.scene.fabric) m.seat) (plan_by_it planning facts) (fabric_of t.scene.fabric)
 
--- After a cut, managers start together, and plan by `planning`: earlier facts with room contain each end port that is
--- joined to a seat, and it has the LID and the LMC of their plan; they may contain others, which are gone. The facts
--- describe exactly what is left, with room, and claim the LIDs that it has.
+-- managers start together after a cut, and all plan by `planning`. The facts `facts` have room, describe exactly what
+-- is joined to each seat, and claim the LIDs that the ports there have. The facts `earlier` have room, and have each
+-- end port there, with the LID and the LMC that it has as their plan says; they may have other end ports, which are
+-- gone
 pub record ShareRest (earlier facts : Facts) (planning : Planning) (t : Masters) : Type 0 where
   pub starts : StartTogether t
   pub had_room : ¬ (IsNoRoom planning.lmc (cells_of earlier))
@@ -66,7 +67,7 @@ RestSharesLids =
     (earlier facts : Facts) (planning : Planning) (t : Masters) → ShareRest earlier facts planning t
     → ShareLids facts planning t
 
--- if the event is around the managers, it sets only SMInfo; if it is at one, this begins a writing only if all that it
+-- an event around the managers sets only SMInfo; an event at a manager begins a writing only if all that the manager
 -- knows is from one sweep with every answer
 abbrev pub SweepsWhole : Masters → MastersEvent → Type 0
 SweepsWhole t (Around event) = SetsInfoOnly event
@@ -78,16 +79,17 @@ abbrev pub AllSweepWhole : List MastersEvent → Masters → Type 0
 AllSweepWhole [] t = Unit {0}
 AllSweepWhole (event ∷ events) t = SweepsWhole t event × AllSweepWhole events (after_masters_event t event)
 
--- if managers share LIDs, other senders set only SMInfo, and each writes only what one sweep with every answer told it,
--- no port gets another LID
+-- no port gets another LID, if three conditions hold: managers share LIDs; other senders set only SMInfo; and each
+-- manager writes only what it learned from one sweep with every answer
 abbrev pub MastersKeepLids : Type 0
 MastersKeepLids =
     (facts : Facts) (planning : Planning) (t : Masters) (events : List MastersEvent) → ShareLids facts planning t
     → AllCanBe events t → AllSweepWhole events t
     → HasLidsOf (fabric_of t.scene.fabric) (after_masters_events events t).scene
 
--- if managers share the LIDs of the plan of some facts, other senders set only SMInfo, and each writes only what one
--- sweep with every answer told it, then one that knows one sweep with every answer plans just that plan
+-- a manager that knows one sweep, with every answer, has the plan of `facts`, if three conditions hold: managers share
+-- the LIDs of this plan; other senders set only SMInfo; and each manager writes only what it learned from one sweep
+-- with every answer
 abbrev pub MastersWriteTheSame : Type 0
 MastersWriteTheSame =
     (facts : Facts) (planning : Planning) (t : Masters) (events : List MastersEvent) → ShareLids facts planning t
@@ -127,8 +129,8 @@ WriteNothing which [] t = Unit {0}
 WriteNothing which (event ∷ events) t =
     WritesNothing which t event × WriteNothing which events (after_masters_event t event)
 
--- the manager at index `which` begins a writing after the events `before`, and no other one in the events `after`, and
--- in the end its plan counts as written
+-- the manager at index `which` begins a writing after the events `before`, and no other one in the events `after`. In
+-- the end its plan counts as written
 pub record HasWritten (t : Masters) (before after : List MastersEvent) (which : ℕ) : Type 0 where
   pub writer : Seated
   pub there : IsAt (after_masters_events before t) which writer
@@ -138,8 +140,9 @@ pub record HasWritten (t : Masters) (before after : List MastersEvent) (which : 
   pub there_later : IsAt (after_masters_events (before ++ At which one.Write ∷ after) t) which later
   pub written : is_written later.manager ≡ true
 
--- if managers share LIDs, other senders set only SMInfo, and each writes only what one sweep with every answer told it,
--- then once one has written its plan, the part that is joined to each seat holds it, whatever the others do meanwhile
+-- once one manager has written (`HasWritten`), the part that is joined to each seat holds the plan of `facts`, if three
+-- conditions hold: managers share the LIDs of this plan; other senders set only SMInfo; and each manager writes only
+-- what it learned from one sweep with every answer
 abbrev pub WrittenByOneIsHeld : Type 0
 WrittenByOneIsHeld =
     (facts : Facts) (planning : Planning) (t : Masters) (before after : List MastersEvent) (which : ℕ)
@@ -148,8 +151,9 @@ WrittenByOneIsHeld =
     → HasWritten t before after which
     → AllHold facts planning (after_masters_events (before ++ At which one.Write ∷ after) t)
 
--- if managers share LIDs, other senders set only SMInfo, and each writes only what one sweep with every answer told it,
--- then once the plan is held at each seat, it stays in use there
+-- once the part that is joined to each seat holds the plan of `facts`, this plan stays in use there, if three
+-- conditions hold: managers share the LIDs of this plan; other senders set only SMInfo; and each manager writes only
+-- what it learned from one sweep with every answer
 abbrev pub MastersChangeNothing : Type 0
 MastersChangeNothing =
     (facts : Facts) (planning : Planning) (t : Masters) (before after : List MastersEvent) → ShareLids facts planning t
@@ -159,7 +163,7 @@ MastersChangeNothing =
 
 -- two new managers that write one subnet at once ---------------------------------------------------
 
--- a new manager of the lowest priority and the plain conduct at its seat, where it has done nothing
+-- a new manager of the lowest priority and the plain conduct at its seat, which has done nothing yet
 abbrev pub new_at : NodePort → ℕ → Planning → Seated
 new_at seat port_guid planning =
     record {
@@ -182,7 +186,7 @@ pub record SomeMastersWriteAtOnce : Type 0 where
   pub other_seat : NodePort
   pub other_guid : ℕ
   pub are_new : masters.managers ≡ new_at seat guid planning ∷ new_at other_seat other_guid planning ∷ []
-  -- the events until the managers are told to write, and those after it
+  -- the events until the managers are called to write, and those after that
   pub sweeping : List MastersEvent
   pub writing : List MastersEvent
   pub can_be : AllCanBe (sweeping ++ At 0 one.Write ∷ At 1 one.Write ∷ writing) masters

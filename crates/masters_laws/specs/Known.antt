@@ -29,14 +29,14 @@ LearnNothingElse which [] t = Unit {0}
 LearnNothingElse which (event ∷ events) t =
     LearnsNothingElse which t event × LearnNothingElse which events (after_masters_event t event)
 
--- the manager at index `which` held no facts when it began a sweep of the run, and since then began no other, merged no
--- facts of others, and was given no floor above its own
+-- the manager at index `which` began a sweep of the run when it held no facts. Since then it began no other sweep,
+-- merged no facts of others, and was given no floor above its own
 pub record LearntFromOne (t : Masters) (events : List MastersEvent) (which : ℕ) : Type 0 where
   pub swept : BeganSweep t events which
   pub knew_nothing : cells_of swept.then.manager.store ≡ []
   pub alone : LearnNothingElse which swept.between (after_masters_events (swept.before ++ At which one.Begin ∷ []) t)
 
--- a manager that knew no sweep at first knows one in the end of a run exactly if it learned only from one of the run's
+-- a manager that knew no sweep at first knows one at the end of a run exactly if it learned only from one of the run's
 -- sweeps
 abbrev pub KnowsOneSweepMeans : Type 0
 KnowsOneSweepMeans =
@@ -44,7 +44,7 @@ KnowsOneSweepMeans =
     → m.knows_one_sweep ≡ false → IsAt (after_masters_events events t) which later
     → (later.knows_one_sweep ≡ true) ↔ LearntFromOne t events which
 
--- a manager that had not swept at first has swept in the end of a run exactly if it began a sweep in it
+-- a manager that had not swept at first has swept at the end of a run exactly if it began a sweep in this run
 abbrev pub HasSweptMeans : Type 0
 HasSweptMeans =
     (t : Masters) (events : List MastersEvent) (which : ℕ) (m later : Seated) → IsAt t which m

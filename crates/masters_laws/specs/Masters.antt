@@ -15,8 +15,8 @@ use Rattle.manager_laws.specs.Managing as one
 use Rattle.manager_laws.specs.Managing.{Managing, ManagerEvent, Starts, IsElsewhere, after_manager_event}
 use Rattle.manager_laws.specs.Complete.{IsWhole}
 
--- a manager with its seat and the packets that it gave out, whether it began a sweep in the run, and whether all that
--- it knows is from one sweep: its last one, which began when it held no facts
+-- a manager with its seat and the packets that it gave out. `has_swept` says whether it began a sweep in the run, and
+-- `knows_one_sweep` whether all that it knows is from its last sweep, which began when it held no facts
 pub record Seated : Type 0 where
   pub seat : NodePort
   pub manager : Manager
@@ -49,8 +49,8 @@ abbrev pub has_swept_after : Seated → ManagerEvent → Bool
 has_swept_after m one.Begin = if is_none (begin_fault m.manager) then true else m.has_swept
 has_swept_after m event = m.has_swept
 
--- all that the manager knows after the event is from one sweep; this holds from the moment at which a sweep begins
--- while it holds no facts, until facts of others are merged or its floor is raised
+-- all that the manager knows after the event is from one sweep. This is so once a sweep begins while the manager holds
+-- no facts, until facts of others are merged or its floor is raised
 abbrev pub knows_one_after : Seated → ManagerEvent → Bool
 knows_one_after m one.Begin =
     if is_none (begin_fault m.manager) then length (cells_of m.manager.store) == 0 else m.knows_one_sweep
@@ -59,7 +59,7 @@ knows_one_after m (one.Merge floor sightings) =
     m.knows_one_sweep && (length sightings == 0 && nat_le floor m.manager.store.floor)
 knows_one_after m event = m.knows_one_sweep
 
--- a manager at its seat after an event, given its managing after it
+-- `m` after `event`, if `w` is its managing after that
 abbrev pub seated_after : Seated → ManagerEvent → Managing → Seated
 seated_after m event w =
     record {
@@ -70,7 +70,8 @@ seated_after m event w =
       knows_one_sweep = knows_one_after m event;
     }
 
--- the managers and the scene once the event has happened to the manager at index `which`; unchanged if there is none
+-- the managers and the scene once the event has happened to the manager at index `which`; unchanged if the index has no
+-- manager
 abbrev pub acting : Masters → ℕ → ManagerEvent → Option Seated → Masters
 acting t which event None = t
 acting t which event (Some m) =
@@ -89,7 +90,7 @@ after_masters_events (event ∷ events) t = after_masters_events events (after_m
 
 -- which events there may be ----------------------------------------------------------------
 
--- if the event is that another sender sends a Set, by LIDs or along a path, it is for SMInfo
+-- if another sender sends a Set in the event, by LIDs or along a path, the Set is for SMInfo
 abbrev pub SetsInfoOnly : Event → Type 0
 SetsInfoOnly (around.Send seat (ByLid packet)) =
     number_in method packet.bytes ≡ set → number_in attribute_id packet.bytes ≡ sm_info
@@ -107,14 +108,15 @@ abbrev pub IsWholeSweep : Option Sweep → Type 0
 IsWholeSweep None = ⊥
 IsWholeSweep (Some s) = IsWhole s
 
--- the event begins a writing of the manager `m` only if all that this knows is from one sweep that has every answer
+-- the event begins a writing of the manager `m` only if all that `m` knows is from one sweep, and this sweep has every
+-- answer
 abbrev pub WritesWhole : Seated → ManagerEvent → Type 0
 WritesWhole m one.Write =
     writing_fault m.manager ≡ None → (m.knows_one_sweep ≡ true) × IsWholeSweep m.manager.sweep
 WritesWhole m event = Unit {0}
 
--- the event can be, for all managers at their seats: one around them comes from no seat of theirs, and one at a manager
--- happens to this one itself
+-- the event can be: one on the fabric can happen and is no packet that another sender sends from a manager's seat; one
+-- at a manager is its own, and can be there (`CanBe` of `Managing`)
 abbrev pub CanBe : Masters → MastersEvent → Type 0
 CanBe t (Around event) =
     CanHappen event × ((which : ℕ) (m : Seated) → IsAt t which m → IsElsewhere m.seat event)

@@ -16,20 +16,20 @@ pub record IsSendable (w : Managing) (o : Outgoing) : Type 0 where
   pub can_send : CanSend w.seat sending
   pub is : sent w.scene w.seat sending ≡ sent_from w.scene w.seat (packet_of o)
 
--- if a manager may start a run (`Starts`) and begins no writing before a sweep, each packet that it gives out can be
--- sent as one of other managers (`IsSendable`)
+-- each packet that a manager gives out can be sent as one of other managers (`IsSendable`), if the manager may start a
+-- run (`Starts`) and begins no writing before a sweep
 abbrev pub WhatIsGivenOutCanBeSent : Type 0
 WhatIsGivenOutCanBeSent =
     (w : Managing) (events : List ManagerEvent) → Starts w → SweepsFirst events w → All (one.CanBe w.seat) events
     → (which : ℕ) (o : Outgoing) → slice_get (after_manager_events events w).out which ≡ Some o
     → IsSendable (after_manager_events events w) o
 
--- the event begins a writing of the manager `m` only if this has swept
+-- the event begins a writing of the manager `m` only if `m` has swept
 abbrev pub WritesSwept : Seated → ManagerEvent → Type 0
 WritesSwept m one.Write = writing_fault m.manager ≡ None → m.has_swept ≡ true
 WritesSwept m event = Unit {0}
 
--- the event begins no writing of any of the managers that has not swept
+-- the event begins a writing of a manager only if that manager has swept
 abbrev pub SweepsBefore : Masters → MastersEvent → Type 0
 SweepsBefore t (Around event) = Unit {0}
 SweepsBefore t (At which event) = (m : Seated) → IsAt t which m → WritesSwept m event
@@ -48,8 +48,8 @@ pub record OwnRun (t : Masters) (m : Seated) (after : Masters) (which : ℕ) : T
   pub there : IsAt after which later
   pub is : after_manager_events events (seen_by t.scene m) ≡ seen_by after.scene later
 
--- if managers start together, and none begins a writing before a sweep, then whatever they do, each has a run of its
--- own; thus what holds for a manager among others holds for each of them
+-- if managers start together, and none begins a writing before a sweep, each has a run of its own, whatever they do. So
+-- each law of a manager's own run holds for each of several managers
 abbrev pub EachRunsOnItsOwn : Type 0
 EachRunsOnItsOwn =
     (t : Masters) (events : List MastersEvent) → StartTogether t → AllCanBe events t → AllSweepBefore events t

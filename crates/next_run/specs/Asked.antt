@@ -9,7 +9,7 @@ use Rattle.next_run.specs.declared.asked.StepLanes.TheVariants.{One, ByText}
 use Rattle.next_run.specs.declared.asked.HeldOrder.{HeldOrder}
 use Rattle.next_run.specs.declared.asked.HeldOrder.TheVariants.{Ignored, NearPlan, NearNamed}
 
--- the step may go by an order that the held tables imply, which is asked for
+-- the request lets the step go by an order that the held tables imply
 abbrev pub is_told : HeldOrder → Bool
 is_told Ignored = false
 is_told NearPlan = true
@@ -26,7 +26,7 @@ abbrev pub has_lanes : StepLanes → Bool
 has_lanes One = false
 has_lanes (ByText answers) = true
 
--- it is asked for that packets which answer others also have the service level of what they answer
+-- by the request, packets that answer others also have the service level of what they answer
 abbrev pub has_answers : StepLanes → Bool
 has_answers One = false
 has_answers (ByText answers) = answers

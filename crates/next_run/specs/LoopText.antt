@@ -4,7 +4,7 @@ use Rattle.std.specs.List.{flat_map}
 use Rattle.subnet_view.specs.Reading.{Cells}
 use Rattle.audit_report.specs.AuditText.{cycle_line}
 
--- a blank and the number `lid`
+-- a space and the number `lid`
 abbrev pub lid_word : ℕ → List ℕ
 lid_word lid = codes " " ++ decimal lid
 

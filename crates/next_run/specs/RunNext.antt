@@ -39,13 +39,13 @@ use Rattle.next_run.specs.declared.step_choice.StepChoice.{StepChoice}
 abbrev pub planned : ℕ → RuleValue → Facts → HeldPlan
 planned lmc rule facts = held_plan (plan_of rule lmc (cells_of facts))
 
--- how a step towards a plan chooses entries: by the order that `positions` give if the held tables are right by it,
--- otherwise by settled entries
+-- the rule by which a step towards a plan chooses entries: the order that `positions` give if the held tables are right
+-- by it, otherwise settled entries
 abbrev pub chosen_by : Cells → List ℕ → HeldPlan → StepRuleValue
 chosen_by cells positions held = if are_right cells (position_at positions) held then by_order positions else settled_first
 
--- how a step towards the plan of `facts` by `rule` chooses entries: by the order of the plan if the held tables are
--- right by it, otherwise by settled entries
+-- the rule by which a step towards the plan of `facts` by `rule` chooses entries: the order of the plan if the held
+-- tables are right by it, otherwise settled entries
 abbrev pub step_rule : RuleValue → Facts → HeldPlan → StepRuleValue
 step_rule rule facts held = chosen_by (cells_of facts) (positions_by rule (cells_of facts)) held
 
@@ -61,14 +61,14 @@ text_of_step lmc rule facts next = next_text (plan_of rule lmc (cells_of facts))
 abbrev pub step_text : ℕ → RuleValue → Facts → HeldPlan → List ℕ
 step_text lmc rule facts held = text_of_step lmc rule facts (stepped lmc rule facts held)
 
--- how a step chooses entries, the tables that it goes towards, if they are not the plan's, and the order that it goes
--- by, if the held tables imply it
+-- the choice of a step: how it chooses entries, the tables that it goes towards, if they are not the plan's, and the
+-- order that it goes by, if the held tables imply it
 pub record Choice : Type 0 where
   pub by : StepRuleValue
   pub goal : Option HeldPlan
   pub order : Option (List ℕ)
 
--- the choice that the code's value stands for
+-- the choice that a `StepChoice` of the code stands for
 abbrev pub choice_of : StepChoice → Choice
 choice_of choice = record { by = value_of choice.by; goal = choice.goal; order = items_of choice.order }
 
@@ -77,12 +77,14 @@ abbrev pub goal_or : HeldPlan → Option HeldPlan → HeldPlan
 goal_or plan None = plan
 goal_or plan (Some goal) = goal
 
--- the tables to write next towards the goal of `choice`, or else `plan`, by the rule of steps that it has
+-- the tables to write next, by the rule of steps of `choice`, towards the goal of `choice`, or towards `plan` if
+-- `choice` has no goal
 abbrev pub next_by_choice : Cells → Choice → HeldPlan → HeldPlan → HeldPlan
 next_by_choice cells choice held plan = next_tables cells choice.by held (goal_or plan choice.goal)
 
--- the goal of a step by the order that the held tables imply, of several the one nearest to `preferred`; None if the
--- step may not go by it (the first is false), or the held tables are right by the plan's order (the second is true)
+-- the goal of a step by the order that the held tables imply; of several orders, the one nearest to `preferred`. None
+-- if the step may not go by an implied order (the first argument is false), or if the held tables are right by the
+-- plan's order (the second is true)
 abbrev pub IsGoalFrom : Bool → Bool → Cells → HeldPlan → HeldPlan → List ℕ → List ℕ → Option Goal → Type 0
 IsGoalFrom false right cells held plan positions preferred goal = goal ≡ None
 IsGoalFrom true true cells held plan positions preferred goal = goal ≡ None
@@ -105,8 +107,8 @@ choice_by rule facts held (Some goal) = record {
   order = Some (switches_by (cells_of facts) goal.positions);
 }
 
--- `choice` is how a step chooses entries, the tables that it goes towards, and the order that it goes by, if the held
--- tables imply it; `told` says whether it may go by it
+-- `choice` says how a step chooses entries, which tables the step goes towards, and which order it goes by, if the held
+-- tables imply that order. `told` says whether the step may go by an implied order
 pub record IsChoice (told : Bool) (rule preferred : RuleValue) (facts : Facts) (held plan : HeldPlan) (choice : Choice)
     : Type 0 where
   pub goal : Option Goal
@@ -118,8 +120,8 @@ abbrev pub next_towards : RuleValue → Facts → HeldPlan → HeldPlan → Opti
 next_towards rule facts held plan None = next_tables (cells_of facts) (step_rule rule facts held) held plan
 next_towards rule facts held plan (Some goal) = next_tables (cells_of facts) (by_order goal.positions) held goal.tables
 
--- `next` are the tables to write next; `goal` is that of a step by the order that the held tables imply, and `told`
--- says whether the step may go by it
+-- `next` are the tables to write next. `goal` is the goal of a step by the order that the held tables imply, and `told`
+-- says whether the step may go by this order
 pub record IsNextStep (told : Bool) (rule preferred : RuleValue) (facts : Facts) (held plan : HeldPlan)
     (goal : Option Goal) (next : HeldPlan) : Type 0 where
   pub goal_is : IsGoalOf told rule preferred facts held plan goal
@@ -137,10 +139,10 @@ pub record IsMade (told : Bool) (rule preferred : RuleValue) (facts : Facts) (he
 abbrev pub IsSaid : {W : Type 0} → (W → Option (List ℕ)) → (W → Bool) → W → W → List ℕ → Type 0
 IsSaid written has_failed old new text = IsTrue (has_failed new) ⊎ Appends (written old) (written new) text
 
--- There is room for the plan, and no LID moves. `prints` holds of the step's text, and `says` of the text of what can
--- happen while the step is written, and of the order that it goes by, if the held tables imply it. `passed` says
--- whether nothing bad can happen: on one lane, or by lane if a text gives `lanes`. `told` says whether the step may go
--- by such an order, of several the one nearest to the order of the rule `preferred`.
+-- the plan has room, and no LID moves. `prints` holds of the step's text. `says` holds of the text of what can happen
+-- while the step is written, and of the order that the step goes by, if the held tables imply it. `passed` says whether
+-- nothing bad can happen: on one lane, or by lane if a text gives `lanes`. `told` says whether the step may go by an
+-- order that the held tables imply; of several, it goes by the one nearest to the order of the rule `preferred`
 pub record IsStep (lmc : ℕ) (told : Bool) (rule preferred : RuleValue) (lanes : Option LanesSaid) (answers : Bool)
     (facts : Facts) (held : HeldPlan) (prints says : List ℕ → Type 0) (passed : Bool) : Type 0 where
   pub has_room : no_room lmc (cells_of facts) ≡ None
@@ -159,19 +161,19 @@ abbrev pub fault_of_step : ℕ → StepFault → Fault
 fault_of_step at (steps.Moves lid) = Text at (Moves lid)
 fault_of_step at steps.Memory = Memory
 
--- there are no next tables for `fault`: the plan gives the LID `moved` of the held tables, the input `at`, to another
--- end port, or memory ran out
+-- making the next tables ends with `fault`: the plan gives the LID `moved` of the held tables, the input `at`, to
+-- another end port, or memory ran out
 abbrev pub StopsBy : ℕ → Option ℕ → Fault → Type 0
 StopsBy at moved (Text input (Moves lid)) = (input ≡ at) × (moved ≡ Some lid)
 StopsBy at moved Memory = Unit {0}
 StopsBy at moved fault = ⊥
 
--- there are no next tables from `held`, the input `at`, towards `plan` for `fault`: a LID moves, or memory ran out
+-- making the next tables from `held`, the input `at`, towards `plan` ends with a fault: a LID moves, or memory ran out
 abbrev pub StopsNext : ℕ → HeldPlan → HeldPlan → Fault → Type 0
 StopsNext at held plan = StopsBy at (first_moved held plan)
 
--- there is no step for `fault`: the plan has no room, it gives a LID of the held tables, the input `at`, to another end
--- port, the output has failed, or the plan has room and memory ran out
+-- a step ends with a fault: the plan has no room; it gives a LID of the held tables, the input `at`, to another end
+-- port; the output has failed; or the plan has room and memory ran out
 abbrev pub StopsStep : ℕ → ℕ → RuleValue → Facts → HeldPlan → Bool → Fault → Type 0
 StopsStep at lmc rule facts held sink_failed (NoRoom why) = no_room lmc (cells_of facts) ≡ Some why
 StopsStep at lmc rule facts held sink_failed (Text input (Moves lid)) =
@@ -182,8 +184,8 @@ StopsStep at lmc rule facts held sink_failed fault = ⊥
 
 -- runs ------------------------------------------------------------------------------------------
 
--- the reader of the inputs after the text that the rule takes: the text of lanes and the text of an order, if there are
--- such, the tables and the files
+-- the reader of the inputs after the text that the rule takes: the text of lanes and the text of an order, each only if
+-- it is asked for, the tables and the files
 abbrev pub reader_of : {S : Type 0} → (S → SourceState) → StepAsked → Reader S StepInputs
 reader_of state asked = step_reader state asked.floor (has_lanes asked.lanes) (is_named asked.held_order)
 
@@ -192,21 +194,21 @@ abbrev pub texts_before : StepAsked → ℕ
 texts_before asked = texts_for asked.rule + texts_if (has_lanes asked.lanes) + texts_if (is_named asked.held_order)
 
 -- `prints` and `says` hold of the texts of the step that is asked for, from what its inputs say; `passed` says whether
--- nothing bad can happen while it is written
+-- nothing bad can happen while the step is written
 abbrev pub IsStepOf : StepAsked → RuleValue → StepInputs → (List ℕ → Type 0) → (List ℕ → Type 0) → Bool → Type 0
 IsStepOf asked rule told prints says passed =
     IsStep asked.lmc (is_told asked.held_order) rule (preferred_rule asked.held_order rule told.others.order.items)
     told.lanes (has_answers asked.lanes) told.others.read.store told.others.read.held prints says passed
 
--- the inputs were read (the text that the rule takes, the text of lanes and that of an order, if there are such, the
--- tables and the files), and the step that is asked for was made and written
+-- the inputs were read, and the step that is asked for was made and written. The inputs are the text that the rule
+-- takes, the text of lanes and that of an order, each only if it is asked for, the tables and the files
 abbrev pub HasStepped : {S : Type 0} → (S → SourceState) → StepAsked → List S → List S
     → (List ℕ → Type 0) → (List ℕ → Type 0) → Bool → Type 0
 HasStepped state asked olds news prints says passed =
     WithInputs state (reader_of state asked) asked.rule olds news
     (λ rule told. IsStepOf asked rule told prints says passed)
 
--- a step over open inputs fails for `fault`: the inputs are not read, or the step is not made or written
+-- a step over open inputs ends with `fault`: the inputs are not read, or the step is not made or written
 abbrev pub IsStepFault : {S : Type 0} → (S → SourceState) → StepAsked → List S → List S
     → Bool → Fault → Type 0
 IsStepFault state asked olds news sink_failed fault =

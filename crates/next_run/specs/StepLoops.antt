@@ -12,7 +12,7 @@ IsCycleInStep cells held next [] = (numbers : List ℕ) × NumbersRise cells hel
 IsCycleInStep cells held next (channel ∷ later) =
     WaitInCycle cells held next (channel ∷ later) × NoneShorter cells held next (channel ∷ later)
 
--- `cycle` is a shortest credit loop in a step, empty if there is none, and `lids` has for each of its channels the
--- least LID for which packets that hold it wait for the next one
+-- `cycle` is a shortest credit loop in a step, empty if there is none. For each of its channels, `lids` has the least
+-- LID for which packets that hold this channel wait for the next one
 abbrev pub IsLoopInStep : Cells → HeldPlan → HeldPlan → List ℕ → List ℕ → Type 0
 IsLoopInStep cells held next cycle lids = IsCycleInStep cells held next cycle × AreLoopLids cells held next cycle lids

@@ -20,7 +20,7 @@ order_of_step cells goal = option_map (λ (g : Goal). switches_by cells g.positi
 abbrev pub items_of : Option (Vec ℕ Global) → Option (List ℕ)
 items_of order = option_map (λ switches. switches.items) order
 
--- a blank and the GUID of a switch
+-- a space and the GUID of a switch
 abbrev pub switch_word : ℕ → List ℕ
 switch_word guid = codes " 0x" ++ guid_text guid
 

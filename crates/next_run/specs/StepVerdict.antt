@@ -17,34 +17,34 @@ use Rattle.next_run.specs.StepLoops.{IsLoopInStep}
 use Rattle.next_run.specs.declared.step_verdict.StepVerdict.{StepVerdict}
 use Rattle.next_run.specs.declared.step_verdict.StepVerdict.TheVariants.{ByLane, OnOneLane}
 
--- what is found in a step: on one lane a credit loop and its LIDs, both empty if there is none; or by lane the packets
--- without a service level, a packet that is dropped for want of a lane, if one is, and a credit loop, empty if there is
--- none
+-- the findings in a step: on one lane a credit loop and its LIDs, both empty if there is none (`on_one_lane`); or by
+-- lane the packets without a service level, a packet that is dropped for want of a lane, None if none is, and a credit
+-- loop, empty if there is none (`by_lane`)
 pub data Verdict : Type 0 where
   on_one_lane : List ℕ → List ℕ → Verdict
   by_lane : Listed PacketPair → Option Dropped → List ℕ → Verdict
 
--- the verdict that the code's value stands for
+-- the verdict that a `StepVerdict` of the code stands for
 abbrev pub verdict_of : StepVerdict → Verdict
 verdict_of (OnOneLane found) = on_one_lane found.channels.items found.lids.items
 verdict_of (ByLane found) = by_lane found.missing found.order.dropped found.order.cycle.items
 
--- `dropped` is a packet that, in the step from `held` to `next`, is dropped for want of a lane, by either table, None
--- if none is; and `cycle` is a shortest credit loop by lane, empty if there is none
+-- in the step from `held` to `next`, `dropped` is a packet that is dropped for want of a lane by either table, None if
+-- none is. `cycle` is a shortest credit loop by lane, empty if there is none
 pub record IsOrderInStep (said : LanesSaid) (answers : Bool) (facts : Facts) (held next : HeldPlan)
     (dropped : Option Dropped) (cycle : List ℕ) : Type 0 where
   pub drop : IsSomeDropByAny (seen_of facts held said) (next ∷ []) answers dropped
   pub waits : IsCycleByAny (seen_of facts held said) (next ∷ []) answers cycle
   pub shortest : NoneShorterByAny (seen_of facts held said) (next ∷ []) answers cycle
 
--- the findings by lane in the step from `held` to `next`: the first packets to LIDs of `next` without a service level,
--- a packet that is dropped for want of a lane, if one is, and a shortest credit loop, if there is one
+-- the findings by lane in the step from `held` to `next`: the first packets to LIDs of `next` without a service level;
+-- a packet that is dropped for want of a lane, and a shortest credit loop, each if there is one
 pub record IsFoundInStep (said : LanesSaid) (answers : Bool) (facts : Facts) (held next : HeldPlan)
     (missing : Listed PacketPair) (dropped : Option Dropped) (cycle : List ℕ) : Type 0 where
   pub missing_are : missing ≡ all_listed (most_told false) (missing_levels said (cells_of facts) next)
   pub order : IsOrderInStep said answers facts held next dropped cycle
 
--- the verdict is right of the step from `held` to `next`: on one lane, if no text gives lanes (None), or else by lane
+-- the verdict is right for the step from `held` to `next`: on one lane, if no text gives lanes (None), or else by lane
 abbrev pub IsVerdict : Option LanesSaid → Bool → Facts → HeldPlan → HeldPlan → Verdict → Type 0
 IsVerdict None answers facts held next (on_one_lane cycle lids) = IsLoopInStep (cells_of facts) held next cycle lids
 IsVerdict None answers facts held next (by_lane missing dropped cycle) = ⊥

@@ -10,8 +10,8 @@ use Rattle.held_tables.specs.PlanTables.{blocks_from}
 use Rattle.packet_walks.specs.Edges.{greatest_top}
 use Rattle.next_tables.specs.NextTables.{next_switch}
 
--- the entry of the switch at `index` for `lid`, if `columns` has the entries of all switches for each LID; 255 if there
--- is none
+-- the entry of the switch at `index` for `lid`, if `columns` has the entries of all switches for each LID; 255 if
+-- `columns` has no such entry
 abbrev pub entry_in : List (List ℕ) → ℕ → ℕ → ℕ
 entry_in columns index lid = slice_index_or (slice_index_or columns lid []) index 255
 

@@ -41,22 +41,22 @@ pub record StandsStill (part : Part) (lid : ℕ) (before now : Fabric) : Type 0 
   pub owners : (port : NodePort) (node : Node) → IsEndPortIn part before port node
       → owns now port lid ≡ owns before port lid
 
--- in `now` nodes, cables and owners of `lid` are as `before`, and each switch of `part` has for `lid` its held or next
--- entry, or any entry if the held tables drop the packet there
+-- in `now` nodes, cables and owners of `lid` are as in `before`. For `lid`, each switch of `part` has its held or its
+-- next entry, or any entry if the held tables drop the packet there
 pub record IsInChange (part : Part) (cells : Cells) (held next : HeldPlan) (lid : ℕ) (before now : Fabric) : Type 0
   where
     pub still : StandsStill part lid before now
     pub entries : (port : NodePort) (node : Node) → IsEndPortIn part before port node → IsTrue (is_switch node.kind)
         → IsLooseEntry cells held next lid node.guid (entry_now now lid port.node)
 
--- each of `fabrics` is in the change from `before` (`IsInChange`); `fabrics k` is the fabric when a packet has passed k
--- wires
+-- each of `fabrics` is in the change from `before` (`IsInChange`); `fabrics k` is the fabric when a packet has passed
+-- `k` wires
 abbrev pub ChangesMeanwhile : Part → Cells → HeldPlan → HeldPlan → ℕ → Fabric → (ℕ → Fabric) → Type 0
 ChangesMeanwhile part cells held next lid before fabrics =
     (k : ℕ) → IsInChange part cells held next lid before (fabrics k)
 
--- in `now` nodes, cables and owners of `lid` are as `before`, and each switch of `part` has its old or its next top,
--- and its old or its next entry for `lid`; the top and the entry may be written in any order
+-- in `now` nodes, cables and owners of `lid` are as in `before`. Each switch of `part` has its old or its next top, and
+-- its old or its next entry for `lid`; the top and the entry may be written in any order
 pub record IsBeingWritten (part : Part) (next : HeldPlan) (lid : ℕ) (before now : Fabric) : Type 0 where
   pub still : StandsStill part lid before now
   pub tops : (port : NodePort) (node : Node) → IsEndPortIn part before port node → IsTrue (is_switch node.kind)
@@ -91,9 +91,11 @@ pub record ArrivesMeanwhile (fabrics : ℕ → Fabric) (lid : ℕ) (source : Nod
   pub nowhere_else : (others : List Hop) (other : NodePort) → IsDeliveredMeanwhile fabrics lid source others other
       → other ≡ target
 
--- If one end port alone holds a LID in the held tables and in the plan, the facts describe all that is joined to an end
--- port, and the end ports and switches there hold the tables at first, a packet that the held tables deliver is
--- delivered while the switches change, each at its own time, to the next tables by the rule of settled entries.
+-- a packet that the held tables deliver is delivered while the switches change, each at its own time, to the next
+-- tables by the rule of settled entries. Three conditions are to hold: one end port alone holds the LID in the held
+-- tables and in the plan; the facts describe all that is joined to the end port `origin`; and at first the end ports
+-- and switches there hold the tables. The packet takes at most twice as many wires as there are usable switches, and
+-- one more
 abbrev pub PacketsArriveWhileTablesChange : Type 0
 PacketsArriveWhileTablesChange =
     (facts : Facts) (held plan : HeldPlan) (line : HeldLid) (before : Fabric) (origin : NodePort)
@@ -110,8 +112,8 @@ PacketsArriveWhileTablesChange =
     }) (Some (Taken line.port))
     → ArrivesMeanwhile fabrics line.lid source line.port (2 * length (switches (cells_of facts)) + 1)
 
--- if facts and held tables say at first what a part is and holds, then by each rule of steps a fabric whose tables are
--- being written is in the change (`IsInChange`)
+-- by each rule of steps, a fabric whose tables are being written is in the change (`IsInChange`), if facts and held
+-- tables say at first what the part that is joined to `origin` is and holds (`IsSeenIn`)
 abbrev pub WrittenTablesAreInChange : Type 0
 WrittenTablesAreInChange =
     (facts : Facts) (rule : StepRuleValue) (held plan : HeldPlan) (lid : ℕ) (before now : Fabric) (origin : NodePort)

@@ -24,20 +24,20 @@ pub record IsMixed (cells : Cells) (held next : HeldPlan) (lid : ℕ) (mixed : H
   pub entries : (g : ℕ) → Contains (switches cells) g → (entry_for mixed lid g ≡ entry_for held lid g)
       ⊎ (entry_for mixed lid g ≡ entry_for next lid g)
 
--- the step `n` steps after `s`, if step number k is taken by `steps k`, from 0 on
+-- the step `n` steps after `s`, if step number `k` is taken by `steps k`, from 0 on
 abbrev pub after_by : ℕ → (ℕ → List NextHop) → NextHop → NextHop
 after_by zero steps s = s
 after_by (suc n) steps s = after_by n (λ k. steps (suc k)) (onward (steps 0) s)
 
 -- the packet that `e` sends for `lid` ends at `end` by tables that change; `tables k` are the tables when it has passed
--- k switches
+-- `k` switches
 abbrev pub IsBroughtBy : Cells → (ℕ → HeldPlan) → ℕ → EndPort → End → Type 0
 IsBroughtBy cells tables lid e end =
     (n : ℕ) × (after_by n (λ k. next_hops_of cells (tables k) lid)
     (first_hop (owners_of (tables 0) lid) (sender_of cells e)) ≡ Ends end)
 
--- for `lid`, `mixed` has the owners of `held` and, at each usable switch, the entry of `held` or of `next`, or any
--- entry if the switch drops the packet by the held tables: its top may be raised before its blocks are written
+-- for `lid`, `mixed` has the owners of `held` and, at each usable switch, the entry of `held` or of `next`. A switch
+-- that drops the packet by the held tables may have any entry: its top may be raised before its blocks are written
 pub record IsLoose (cells : Cells) (held next : HeldPlan) (lid : ℕ) (mixed : HeldPlan) : Type 0 where
   pub owners : owners_of mixed lid ≡ owners_of held lid
   pub entries : (g : ℕ) → Contains (switches cells) g
@@ -45,9 +45,9 @@ pub record IsLoose (cells : Cells) (held next : HeldPlan) (lid : ℕ) (mixed : H
       ⊎ ((entry_for mixed lid g ≡ entry_for next lid g)
       ⊎ ((x : ℕ) × (cause : Cause) × (step_at cells held lid g ≡ Ends (Lost x cause))))
 
--- if the plan gives a LID to its owners in the held tables, and `next` has the next entries for it, a packet that the
--- held tables deliver at the end port of `line` is delivered there by any loose mixtures of the held and the next
--- tables
+-- a packet that the held tables deliver at the end port of `line` is delivered there by any loose mixtures of the held
+-- and the next tables, if two conditions hold: the plan gives the LID to its owners in the held tables; and `next` has
+-- the next entries for it
 abbrev pub NoneIsLost : Type 0
 NoneIsLost =
     (cells : Cells) (held plan next : HeldPlan) (line : HeldLid) → owners_of plan line.lid ≡ owners_of held line.lid
@@ -56,8 +56,8 @@ NoneIsLost =
     → (source : EndPort) → IsBrought cells held line.lid source (Some (Taken line.port))
     → IsBroughtBy cells mixed line.lid source (Taken line.port)
 
--- if the plan gives a LID to its owners in the held tables, and `next` has the next entries for it, then each switch
--- delivers the packet by the next tables, or has the entry 255
+-- each switch delivers a packet for the LID by the next tables, or has the entry 255, if two conditions hold: the plan
+-- gives the LID to its owners in the held tables; and `next` has the next entries for it
 abbrev pub NextDeliverOrDrop : Type 0
 NextDeliverOrDrop =
     (cells : Cells) (held plan next : HeldPlan) (line : HeldLid) → owners_of plan line.lid ≡ owners_of held line.lid
@@ -65,8 +65,9 @@ NextDeliverOrDrop =
     → (i g : ℕ) → slice_get (switches cells) i ≡ Some g
     → (entry_for next line.lid g ≡ 255) ⊎ IsEndOf (next_hops_of cells next line.lid) (To i) (Some (Taken line.port))
 
--- if the plan gives a LID to its owners in the held tables, and `next` has the next entries for it, a packet that does
--- not loop by the held tables does not loop by any mixtures of the held and the next tables
+-- a packet for the LID that does not loop by the held tables does not loop by any mixtures of the held and the next
+-- tables, if two conditions hold: the plan gives the LID to its owners in the held tables; and `next` has the next
+-- entries for it
 abbrev pub NoneGoesRound : Type 0
 NoneGoesRound =
     (cells : Cells) (held plan next : HeldPlan) (line : HeldLid) → owners_of plan line.lid ≡ owners_of held line.lid
@@ -74,8 +75,8 @@ NoneGoesRound =
     → (source : EndPort) (end : End) → IsBrought cells held line.lid source (Some end) → (last : End)
     × IsBroughtBy cells mixed line.lid source last
 
--- for the LID of `line`, `tables n` are the tables after n steps towards the plan, and at first its owners are the
--- plan's
+-- for the LID of `line`, `tables n` are the tables after n steps towards the plan, and the first tables have the plan's
+-- owners of the LID
 pub record AreSteps (cells : Cells) (plan : HeldPlan) (line : HeldLid) (tables : ℕ → HeldPlan) : Type 0 where
   pub owners : owners_of plan line.lid ≡ owners_of (tables 0) line.lid
   pub steps : (n : ℕ) → IsNext cells (tables n) plan line (tables (suc n))
@@ -134,14 +135,15 @@ MixturesWaitSo =
     → IsMixed cells held next lid now
     → (a b : ℕ) → WaitsAcross cells before now lid a b → WaitsInStep cells held next lid a b
 
--- in a step, each channel has a number less than the number of each channel that it waits for, for every LID, whether
--- or not a port holds the LID
+-- in a step, the number of each channel is less than the number of each channel that it waits for, for every LID,
+-- whether or not a port holds the LID
 abbrev pub RiseInStep : Cells → HeldPlan → HeldPlan → List ℕ → Type 0
 RiseInStep cells held next numbers =
     (lid a b : ℕ) → 1 ≤ lid → WaitsInStep cells held next lid a b → slice_index_or numbers a 0
     < slice_index_or numbers b 0
 
--- channel `a` waits for channel `b` for some LID, by a mixture of the held and the next tables first and by one then
+-- channel `a` waits for channel `b`: for some LID, packets that took `a` by one mixture of the held and the next tables
+-- take `b` next by a mixture, perhaps another
 pub record WaitsMixed (cells : Cells) (held next : HeldPlan) (a b : ℕ) : Type 0 where
   pub lid : ℕ
   pub is_lid : 1 ≤ lid

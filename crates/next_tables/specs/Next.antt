@@ -23,7 +23,8 @@ step_at cells tables lid g =
 abbrev pub comes_to : EndPort → List NextHop → NextHop → Bool
 comes_to port steps s = is_at port (end_of (after (length steps) steps s))
 
--- the plan's next hop of switch `g` if its held entry for `lid` is the plan's already; otherwise it drops the packet
+-- the plan's next hop of switch `g` if the held entry of `g` for `lid` is the plan's already; otherwise `g` drops the
+-- packet
 abbrev pub agreed_at : Cells → HeldPlan → HeldPlan → ℕ → ℕ → NextHop
 agreed_at cells held plan lid g =
     if entry_for held lid g == entry_for plan lid g then step_at cells plan lid g else Ends (Lost g NoEntry)
@@ -33,8 +34,8 @@ agreed_at cells held plan lid g =
 abbrev pub agreed : Cells → HeldPlan → HeldPlan → ℕ → List NextHop
 agreed cells held plan lid = map (agreed_at cells held plan lid) (switches cells)
 
--- the plan's entry of switch `g` leads to the port of `line`, or to a switch from which each entry on the way there is
--- the plan's already
+-- the plan's entry of switch `g` leads to the port of `line`, or to a switch from which each entry on the route to this
+-- port is the plan's already
 abbrev pub leads_on : Cells → HeldPlan → HeldPlan → HeldLid → ℕ → Bool
 leads_on cells held plan line g = comes_to line.port (agreed cells held plan line.lid) (step_at cells plan line.lid g)
 
@@ -52,13 +53,13 @@ abbrev pub patch_at : Cells → HeldPlan → HeldPlan → ℕ → ℕ → NextHo
 patch_at cells held plan lid g =
     if is_to (step_at cells held lid g) then step_at cells held lid g else step_at cells plan lid g
 
--- what becomes of a packet at switch `g` while mending: it is delivered if the held tables deliver it; otherwise it
--- takes the held hop if that leads to a switch, and else the plan's
+-- the hop of a packet at switch `g` while mending: it is delivered if the held tables deliver it; otherwise it takes
+-- the held hop if that leads to a switch, and else the plan's
 abbrev pub mending_at : Cells → HeldPlan → HeldPlan → HeldLid → ℕ → NextHop
 mending_at cells held plan line g =
     if delivers cells held line g then Ends (Taken line.port) else patch_at cells held plan line.lid g
 
--- for each usable switch, what becomes of a packet there while mending (`mending_at`)
+-- for each usable switch, the hop of a packet there while mending (`mending_at`)
 abbrev pub mending : Cells → HeldPlan → HeldPlan → HeldLid → List NextHop
 mending cells held plan line = map (mending_at cells held plan line) (switches cells)
 

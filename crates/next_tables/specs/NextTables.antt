@@ -19,7 +19,7 @@ use Rattle.next_tables.specs.declared.step_rule.StepRule.TheVariants.{SettledFir
 use Rattle.next_tables.specs.EntriesByOrder.{next_by_order, position_at}
 use Rattle.next_tables.specs.Next.{next_entry}
 
--- an end port other than the port of `line` holds its LID in the held tables
+-- an end port other than the port of `line` holds the LID of `line` in the held tables
 abbrev pub moves : HeldPlan → HeldLid → Bool
 moves held line = not (is_sole line.port (owners_of held line.lid))
 
@@ -33,8 +33,8 @@ kept_by e [] = None
 kept_by e (x ∷ []) = if is_same_end e x then Some e else None
 kept_by e (x ∷ y ∷ xs) = None
 
--- the end port that is the only owner of a LID in the plan and in the held tables, if the lists have the LID's owners
--- in each; None if there is none
+-- the end port that is the only one in both lists, the LID's owners in the plan and in the held tables; None if there
+-- is none
 abbrev pub keeper : List EndPort → List EndPort → Option EndPort
 keeper [] held = None
 keeper (e ∷ []) held = kept_by e held
@@ -51,30 +51,32 @@ abbrev pub next_for : Cells → HeldPlan → HeldPlan → ℕ → List EndPort �
 next_for cells held plan lid planned None g = if_owned planned (entry_for plan lid g)
 next_for cells held plan lid planned (Some port) g = next_entry cells held plan (record { lid = lid; port = port }) g
 
--- how a step chooses entries: a switch takes the plan's entry once each switch on the plan's route has it; or entries
--- are chosen by an order, which is the position of each switch, by rising GUID
+-- a rule by which a step chooses entries: a switch takes the plan's entry once each switch on the plan's route has it
+-- (`settled_first`); or entries are chosen by an order, given as the position of each switch, by rising GUID
+-- (`by_order`)
 pub data StepRuleValue : Type 0 where
   settled_first : StepRuleValue
   by_order : List ℕ → StepRuleValue
 
--- the rule of steps that the value of the code's type stands for
+-- the rule of steps that a `StepRule` of the code stands for
 abbrev pub value_of : StepRule → StepRuleValue
 value_of SettledFirst = settled_first
 value_of (ByOrder positions) = by_order positions.items
 
--- the index of switch `g` among the usable switches; 0 if it is none
+-- the index of switch `g` among the usable switches; 0 if `g` is none of them
 abbrev pub index_at : Cells → ℕ → ℕ
 index_at cells g = unwrap_or (index_in (switches cells) g) 0
 
--- the next entry of switch `g`, at index i, for `lid` by an order, towards the first of the LID's owners in the plan;
--- 255 if it has none there
+-- the next entry of switch `g`, at index `i`, for `lid` by an order, towards the first of the LID's owners in the plan;
+-- 255 if the LID has no owner in the plan
 abbrev pub ordered_for : Cells → (ℕ → ℕ) → HeldPlan → HeldPlan → ℕ → List EndPort → ℕ → ℕ → ℕ
 ordered_for cells q held plan lid [] i g = 255
 ordered_for cells q held plan lid (port ∷ ports) i g =
     next_by_order cells q held plan (record { lid = lid; port = port }) i g
 
--- the next entry of switch `g` for `lid`. By settled entries, it is `next_entry` if one end port alone holds the LID in
--- both tables, otherwise the plan's entry. By an order, it is `ordered_for`
+-- the next entry of switch `g` for `lid`. By settled entries, it is `next_entry` if one end port alone holds the LID,
+-- the same in both tables. If not, it is the plan's entry, or 255 for a LID that the plan lacks. By an order, it is
+-- `ordered_for`
 unfoldable pub next_at : Cells → StepRuleValue → HeldPlan → HeldPlan → ℕ → ℕ → ℕ
 next_at cells settled_first held plan lid g =
     next_for cells held plan lid (owners_of plan lid) (keeper (owners_of plan lid) (owners_of held lid)) g
@@ -117,7 +119,7 @@ next_tables cells rule held plan = record {
   blocks = blocks_of 0 (map (next_table cells rule held plan) (switches cells));
 }
 
--- the fault of a step if a LID moves from one end port to another; None if none does (None)
+-- the fault of a step: the given LID moves from one end port to another; None if no LID moves
 abbrev pub step_fault : Option ℕ → Option StepFault
 step_fault None = None
 step_fault (Some lid) = Some (Moves lid)

@@ -1,4 +1,4 @@
--- That the text of a step is read again as its tables.
+-- The text of a step is read back as the step's tables.
 use Rattle.std.specs.Prelude.{◌≤◌, ℕ, List}
 use Rattle.fact_store.specs.View.{Facts, cells_of, AreInRange}
 use Rattle.lid_assign.specs.Lids.{IsNoRoom}
@@ -12,21 +12,21 @@ use Rattle.tables_file.specs.Reading.{held_of}
 use Rattle.tables_file.specs.TablesText.{next_text}
 use Rattle.next_tables.specs.NextTables.{StepRuleValue, next_tables}
 
--- the text of the next tables towards `plan`, by the rule `by`, is read as these tables
+-- the text of the next tables towards `plan`, by the rule `by`, is read back as these tables
 abbrev pub IsStepRead : Facts → StepRuleValue → HeldPlan → PlanValue → Type 0
 IsStepRead facts by held plan =
     let next = next_tables (cells_of facts) by held (held_plan plan) in
     Says (next_text plan.given next) next
 
 -- if the facts, the held tables and the plan are in range, the text of the next tables, by each rule of steps, is read
--- as these tables
+-- back as these tables
 abbrev pub NextTextsAreRead : Type 0
 NextTextsAreRead =
     (facts : Facts) (by : StepRuleValue) (held : HeldPlan) (plan : PlanValue) → AreInRange facts → IsHeldInRange held
     → IsPlanInRange plan → IsStepRead facts by held plan
 
--- the text of a step is read if the step goes from the tables that any text says towards the plan of facts that are in
--- range and have room for the LIDs
+-- the text of a step is read back as its tables, if the step goes from the tables of any text towards the plan of facts
+-- that are in range and have room for the LIDs
 abbrev pub StepTextsAreRead : Type 0
 StepTextsAreRead =
     (rule : RuleValue) (lmc : ℕ) (facts : Facts) (by : StepRuleValue) (text : List ℕ) → lmc ≤ 7 → AreInRange facts

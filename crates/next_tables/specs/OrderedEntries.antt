@@ -10,7 +10,7 @@ use Rattle.next_tables.specs.Next.{comes_to}
 use Rattle.next_tables.specs.EntriesByOrder.{comes_down, goes_up, is_down, is_up, position_at}
 use Rattle.next_tables.specs.SettledEntries.{Both, hops_of}
 
--- the flag at index i, false past the end
+-- the flag at index `i`, false past the end
 abbrev pub flag : List Bool → ℕ → Bool
 flag flags i = slice_index_or flags i false
 
@@ -30,17 +30,17 @@ goes_up_by positions x = goes_up (position_at positions) x.0 x.1.0.hop && is_dif
 abbrev pub going_up_of : List ℕ → List SwitchStep → List SwitchStep → List Bool
 going_up_of positions held goal = map (goes_up_by positions) (enumerate_from 0 (zip held goal))
 
--- the packet comes down from the switch at `index` to the switch at i, by a held entry that is not the goal's
+-- the packet comes down from the switch at `index` to the switch at `i`, by a held entry that is not the goal's
 abbrev pub enters : List ℕ → ℕ → SwitchStep → SwitchStep → ℕ → Bool
 enters positions index held goal i =
     comes_down (position_at positions) index i held.hop && is_differing held goal
 
--- the packet comes down from a switch, given by its index and its steps, to the switch at i, by a held entry that is
+-- the packet comes down from a switch, given by its index and its steps, to the switch at `i`, by a held entry that is
 -- not the goal's
 abbrev pub enters_from : List ℕ → ℕ → ℕ × Both → Bool
 enters_from positions i x = enters positions x.0 x.1.0 x.1.1 i
 
--- the packet comes down to the switch at i from some switch, by a held entry that is not the goal's
+-- the packet comes down to the switch at `i` from some switch, by a held entry that is not the goal's
 abbrev pub is_entered : List ℕ → List SwitchStep → List SwitchStep → ℕ → Bool
 is_entered positions held goal i = list_any (enters_from positions i) (enumerate_from 0 (zip held goal))
 
@@ -48,8 +48,8 @@ is_entered positions held goal i = list_any (enters_from positions i) (enumerate
 abbrev pub entered_of : List ℕ → List SwitchStep → List SwitchStep → List Bool
 entered_of positions held goal = map (is_entered positions held goal) (range_with_len 0 (length held))
 
--- if the switch at index i takes the hop, this makes no turn down and then up with held entries that are not the
--- goal's; true of an end
+-- the hop of the switch at index `i` makes no turn down and then up with held entries that are not the goal's; an end
+-- makes none
 abbrev pub turns_well_by : List ℕ → List Bool → List Bool → ℕ → NextHop → Bool
 turns_well_by positions going_up entered i (To j) =
     (not (is_up (position_at positions) i j) || not (flag entered i))
@@ -61,8 +61,8 @@ abbrev pub leads_in : EndPort → List Bool → NextHop → Bool
 leads_in port delivered (To j) = flag delivered j
 leads_in port delivered (Ends e) = is_at port (Some e)
 
--- the switch at index i may take the goal's entry, by which its hop is `hop`: this turns well and, if the held tables
--- deliver from there, leads to the port or to a switch from which they deliver
+-- the switch at index `i` may take the goal's entry, by which its hop is `hop`: the hop turns well and, if the held
+-- tables deliver from this switch, leads to the port or to a switch from which they deliver
 abbrev pub may_change_by : List ℕ → EndPort → List Bool → List Bool → List Bool → ℕ → NextHop → Bool
 may_change_by positions port delivered going_up entered i hop =
     turns_well_by positions going_up entered i hop && (not (flag delivered i) || leads_in port delivered hop)

@@ -11,7 +11,7 @@ use Rattle.packet_walks.specs.EndsBySwitch.{end_of, is_to, onward}
 use Rattle.packet_walks.specs.HopsByTables.{is_at}
 use Rattle.next_tables.specs.Next.{comes_to}
 
--- what a switch does by the held tables, and by the plan
+-- the steps of a switch by the held tables, and by the plan
 abbrev pub Both : Type 0
 Both = SwitchStep × SwitchStep
 
@@ -37,12 +37,12 @@ patch_by x = if is_to x.0.hop then x.0.hop else x.1.hop
 abbrev pub patch_entry_by : Both → ℕ
 patch_entry_by x = if is_to x.0.hop then x.0.entry else x.1.entry
 
--- what becomes of a packet at a switch while mending: it is delivered at `port` if the held tables deliver it;
--- otherwise it takes the held hop if that leads to a switch, and else the plan's
+-- the hop of a packet at a switch while mending: it is delivered at `port` if the held tables deliver it; otherwise it
+-- takes the held hop if that leads to a switch, and else the plan's
 abbrev pub mending_by : EndPort → (NextHop → Bool) → Both → NextHop
 mending_by port delivers x = if delivers x.0.hop then Ends (Taken port) else patch_by x
 
--- for each switch, what becomes of a packet there while mending (`mending_by`)
+-- for each switch, the hop of a packet there while mending (`mending_by`)
 abbrev pub mending_of : EndPort → (NextHop → Bool) → List SwitchStep → List SwitchStep → List NextHop
 mending_of port delivers held plan = map (mending_by port delivers) (zip held plan)
 

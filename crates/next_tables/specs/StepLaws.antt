@@ -27,13 +27,14 @@ NextTablesAreSo =
     (cells : Cells) (rule : StepRuleValue) (held plan : HeldPlan)
     → AreNextTables cells rule held plan (next_tables cells rule held plan)
 
--- the next tables by settled entries have the next entries for a LID that one end port alone holds in both tables
+-- the next tables by settled entries have the next entries for a LID that one end port alone holds, the same in the
+-- held tables and in the plan
 abbrev pub StepsFollowTheRule : Type 0
 StepsFollowTheRule = (cells : Cells) (held plan : HeldPlan) (line : HeldLid) → IsKept held plan line
     → IsNext cells held plan line (next_tables cells settled_first held plan)
 
--- if one end port alone holds a LID in both tables, a packet that the held tables deliver there is delivered there by
--- any loose mixtures of the held tables and the next ones by settled entries
+-- a packet that the held tables deliver is delivered at the same end port by any loose mixtures of the held tables and
+-- the next ones by settled entries, if this end port alone holds the LID in the held tables and in the plan
 abbrev pub StepsLoseNone : Type 0
 StepsLoseNone =
     (cells : Cells) (held plan : HeldPlan) (line : HeldLid) → IsKept held plan line
@@ -41,8 +42,8 @@ StepsLoseNone =
     → (source : EndPort) → IsBrought cells held line.lid source (Some (Taken line.port))
     → IsBroughtBy cells mixed line.lid source (Taken line.port)
 
--- if one end port alone holds a LID in both tables, a packet for it that does not loop by the held tables does not loop
--- by any mixtures of the held tables and the next ones by settled entries
+-- a packet that does not loop by the held tables does not loop by any mixtures of the held tables and the next ones by
+-- settled entries, if one end port alone holds its LID, the same in the held tables and in the plan
 abbrev pub StepsSendNoneRound : Type 0
 StepsSendNoneRound =
     (cells : Cells) (held plan : HeldPlan) (line : HeldLid) → IsKept held plan line
@@ -55,8 +56,8 @@ abbrev pub stepped : Cells → HeldPlan → HeldPlan → ℕ → HeldPlan
 stepped cells plan held zero = held
 stepped cells plan held (suc n) = next_tables cells settled_first (stepped cells plan held n) plan
 
--- if one end port alone holds a LID in both tables, and the plan delivers there from a switch after n hops, the switch
--- has the plan's entry after n or more steps by settled entries
+-- a switch from which the plan delivers after n hops has the plan's entry after n or more steps by settled entries, if
+-- the end port alone holds the LID in the held tables and in the plan
 abbrev pub StepsEndInThePlan : Type 0
 StepsEndInThePlan =
     (cells : Cells) (held plan : HeldPlan) (line : HeldLid) → IsKept held plan line
@@ -64,8 +65,8 @@ StepsEndInThePlan =
     ≡ Ends (Taken line.port) → n ≤ m
     → entry_for (stepped cells plan held m) line.lid g ≡ entry_for plan line.lid g
 
--- if one end port alone holds a LID in both tables, each packet for it that arrives by the plan arrives after two steps
--- by settled entries
+-- each packet that arrives by the plan arrives after two steps by settled entries, if one end port alone holds its LID,
+-- the same in the held tables and in the plan
 abbrev pub StepsHealInTwo : Type 0
 StepsHealInTwo =
     (cells : Cells) (held plan : HeldPlan) (line : HeldLid) → IsKept held plan line

@@ -9,8 +9,9 @@ use Rattle.attr_codec.specs.declared.port_state.PortState.TheVariants.{NoChange,
 use Rattle.node_agents.specs.declared.agent_node.AgentNode.{AgentNode}
 use Rattle.node_agents.specs.declared.port.Port.{Port}
 
--- the node as it was built, its ports from port 0 on, its forwarding table in whole blocks, and the greatest LID that
--- it forwards
+-- what an agent holds: `node` is its node as it was built, and `ports` has its ports from port 0 on. `table` is its
+-- forwarding table in whole blocks of 64 entries, and empty at an adapter. `top` is the greatest LID that the node
+-- forwards
 pub record Agent : Type 0 where
   pub node : AgentNode
   pub ports : List Port
@@ -63,7 +64,7 @@ has_seat a port = (port_at a port).is_sm
 abbrev pub no_port : ℕ
 no_port = 255
 
--- the port by which a switch forwards packets for `lid`; `no_port` if the table has no such entry
+-- the entry for `lid` in the forwarding table, whatever the top is; `no_port` if the table is too short
 abbrev pub entry_at : Agent → ℕ → ℕ
 entry_at a lid = slice_index_or a.table lid no_port
 
@@ -84,11 +85,12 @@ node_of a = record {
 
 -- what changes an agent from outside --------------------------------------------------
 
--- the agent with `to` in place of port `port`
+-- the agent with its port `port` replaced by `to`
 abbrev pub with_port : Agent → ℕ → Port → Agent
 with_port a port to = record a { ports = slice_set a.ports port to }
 
--- the agent after a cable was plugged into a port, or taken out of it: the port is in Initialize, or Down
+-- the agent after a cable was plugged into the port `port` if `is_wired`, else taken out of it; the port is then in
+-- Initialize, or Down
 abbrev pub after_set_wired : Agent → ℕ → Bool → Agent
 after_set_wired a port is_wired =
     with_port a port (record (port_at a port) { state = if is_wired then Initialize else Down })
@@ -103,7 +105,8 @@ after_set_seat a port = with_port a port (record (port_at a port) { is_sm = true
 abbrev pub block_count : ℕ → ℕ
 block_count cap = (cap + 63) / 64
 
--- an agent with no port wired, nobody seated and nothing written; a switch's port 0 is always active
+-- an agent with no port wired, no subnet manager seated and nothing written; port 0 is Active at a switch, and Down at
+-- an adapter
 unfoldable pub fresh_agent : AgentNode → Agent
 fresh_agent node =
     record {
@@ -113,8 +116,8 @@ fresh_agent node =
       top = 0;
     }
 
--- `node` can be built: its GUID has 64 bits, it has 1 to 254 ports, only a switch has a table, which has at most 49,152
--- entries, and the GUID of each port has 64 bits
+-- `node` can be built: its GUID and the GUID of each of its ports have 64 bits, and it has 1 to 254 ports. Only a
+-- switch has a table, of at most 49,152 entries
 pub record IsAgentNode (node : AgentNode) : Type 0 where
   pub guid : node.guid < 2 ^ 64
   pub ports : (1 ≤ node.ports) × (node.ports ≤ 254)
@@ -122,15 +125,15 @@ pub record IsAgentNode (node : AgentNode) : Type 0 where
   pub no_table : types.is_switch node.kind ≡ false → node.cap ≡ 0
   pub port_guids : types.is_switch node.kind ≡ false → node.guid + node.ports < 2 ^ 64
 
--- what holds of each port of an agent whose node has the type `kind`: its state is not "no change", its LID is below
--- the end of the unicast LIDs, and no subnet manager sits there if the node is a switch
+-- what holds of each port of an agent whose node has the type `kind`. The state of the port is not "no change", and its
+-- LID is below the end of the unicast LIDs. No subnet manager sits at a port of a switch
 pub record IsPort (kind : NodeType) (port : Port) : Type 0 where
   pub state : port.state ≢ NoChange
   pub base_lid : port.base_lid < lid_end
   pub is_sm : types.is_switch kind ≡ true → port.is_sm ≡ false
 
--- what holds of each agent: its node can be built, it has each port and port 0, Active at a switch, a table of whole
--- blocks, and a top that is 0 or below the table's room
+-- what holds of each agent: its node can be built, and has a description of 64 bytes. The agent has the node's ports
+-- and port 0, which is Active at a switch. Its table has whole blocks, and its top is 0 or below the table's room
 pub record IsAgent (a : Agent) : Type 0 where
   pub node : IsAgentNode a.node
   pub description : length a.node.description ≡ 64

@@ -39,8 +39,8 @@ pub record IsPacket (packet : List ℕ) : Type 0 where
   pub count : length packet ≡ 256
   pub parses : fault_of packet ≡ None
 
--- the answer of an agent is a packet with the method GetResp, the D bit if it is directed, and the status and the
--- attribute that the agent gives; all else is as in the request
+-- the answer of an agent is a packet with the method GetResp, and with the status and the attribute that the agent
+-- gives. The D bit is set if the request is directed. All else is as in the request
 abbrev pub AnswersHold : Type 0
 AnswersHold =
     (a : Agent) (packet : List ℕ) (arrival : ℕ) → IsAgent a → IsPacket packet
@@ -61,7 +61,8 @@ RefusalsChangeNothing =
 
 -- what is said ------------------------------------------------------------------------------
 
--- PortInfo says `number` as the state of the port that it is about; it is Down exactly if the port is
+-- PortInfo says `number` as the state of the port that `modifier` and `arrival` mean: the number of a state other than
+-- no change, which is Down exactly if that port is Down
 pub record SaysPort (a : Agent) (modifier arrival number : ℕ) : Type 0 where
   pub port : ℕ
   pub meant : port_meant a modifier arrival ≡ Some port
@@ -75,8 +76,8 @@ pub record SaysSwitch (a : Agent) (cap : ℕ) : Type 0 where
   pub kind : is_switch a ≡ true
   pub cap_is : cap ≡ a.node.cap
 
--- what an answer says by its attribute, NodeInfo, PortInfo or SwitchInfo, is true of its agent; `arrival` is the port
--- at which the request arrived
+-- what an answer says by its attribute, NodeInfo, PortInfo or SwitchInfo, is true of its agent; of a port's state, only
+-- whether it is Down. `arrival` is the port at which the request arrived
 pub record Says (a : Agent) (arrival : ℕ) (answer : List ℕ) : Type 0 where
   pub node : number_in attribute_id answer ≡ node_info → node_info_in (bytes_in attribute_data answer)
       ≡ node_info_of a.node arrival
@@ -85,8 +86,8 @@ pub record Says (a : Agent) (arrival : ℕ) (answer : List ℕ) : Type 0 where
   pub switch : number_in attribute_id answer ≡ switch_info
       → SaysSwitch a (number_in linear_fdb_cap (bytes_in attribute_data answer))
 
--- an answer with status 0, to a Get or a Set, says what is true of the node, of port states and of table room; LIDs and
--- table entries are not covered
+-- an answer with status 0, to a Get or a Set, says what is true of the node, of which ports are Down, and of table
+-- room; LIDs and table entries are not covered. The request arrived at port 0 or a port of the node
 abbrev pub AnswersSay : Type 0
 AnswersSay =
     (a : Agent) (packet : List ℕ) (arrival : ℕ) → IsAgent a → IsPacket packet → arrival ≤ a.node.ports
@@ -107,8 +108,8 @@ pub record IsAboutTheSame (p q : List ℕ) : Type 0 where
   pub attribute : number_in attribute_id p ≡ number_in attribute_id q
   pub modifier : number_in attribute_modifier p ≡ number_in attribute_modifier q
 
--- a Get right after a Set that was accepted, of the same attribute and modifier and at the same port, returns what the
--- answer to the Set returned
+-- a Get right after a Set that was accepted returns what the answer to the Set returned. The Get has the attribute and
+-- the modifier of the Set. Both arrived at the port `arrival`
 abbrev pub GetsTellAsSets : Type 0
 GetsTellAsSets =
     (a : Agent) (p q : List ℕ) (arrival number : ℕ) → IsTaken a p arrival number → IsPacket q → number_in method q ≡ get
@@ -116,7 +117,8 @@ GetsTellAsSets =
     → bytes_in attribute_data (after_answer (after_answer a p arrival).agent q arrival).packet
     ≡ bytes_in attribute_data (after_answer a p arrival).packet
 
--- the block that is set is returned, and is in the table at its offset; nothing else of the agent changes
+-- `told`, the block that the answer returns, is `payload`, and `after` has these entries in its table as the block
+-- `block`; nothing else of the agent changes
 pub record SetsBlock (a after : Agent) (block : ℕ) (payload told : List ℕ) : Type 0 where
   pub is_told : told ≡ payload
   pub inside : (i : ℕ) → i < 64 → entry_at after (64 * block + i) ≡ slice_index payload i
@@ -131,7 +133,7 @@ BlocksAreSet =
     (bytes_in attribute_data packet)
     (bytes_in attribute_data (after_answer a packet arrival).packet)
 
--- the top that is set is returned, and the agent has it; nothing else of the agent changes
+-- `told`, which the answer returns, has the top of `payload`, and `after` is `a` with this top
 pub record SetsTop (a after : Agent) (payload told : List ℕ) : Type 0 where
   pub is_told : number_in linear_fdb_top told ≡ number_in linear_fdb_top payload
   pub all_else : after ≡ record a { top = number_in linear_fdb_top payload }
@@ -143,8 +145,9 @@ TopsAreSet =
     → SetsTop a (after_answer a packet arrival).agent (bytes_in attribute_data packet)
     (bytes_in attribute_data (after_answer a packet arrival).packet)
 
--- the LID and the LMC that are set at a port with a LID of its own are its LID and LMC afterwards, and are returned; so
--- is the state unless it is 0 (no change); no other port and nothing else changes
+-- if `port` has a LID of its own, its LID and LMC afterwards are those of `payload`, and `told` returns them. `told`
+-- returns the state in `payload` too, unless that is 0 (no change). No other port changes, and nothing of the agent
+-- except its ports
 pub record SetsPort (a after : Agent) (port : ℕ) (payload told : List ℕ) : Type 0 where
   pub lids : has_lid a port ≡ true → range_at after port ≡ range_in payload
   pub lids_told : has_lid a port ≡ true → range_in told ≡ range_in payload
@@ -152,8 +155,9 @@ pub record SetsPort (a after : Agent) (port : ℕ) (payload told : List ℕ) : T
   pub others : (index : ℕ) → index ≢ port → port_at after index ≡ port_at a index
   pub all_else : after ≡ record a { ports = after.ports }
 
--- if a Set of PortInfo is accepted, the port that it is about has its LID and LMC, if it has a LID of its own; these
--- and a state other than 0 are returned; no other port and nothing else changes
+-- an accepted Set of PortInfo sets the LID and the LMC of the port that it is about, if this port has a LID of its own.
+-- The answer returns this LID and LMC, and a state other than 0. No other port changes, and nothing of the agent except
+-- its ports. The request arrived at port 0 or a port of the node
 abbrev pub PortsAreSet : Type 0
 PortsAreSet =
     (a : Agent) (packet : List ℕ) (arrival port : ℕ) → arrival ≤ a.node.ports → IsTaken a packet arrival port_info
@@ -163,8 +167,8 @@ PortsAreSet =
 
 -- from outside ------------------------------------------------------------------------------
 
--- a fresh agent is an agent, and an agent stays one if a port from 1 on is wired or unwired, or a subnet manager is
--- seated at a port of an adapter
+-- a fresh agent is an agent if its node can be built and has a description of 64 bytes. An agent stays one if a port
+-- from 1 on is wired or unwired, or a subnet manager is seated at a port of an adapter
 pub record AgentsAreMade : Type 0 where
   pub fresh : (node : AgentNode) → IsAgentNode node → length node.description ≡ 64 → IsAgent (fresh_agent node)
   pub wired : (a : Agent) (port : ℕ) (is_wired : Bool) → IsAgent a → 1 ≤ port

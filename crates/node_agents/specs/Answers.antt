@@ -16,7 +16,8 @@ use Rattle.node_agents.specs.SwitchInfo.{get_switch_info, set_switch_info}
 use Rattle.node_agents.specs.PortInfo.{get_port_info, set_port_info}
 use Rattle.node_agents.specs.LftBlock.{get_block, set_block}
 
--- the attribute that a Get returns, for a request that arrived at the port `arrival`, or why it is refused
+-- the bytes that a Get of the attribute `attribute` returns if the request arrived at the port `arrival`, or why the
+-- Get is refused
 abbrev pub get_attribute : Agent → ℕ → ℕ → ℕ → Result (List ℕ) Refusal
 get_attribute a attribute modifier arrival =
     if attribute == node_description then Ok (get_node_description a)
@@ -26,7 +27,8 @@ get_attribute a attribute modifier arrival =
     else if is_switch a && attribute == linear_forwarding_table then ok_or (get_block a modifier) InvalidField
     else Err MethodAndAttribute
 
--- the agent after a Set of an attribute, for a request that arrived at the port `arrival`, or why it is refused
+-- the agent after a Set of the attribute `attribute` to `payload`, by a request that arrived at the port `arrival`, or
+-- why the Set is refused
 abbrev pub set_attribute : Agent → ℕ → ℕ → ℕ → List ℕ → Result Agent Refusal
 set_attribute a attribute modifier arrival payload =
     if attribute == port_info then ok_or (set_port_info a modifier arrival payload) InvalidField
@@ -34,33 +36,35 @@ set_attribute a attribute modifier arrival payload =
     else if is_switch a && attribute == linear_forwarding_table then ok_or (set_block a modifier payload) InvalidField
     else Err MethodAndAttribute
 
--- a call that accepts a Set leaves the agent as `after` says; one that refuses it leaves the agent as it was
+-- a call accepts a Set as `after` says, and leaves the agent `new` that `after` has; or it refuses the Set for the
+-- reason in `after`, and leaves the agent `old`
 abbrev pub Takes : {T : Type 0} → Result T Refusal → Agent → Agent → Result Agent Refusal → Type 0
 Takes (Ok _) old new after = after ≡ Ok new
 Takes (Err refusal) old new after = (after ≡ Err refusal) × (new ≡ old)
 
--- the attribute that answers a request, or why it is refused, and the agent afterwards
+-- the outcome of a request: `told` is the attribute that answers it, or why it is refused, and `agent` is the agent
+-- afterwards
 pub record Met : Type 0 where
   pub told : Result (List ℕ) Refusal
   pub agent : Agent
 
--- the attribute that the packet, taken as a Get, asks for, or why it is refused
+-- the attribute that the packet, taken as a Get, asks for, or why this Get is refused
 unfoldable pub get_of : Agent → List ℕ → ℕ → Result (List ℕ) Refusal
 get_of a packet arrival = get_attribute a (number_in attribute_id packet) (number_in attribute_modifier packet) arrival
 
--- the agent after the packet, taken as a Set, or why it is refused
+-- the agent after the packet, taken as a Set, or why this Set is refused
 unfoldable pub set_of : Agent → List ℕ → ℕ → Result Agent Refusal
 set_of a packet arrival =
     set_attribute a (number_in attribute_id packet) (number_in attribute_modifier packet) arrival
     (bytes_in attribute_data packet)
 
--- what a Set comes to: if it is accepted, its answer has what a Get would return afterwards; if not, why, and the agent
--- is as it was
+-- the outcome of a Set: if the Set is accepted, what a Get would return afterwards, and the agent `after`; else why the
+-- Set is refused, and the agent `a`
 abbrev pub met_set : Agent → Result Agent Refusal → List ℕ → ℕ → Met
 met_set a (Ok after) packet arrival = record { told = get_of after packet arrival; agent = after }
 met_set a (Err refusal) packet arrival = record { told = Err refusal; agent = a }
 
--- the attribute that answers the packet, or why it is refused, and the agent afterwards
+-- the attribute that answers the request `packet`, or why the request is refused, and the agent afterwards
 abbrev pub after_request : Agent → List ℕ → ℕ → Met
 after_request a packet arrival =
     if number_in method packet == get then record { told = get_of a packet arrival; agent = a }

@@ -10,8 +10,8 @@ use Rattle.attr_codec.specs.declared.port_state.PortState.{PortState}
 use Rattle.node_agents.specs.declared.port.Port.{Port}
 use Rattle.node_agents.specs.Agent.{Agent, is_switch, port_at, with_port}
 
--- the port that a request means: for a switch, any port from 0 on; for an adapter, the port at which the request
--- arrived, if the modifier is 0 or its number; None if there is no such port
+-- the port that a request means: for a switch, the port `modifier`, from 0 to the port count; for an adapter, the port
+-- `arrival` at which the request arrived, if `modifier` is 0 or the number of this port; else None
 abbrev pub port_meant : Agent → ℕ → ℕ → Option ℕ
 port_meant a modifier arrival =
     if is_switch a then (if nat_le modifier a.node.ports then Some modifier else None)
@@ -39,11 +39,11 @@ get_port_info a modifier arrival =
 abbrev pub has_lid : Agent → ℕ → Bool
 has_lid a port = not (is_switch a) || port == 0
 
--- the greatest LMC that can be set at a port; port 0 of a switch has one LID
+-- the greatest LMC that can be set at a port: 0 at port 0 of a switch, which has one LID, else 7
 abbrev pub max_lmc : Agent → ℕ → ℕ
 max_lmc a port = if is_switch a && port == 0 then 0 else 7
 
--- `wish` is the next state on the way from Initialize to Active; no step leads to Down or from it
+-- `wish` is the state that follows `state` in the order Initialize, Armed, Active
 abbrev pub is_next_state : PortState → PortState → Bool
 is_next_state state wish = nat_le 2 (number_of_state state) && number_of_state wish == number_of_state state + 1
 
@@ -55,7 +55,7 @@ state_after state wish =
     else if is_next_state state wish then Some wish
     else None
 
--- `port` in the state `state`, with the LID, the LMC and the manager's LID of `payload` if it has LIDs
+-- `port` in the state `state`; if `has_lid`, also with the LID, the LMC and the manager's LID of `payload`
 abbrev pub port_with : Port → Bool → List ℕ → PortState → Port
 port_with port has_lid payload state =
     record port {

@@ -13,7 +13,7 @@ get_switch_info a =
     image (record { field = linear_fdb_cap; number = a.node.cap } ∷ record { field = linear_fdb_top; number = a.top }
     ∷ [])
 
--- the agent with the payload's greatest LID; None if the table has no room for it; all else in the payload is ignored
+-- the agent with the top in `payload`, all else in which is ignored; None if the table has no room for this LID
 abbrev pub set_switch_info : Agent → List ℕ → Option Agent
 set_switch_info a payload = let top =
     number_in linear_fdb_top payload in if nat_lt top a.node.cap then Some (record a { top = top }) else None

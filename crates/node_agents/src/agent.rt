@@ -19,9 +19,10 @@ pub struct Agent {
     pub(crate) node: AgentNode,
     /// The ports, from port 0 on; an adapter's port 0 is not used.
     pub(crate) ports: Vec<Port>,
-    /// The forwarding table in whole blocks: the port for each LID.
+    /// The forwarding table in whole blocks: for each LID the outgoing port, or 255 for none. An adapter's table is
+    /// empty.
     pub(crate) table: Vec<u8>,
-    /// The greatest LID that is forwarded.
+    /// The greatest LID that a switch forwards; 0 if none was set.
     pub(crate) top: Lid,
 }
 
@@ -37,8 +38,8 @@ impl Model for Agent {
 }
 
 impl Agent {
-    /// Creates the agent of `node`, with no port wired, no manager seated and nothing written. `node` must be one that
-    /// can be built (`IsAgentNode`). Allocates all of the agent's memory.
+    /// Creates the agent of `node`, with no port wired, no manager seated and nothing written. Returns an error if
+    /// memory runs out. `node` must be one that can be built (`IsAgentNode`). Allocates all of the agent's memory.
     #[tactic(auto, unfolding(crate::specs::Agent::fresh_agent))]
     pub fn new(alloc: Global, node: AgentNode) -> Result<Agent, AllocError>
         requires { IsAgentNode node }
@@ -90,7 +91,8 @@ impl Agent {
         self.node.ports
     }
 
-    /// Returns LinearFDBCap: the number of entries that the forwarding table has room for, or 0 if there is no table.
+    /// Returns LinearFDBCap: the number of entries that the forwarding table has room for, or 0 if the node has no
+    /// table.
     pub fn cap(&self) -> u16
         ensures { result ≡ self.now.node.cap }
     {
@@ -104,8 +106,8 @@ impl Agent {
         self.top
     }
 
-    /// Returns the table's entry for `lid`, whatever the top is: the port by which a switch forwards packets for `lid`,
-    /// or 255, which is no port, if the table has no such entry.
+    /// Returns the outgoing port that the table has for packets for `lid`, whatever the top is. Returns 255, which is
+    /// no port, if the table has no entry for `lid`.
     pub fn entry(&self, lid: Lid) -> PortNum
         ensures { result ≡ entry_at self.now lid }
     {
@@ -115,7 +117,7 @@ impl Agent {
         }
     }
 
-    /// Returns the port `port`. If the node has no such port, returns a Down port to which nothing was written.
+    /// Returns the port `port`. If the node does not have this port, returns a Down port to which nothing was written.
     pub(crate) fn port(&self, port: PortNum) -> Port
         ensures { result ≡ port_at self.now port }
     {
@@ -132,29 +134,31 @@ impl Agent {
         self.port(port).state
     }
 
-    /// Returns the base LID of `port`, or 0 if it has none.
+    /// Returns the base LID of `port`, or 0 if none was set, or the node has no such port.
     pub fn base_lid(&self, port: PortNum) -> Lid
         ensures { result ≡ base_lid_at self.now port }
     {
         self.port(port).base_lid
     }
 
-    /// Returns the LMC of `port`, or 0 if none was set. A port with a LID has 2^LMC LIDs, from its base LID on.
+    /// Returns the LMC of `port`, or 0 if none was set, or the node has no such port. A port with a LID has 2^LMC LIDs,
+    /// from its base LID on.
     pub fn lmc(&self, port: PortNum) -> Lmc
         ensures { result ≡ lmc_at self.now port }
     {
         self.port(port).lmc
     }
 
-    /// Returns the LID of the subnet manager that was set at `port`, or 0 if none was set.
+    /// Returns the LID of the subnet manager that was set at `port`, or 0 if none was set, or the node has no such
+    /// port.
     pub fn master_sm_lid(&self, port: PortNum) -> Lid
         ensures { result ≡ master_sm_lid_at self.now port }
     {
         self.port(port).master_sm_lid
     }
 
-    /// Returns whether `lid` is one of the LIDs of `port`: a packet for it has arrived there. A port with LID 0 owns
-    /// only LID 0.
+    /// Returns whether `lid` is one of the LIDs of `port`, so that a packet for `lid` has arrived there. A port with
+    /// LID 0 owns only LID 0.
     pub fn owns(&self, port: PortNum, lid: Lid) -> bool
         ensures { result ≡ owns self.now port lid }
     {
@@ -175,8 +179,8 @@ impl Agent {
         self.port(port).is_sm
     }
 
-    /// Plugs a cable into `port` if `is_wired`, and otherwise takes it out. The port becomes Initialize or Down. `port`
-    /// must be from 1 to the port count.
+    /// Sets the state of `port` to Initialize if `is_wired`, as when a cable is plugged in, and otherwise to Down.
+    /// `port` must be from 1 to the port count.
     pub fn set_wired(&mut self, port: PortNum, is_wired: bool)
         requires least { 1 ≤ port }
         requires most { port ≤ self.old.node.ports }

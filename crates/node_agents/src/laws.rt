@@ -3,8 +3,8 @@ ghost use Rattle.node_agents.specs.AnswerLaws.{AgentsAreMade, AnsweredIsAgent, A
 ghost use Rattle.node_agents.specs.AnswerLaws.{AnswersSay, GetsChangeNothing, RefusalsChangeNothing};
 ghost use Rattle.node_agents.specs.AnswerLaws.{GetsTellAsSets, BlocksAreSet, TopsAreSet, PortsAreSet};
 
-/// A fresh agent is an agent, and an agent stays one if a port from 1 on is wired or unwired, or a subnet manager is
-/// seated at an adapter's port.
+/// An agent that is made for a node that can be built, with a description of 64 bytes, is an agent, and stays one if a
+/// port from 1 on is wired or unwired, or a subnet manager is seated at an adapter's port.
 #[tactic(auto, using(crate::proofs::Made::agents_are_made))]
 pub fn agents_are_made()
     ensures { AgentsAreMade }
@@ -22,14 +22,14 @@ pub fn answered_keeps_shape()
     ensures { AnsweredKeepsShape }
 {}
 
-/// An answer is a packet with the method GetResp, the D bit if it is directed, and the status and the attribute that
-/// the agent gives, and otherwise as the request was.
+/// An answer to a packet without a fault has the method GetResp, the D bit if it is directed, and the status and the
+/// attribute that the agent gives; all else is as in the request.
 pub fn answers_hold()
     ensures { AnswersHold }
 {}
 
-/// An answer with status 0, to a Get or a Set, says what is true of the node: what it is, whether a port is down, and
-/// how many entries its forwarding table has room for.
+/// An answer with status 0, to a Get or a Set that arrived at a port up to the port count, is true of the node: what it
+/// is, whether a port is down, and how many entries its forwarding table has room for.
 #[tactic(auto, using(crate::proofs::Says::answers_say))]
 pub fn answers_say()
     ensures { AnswersSay }
@@ -53,21 +53,23 @@ pub fn gets_tell_as_sets()
     ensures { GetsTellAsSets }
 {}
 
-/// If a Set of a block is accepted, the block is returned, and is in the table at its offset; nothing else changes.
+/// If a Set of a block is accepted, the answer returns the block, and the table has it at its offset; nothing else
+/// changes.
 #[tactic(auto, using(crate::proofs::Sets::blocks_are_set))]
 pub fn blocks_are_set()
     ensures { BlocksAreSet }
 {}
 
-/// If a Set of SwitchInfo is accepted, its LinearFDBTop is returned, and is the agent's top; nothing else changes.
+/// If a Set of SwitchInfo is accepted, the answer returns its LinearFDBTop, and the agent has this top; nothing else
+/// changes.
 #[tactic(auto, using(crate::proofs::Sets::tops_are_set))]
 pub fn tops_are_set()
     ensures { TopsAreSet }
 {}
 
-/// If a Set of PortInfo is accepted at a port with a LID of its own, the port has the LID and the LMC of the Set, and
-/// the answer returns them. At any port, the answer returns the state of the Set unless that is 0 (no change). No other
-/// port changes, and nothing of the agent but its ports.
+/// If a Set of PortInfo that arrived at a port up to the port count is accepted for a port with a LID of its own, that
+/// port has the LID and the LMC of the Set, and the answer returns them. For any port, the answer returns the state of
+/// the Set unless that is 0 (no change). No other port changes, and nothing of the agent but its ports.
 pub fn ports_are_set()
     ensures { PortsAreSet }
 {}

@@ -10,7 +10,7 @@ use smp_bytes::wire::put_bytes;
 /// The number of entries in a block.
 pub(crate) const BLOCK: usize = 64;
 
-/// Returns the 64 entries of the block `block`, or `None` if the table does not have it.
+/// Returns the 64 entries of the block `block`, or `None` if the table does not have this block.
 pub(crate) fn get(agent: &Agent, block: u32) -> Option<[u8; BLOCK]>
     ensures { result ≡ get_block agent.now block }
 {
@@ -23,7 +23,8 @@ pub(crate) fn get(agent: &Agent, block: u32) -> Option<[u8; BLOCK]>
     Some(entries)
 }
 
-/// Writes all 64 entries of the block `block` if the table has it, and returns whether it does.
+/// Writes `payload` as the 64 entries of the block `block`, if the table has this block. Returns whether the table has
+/// it.
 pub(crate) fn set(agent: &mut Agent, block: u32, payload: &[u8; BLOCK]) -> bool
     ensures taken { result ≡ is_some (set_block agent.old block payload.now) }
     ensures agent { agent.new ≡ unwrap_or (set_block agent.old block payload.now) agent.old }

@@ -8,7 +8,7 @@ use smp_bytes::Lid;
 pub struct Port {
     /// The port's base LID, 0 for none.
     pub(crate) base_lid: Lid,
-    /// The LMC: the port has 2^LMC LIDs, from its base LID on.
+    /// The LMC: a port with a LID has 2^LMC LIDs, from its base LID on.
     pub(crate) lmc: Lmc,
     /// The LID of the subnet manager that was set at the port, 0 for none.
     pub(crate) master_sm_lid: Lid,
@@ -20,7 +20,7 @@ pub struct Port {
 impl Port {
     ghost use Rattle.node_agents.specs.Agent.{port_in};
 
-    /// Creates a port in the state `state`, to which nothing was written.
+    /// Creates a port in the state `state`, without LIDs and without a subnet manager.
     pub(crate) fn in_state(state: PortState) -> Self
         ensures { result ≡ port_in state }
     {

@@ -19,8 +19,9 @@ pub(crate) fn get(agent: &Agent, modifier: u32, arrival: PortNum) -> Option<[u8;
     Some(info_of(agent.port(port), arrival))
 }
 
-/// Writes the LID, the LMC and the manager's LID of an end port, and the state of any port. Writes nothing if one of
-/// these is refused, or `modifier` means no port. Returns whether it wrote. `arrival` must be at most the port count.
+/// Writes the LID, the LMC and the manager's LID of an end port, and the state of any port. Returns whether the Set is
+/// accepted. Writes nothing if a value is refused, or if `modifier` means no port. `arrival` must be at most the port
+/// count.
 pub(crate) fn set(agent: &mut Agent, modifier: u32, arrival: PortNum, payload: &[u8; 64]) -> bool
     requires { arrival ≤ agent.old.node.ports }
     ensures taken { result ≡ is_some (set_port_info agent.old modifier arrival payload.now) }
@@ -36,8 +37,8 @@ pub(crate) fn set(agent: &mut Agent, modifier: u32, arrival: PortNum, payload: &
     }
 }
 
-/// Returns the port that a Set means, with its values afterwards, or `None` if the Set is refused. `arrival` must be at
-/// most the port count.
+/// Returns the port that a Set means, with its values after the Set, or `None` if the Set is refused. `arrival` must be
+/// at most the port count.
 #[tactic(auto, unfolding(crate::specs::PortInfo::changed_port))]
 fn changed_port(
     agent: &Agent,
@@ -59,8 +60,9 @@ fn changed_port(
     Some((port, after))
 }
 
-/// Returns the port that a request means. For a switch this is any port from 0 on; for an adapter, the port `arrival`
-/// at which the request arrived, if `modifier` is 0 or its number. Returns `None` if there is no such port.
+/// Returns the port that a request means. For a switch it is the port `modifier`, from 0 to the port count. For an
+/// adapter it is the port `arrival` at which the request arrived, if `modifier` is 0 or the number of that port.
+/// Returns `None` for any other `modifier`.
 fn port_meant(agent: &Agent, modifier: u32, arrival: PortNum) -> Option<PortNum>
     ensures port { result ≡ port_meant agent.now modifier arrival }
 {
@@ -106,7 +108,7 @@ fn max_lmc(agent: &Agent, port: PortNum) -> u8
     }
 }
 
-/// Returns whether a port may have the LIDs in `info`, and their LMC is at most `max_lmc`.
+/// Returns whether a port may have the LID and the LMC in `info`, and the LMC is at most `max_lmc`.
 fn are_lids_taken(max_lmc: u8, info: &PortInfo) -> bool
     ensures { result ≡ are_lids_taken max_lmc info.now }
 {
@@ -114,8 +116,8 @@ fn are_lids_taken(max_lmc: u8, info: &PortInfo) -> bool
     lmc.number() <= max_lmc && may_have(info.base_lid(), lmc)
 }
 
-/// Returns whether a port may have the LID `base` with `lmc`: `base` is 0, for none, or a multiple of 2^LMC such that
-/// all 2^LMC LIDs are unicast.
+/// Returns whether a port may have the LID `base` with `lmc`. `base` must be 0, for none, or a multiple of 2^LMC with
+/// 2^LMC unicast LIDs from `base` on.
 fn may_have(base: Lid, lmc: Lmc) -> bool
     ensures { result ≡ may_have base lmc }
 {
@@ -124,8 +126,8 @@ fn may_have(base: Lid, lmc: Lmc) -> bool
     first == 0 || (first % count == 0 && first + count <= u32::from(Lid::UNICAST_END))
 }
 
-/// Returns `port` after a Set of `payload`, or `None` if the LIDs or the link state are refused. Without `has_lid`,
-/// only the state changes.
+/// Returns `port` after a Set of `payload`, or `None` if a LID, the LMC or the link state is refused. Without
+/// `has_lid`, only the state changes.
 fn port_after(port: Port, has_lid: bool, max_lmc: u8, payload: &[u8; 64]) -> Option<Port>
     ensures { result ≡ port_after port has_lid max_lmc payload.now }
 {
@@ -146,8 +148,8 @@ fn port_after(port: Port, has_lid: bool, max_lmc: u8, payload: &[u8; 64]) -> Opt
     })
 }
 
-/// Returns the link state after the request `wish`: no change, the present state, or the next one on the way from
-/// Initialize to Active. Returns `None` for any other request.
+/// Returns the link state after a Set that asks for `wish`. `wish` must be no change, the present state, or the next
+/// state on the way from Initialize to Active. Returns `None` for any other `wish`.
 fn state_after(state: PortState, wish: PortState) -> Option<PortState>
     ensures { result ≡ state_after state wish }
 {

@@ -3,19 +3,19 @@ ghost use Rattle.node_agents.specs.Refusal.{status_of};
 
 use smp_bytes::Status;
 
-/// Why an agent refuses a request, in the order of checks.
+/// Why an agent refuses a request. The variants are in the order of checks.
 #[derive(Clone, Copy)]
 pub(crate) enum Refusal {
     /// The method is neither Get nor Set.
     Method,
-    /// The node does not have the attribute, or it cannot be set.
+    /// The node does not have the attribute, or the request is a Set of an attribute that cannot be set.
     MethodAndAttribute,
     /// The attribute modifier or a field of the attribute has a value that the node cannot take.
     InvalidField,
 }
 
 impl Refusal {
-    /// Returns the status of the answer.
+    /// Returns the status of the answer to the request that is refused.
     pub(crate) fn status(self) -> Status
         ensures number { result.0 ≡ status_of self }
         ensures fits { result.0 < 2 ^ 15 }

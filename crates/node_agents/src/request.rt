@@ -9,8 +9,8 @@ use crate::refusal::Refusal;
 use crate::{lft_block, node_description, node_info, port_info, switch_info};
 use smp_bytes::{AttributeId, Method, PortNum, Smp};
 
-/// Returns the attribute that answers the request `smp`, or why the request is refused, and applies a Set. `arrival`
-/// must be at most the port count.
+/// Applies a Set, and returns the attribute in the answer to the request `smp`. If the request is refused, returns the
+/// reason. `arrival`, the port where the request arrived, must be at most the port count.
 pub(crate) fn handle(agent: &mut Agent, smp: &Smp, arrival: PortNum) -> Result<[u8; 64], Refusal>
     requires { arrival ≤ agent.old.node.ports }
     ensures told { result ≡ (after_request agent.old smp.now arrival).told }
@@ -26,7 +26,8 @@ pub(crate) fn handle(agent: &mut Agent, smp: &Smp, arrival: PortNum) -> Result<[
     }
 }
 
-/// Returns the attribute that `smp` asks for, or why a Get of it is refused. `arrival` must be at most the port count.
+/// Returns the attribute that `smp`, taken as a Get, asks for. If the Get is refused, returns the reason. `arrival`
+/// must be at most the port count.
 #[tactic(auto, unfolding(crate::specs::Answers::get_of))]
 fn get(agent: &Agent, smp: &Smp, arrival: PortNum) -> Result<[u8; 64], Refusal>
     requires { arrival ≤ agent.now.node.ports }
@@ -49,8 +50,8 @@ fn get(agent: &Agent, smp: &Smp, arrival: PortNum) -> Result<[u8; 64], Refusal>
     }
 }
 
-/// Applies a Set of the attribute in `smp`, or returns why it is refused and changes nothing. `arrival` must be at most
-/// the port count.
+/// Applies a Set of the attribute in `smp`. If the Set is refused, changes nothing and returns the reason. `arrival`
+/// must be at most the port count.
 #[tactic(auto, unfolding(crate::specs::Answers::set_of))]
 fn set(agent: &mut Agent, smp: &Smp, arrival: PortNum) -> Result<(), Refusal>
     requires { arrival ≤ agent.old.node.ports }

@@ -1,5 +1,5 @@
--- What a run that writes the order that tables imply does: it reads all files and writes the order, or returns the
--- fault of a file.
+-- A run that writes the order that tables imply. It reads all files and writes the order, or returns the fault of a
+-- file.
 use Rattle.std.specs.Prelude.{◌≡◌, ◌⊎◌, ℕ, Bool, List, [], Option, None, Some, is_some, length, map, reverse}
 use Rattle.std.specs.List.{range_with_len}
 use Rattle.byte_io.specs.Source.{SourceState}
@@ -14,14 +14,14 @@ use Rattle.sm_cli.specs.declared.fault.Fault.{Fault}
 use Rattle.sm_cli.specs.declared.input_tables.TablesAndFacts.{TablesAndFacts}
 use Rattle.audit_report.specs.RunAudit.{IsAnswerFault}
 
--- the GUIDs of the switches of an order from the first one on, where `taken` has the last switch first; none for None,
--- if there is no order
+-- the GUIDs of the switches of an order, from the first one on, by `taken`, which has the last switch first; empty for
+-- None, if there is no order
 abbrev pub told_switches : Cells → Option (List ℕ) → List ℕ
 told_switches cells None = []
 told_switches cells (Some taken) = map (switch_at cells) (reverse taken)
 
--- `prints` holds of the order that the tables imply; of several switches that may be taken next, from the end of the
--- order on, the one with the greatest GUID is. `has_order` says whether they imply an order
+-- `prints` holds of the order that the tables imply, and `has_order` says whether they imply one. Switches are taken
+-- from the end of the order on; if several may be taken next, the one with the greatest GUID is taken
 pub record IsTelling (facts : Facts) (held : HeldPlan) (prints : List ℕ → Type 0) (has_order : Bool) : Type 0 where
   pub order : Option (List ℕ)
   pub told : IsTold (cells_of facts) held (range_with_len 0 (length (switches (cells_of facts)))) order
@@ -36,14 +36,14 @@ pub record HasTold {S : Type 0} (state : S → SourceState) (floor : ℕ) (olds 
   pub read : AreTablesAndFiles state floor olds news read_are
   pub telling : IsTelling read_are.store read_are.held prints has_order
 
--- the tables and the files were read, and the order of the tables was not written for `fault`
+-- the tables and the files were read, and writing the order of the tables ended with `fault`
 pub record FailsToTell {S : Type 0} (state : S → SourceState) (floor : ℕ) (olds news : List S)
     (sink_failed : Bool) (fault : Fault) : Type 0 where
   pub read_are : TablesAndFacts
   pub read : AreTablesAndFiles state floor olds news read_are
   pub why : IsAnswerFault sink_failed fault
 
--- a run over open inputs fails for `fault`: the inputs are not read, or the order is not written
+-- a run over open inputs ends with `fault`: the inputs are not read, or the order is not written
 abbrev pub IsOrderFault : {S : Type 0} → (S → SourceState) → ℕ → List S → List S → Bool → Fault → Type 0
 IsOrderFault state floor olds news sink_failed fault =
     AreNoTablesAndFiles state 0 olds news fault ⊎ FailsToTell state floor olds news sink_failed fault

@@ -22,8 +22,9 @@ use Rattle.next_tables.specs.Next.{step_at}
 use Rattle.next_tables.specs.NextTables.{IsKept, by_order, next_tables, ordered_for}
 use Rattle.next_tables.specs.EntriesByOrder.{IsOrder, AreApart, IsWired, Leads, is_up, switch_at, TurnsWell, AreRight, IsChoice, IsNextByOrder, IsTriedByOrder, numbers_by, position_at}
 
--- if the held tables and the goal are right by the order for a LID, and `next` is a choice between them, no packet goes
--- down and then up, whatever the mixture is when it reaches a switch and whatever it is when it leaves
+-- no packet for `lid` goes down and then up, whatever the mixture is when the packet reaches a switch and whatever it
+-- is when the packet leaves, if two conditions hold: the held tables and the goal are right by the order for `lid`; and
+-- `next` is a choice between them
 abbrev pub NoBadTurn : Type 0
 NoBadTurn =
     (cells : Cells) (q : ℕ → ℕ) (held goal next : HeldPlan) (lid : ℕ) → AreRight cells q held lid
@@ -31,8 +32,8 @@ NoBadTurn =
     → (before now : HeldPlan) → IsMixed cells held next lid before → IsMixed cells held next lid now
     → TurnsWell cells q before now lid
 
--- if the held tables and the goal are right by the order for a LID, and `next` is a choice between them, `next` is
--- right too
+-- if the held tables and the goal are right by the order for `lid`, and `next` is a choice between them, `next` is
+-- right by the order for `lid` too
 abbrev pub NextAreRight : Type 0
 NextAreRight =
     (cells : Cells) (q : ℕ → ℕ) (held goal next : HeldPlan) (lid : ℕ) → AreRight cells q held lid
@@ -64,14 +65,15 @@ RuleIsChoice =
     (cells : Cells) (q : ℕ → ℕ) (held goal next : HeldPlan) (line : HeldLid) → IsNextByOrder cells q held goal line next
     → IsChoice cells q held goal line.lid next
 
--- the next entries by the order are the tried entries, or 255 where the packet does not arrive by these
+-- the next entries by the order are the tried entries or, at a switch from which the packet does not arrive by these,
+-- 255
 abbrev pub RuleIsTried : Type 0
 RuleIsTried =
     (cells : Cells) (q : ℕ → ℕ) (held goal next : HeldPlan) (line : HeldLid) → IsNextByOrder cells q held goal line next
     → IsTriedByOrder cells q held goal line next
 
--- for the LID of `line`, the held tables and the goal are right by the order `q` and have the same owners, and the next
--- entries are the tried ones or, where the packet does not arrive by these, possibly 255
+-- for the LID of `line`, the held tables and the goal are right by the order `q` and have the same owners. The next
+-- entries are the tried ones; at a switch from which the packet does not arrive by these, 255 is possible too
 pub record IsLineStep (cells : Cells) (q : ℕ → ℕ) (held goal : HeldPlan) (line : HeldLid) (next : HeldPlan) : Type 0
   where
     pub order : IsOrder cells q
@@ -93,9 +95,10 @@ NoneIsLostByOrder =
 abbrev pub DeliverFrom : Cells → HeldPlan → HeldLid → ℕ → Type 0
 DeliverFrom cells tables line i = IsEndOf (next_hops_of cells tables line.lid) (To i) (Some (Taken line.port))
 
--- `tables n` are the tables after n steps towards a goal, for the LID of `line`, by an order in which two switches that
--- a wire joins never have equal positions; the first tables and the goal are right by it. If a switch forwards packets
--- by the first tables to a switch from which the goal delivers, the goal delivers from the former switch too
+-- `tables n` are the tables for the LID of `line` after n steps by the order `q` towards a goal. Two different switches
+-- that a wire joins never have equal positions. The first tables and the goal are right by the order, and have the same
+-- owners of the LID. If a switch forwards packets by the first tables to a switch from which the goal delivers, the
+-- goal delivers from the former switch too
 pub record AreStepsByOrder (cells : Cells) (q : ℕ → ℕ) (goal : HeldPlan) (line : HeldLid) (tables : ℕ → HeldPlan)
     : Type 0 where
   pub order : IsOrder cells q
@@ -107,16 +110,17 @@ pub record AreStepsByOrder (cells : Cells) (q : ℕ → ℕ) (goal : HeldPlan) (
       → DeliverFrom cells goal line i
   pub steps : (n : ℕ) → IsTriedByOrder cells q (tables n) goal line (tables (suc n))
 
--- `depth` bounds how many steps a switch takes: it is more than that of the next switch by the goal; and, if the goal's
--- entry leads up, more than that of each earlier switch that is wired to it and from which the goal delivers
+-- `depth` bounds the number of steps after which a switch has the goal's entry. It is at least 1, and greater than the
+-- depth of the next switch by the goal, if the goal delivers from there. If the goal's entry leads up, it is also
+-- greater than the depth of each earlier switch with a wire to this one from which the goal delivers
 pub record IsDepth (cells : Cells) (q : ℕ → ℕ) (goal : HeldPlan) (line : HeldLid) (depth : ℕ → ℕ) : Type 0 where
   pub first : (i : ℕ) → 1 ≤ depth i
   pub next : (i j : ℕ) → Leads cells goal line.lid i j → DeliverFrom cells goal line j → depth j < depth i
   pub earlier : (i j x : ℕ) → Leads cells goal line.lid i j → is_up q i j ≡ true → x < length (switches cells)
       → DeliverFrom cells goal line x → q x < q i → IsWired cells x i → depth x < depth i
 
--- in steps by an order, a switch from which the goal delivers has the goal's entry after as many steps as its depth,
--- and from then on, and the tables deliver from it
+-- in steps by an order, a switch from which the goal delivers has the goal's entry from as many steps on as its depth,
+-- and the tables then deliver from this switch
 abbrev pub EndInTheGoal : Type 0
 EndInTheGoal =
     (cells : Cells) (q : ℕ → ℕ) (goal : HeldPlan) (line : HeldLid) (tables : ℕ → HeldPlan)
@@ -125,8 +129,8 @@ EndInTheGoal =
     → (i g m : ℕ) → slice_get (switches cells) i ≡ Some g → DeliverFrom cells goal line i → depth i ≤ m
     → (entry_for (tables m) line.lid g ≡ entry_for goal line.lid g) × DeliverFrom cells (tables m) line i
 
--- in steps by an order, a switch from which the goal delivers has the goal's entry after 2n steps, for n switches, and
--- from then on, and the tables deliver from it
+-- in steps by an order, a switch from which the goal delivers has the goal's entry from 2n steps on, for n switches,
+-- and the tables then deliver from this switch
 abbrev pub EndInTwiceAsMany : Type 0
 EndInTwiceAsMany =
     (cells : Cells) (q : ℕ → ℕ) (goal : HeldPlan) (line : HeldLid) (tables : ℕ → HeldPlan)
@@ -144,9 +148,9 @@ HealByOrder =
     → (m : ℕ) → 2 * length (switches cells) ≤ m
     → IsBrought cells (tables m) line.lid source (Some (Taken line.port))
 
--- in steps by an order, each to exactly the next entries: if the goal delivers from each switch that sends packets
--- straight to the end port by the first tables, then from 2n steps on, for n switches, and at least one, the tables are
--- right by each order by which the goal is right
+-- in steps by an order, each to exactly the next entries, the tables are right by each order by which the goal is
+-- right, from 2n steps on, for n switches, and at least one. The condition is that the goal delivers from each switch
+-- that sends packets straight to the end port by the first tables
 abbrev pub EndRightByAny : Type 0
 EndRightByAny =
     (cells : Cells) (q : ℕ → ℕ) (goal : HeldPlan) (line : HeldLid) (tables : ℕ → HeldPlan)
@@ -157,8 +161,9 @@ EndRightByAny =
     → (other : ℕ → ℕ) → AreRight cells other goal line.lid
     → (m : ℕ) → 1 ≤ m → 2 * length (switches cells) ≤ m → AreRight cells other (tables m) line.lid
 
--- if the held tables and the goal are right by the order for `lid`, and `next` is a choice between them, a packet for
--- `lid`, wherever it is sent, ends by any mixtures of the held and the next tables: none loops forever
+-- a packet for `lid`, wherever it is sent, ends by any mixtures of the held and the next tables, and does not loop
+-- forever, if two conditions hold: the held tables and the goal are right by the order for `lid`; and `next` is a
+-- choice between them
 abbrev pub AllEndByOrder : Type 0
 AllEndByOrder =
     (cells : Cells) (q : ℕ → ℕ) (held goal next : HeldPlan) (lid : ℕ) → IsOrder cells q → AreRight cells q held lid
@@ -166,8 +171,8 @@ AllEndByOrder =
     → (mixed : ℕ → HeldPlan) → ((k : ℕ) → IsMixed cells held next lid (mixed k))
     → (source : EndPort) → (last : End) × IsBroughtBy cells mixed lid source last
 
--- after a step by an order, for a LID with the same owners in both tables, each switch delivers the packet by the next
--- tables or has the entry 255
+-- after a step by an order, for a LID with the same owners in the held tables and in the goal, each switch delivers the
+-- packet by the next tables or has the entry 255
 abbrev pub NextDeliverOrDropByOrder : Type 0
 NextDeliverOrDropByOrder =
     (cells : Cells) (q : ℕ → ℕ) (held goal next : HeldPlan) (line : HeldLid)
@@ -190,15 +195,16 @@ AllAreStep =
     → AreNextByOrder cells q held goal next
     → IsStep cells q held goal next × ((lid : ℕ) → 1 ≤ lid → AreRight cells q next lid)
 
--- for a LID that one end port alone holds in both tables, the next tables by the order have the next entries towards it
+-- for a LID that one end port alone holds in the held tables and in the goal, the next tables by the order have the
+-- next entries towards that end port
 abbrev pub AllFollowTheRule : Type 0
 AllFollowTheRule =
     (cells : Cells) (q : ℕ → ℕ) (held goal next : HeldPlan) (line : HeldLid) → AreNextByOrder cells q held goal next
     → IsKept held goal line → IsNextByOrder cells q held goal line next
 
--- if the facts describe all that is joined to an end port, and the end ports and switches there hold the tables at
--- first, then in a step of a line by an order a packet that the held tables deliver is delivered while switches change
--- to the next tables, each at its own time, over at most 2n + 1 wires, for n usable switches
+-- in a step of a line by an order, a packet that the held tables deliver is delivered while switches change to the next
+-- tables, each at its own time, over at most 2n + 1 wires, for n usable switches. Two conditions are to hold: the facts
+-- describe all that is joined to the end port `origin`; and at first the end ports and switches there hold the tables
 abbrev pub PacketsArriveByOrder : Type 0
 PacketsArriveByOrder =
     (facts : Facts) (q : ℕ → ℕ) (held goal next : HeldPlan) (line : HeldLid) (before : Fabric) (origin : NodePort)
@@ -215,7 +221,7 @@ PacketsArriveByOrder =
     }) (Some (Taken line.port))
     → ArrivesMeanwhile fabrics line.lid source line.port (2 * length (switches (cells_of facts)) + 1)
 
--- what `next_tables` gives by an order has the goal's owners and the next entries by that order
+-- the tables that `next_tables` gives by an order have the goal's owners and the next entries by that order
 abbrev pub OrderedTablesAreNext : Type 0
 OrderedTablesAreNext =
     (facts : Facts) (positions : List ℕ) (held goal : HeldPlan)

@@ -14,8 +14,8 @@ use Rattle.packet_walks.specs.HopsByTables.{is_at, next_hop_of}
 use Rattle.held_tables.specs.Owners.{sole_among}
 use Rattle.packet_walks.specs.EndsBySwitch.{IsEndOf, onward}
 
--- the only end port that holds the LID at `index` of the block `number`, by `owners`; None if none or several do, or
--- past the end
+-- the only end port that holds the LID at `index` of the block `number`, by `owners`; None if none or several do, or if
+-- `owners` has no entry for the LID
 abbrev pub target_at : List Owner → ℕ → ℕ → Option EndPort
 target_at owners number index = sole_among (slice_index_or owners (64 * number + index) Several)
 
@@ -24,13 +24,13 @@ abbrev pub owners_in : Option EndPort → List EndPort
 owners_in None = []
 owners_in (Some port) = port ∷ []
 
--- the next hop of each of `nodes` for packets for `lid`, by the blocks `rows`, if `target` alone holds `lid`; for None,
--- if nobody holds it
+-- the next hop of each of `nodes` for packets for `lid`, by the blocks `rows`, if `target` alone holds `lid` or, for
+-- None, nobody does
 abbrev pub hops_for : List AuditedSwitch → List (List ℕ) → ℕ → Option EndPort → List NextHop
 hops_for nodes rows lid target = map (next_hop_of (owners_in target) rows lid) nodes
 
--- the next hop of each of `nodes` for packets for the LID at `index` of the block `number`, by `rows`; as if nobody
--- held the LID if several do
+-- the next hop of each of `nodes` for packets for the LID at `index` of the block `number`, by `rows`. If several end
+-- ports hold the LID, the hops are as if nobody did
 abbrev pub hops_at : List AuditedSwitch → List Owner → List (List ℕ) → ℕ → ℕ → List NextHop
 hops_at nodes owners rows number index = hops_for nodes rows (64 * number + index) (target_at owners number index)
 
@@ -54,8 +54,8 @@ pub record AreSeen (count : ℕ) (hops : ℕ → List NextHop) (target : ℕ →
   pub lead : (k index : ℕ) (exit : Exit) → slice_get exits k ≡ Some exit → has exit.lids index ≡ true
       → onward (hops index) (To exit.from) ≡ To exit.to
 
--- of `nodes`, `arrived` and `exits` are seen (`AreSeen`) by the blocks `rows` and the only holders of the LIDs of the
--- block `number`
+-- `AreSeen` for each of `nodes`: the hops are by the blocks `rows`, for each LID of the block `number`, and the only
+-- holder of the LID is its target
 abbrev pub AreSeenBy : List AuditedSwitch → List Owner → List (List ℕ) → ℕ → List LidSet → List Exit → Type 0
 AreSeenBy nodes owners rows number arrived exits =
     AreSeen (length nodes) (hops_at nodes owners rows number) (target_at owners number) arrived exits
@@ -106,7 +106,8 @@ IsWithHop arrived exits switch index port (To to) more others =
 IsWithHop arrived exits switch index port (Ends end) more others =
     (more ≡ arrived_if (is_at port (Some end)) arrived switch index) × (others ≡ exits)
 
--- `arrived`, where packets for the LIDs of `exit` arrive from `exit.from` too if they arrive from `exit.to`
+-- `arrived` with arrivals carried back along `exit`: each LID of `exit` that `exit.to` has in `arrived` is added to
+-- those of `exit.from`
 abbrev pub back_over : Exit → List LidSet → List LidSet
 back_over exit arrived =
     slice_set arrived exit.from (either (lids_at arrived exit.from) (both (lids_at arrived exit.to) exit.lids))

@@ -15,14 +15,14 @@ use Rattle.packet_walks.specs.EndsBySwitch.{IsEndOf}
 abbrev pub is_delivered : Deliveries → ℕ → Bool
 is_delivered deliveries lid = lid / 64 == deliveries.number && has deliveries.lids (lid % 64)
 
--- one end port alone holds `lid`, and packets from each usable switch for `lid` reach it
+-- one end port alone holds `lid`, and packets for `lid` from each usable switch reach this port
 pub record ComeToOwner (cells : Cells) (held : HeldPlan) (lid : ℕ) : Type 0 where
   pub port : EndPort
   pub owner_is : owners_of held lid ≡ port ∷ []
   pub each : (switch : ℕ) → switch < length (switches cells)
       → IsEndOf (next_hops_of cells held lid) (To switch) (Some (Taken port))
 
--- for each LID of `deliveries`, one end port alone holds it, and packets from each usable switch for it reach this port
+-- one end port alone holds each LID of `deliveries`, and packets for this LID from each usable switch reach this port
 abbrev pub AreDeliveries : Cells → HeldPlan → Deliveries → Type 0
 AreDeliveries cells held deliveries =
     (lid : ℕ) → is_delivered deliveries lid ≡ true → ComeToOwner cells held lid

@@ -26,7 +26,8 @@ switch_by row entry = if entry == 0 then None else switch_over (slice_index_or r
 abbrev pub edge_by : List Far → ℕ → Option Edge
 edge_by row entry = if entry == 0 then None else edge_to entry (slice_index_or row entry Nothing)
 
--- for each usable switch, by rising GUID, the edge by which it forwards packets for `lid`; None if by none
+-- for each usable switch, by rising GUID, the edge by which it forwards packets for `lid`; None if it forwards them to
+-- no usable switch
 abbrev pub edges_of : Cells → HeldPlan → ℕ → List (Option Edge)
 edges_of cells held lid = map (λ g. edge_by (row_of cells g) (entry_for held lid g)) (switches cells)
 
@@ -35,6 +36,6 @@ abbrev pub greatest_top : Cells → HeldPlan → ℕ
 greatest_top cells held = greatest (map (top_of held) (switches cells))
 
 -- the edge by which the switch `node` forwards packets for `lid`, by its effective entry in the blocks `rows`; None if
--- by none
+-- it forwards them to no usable switch
 abbrev pub edge_of : List (List ℕ) → ℕ → AuditedSwitch → Option Edge
 edge_of rows lid node = edge_by node.row (node_entry rows lid node)

@@ -10,12 +10,14 @@ use Rattle.packet_walks.specs.HopsByTables.{first_hop, is_at}
 use Rattle.held_tables.specs.Owners.{is_sole}
 use Rattle.packet_walks.specs.EndsBySwitch.{end_of, onward}
 
--- for each end port, in order, where its packet for the LID of `port` ends; None if it loops forever
+-- the ends of the packets that end ports send for the LID of `port`, one for each end port, in order; None for a packet
+-- that loops forever
 pub record Ended : Type 0 where
   pub port : EndPort
   pub ends : List (Option End)
 
--- where the packet of `source` ends, if `walks` has where the walk from each switch ends; None if it loops forever
+-- the end of the packet of `source`, if `walks` has the end of the walk from each switch; None if the packet loops
+-- forever
 abbrev pub end_from : List EndPort → List NextHop → Sender → Option End
 end_from owners walks source = end_of (onward walks (first_hop owners source))
 

@@ -25,7 +25,7 @@ abbrev pub is_to : NextHop → Bool
 is_to (To i) = true
 is_to (Ends e) = false
 
--- the end that a walk has come to; None if it is still at a switch
+-- the end that a walk has reached; None if the walk is still at a switch
 abbrev pub end_of : NextHop → Option End
 end_of (To i) = None
 end_of (Ends e) = Some e
@@ -35,7 +35,7 @@ pub record HaveEnded (steps ends : List NextHop) : Type 0 where
   pub as_many : length ends ≡ length steps
   pub ended : (s : NextHop) → IsEndOf steps s (end_of (onward ends s))
 
--- each of `jumps` is where `n` of `steps` lead from its switch
+-- each of `jumps` is the step that `n` of `steps` lead to from its switch
 pub record AreAfter (steps jumps : List NextHop) (n : ℕ) : Type 0 where
   pub as_many : length jumps ≡ length steps
   pub onward_is : (s : NextHop) → onward jumps s ≡ after n steps s

@@ -21,13 +21,13 @@ use Rattle.held_tables.specs.Switches.{row_of, sender_of}
 use Rattle.held_tables.specs.Tables.{owners_of, is_owner, is_same_end, counted, entry_for, top_of}
 use Rattle.packet_walks.specs.EndsBySwitch.{IsEndOf, after, end_of}
 
--- where a packet that reaches the port `e` ends: it is delivered if `e` is one of `owners`, who hold its LID, otherwise
--- it is lost
+-- the end of a packet that reaches the port `e`: it is taken there if `e` is one of `owners`, who hold its LID, and
+-- lost otherwise
 abbrev pub at_port : List EndPort → EndPort → End
 at_port owners e = if is_owner owners e then Taken e else Lost e.node Foreign
 
 -- the next hop of a packet that leaves node `g` over a wire to the given far end, for a LID that `owners` hold; if
--- there is no wire, it is lost for `cause`
+-- there is no wire, the packet is lost for `cause`
 abbrev pub over : List EndPort → ℕ → Cause → Far → NextHop
 over owners g cause Nothing = Ends (Lost g cause)
 over owners g cause (Switch index) = To index
@@ -40,7 +40,8 @@ cause_by ports top lid entry =
     if nat_lt top lid then AboveTop else
     (if entry == 255 then NoEntry else (if nat_lt ports entry then NoPort else NoLink))
 
--- the cause for which switch `g` of the facts does not forward a packet for `lid` by the held tables, if it does not
+-- the cause for which switch `g` of the facts does not forward a packet for `lid` by the held tables; it has no meaning
+-- if `g` forwards the packet
 abbrev pub cause_of : Cells → HeldPlan → ℕ → ℕ → Cause
 cause_of cells held lid g = cause_by (port_count_of cells g) (top_of held g) lid (entry_for held lid g)
 
@@ -100,19 +101,19 @@ sent owners e None far = if is_owner owners e then Ends (Taken e) else over owne
 abbrev pub first_hop : List EndPort → Sender → NextHop
 first_hop owners source = sent owners source.port source.switch source.far
 
--- the packet that `e` sends for `lid` ends at `end`; None if it loops forever
+-- the packet that `e` sends for `lid` ends at `end`; if `end` is None, the packet loops forever
 abbrev pub IsBrought : Cells → HeldPlan → ℕ → EndPort → Option End → Type 0
 IsBrought cells held lid e end =
     IsEndOf (next_hops_of cells held lid) (first_hop (owners_of held lid) (sender_of cells e)) end
 
--- where the packet that `e` sends for `lid` has ended after as many steps as there are switches; None if it has not
--- ended
+-- the end that the packet that `e` sends for `lid` reaches within as many steps as there are switches; None if it
+-- reaches none
 abbrev pub end_for : Cells → HeldPlan → ℕ → EndPort → Option End
 end_for cells held lid e =
     end_of (after (length (switches cells)) (next_hops_of cells held lid)
     (first_hop (owners_of held lid) (sender_of cells e)))
 
--- the packet that an end port sends for a LID ends as `end_for` says, and in no other way
+-- the packet that an end port sends for a LID ends at `end` exactly if `end` is the end that `end_for` gives
 abbrev pub EndsAreFound : Type 0
 EndsAreFound = (cells : Cells) (held : HeldPlan) (lid : ℕ) (e : EndPort) (end : Option End)
     → IsBrought cells held lid e end ↔ (end ≡ end_for cells held lid e)
@@ -121,7 +122,7 @@ EndsAreFound = (cells : Cells) (held : HeldPlan) (lid : ℕ) (e : EndPort) (end 
 abbrev pub entry_by : Cells → HeldPlan → ℕ → ℕ → Option ℕ
 entry_by cells held g lid = if is_usable cells g then Some (entry_for held lid g) else None
 
--- `ends` has, for each end port in order, where its packet for `lid` ends
+-- `ends` has, for each end port in order, the end of its packet for `lid`
 pub record AreBrought (cells : Cells) (held : HeldPlan) (lid : ℕ) (ends : List (Option End)) : Type 0 where
   pub as_many : length ends ≡ length (end_ports cells)
   pub brought : (k : ℕ) (e : EndPort) (end : Option End) → slice_get (end_ports cells) k ≡ Some e → slice_get ends k

@@ -25,8 +25,9 @@ pub record IsEmptyPage {T : Type 0} (page : Vec T Global) : Type 0 where
   pub empty : page.items ≡ []
   pub roomy : 256 ≤ vec_capacity page
 
--- `pages` hold a list of `len` items, `starts` has the index of the first item of each, and there is at least one spare
--- page for each of `room` more items, which can be put among the others without new memory
+-- `pages` hold a list of `len` items, and `starts` has the index of the first item of each page. There is at least one
+-- spare page for each of `room` more items, and memory to put all spare pages among the others. `len` and `room`
+-- together are below 2^64
 pub record ArePages {T : Type 0} (pages : Vec (Vec T Global) Global) (starts : Listing ℕ)
     (spare : Vec (Vec T Global) Global) (len room : ℕ) : Type 0 where
   pub starts_are : starts.items ≡ starts_from 0 pages.items
@@ -38,7 +39,8 @@ pub record ArePages {T : Type 0} (pages : Vec (Vec T Global) Global) (starts : L
   pub pages_roomy : length pages.items + length spare.items ≤ vec_capacity pages
   pub starts_roomy : length spare.items ≤ starts.room
 
--- the item at index `i` is at `offset` of the page at index `page`; if the list ends at `i`, it would be put there
+-- the slot of index `i` is `offset` in the page at index `page`. An item is there if the list has more than `i` items;
+-- if the list has exactly `i` items, another item may be put there
 pub record IsSlot {T : Type 0} (pages : List (Vec T Global)) (i page offset : ℕ) : Type 0 where
   pub there : page < length pages
   pub counted : length (items_of (take page pages)) + offset ≡ i

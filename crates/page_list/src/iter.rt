@@ -7,7 +7,7 @@ ghost use Rattle.page_list.specs.Rest.{rest_of};
 pub struct Iter<'a, T> {
     /// The remaining items of the current page.
     pub(crate) page: &'a [T],
-    /// The pages after the current one.
+    /// The pages after the current page.
     pub(crate) later: &'a [Vec<T>],
 }
 

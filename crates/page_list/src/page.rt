@@ -7,7 +7,8 @@ use std::alloc::{AllocError, Global};
 /// The number of items that a page has room for.
 pub(crate) const PAGE: usize = 256;
 
-/// Inserts `item` into `page` at `index`, which must be at most the length. There must be room for one more item.
+/// Inserts `item` into `page` at `index`, which must be at most the length of `page`. `page` must have room for one
+/// more item.
 pub(crate) fn insert_within<T>(page: &mut Vec<T>, index: usize, item: T)
     requires index { index ≤ vec_len page.old }
     requires room { vec_len page.old < vec_capacity page.old }
@@ -20,8 +21,9 @@ pub(crate) fn insert_within<T>(page: &mut Vec<T>, index: usize, item: T)
     }
 }
 
-/// Inserts `item` into the full page `page` at `index`, and moves the second half of it to the empty page `tail`. Both
-/// must have room for `PAGE` items. Returns the number of items in `page` then.
+/// Moves the second half of the full page `page` to the empty page `tail`, and inserts `item` at `index` of the two
+/// together. Returns the number of items in `page` then. `index` must be at most `PAGE`. Each of the two pages must
+/// have room for `PAGE` items.
 pub(crate) fn insert_halved<T: Copy>(
     page: &mut Vec<T>,
     tail: &mut Vec<T>,
@@ -53,7 +55,8 @@ pub(crate) fn insert_halved<T: Copy>(
     page.len()
 }
 
-/// Adds empty pages to `spare` until it has at least `n`. Keeps those that were added if memory runs out.
+/// Adds empty pages, each with room for `PAGE` items, to `spare` until `spare` has at least `n` pages. If memory runs
+/// out, returns an error and keeps the pages that were added.
 pub(crate) fn fill<T: Copy>(
     spare: &mut Vec<Vec<T>>,
     alloc: Global,

@@ -10,7 +10,7 @@ use crate::starts::Starts;
 use std::alloc::{AllocError, Global};
 use std::marker::Model;
 
-/// A list in pages, each of which has at most 256 items.
+/// A list in pages of at most 256 items each. Contracts see the items, and for how many further items there is room.
 #[derive(Drop)]
 pub struct PageList<T> {
     /// The pages that have the items, in order.
@@ -21,7 +21,7 @@ pub struct PageList<T> {
     spare: Vec<Vec<T>>,
     /// The number of items.
     len: usize,
-    /// The number of further items that fit without new memory.
+    /// The number of further items for which memory is reserved.
     room: usize,
 }
 
@@ -63,16 +63,16 @@ impl<T: Copy> PageList<T> {
         self.len
     }
 
-    /// Returns the item at index `i`, or `None` if there is none. Takes constant time if the first or the last page
-    /// contains it, otherwise a binary search among the pages.
+    /// Returns the item at index `i`, or `None` if `i` is not an index of the list. Takes constant time if the first or
+    /// the last page contains the item, otherwise a binary search among the pages.
     pub fn get(&self, i: usize) -> Option<T>
         ensures { result ≡ slice_get self.now.items i }
     {
         self.get_near(i, Slot::first()).copied()
     }
 
-    /// Returns the item at index `i`, or `None` if there is none. Takes constant time if the page of `near` or the last
-    /// page contains it, otherwise a binary search among the pages.
+    /// Returns the item at index `i`, or `None` if `i` is not an index of the list. Takes constant time if the page of
+    /// `near` or the last page contains the item, otherwise a binary search among the pages.
     pub fn get_near(&self, i: usize, near: Slot) -> Option<&T>
         ensures { option_copied result ≡ slice_get self.now.items i }
     {
@@ -106,8 +106,8 @@ impl<T: Copy> PageList<T> {
         }
     }
 
-    /// Replaces the item at index `i`, which must exist, with `item`, and returns its slot. Takes constant time if the
-    /// page of `near` or the last page contains it, otherwise a binary search among the pages.
+    /// Replaces the item at index `i`, which must exist, with `item`, and returns the slot of `item`. Takes constant
+    /// time if the page of `near` or the last page contains the item, otherwise a binary search among the pages.
     pub fn set_near(&mut self, i: usize, item: T, near: Slot) -> Slot
         requires { i < length self.old.items }
         ensures items { self.new.items ≡ slice_set self.old.items i item }
@@ -118,7 +118,8 @@ impl<T: Copy> PageList<T> {
         at
     }
 
-    /// Inserts `item` at index `i`, before the item that is there, or at the end. There must be room for one more item.
+    /// Inserts `item` at index `i`, before the item that is there, or at the end. `i` must be at most the length of the
+    /// list, and the list must have room for one more item.
     pub fn insert(&mut self, i: usize, item: T)
         requires index { i ≤ length self.old.items }
         requires room { 0 < self.old.room }
@@ -128,10 +129,11 @@ impl<T: Copy> PageList<T> {
         self.insert_near(i, item, Slot::first());
     }
 
-    /// Inserts `item` at index `i`, before the item that is there, or at the end, and returns its slot. There must be
-    /// room for one more item. Looks first in the page of `near`. Moves the items behind it in its page, and increments
-    /// the start indices of at most 64 pages and one number for each later group of 64. If the page is full, halves it,
-    /// which takes time linear in the number of pages.
+    /// Inserts `item` at index `i`, before the item that is there, or at the end, and returns the slot of `item`. `i`
+    /// must be at most the length of the list, and the list must have room for one more item. Looks for the page of
+    /// index `i` first in the page of `near`. Moves the later items of that page. Increments the start indices of at
+    /// most 64 pages, and one number for each later group of 64. If that page is full, halves it, which takes time
+    /// linear in the number of pages.
     pub fn insert_near(&mut self, i: usize, item: T, near: Slot) -> Slot
         requires index { i ≤ length self.old.items }
         requires room { 0 < self.old.room }
@@ -157,8 +159,8 @@ impl<T: Copy> PageList<T> {
         slot_in_halves(at)
     }
 
-    /// Reserves memory for `n` further items, each of which may need a page of its own. Keeps the room that there was
-    /// if memory runs out or the list would get too long.
+    /// Reserves memory for `n` further items, each of which may need a page of its own. Returns an error if memory runs
+    /// out, or if the length of the list plus `n` is over `usize::MAX`. The room then stays as it was.
     pub fn reserve(&mut self, n: usize) -> Result<(), AllocError>
         ensures ok { OnOk result (n ≤ self.new.room) }
         ensures room { self.old.room ≤ self.new.room }
@@ -178,7 +180,8 @@ impl<T: Copy> PageList<T> {
         Ok(())
     }
 
-    /// Keeps the first `n` items, if there are more. Frees the pages after the page of index `n`.
+    /// Keeps the first `n` items, and frees the pages after the page of index `n`. Changes nothing if the list has at
+    /// most `n` items.
     pub fn truncate(&mut self, n: usize)
         ensures items { self.new.items ≡ take n self.old.items }
         ensures room { self.new.room ≡ self.old.room }
@@ -193,8 +196,8 @@ impl<T: Copy> PageList<T> {
         self.len = n;
     }
 
-    /// Appends `item`. If the last page is at least three quarters full, opens a new one. If memory runs out, returns
-    /// an error, and the items stay as they are.
+    /// Appends `item`. Opens a new page if the list has no page, or if the last page is at least three quarters full.
+    /// Returns an error if memory runs out, or if the list has `usize::MAX` items. The items then stay as they are.
     pub fn push(&mut self, item: T) -> Result<(), AllocError>
         ensures ok { OnOk result (self.new.items ≡ self.old.items ++ item ∷ []) }
         ensures err { OnErr result (self.new.items ≡ self.old.items) }
@@ -213,7 +216,7 @@ impl<T: Copy> PageList<T> {
         Ok(())
     }
 
-    /// Appends a new page with `item` alone. There must be room for one more item.
+    /// Appends a new page with `item` alone. The list must have room for one more item.
     fn open(&mut self, item: T)
         requires room { 0 < self.old.room }
         ensures items { self.new.items ≡ self.old.items ++ item ∷ [] }

@@ -2,8 +2,9 @@ ghost use Rattle.std.specs.Prelude.{◌≡◌, ◌+◌, ◌<◌, ◌≤◌, Some
 
 use crate::starts::Starts;
 
-/// Returns the last page that begins at index `at` or before it. `starts` has the index of each page's first item, and
-/// must begin with 0. Takes constant time if it is the last page of the list, otherwise a binary search.
+/// Returns the index of a page that begins at index `at` or before it. The next page, if there is one, begins after
+/// `at`. `starts` has the index of each page's first item, and must begin with 0. Takes constant time if the page is
+/// the last of the list, otherwise a binary search.
 pub(crate) fn page_of(starts: &Starts, at: usize) -> usize
     requires { slice_get starts.now.items 0 ≡ Some 0 }
     ensures within { result < length starts.now.items }
@@ -28,8 +29,8 @@ pub(crate) fn page_of(starts: &Starts, at: usize) -> usize
 
 ghost use Rattle.page_list.specs.Pages.{items_of, starts_from, IsSlot};
 
-/// Where an item is in its list: its page, and its index in the page. It is only a hint: the list looks there first,
-/// but insertions move items.
+/// The slot of an item in a list: the item's page, and its index in that page. A slot is only a hint: the list looks
+/// there first, but insertions move items.
 #[derive(Clone, Copy)]
 pub struct Slot {
     pub(crate) page: usize,
@@ -43,7 +44,8 @@ impl Slot {
     }
 }
 
-/// Returns the slot of index `i`, which must be at most the length of the list. The list must have a page.
+/// Returns the slot of index `i`, which must be at most the length of the list. The list must have a page, and `starts`
+/// the index of each page's first item.
 pub(crate) fn slot_of<T>(pages: &[Vec<T>], starts: &Starts, i: usize) -> Slot
     requires some { 0 < length pages.now }
     requires starts { starts.now.items ≡ starts_from 0 pages.now }

@@ -4,12 +4,12 @@ ghost use Rattle.page_list.specs.Split.{IsSplit};
 use crate::page_list::PageList;
 use crate::slot::{Slot, slot_near};
 
-/// The pages that contain a part of a list. A search looks there first. They are only a hint: a split is fair whatever
-/// they are.
+/// The pages that contain a part of a list. A search looks in these pages first. They are only a hint: a split is fair
+/// whatever they are.
 #[derive(Clone, Copy)]
 pub struct Pages {
     first: usize,
-    /// The page after the last one.
+    /// The index of the page after the last of these pages.
     end: usize,
 }
 
@@ -41,9 +41,9 @@ impl<T: Copy> PageList<T> {
     }
 
     /// Returns an item at an index from `low` up to, but not including, `high`, with at most `most` items of this part
-    /// on either side. The part must have at least one item, and at most 2 * `most` + 1. Prefers the first item of the
-    /// page in the middle of `pages`, so that searches read the same few items; otherwise takes the item in the middle.
-    /// Takes at most a binary search among the pages.
+    /// on either side. The part must end within the list, and have at least one item and at most 2 * `most` + 1.
+    /// Prefers the first item of the page in the middle of `pages`, so that searches read the same few items; otherwise
+    /// takes the item in the middle. Takes at most a binary search among the pages.
     pub fn split(&self, low: usize, high: usize, most: usize, pages: Pages) -> Split<T>
         requires part { low < high }
         requires within { high ≤ length self.now.items }
@@ -73,7 +73,8 @@ impl<T: Copy> PageList<T> {
 }
 
 /// Returns `wished` if it is from `low` up to, but not including, `high`, with at most `most` indices of this part on
-/// either side. Otherwise returns the index in the middle. The part must be as in `PageList::split`.
+/// either side. Otherwise returns the index in the middle. The part must have at least one index, and at most 2 *
+/// `most` + 1.
 fn fair_index(low: usize, high: usize, most: usize, wished: usize) -> usize
     requires part { low < high }
     requires halves { high ≤ low + 2 * most + 1 }

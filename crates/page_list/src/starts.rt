@@ -14,9 +14,9 @@ const GROUP: usize = 64;
 /// only the indices of that page's group and one number for each later group.
 #[derive(Drop)]
 pub(crate) struct Starts {
-    /// Each index, less the number that is added to its group.
+    /// The index of each page's first item, less the number that `added` has for the page's group.
     starts: Vec<usize>,
-    /// The number that is added to each index of a group, for each group.
+    /// For each group, the number that is to be added to each index of the group.
     added: Vec<usize>,
 }
 
@@ -85,8 +85,8 @@ impl Starts {
         count_up(&mut self.added, group + 1, groups);
     }
 
-    /// Inserts `start` at `page`, which must be at most the number of pages. There must be room for one more index.
-    /// Takes time linear in the number of pages.
+    /// Inserts `start` at `page`, which must be at most the number of pages. The list must have room for one more
+    /// index. Takes time linear in the number of pages.
     pub(crate) fn insert(&mut self, page: usize, start: usize)
         requires page { page ≤ length self.old.items }
         requires room { 0 < self.old.room }
@@ -97,8 +97,8 @@ impl Starts {
         insert_within(&mut self.starts, page, start);
     }
 
-    /// Appends `start`. There must be room for one more index. Takes time linear in the number of pages if something
-    /// was added to its group, and otherwise constant time.
+    /// Appends `start`. The list must have room for one more index. Takes constant time if the number for the group of
+    /// the new index is 0, and otherwise time linear in the number of pages.
     pub(crate) fn push(&mut self, start: usize)
         requires room { 0 < self.old.room }
         ensures items { self.new.items ≡ self.old.items ++ start ∷ [] }
@@ -112,7 +112,8 @@ impl Starts {
         }
     }
 
-    /// Reserves room for `n` further indices. Keeps the room that there was if memory runs out.
+    /// Reserves room for `n` further indices. If memory runs out, returns an error, and the room is no less than it
+    /// was.
     pub(crate) fn reserve(&mut self, n: usize) -> Result<(), AllocError>
         ensures ok { OnOk result (n ≤ self.new.room) }
         ensures room { self.old.room ≤ self.new.room }
@@ -123,7 +124,7 @@ impl Starts {
         open_groups(&mut self.added, groups)
     }
 
-    /// Keeps the first `n` indices, if there are more.
+    /// Keeps the first `n` indices, or all if the list has at most `n`.
     pub(crate) fn truncate(&mut self, n: usize)
         ensures items { self.new.items ≡ take n self.old.items }
         ensures room { self.old.room ≤ self.new.room }
@@ -132,7 +133,7 @@ impl Starts {
     }
 }
 
-/// Extends `added` to at least `groups` groups, with 0 for new ones.
+/// Extends `added` to at least `groups` groups, with 0 for each new group. Returns an error if memory runs out.
 fn open_groups(added: &mut Vec<usize>, groups: usize) -> Result<(), AllocError>
     ensures ok { OnOk result (groups ≤ vec_len added.new) }
     ensures groups { vec_len added.old ≤ vec_len added.new }
@@ -144,7 +145,8 @@ fn open_groups(added: &mut Vec<usize>, groups: usize) -> Result<(), AllocError>
     added.resize(groups, 0)
 }
 
-/// Adds 1 to each number at an index from `from` up to, but not including, `until`. All sums must fit in 64 bits.
+/// Adds 1 to each number at an index from `from` up to, but not including, `until`. `until` must be at least `from`,
+/// and at most the length of `numbers`. Each of the first `until` numbers must be less than 2^64 - 1.
 fn count_up(numbers: &mut [usize], from: usize, until: usize)
     requires from { from ≤ until }
     requires until { until ≤ length numbers.old }
@@ -158,7 +160,8 @@ fn count_up(numbers: &mut [usize], from: usize, until: usize)
     }
 }
 
-/// Adds to each index the number of its group, and then sets the numbers of all groups to 0.
+/// Adds to each index in `numbers` the number of its group in `added`, and then sets the numbers of all groups to 0.
+/// `added` must have a number for each group, and all sums must fit in 64 bits.
 fn settle(numbers: &mut Vec<usize>, added: &mut Vec<usize>)
     requires grouped { length numbers.old.items ≤ 64 * length added.old.items }
     requires fits { All (λ n. n < 2 ^ 64) (raised added.old.items 0 numbers.old.items) }
@@ -186,7 +189,8 @@ fn has_any(numbers: &[usize]) -> bool
     false
 }
 
-/// Adds to each index the number of its group. Leaves the numbers of the groups as they are.
+/// Adds to each index in `numbers` the number of its group in `added`. `added` must have a number for each group, and
+/// all sums must fit in 64 bits.
 fn add_all(numbers: &mut [usize], added: &[usize])
     requires grouped { length numbers.old ≤ 64 * length added.now }
     requires fits { All (λ n. n < 2 ^ 64) (raised added.now 0 numbers.old) }

@@ -7,20 +7,21 @@ use Rattle.updown_routes.specs.Ranks.{is_before, rank_of}
 use Rattle.spread_labels.specs.Orders.{position_of}
 use Rattle.lft_blocks.specs.Rules.{RuleValue, order_of, spread_in, up_and_down}
 
--- the position of switch `b` by rank: how many switches are of lesser rank, or of equal rank and lesser GUID
+-- the position of switch `b` by rank: the number of switches of lesser rank, or of equal rank and lesser GUID
 abbrev pub rank_position : List SwitchEdges → ℕ → ℕ
 rank_position graph b = count_by (λ a. is_before graph a b) (guids_of graph)
 
--- switch `g` after its rank; 0 if it has none
+-- the pair of the rank of switch `g` and its GUID; a missing rank counts as 0
 abbrev pub ranked : List SwitchEdges → ℕ → ℕ × ℕ
 ranked graph g = (unwrap_or (rank_of graph g) 0, g)
 
--- whether a switch `a` after its rank comes before such a `b`: its rank is less, or equal and its GUID is less
+-- whether switch `a` comes before switch `b`, each given as its rank and its GUID: the rank of `a` is less, or equal
+-- and its GUID is less
 abbrev pub comes_before : ℕ × ℕ → ℕ × ℕ → Bool
 comes_before a b = nat_lt a.0 b.0 || (a.0 == b.0 && nat_lt a.1 b.1)
 
--- the position of each usable switch, by rising GUID, in the order by which a rule plans: by rank for up/down routing,
--- in its order for a rule that spreads
+-- the position of each usable switch, by rising GUID, in the order by which a rule plans: by rank for up/down routing;
+-- in the order of the rule if it spreads
 abbrev pub positions_by : RuleValue → Cells → List ℕ
 positions_by up_and_down cells = map (rank_position (graph_of cells)) (guids_of (graph_of cells))
 positions_by (spread_in order) cells =

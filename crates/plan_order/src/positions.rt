@@ -48,7 +48,8 @@ fn by_spread(alloc: Global, wires: &Wires, order: &SwitchOrder) -> Result<Vec<us
     Ok(positions_in(alloc, &ordered, graph.switches())?)
 }
 
-/// Returns the position of each of `switches` in the list `ordered`, or the length of `ordered` if it is not there.
+/// Returns the position of each of `switches` in the list `ordered`, or the length of `ordered` for a switch that is
+/// not there.
 fn positions_in(
     alloc: Global,
     ordered: &[Guid],
@@ -62,8 +63,8 @@ fn positions_in(
         .collect(alloc)
 }
 
-/// Returns the position of `switch` in the list `ordered`, or the length of `ordered` if it is not there. Takes time
-/// linear in that length.
+/// Returns the position of `switch` in the list `ordered`, or the length of `ordered` if `switch` is not there. Takes
+/// time linear in that length.
 fn position_of(ordered: &[Guid], switch: Guid) -> usize
     ensures { result ≡ position_of ordered.now switch }
 {

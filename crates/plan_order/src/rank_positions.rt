@@ -7,8 +7,8 @@ use smp_bytes::Guid;
 use std::alloc::{AllocError, Global};
 use updown_routes::Graph;
 
-/// Returns for each switch, by rising GUID, how many switches come before it, by rank and then by GUID. Takes time
-/// quadratic in the number of switches, besides the time to look up their ranks.
+/// Returns, for each switch by rising GUID, how many switches come before the switch by rank and then by GUID. Takes
+/// time quadratic in the number of switches, besides the time to look up their ranks.
 pub(crate) fn rank_positions(alloc: Global, graph: &Graph) -> Result<Vec<usize>, AllocError>
     ensures { IfOk result (λ positions.
         positions.items ≡ map (rank_position graph.now) (guids_of graph.now)) }
@@ -17,7 +17,7 @@ pub(crate) fn rank_positions(alloc: Global, graph: &Graph) -> Result<Vec<usize>,
     counts_before(alloc, &ranked)
 }
 
-/// Counts for each of `ranked` those of them that come before it.
+/// Counts, for each switch of `ranked`, the switches of `ranked` that come before that one.
 fn counts_before(alloc: Global, ranked: &[(usize, Guid)]) -> Result<Vec<usize>, AllocError>
     ensures { IfOk result (λ counts. counts.items
         ≡ map (λ own. count_by (λ other. comes_before other own) ranked.now) ranked.now) }
@@ -28,7 +28,7 @@ fn counts_before(alloc: Global, ranked: &[(usize, Guid)]) -> Result<Vec<usize>, 
         .collect(alloc)
 }
 
-/// Returns each switch, by rising GUID, with its rank, or with 0 if it has none.
+/// Returns the pair of rank and GUID for each switch, by rising GUID. A missing rank counts as 0.
 fn ranked(alloc: Global, graph: &Graph) -> Result<Vec<(usize, Guid)>, AllocError>
     ensures { IfOk result (λ found. found.items ≡ map (ranked graph.now) (guids_of graph.now)) }
 {

@@ -1,4 +1,4 @@
--- That the tables of a plan are right by the order of switches by which the plan was made, and steps towards it end in
+-- The tables of a plan are right by the order of switches by which the plan was made, and steps towards the plan end in
 -- it.
 use Rattle.std.specs.Prelude.{◌≡◌, ◌≤◌, ◌<◌, ◌*◌, ℕ, suc, Contains, Some, length, slice_get}
 use Rattle.fact_store.specs.View.{Facts, cells_of, AreInRange}
@@ -45,8 +45,8 @@ PlanOrdersAreOrders =
     → IsOrder (cells_of facts) (plan_position rule (cells_of facts))
     × AreApart (cells_of facts) (plan_position rule (cells_of facts))
 
--- if facts are in range and have room, their plan delivers, for the LID of an end port that they have, from both of two
--- usable switches with a wire between them, or from neither
+-- for the LID of an end port of the facts, if their plan delivers from a switch, it delivers from each usable switch
+-- with a wire to that one. The facts must be in range and have room
 abbrev pub PlansCover : Type 0
 PlansCover =
     (rule : RuleValue) (lmc : ℕ) (facts : Facts) → AreInRange facts → ¬ (IsNoRoom lmc (cells_of facts))
@@ -56,8 +56,8 @@ PlansCover =
     → DeliverFrom (cells_of facts) (held_plan (plan_of rule lmc (cells_of facts))) line j
     → DeliverFrom (cells_of facts) (held_plan (plan_of rule lmc (cells_of facts))) line i
 
--- if facts are in range and have room, then in a step towards their plan, for all LIDs, from tables that are right by
--- the plan's positions, the channels' numbers by these positions rise, and the next tables are right by them
+-- in a step towards the plan of facts, for all LIDs, the channels' numbers by the plan's positions rise, and the next
+-- tables are right by these positions, if the held tables are right by them. The facts must be in range and have room
 abbrev pub StepsTowardsPlans : Type 0
 StepsTowardsPlans =
     (rule : RuleValue) (lmc : ℕ) (facts : Facts) → AreInRange facts → ¬ (IsNoRoom lmc (cells_of facts))
@@ -68,9 +68,9 @@ StepsTowardsPlans =
     → RiseInStep (cells_of facts) held next (numbers_by (cells_of facts) (plan_position rule (cells_of facts)))
     × ((lid : ℕ) → 1 ≤ lid → AreRight (cells_of facts) (plan_position rule (cells_of facts)) next lid)
 
--- if facts are in range and have room, then in steps towards their plan, from 2n steps on, for n switches, each switch
--- from which the plan delivers to the end port of `line` has the plan's entry, and delivers; at first the tables must
--- be right by the plan's positions and have its owners for the LID
+-- in steps towards the plan of facts, from 2n steps on, for n switches, each switch from which the plan delivers to the
+-- end port of `line` has the plan's entry, and delivers. The first tables must be right by the plan's positions and
+-- have the plan's owners for the LID; the facts must be in range and have room
 abbrev pub StepsEndInPlans : Type 0
 StepsEndInPlans =
     (rule : RuleValue) (lmc : ℕ) (facts : Facts) → AreInRange facts → ¬ (IsNoRoom lmc (cells_of facts))

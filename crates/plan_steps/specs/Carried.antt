@@ -67,11 +67,11 @@ link_local_prefix = 0xFE80000000000000
 abbrev pub no_change : ℕ
 no_change = 0
 
--- the n of 4.096 us * 2^n that is 268 ms
+-- the n for which 4.096 us * 2^n is about 268 ms
 abbrev pub quarter_second : ℕ
 quarter_second = 16
 
--- the n of 4.096 us * 2^n that is 1 s
+-- the n for which 4.096 us * 2^n is about 1 s
 abbrev pub one_second : ℕ
 one_second = 18
 
@@ -81,7 +81,7 @@ abbrev pub mtu_of : List ℕ → Option (List ℕ) → ℕ
 mtu_of own None = bits_in neighbor_mtu own
 mtu_of own (Some far) = or_default (bits_in neighbor_mtu own) (min (bits_in mtu_cap own) (bits_in mtu_cap far))
 
--- the bits of PortInfo in which a Set carries something else than was read, or may
+-- the changes that a Set makes in the PortInfo that was read, besides the GID prefix and the fields of its step
 abbrev pub port_changes : PortRead → List Change
 port_changes read =
     record { bits = link_width_enabled; number = no_change }
@@ -94,7 +94,8 @@ port_changes read =
     ∷ record { bits = subnet_timeout; number = or_default one_second (bits_in subnet_timeout read.own) }
     ∷ record { bits = client_reregister; number = 0 } ∷ []
 
--- the bits of SwitchInfo in which a Set carries something else than was read, or may; a 1 clears PortStateChange
+-- the changes that a Set makes in the SwitchInfo that was read, besides the field of its step; a 1 clears
+-- PortStateChange
 abbrev pub switch_changes : List ℕ → List Change
 switch_changes read =
     record { bits = life_time_value; number = or_default one_second (bits_in life_time_value read) }
@@ -122,16 +123,16 @@ all_bytes = record { at = 0; len = 64 }
 abbrev pub copied : List ℕ → List ℕ
 copied read = with_number all_bytes (number_in all_bytes read) (replicate 64 0)
 
--- PortInfo as a Set carries it, before what its step sets: as it was read, except for `port_changes` and a GID prefix
--- of 0; zeros without an image
+-- PortInfo as a Set carries it, before the fields of its step are set: as it was read, with `port_changes` made and a
+-- GID prefix of 0 replaced; zeros without an image
 abbrev pub carried_port : Option PortRead → List ℕ
 carried_port None = replicate 64 0
 carried_port (Some read) =
     changed (port_changes read)
     (with_number gid_prefix (or_default link_local_prefix (number_in gid_prefix read.own)) (copied read.own))
 
--- SwitchInfo as a Set carries it, before what its step sets: as it was read, except for `switch_changes`; zeros without
--- an image
+-- SwitchInfo as a Set carries it, before the field of its step is set: as it was read, with `switch_changes` made;
+-- zeros without an image
 abbrev pub carried_switch : Option (List ℕ) → List ℕ
 carried_switch None = replicate 64 0
 carried_switch (Some read) = changed (switch_changes read) (copied read)

@@ -40,7 +40,8 @@ abbrev pub lid_step : Cells → Sweep → ℕ → ℕ × ℕ → EndPort → Opt
 lid_step cells sweep master range e =
     step_at sweep e.node e.port port_info e.port (port_data (port_read cells sweep e.node e.port) range master NoChange)
 
--- the step that sets the LID `lid` at the end port that owns it; None if nobody does, or the sweep did not reach it
+-- the step that sets the LID `lid` at the end port that owns it; None if no end port owns it, or the sweep did not
+-- reach the end port
 abbrev pub owner_step : Cells → Sweep → ℕ → Given → ℕ → Option Step
 owner_step cells sweep master given lid =
     option_and_then (λ e. lid_step cells sweep master (lid, lmc_of given e) e) (owner_of given lid)
@@ -55,7 +56,8 @@ lid_steps cells sweep master given = filter_map (owner_step cells sweep master g
 abbrev pub IsOwnPort : Cells → ℕ → ℕ → EndPort → Type 0
 IsOwnPort cells port_guid port e = (e.port ≡ port) × (port_guid_of cells e.node e.port ≡ Some port_guid)
 
--- `lid` is that of the manager's end port; if several can be it, of the one with the least node GUID
+-- `lid` is the LID of the manager's end port; if several end ports can be the manager's, of the one with the least node
+-- GUID
 pub record IsOwnLid (cells : Cells) (given : List (EndPort × ℕ)) (port_guid port lid : ℕ) : Type 0 where
   pub end : EndPort
   pub held : Contains given (end, lid)
@@ -67,12 +69,13 @@ abbrev pub HasNoOwnPort : Cells → List (EndPort × ℕ) → ℕ → ℕ → Ty
 HasNoOwnPort cells given port_guid port =
     (e : EndPort) (n : ℕ) → Contains given (e, n) → IsOwnPort cells port_guid port e → ⊥
 
--- `lid` is that of the manager's end port; 0 if it has none
+-- `lid` is the LID of the manager's end port, or 0 if no end port with a LID can be the manager's
 abbrev pub IsOwnLidOr0 : Cells → List (EndPort × ℕ) → ℕ → ℕ → ℕ → Type 0
 IsOwnLidOr0 cells given port_guid port lid =
     IsOwnLid cells given port_guid port lid ⊎ (HasNoOwnPort cells given port_guid port × (lid ≡ 0))
 
--- if there is room for the LIDs, `own_lid` gives the LID of the manager's end port, or 0 if it has none
+-- if there is room for the LIDs, `own_lid` gives the LID of the manager's end port, or 0 if no end port with a LID can
+-- be the manager's
 abbrev pub OwnLidLaw : Type 0
 OwnLidLaw =
     (lmc : ℕ) (facts : Facts) → ¬ (IsNoRoom lmc (cells_of facts)) → (port_guid port : ℕ)

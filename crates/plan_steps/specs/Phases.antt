@@ -1,5 +1,5 @@
--- The phases in which a plan is written: each is sent at once, and the next follows when all its steps are answered or
--- timed out. InfiniBand Architecture Specification, Volume 1: subnet management, initialization.
+-- The phases in which a plan is written: the steps of a phase are sent together, and the next phase follows once all of
+-- them were answered or timed out. InfiniBand Architecture Specification, Volume 1: subnet management, initialization.
 use Rattle.std.specs.Prelude.{ℕ, Bool, true, false, List, [], ◌∷◌}
 use Rattle.attr_codec.specs.declared.port_state.PortState.TheVariants.{Armed, Active}
 use Rattle.subnet_view.specs.Reading.{Cells}
@@ -10,7 +10,7 @@ use Rattle.plan_steps.specs.Lids.{own_lid, lid_steps}
 use Rattle.plan_steps.specs.Tables.{block_steps, top_steps}
 use Rattle.plan_steps.specs.States.{state_steps}
 
--- the steps of a phase, and whether the plan counts as written only if they are done
+-- the steps of a phase, and whether the plan counts as written only if all of them succeed
 pub record Phase : Type 0 where
   pub counts : Bool
   pub steps : List Step
@@ -26,6 +26,7 @@ phases_by plan cells sweep master =
     ∷ record { counts = false; steps = state_steps cells sweep plan.given master Active }
     ∷ []
 
--- the phases of a plan that a manager writes, at the port with this GUID and number, over the paths of its last sweep
+-- the phases of a plan, as the manager at the port with the GUID `port_guid` and the number `port` writes it, over the
+-- paths of its last sweep
 abbrev pub phases_of : PlanValue → Cells → Sweep → ℕ → ℕ → List Phase
 phases_of plan cells sweep port_guid port = phases_by plan cells sweep (own_lid cells plan.given.ports port_guid port)

@@ -1,4 +1,5 @@
--- Laws of Sets of PortInfo and SwitchInfo: they say what the plan asks for, and change nothing else but what is listed.
+-- Laws of Sets of PortInfo and SwitchInfo: Sets say what the plan asks for, and change nothing else except what is
+-- listed.
 use Rattle.std.specs.Prelude.{◌≡◌, ℕ, ◌<◌, ◌^◌, Bool, true, ◌&&◌, List, [], ◌∷◌, Contains, Option, Some, length, map}
 use Rattle.smp_bytes.specs.Field.{Bits, Field, are_apart, are_bits_apart, bits_in, number_in, with_bits}
 use Rattle.attr_codec.specs.PortInfo.{base_lid, gid_prefix, lmc, master_sm_lid, number_of_state, port_state, range_in}
@@ -40,7 +41,7 @@ pub record SetsSayThePlan : Type 0 where
 
 -- all else -------------------------------------------------------------------------------------------
 
--- whether the bits `b` have none in common with any of the others
+-- whether the bits `b` have no bit in common with any other bits of the list
 abbrev pub are_apart_from : List Bits → Bits → Bool
 are_apart_from [] b = true
 are_apart_from (other ∷ others) b = are_bits_apart b other && are_apart_from others b
@@ -62,15 +63,16 @@ port_fields = base_lid ∷ master_sm_lid ∷ gid_prefix ∷ []
 abbrev pub port_bits : PortRead → List Bits
 port_bits read = port_state ∷ lmc ∷ bits_of (port_changes read)
 
--- `payload` has what was read, except in `port_fields` and `port_bits`; it has the numbers of `port_changes`, and a GID
--- prefix of 0 is replaced
+-- `payload` is what was read, except in `port_fields` and `port_bits`. It has the numbers of `port_changes`, and the
+-- GID prefix that was read or, if that is 0, the link-local one
 pub record CarriesPort (read : PortRead) (payload : List ℕ) : Type 0 where
   pub others : (b : Bits) → are_outside port_fields b ≡ true → are_apart_from (port_bits read) b ≡ true
       → bits_in b payload ≡ bits_in b read.own
   pub changes : (c : Change) → Contains (port_changes read) c → bits_in c.bits payload ≡ c.number
   pub prefix : number_in gid_prefix payload ≡ or_default link_local_prefix (number_in gid_prefix read.own)
 
--- `payload` has what was read, except for LinearFDBTop and in `switch_changes`, whose numbers it has
+-- `payload` is what was read, except in LinearFDBTop and in the bits of `switch_changes`; in these bits it has the
+-- numbers of `switch_changes`
 pub record CarriesSwitch (read payload : List ℕ) : Type 0 where
   pub others : (b : Bits) → are_outside (linear_fdb_top ∷ []) b ≡ true
       → are_apart_from (bits_of (switch_changes read)) b ≡ true
@@ -78,7 +80,7 @@ pub record CarriesSwitch (read payload : List ℕ) : Type 0 where
   pub changes : (c : Change) → Contains (switch_changes read) c → bits_in c.bits payload ≡ c.number
 
 -- a Set leaves what was read as it is (`CarriesPort`, `CarriesSwitch`), except for what the plan asks for and for the
--- changes
+-- changes. What was read has 64 bytes, and the LMC is below 8
 pub record SetsChangeNothingElse : Type 0 where
   pub port : (read : PortRead) (range : ℕ × ℕ) (master : ℕ) (state : PortState) → Are64Bytes read.own → range.1 < 8
       → CarriesPort read (port_data (Some read) range master state)
@@ -86,8 +88,8 @@ pub record SetsChangeNothingElse : Type 0 where
 
 -- two Sets of one port -------------------------------------------------------------------------------
 
--- the Set of a state at an end port is the Set of its LID with this state; so whichever comes last, it takes back
--- neither LID nor LMC
+-- the Set of a state at an end port is the Set of its LID with this state; so whichever of the two Sets comes last, it
+-- takes back neither LID nor LMC
 abbrev pub LidAndStateAgree : Type 0
 LidAndStateAgree =
     (cells : Cells) (sweep : Sweep) (given : Given) (master : ℕ) (state : PortState) (e : EndPort) (range : ℕ × ℕ)

@@ -31,8 +31,8 @@ wired_port cells (_, c) = None
 abbrev pub wired_ports : Cells → List (ℕ × ℕ)
 wired_ports cells = filter_map (wired_port cells) cells
 
--- whether a port that was seen in the second state is to go to the first: from Initialize to Armed or Active, or from
--- Armed to Active
+-- whether a port that was seen in the second state is to get the first: Armed or Active after Initialize, or Active
+-- after Armed
 abbrev pub is_due : PortState → PortState → Bool
 is_due Armed Initialize = true
 is_due Active Initialize = true
@@ -43,15 +43,15 @@ is_due state seen = false
 abbrev pub vertex_port : Cells → ℕ × ℕ → ℕ
 vertex_port cells at = if is_usable cells at.0 then 0 else at.1
 
--- PortInfo with a state and, at an end port, its LID and LMC and the manager's LID; at a port without a LID, such as
--- the other ports of a switch, these are 0
+-- PortInfo with a state. At an end port it has the port's LID and LMC and the manager's LID; at a port without a LID,
+-- such as the other ports of a switch, these three are 0
 abbrev pub state_data : Option PortRead → Given → ℕ → PortState → ℕ × ℕ → List ℕ
 state_data read given master state at =
     option_map_or (λ range. port_data read range master state) (range_of given (record { node = at.0; port = at.1 }))
     (port_data read (0, 0) 0 state)
 
--- the step that sets `state` at the port `at`; None if it was not seen in a state from which it is to go there, or the
--- sweep did not reach its vertex
+-- the step that sets `state` at the port `at`; None if the port was not seen in a state that `is_due` for `state`, or
+-- if the sweep did not reach its vertex
 abbrev pub state_step : Cells → Sweep → Given → ℕ → PortState → ℕ × ℕ → Option Step
 state_step cells sweep given master state at =
     if option_map_or (is_due state) (seen_state sweep at.0 at.1) false
@@ -59,8 +59,8 @@ state_step cells sweep given master state at =
     (state_data (port_read cells sweep at.0 at.1) given master state at)
     else None
 
--- the steps that set `state` at each port on a wire that is to go there and whose vertex the sweep reached, by node
--- GUID and port
+-- the steps that set `state` at each port on a wire that is due for it and whose vertex the sweep reached, by node GUID
+-- and port
 abbrev pub state_steps : Cells → Sweep → Given → ℕ → PortState → List Step
 state_steps cells sweep given master state = filter_map (state_step cells sweep given master state) (wired_ports cells)
 

@@ -10,7 +10,7 @@ abbrev pub set_packet : ℕ → Step → List ℕ
 set_packet transaction step = directed set step.attribute step.modifier transaction step.path step.payload
 
 -- a step that sets an attribute over the path that first reached the vertex of node `guid` with the port `vertex`,
--- which is 0 for a switch; None if the sweep did not reach it
+-- which is 0 for a switch; None if the sweep did not reach that vertex
 abbrev pub step_at : Sweep → ℕ → ℕ → ℕ → ℕ → List ℕ → Option Step
 step_at sweep guid vertex attribute modifier payload =
     option_map (λ path. record {

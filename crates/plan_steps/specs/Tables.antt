@@ -20,7 +20,7 @@ abbrev pub block_step : Sweep → PlanValue → ℕ → ℕ → Option Step
 block_step sweep plan guid b = option_and_then (step_at sweep guid 0 linear_forwarding_table b) (block_at plan guid b)
 
 -- the steps that set the blocks of the switch `guid`, from 0 to that of the greatest LID; none if the sweep did not
--- reach it
+-- reach the switch
 abbrev pub switch_steps : Sweep → PlanValue → ℕ → List Step
 switch_steps sweep plan guid =
     filter_map (block_step sweep plan guid) (range_with_len 0 (block_count (top_of plan.given)))
@@ -33,7 +33,7 @@ block_steps sweep plan = flat_map (switch_steps sweep plan) (switches_of plan)
 abbrev pub top_data : Option (List ℕ) → ℕ → List ℕ
 top_data read top = with_number linear_fdb_top top (carried_switch read)
 
--- the step that sets the top of the switch `guid` to `top`; None if the sweep did not reach it
+-- the step that sets the top of the switch `guid` to `top`; None if the sweep did not reach the switch
 abbrev pub top_step : Sweep → ℕ → ℕ → Option Step
 top_step sweep top guid = step_at sweep guid 0 switch_info 0 (top_data (switch_image sweep guid) top)
 

@@ -12,7 +12,7 @@ use smp_bytes::{AttributeId, Guid, Lid, PortNum};
 use std::alloc::{AllocError, Global};
 use sweep::Sweep;
 
-/// Builds the step of each block of each usable switch that was reached, by rising GUID.
+/// Builds the step of each block of each usable switch that the sweep reached, by rising GUID.
 pub(crate) fn block_steps(
     alloc: Global,
     sweep: &Sweep,
@@ -27,7 +27,7 @@ pub(crate) fn block_steps(
     Ok(steps)
 }
 
-/// Appends the steps of the blocks of the switch `guid`, or nothing if the sweep did not reach it.
+/// Appends the steps of the blocks of the switch `guid`, or nothing if the sweep did not reach the switch.
 #[tactic(auto, using(crate::proofs::Ranges::given_some, crate::proofs::Ranges::given_none))]
 fn add_switch_steps(
     steps: &mut Vec<Step>,
@@ -63,8 +63,8 @@ fn block_step(sweep: &Sweep, plan: &Plan, guid: Guid, b: usize) -> Option<Step>
     )
 }
 
-/// Builds the step of the greatest LID for each usable switch that was reached, by rising GUID. Builds none if the plan
-/// has no LID.
+/// Builds the step of the greatest LID for each usable switch that the sweep reached, by rising GUID. Builds none if
+/// the plan has no LID.
 pub(crate) fn top_steps(alloc: Global, sweep: &Sweep, plan: &Plan) -> Result<Vec<Step>, AllocError>
     ensures { IfOk result (λ steps. steps.items ≡ top_steps sweep.now plan.now) }
 {
@@ -74,7 +74,7 @@ pub(crate) fn top_steps(alloc: Global, sweep: &Sweep, plan: &Plan) -> Result<Vec
     }
 }
 
-/// Builds the step that sets `top` as the greatest LID for each usable switch that was reached, by rising GUID.
+/// Builds the step that sets `top` as the greatest LID for each usable switch that the sweep reached, by rising GUID.
 #[tactic(auto, using(crate::proofs::Walked::walked_some, crate::proofs::Walked::walked_none))]
 fn steps_with_top(
     alloc: Global,
@@ -110,7 +110,7 @@ fn top_step(sweep: &Sweep, top: Lid, guid: Guid) -> Option<Step>
     )
 }
 
-/// Returns SwitchInfo with `top` as the greatest LID, and everything else as a Set carries it.
+/// Returns SwitchInfo with `top` as the greatest LID, and everything else as `carried_switch` gives it for `read`.
 fn top_data(read: Option<SwitchInfo>, top: Lid) -> [u8; 64]
     ensures { result ≡ top_data read top }
 {

@@ -12,8 +12,8 @@ const NUMBERS: usize = Lid::UNICAST_END as usize;
 /// The number of blocks that hold `NUMBERS` entries.
 const BLOCKS: usize = NUMBERS / 64;
 
-/// Returns a number of steps that no phase of a plan of `store` exceeds if its LIDs have room. The number is at most
-/// 2^64 - 1. Does not allocate.
+/// Returns a number of steps that no phase of a plan of `store` exceeds if the plan's LIDs have room. The number is at
+/// most 2^64 - 1. Does not allocate.
 pub fn most_steps(store: &Store) -> usize
     ensures { result ≡ min (most_steps (cells_of store.now)) (2 ^ 64 - 1) }
 {

@@ -13,10 +13,10 @@ use sweep::Sweep;
 /// The prefix of link-local GIDs, fe80::/64 (addressing).
 const LINK_LOCAL_PREFIX: u64 = 0xFE80_0000_0000_0000;
 
-/// HOQLife: the time that a packet may stay at the head of its queue, 4.096 us * 2^16.
+/// The default of HOQLife: a packet may stay at the head of its queue for 4.096 us * 2^16.
 const QUARTER_SECOND: u8 = 16;
 
-/// SubnetTimeOut and LifeTimeValue: 4.096 us * 2^18.
+/// The default of SubnetTimeOut and of LifeTimeValue: 4.096 us * 2^18.
 const ONE_SECOND: u8 = 18;
 
 /// Further fields of PortInfo: the byte, the lowest bit and the number of bits of each.
@@ -36,11 +36,11 @@ macro_rules! port_bits {
 pub struct PortRead {
     /// The PortInfo of the port itself.
     pub own: PortInfo,
-    /// The PortInfo of the far end, or `None` if there is no wire or it is not kept.
+    /// The PortInfo of the far end, or `None` if there is no wire or the far end's PortInfo is not kept.
     pub far: Option<PortInfo>,
 }
 
-/// Returns the PortInfo that was read of the port and of its far end, or `None` if that of the port is not kept.
+/// Returns the PortInfo that was read of a port and of its far end, or `None` if the port's own PortInfo is not kept.
 pub(crate) fn port_read(store: &Store, sweep: &Sweep, guid: Guid, port: PortNum) -> Option<PortRead>
     ensures { result ≡ port_read (cells_of store.now) sweep.now guid port }
 {
@@ -49,7 +49,8 @@ pub(crate) fn port_read(store: &Store, sweep: &Sweep, guid: Guid, port: PortNum)
     Some(PortRead { own, far })
 }
 
-/// Returns the PortInfo that was read of the port's far end, or `None` if the port is on no wire or it is not kept.
+/// Returns the PortInfo that was read of a port's far end, or `None` if the port is on no wire or that PortInfo is not
+/// kept.
 fn far_image(store: &Store, sweep: &Sweep, guid: Guid, port: PortNum) -> Option<PortInfo>
     ensures { result ≡ far_image (cells_of store.now) sweep.now guid port }
 {
@@ -57,8 +58,9 @@ fn far_image(store: &Store, sweep: &Sweep, guid: Guid, port: PortNum) -> Option<
     sweep.port_image(far_node, far_port)
 }
 
-/// Returns PortInfo as a Set carries it: as it was read, except for defaults for what no manager has set, the MTU of
-/// the wire, and "no change" if a value must not be written back. Returns zeros if `read` is `None`.
+/// Returns PortInfo as a Set carries it: as it was read, except for defaults for some fields that are 0, the MTU of the
+/// wire, no ClientReregister, and "no change" in fields that must not be written back. Returns zeros if `read` is
+/// `None`.
 pub(crate) fn carried_port(read: Option<PortRead>) -> PortInfo
     ensures { result ≡ carried_port read }
 {
@@ -68,7 +70,8 @@ pub(crate) fn carried_port(read: Option<PortRead>) -> PortInfo
     }
 }
 
-/// Returns the PortInfo `own`, which was read of a port, as a Set carries it. `far` was read of the far end.
+/// Returns the PortInfo `own`, which was read of a port, as a Set carries it. `far` is the PortInfo that was read of
+/// the far end, or `None` if there is no wire or that PortInfo is not kept.
 fn carried_port_of(own: &[u8; 64], far: Option<PortInfo>) -> [u8; 64]
     ensures { result ≡ carried_port (Some (record { own = own.now; far = far })) }
 {
@@ -108,8 +111,8 @@ fn mtu_of(own: &[u8; 64], far: Option<PortInfo>) -> u8
     }
 }
 
-/// Returns SwitchInfo as a Set carries it: `read`, except for a default for a lifetime that no manager has set, and the
-/// bit that clears PortStateChange. Returns zeros if `read` is `None`.
+/// Returns SwitchInfo as a Set carries it: `read`, except for a default for a LifeTimeValue of 0, and the bit that
+/// clears PortStateChange. Returns zeros if `read` is `None`.
 pub(crate) fn carried_switch(read: Option<SwitchInfo>) -> SwitchInfo
     ensures { result ≡ carried_switch read }
 {

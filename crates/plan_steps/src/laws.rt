@@ -11,7 +11,7 @@ pub fn own_lid_is_of_the_first()
     ensures { OwnLidLaw }
 {}
 
-/// The list of ports on wires has each such port once, by node GUID and port, and nothing else.
+/// The list of ports on wires has exactly these ports, each once, by node GUID and port.
 pub fn wired_ports_are_listed_in_order()
     ensures { WiredPortsLaw }
 {}
@@ -22,14 +22,14 @@ pub fn phases_are_bounded()
     ensures { PhaseBoundLaw }
 {}
 
-/// Whatever was read of a port or a switch, a Set contains what the plan asks for: LID, LMC, the manager's LID and the
-/// state, or the greatest LID.
+/// Whatever was read of a port or a switch, a Set contains the values that the plan asks for, if these fit their
+/// fields: LID, LMC, the manager's LID and the state, or the greatest LID.
 pub fn sets_say_the_plan()
     ensures { SetsSayThePlan }
 {}
 
 /// A Set carries what was read, except for what the plan asks for, the MTU of the wire, "no change" in some bits,
-/// defaults for what no manager has set, and the bits ClientReregister and PortStateChange.
+/// defaults for some fields that were 0, and the bits ClientReregister and PortStateChange.
 pub fn sets_change_nothing_else()
     ensures { SetsChangeNothingElse }
 {}

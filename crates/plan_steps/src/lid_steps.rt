@@ -14,7 +14,7 @@ use subnet_view::EndPort;
 use sweep::Sweep;
 
 /// Returns the LID of the manager at the port `port` with the GUID `own_guid`: the LID of the first end port, by node
-/// GUID, that has this port GUID and number, or 0 if there is none.
+/// GUID, that has this port GUID and number, or 0 if there is no such end port.
 pub(crate) fn own_lid(store: &Store, lids: &LidMap, own_guid: Guid, port: PortNum) -> Lid
     ensures { result ≡ own_lid (cells_of store.now) lids.now.ports own_guid port }
 {
@@ -33,8 +33,8 @@ fn is_own_port(store: &Store, end: EndPort, own_guid: Guid, port: PortNum) -> bo
     end.port == port && store.port_guid(end.node, end.port) == Some(own_guid)
 }
 
-/// Builds the step that sets the LID, the LMC and the manager's LID `master` at each end port that was reached, by
-/// rising LIDs.
+/// Builds the step that sets the LID, the LMC and the manager's LID `master` at each end port that the sweep reached,
+/// by rising LIDs.
 pub(crate) fn lid_steps(
     alloc: Global,
     store: &Store,
@@ -54,8 +54,8 @@ pub(crate) fn lid_steps(
     Ok(steps)
 }
 
-/// Builds the step that sets `lid` at the end port that owns it. Returns `None` if no end port owns `lid`, or the sweep
-/// did not reach the port.
+/// Builds the step that sets `lid`, its LMC and the manager's LID `master` at the end port that owns `lid`. Returns
+/// `None` if no end port owns `lid`, or the sweep did not reach the end port.
 fn owner_step(store: &Store, sweep: &Sweep, master: Lid, lids: &LidMap, lid: Lid) -> Option<Step>
     ensures { result ≡ owner_step (cells_of store.now) sweep.now master lids.now lid }
 {
@@ -87,7 +87,8 @@ fn lid_step(
     )
 }
 
-/// Returns PortInfo with `lid`, `lmc`, the manager's LID `master` and `state`, and everything else as a Set carries it.
+/// Returns PortInfo with `lid`, `lmc`, the manager's LID `master` and `state`, and everything else as `carried_port`
+/// gives it for `read`.
 pub(crate) fn port_data(
     read: Option<PortRead>,
     lid: Lid,

@@ -30,7 +30,8 @@ pub(crate) fn wired_ports(alloc: Global, store: &Store) -> Result<Vec<(Guid, Por
     Ok(ports)
 }
 
-/// Returns the port of the cell `sighting`, or `None` if the cell is not a port's link or the port is on no wire.
+/// Returns the port that `sighting` is about, or `None` if `sighting` is not about a port's link or the port is on no
+/// wire.
 fn wired_port(store: &Store, sighting: &Sighting) -> Option<(Guid, PortNum)>
     ensures { result ≡ wired_port (cells_of store.now) sighting.now }
 {
@@ -46,8 +47,9 @@ fn wired_port(store: &Store, sighting: &Sighting) -> Option<(Guid, PortNum)>
     }
 }
 
-/// Builds the step that sets `state` for each of `ports`, in their order, that was reached and was seen in Initialize
-/// or, if `state` is Active, in Armed. Builds none if `state` is neither Armed nor Active.
+/// Builds the step that sets `state` at each of `ports`, in their order. Leaves out a port that the sweep did not see
+/// in Initialize or, if `state` is Active, in Armed. Also leaves out a port whose vertex the sweep did not reach.
+/// Builds none if `state` is neither Armed nor Active.
 #[tactic(auto, using(crate::proofs::Walked::walked_some, crate::proofs::Walked::walked_none))]
 pub(crate) fn state_steps(
     alloc: Global,
@@ -70,8 +72,8 @@ pub(crate) fn state_steps(
     Ok(steps)
 }
 
-/// Builds the step that sets `state` at the port. Returns `None` if the sweep did not see the port in a state from
-/// which it is due to go to `state`, or did not reach it.
+/// Builds the step that sets `state` at a port. Returns `None` if the sweep did not see the port in a state from which
+/// the port is due to go to `state`, or did not reach the port's vertex.
 fn state_step(
     store: &Store,
     sweep: &Sweep,
@@ -97,7 +99,7 @@ fn state_step(
     )
 }
 
-/// Returns whether the sweep saw the port in a state from which it is due to go to `state`.
+/// Returns whether the sweep saw a port in a state from which the port is due to go to `state`.
 fn is_still_due(sweep: &Sweep, state: PortState, guid: Guid, port: PortNum) -> bool
     ensures { result ≡ option_map_or (is_due state) (seen_state sweep.now guid port) false }
 {
@@ -130,8 +132,8 @@ fn vertex_port(store: &Store, guid: Guid, port: PortNum) -> PortNum
     }
 }
 
-/// Returns the PortInfo that sets `state` at the port. If the port has a LID, the PortInfo has this, the LMC and the
-/// manager's LID `master`, and otherwise 0 for each.
+/// Returns the PortInfo that sets `state` at a port. If the port has a LID, the PortInfo has this LID, its LMC and the
+/// manager's LID `master`. Otherwise the PortInfo has 0 for these three.
 fn state_data(
     read: Option<PortRead>,
     lids: &LidMap,

@@ -33,8 +33,8 @@ impl Step {
     }
 }
 
-/// Builds the step for a vertex: a switch (`vertex` 0) or an adapter's port. Returns `None` if the sweep did not reach
-/// it.
+/// Builds the step for the vertex of the node `guid` with the port `vertex`, which is 0 for a switch. Returns `None` if
+/// the sweep did not reach the vertex.
 pub(crate) fn step_at(
     sweep: &Sweep,
     guid: Guid,

@@ -6,22 +6,24 @@ use Rattle.port_graph.specs.Heads.{edges_at, heads}
 use Rattle.port_graph.specs.Slopes.{Slope, lesser, least_of, same_number, cost, next_port}
 use Rattle.port_graph.specs.Routes.{Way}
 
--- the slopes of vertices with these edges up and down, numbered from `first` on, as many as the shorter list has
+-- the slopes of vertices numbered from `first` on, with the edges up `ups` and the edges down `downs`; as many as the
+-- shorter of the two lists has
 abbrev pub indexed_from : ℕ → List (List Edge) → List (List Edge) → List Slope
 indexed_from first [] downs = []
 indexed_from first (u ∷ ups) [] = []
 indexed_from first (u ∷ ups) (d ∷ downs) =
     record { guid = first; ups = u; downs = d } ∷ indexed_from (suc first) ups downs
 
--- the slopes of vertices with these edges up and down, numbered from 0 on
+-- the slopes of vertices numbered from 0 on, with the edges up `ups` and the edges down `downs`
 abbrev pub indexed : List (List Edge) → List (List Edge) → List Slope
 indexed ups downs = indexed_from 0 ups downs
 
--- each edge leads to a lesser vertex than it is from
+-- each edge of a vertex leads to a vertex with a lesser number
 abbrev pub LeadToLesser : List (List Edge) → Type 0
 LeadToLesser edges = (a : ℕ) (e : Edge) → Contains (edges_at edges a) e → e.to < a
 
--- edges up lead to lesser vertices; for each edge up an edge down leads back, and for each edge down an edge up
+-- `ups` and `downs` have edges of equally many vertices. Edges up lead to vertices with lesser numbers; for each edge
+-- up an edge down leads back, and for each edge down an edge up
 pub record AreSlopes (ups downs : List (List Edge)) : Type 0 where
   pub all : length downs ≡ length ups
   pub rise : LeadToLesser ups
@@ -33,12 +35,12 @@ abbrev pub lesser_of : Option ℕ → Option ℕ → Option ℕ
 lesser_of None other = other
 lesser_of (Some n) other = Some (lesser n other)
 
--- each number that is there is less than `bound`
+-- each of `numbers` that is not None is less than `bound`
 abbrev pub AreLess : ℕ → List (Option ℕ) → Type 0
 AreLess bound numbers = (a n : ℕ) → slice_index_or numbers a None ≡ Some n → n < bound
 
--- the cost of a vertex: its down distance if there is one, else one more than the least cost over its edges up; None if
--- there is neither
+-- the cost of a vertex: its down distance `distance`, if that is not None; else one more than the least of `costs`
+-- among the vertices that `edges`, its edges up, lead to; None if none of these vertices has a cost
 abbrev pub cost_of : Option ℕ → List Edge → List (Option ℕ) → Option ℕ
 cost_of distance edges costs =
     if is_some distance then distance else option_map suc
@@ -52,28 +54,31 @@ pub record AreCosts (ups : List (List Edge)) (distances : List (Option ℕ)) (n 
     pub cost : (a : ℕ) → a < n → slice_index_or costs a None
         ≡ cost_of (slice_index_or distances a None) (edges_at ups a) costs
 
--- the port of the first edge to a vertex whose number is one less than `number`; None if there is none
+-- the port of the first edge to a vertex whose number is one less than `number`; None if no edge leads to such a
+-- vertex, or if `number` is None
 abbrev pub port_nearer : List Edge → List (Option ℕ) → Option ℕ → Option ℕ
 port_nearer edges numbers number =
     option_map (λ e. e.port) (find (λ e. same_number (option_map suc (slice_index_or numbers e.to None)) number) edges)
 
--- the next port of vertex `a`: down if it has a down distance, else up; None if there is none
+-- the next port of vertex `a`: if it has a down distance, down to a vertex one nearer, else up to a vertex with a cost
+-- one less; None if no edge leads to such a vertex
 abbrev pub port_by : List (List Edge) → List (List Edge) → List (Option ℕ) → List (Option ℕ) → ℕ → Option ℕ
 port_by ups downs distances costs a =
     let distance = slice_index_or distances a None in
     if is_some distance then port_nearer (edges_at downs a) distances distance else port_nearer (edges_at ups a) costs
     (slice_index_or costs a None)
 
--- `ports` has for each vertex the next port towards `target`
+-- `ports` has for each vertex the next port towards `target`, or None if it has none (`next_port`)
 pub record AreNextPorts (ups downs : List (List Edge)) (target : ℕ) (ports : List (Option ℕ)) : Type 0 where
   pub all : length ports ≡ length ups
   pub next : (a : ℕ) → a < length ups → slice_index_or ports a None ≡ next_port (indexed ups downs) a target
 
--- for each of `vertices` as a target, the next port of each of them towards it
+-- for each of `vertices` as a target, the next port of each of `vertices` towards that target
 abbrev pub ports_between : List (List Edge) → List (List Edge) → List ℕ → List (List (Option ℕ))
 ports_between ups downs vertices = map (λ t. map (λ s. next_port (indexed ups downs) s t) vertices) vertices
 
--- from each vertex with a cost to a target, next ports lead to the target, first up and then down, over as many edges
+-- from each vertex `s` with the cost `n` to a vertex `t`, next ports lead to `t` over `n` edges, first up and then
+-- down, if the edges are slopes (`AreSlopes`)
 abbrev pub WaysLaw : Type 0
 WaysLaw = (ups downs : List (List Edge)) → AreSlopes ups downs → (s t n : ℕ) → t < length ups
     → cost (indexed ups downs) s t ≡ Some n → Way (indexed ups downs) s t n

@@ -4,46 +4,51 @@ use Rattle.port_graph.specs.declared.edge.Edge.{Edge}
 use Rattle.port_graph.specs.Slopes.{cost, next_port}
 use Rattle.port_graph.specs.Indexed.{indexed}
 
--- P holds for each of the 16 lanes
+-- `P` is true of each of the 16 lanes
 abbrev pub EachLane : (ℕ → Type 0) → Type 0
 EachLane P = (k : ℕ) → k < 16 → P k
 
--- the number in lane `k` for vertex `a`
+-- the number in lane `k` of the row of vertex `a`
 abbrev pub at : List (List ℕ) → ℕ → ℕ → ℕ
 at rows a k = slice_index (slice_index_or rows a []) k
 
--- the number that a lane has; None for 255
+-- the number that the value `x` of a lane stands for: `x` itself if it is below 255, else None
 abbrev pub number_in : ℕ → Option ℕ
 number_in x = if nat_lt x 255 then Some x else None
 
--- the port that belongs to the number `x` of a lane; None if that is 0, at the target, or 255
+-- `port` if the number `x` that it belongs to is from 1 to 254; None if `x` is 0, as at the target, or over 254
 abbrev pub port_in : ℕ → ℕ → Option ℕ
 port_in x port = if nat_lt 0 x && nat_lt x 255 then Some port else None
 
--- the lane `more` has one more than the number in the lane `x`; none if that has none
+-- the value `more` of a lane stands for one more than the number of the value `x`, or for no number if `x` stands for
+-- none
 abbrev pub IsOneMore : ℕ → ℕ → Type 0
 IsOneMore x more = number_in more ≡ option_map suc (number_in x)
 
--- the lesser of two numbers with its port: `x` with `port` if it is less than what was found
+-- the lesser number with its port: `x` with `port` if `x` is less than the number of `found`, else `found`
 abbrev pub nearer : ℕ × ℕ → ℕ → ℕ → ℕ × ℕ
 nearer found x port = if nat_lt x found.0 then (x, port) else found
 
--- the least of `found` and the numbers that the edges lead to, with its port; the first of equals
+-- the least number with its port, of `found` and of the vertices that the edges lead to, whose numbers `x` gives; of
+-- equal numbers the first
 abbrev pub nearest_from : (ℕ → ℕ) → ℕ × ℕ → List Edge → ℕ × ℕ
 nearest_from x found [] = found
 nearest_from x found (e ∷ edges) = nearest_from x (nearer found (x e.to) e.port) edges
 
--- the least number over the edges with the port of the first edge that leads to it; 255 if there is none
+-- the least number that `x` gives for a vertex that the edges lead to, with the port of the first edge to such a
+-- vertex; 255 with port 0 if no number is below 255
 abbrev pub nearest_by : (ℕ → ℕ) → List Edge → ℕ × ℕ
 nearest_by x edges = nearest_from x (255, 0) edges
 
--- `x` and `its_port` are a vertex's down distance and port, given the nearest of the vertices down; 0 at the target
+-- `x` is a vertex's down distance: 0 at the target, else one more than the number of `nearest`, the nearest vertex that
+-- an edge down leads to; no number if `nearest` has none. `its_port` is the port of `nearest`
 pub record IsStepDown (is_target : Bool) (nearest : ℕ × ℕ) (x its_port : ℕ) : Type 0 where
   pub number : number_in x ≡ (if is_target then Some 0 else option_map suc (number_in nearest.0))
   pub port : its_port ≡ nearest.1
 
--- `x` and `its_port` are a vertex's cost and port: its down distance `y` and port down if it has one, else one more
--- than the nearest of the vertices up
+-- `x` and `its_port` are a vertex's cost and port: its down distance `y` and `port_down`, if `y` is below 255. Else `x`
+-- is one more than the number of `nearest`, the vertex of least cost that an edge up leads to, and `its_port` is the
+-- port of `nearest`. `x` is no number if `nearest` has none either
 pub record IsStepUp (y port_down : ℕ) (nearest : ℕ × ℕ) (x its_port : ℕ) : Type 0 where
   pub number : number_in x ≡ (if nat_lt y 255 then number_in y else option_map suc (number_in nearest.0))
   pub port : its_port ≡ (if nat_lt y 255 then port_down else nearest.1)
@@ -52,12 +57,13 @@ pub record IsStepUp (y port_down : ℕ) (nearest : ℕ × ℕ) (x its_port : ℕ
 abbrev pub target_in : List ℕ → ℕ → ℕ → ℕ
 target_in vertices first k = slice_index vertices (first + min k (length vertices - 1 - first))
 
--- lane `k` has the cost of each vertex and its next port towards vertex `t`
+-- lane `k` of `numbers` and `ports` has the cost of each vertex to vertex `t`, and its next port towards `t`
 pub record AreRouted (ups downs : List (List Edge)) (t k : ℕ) (numbers ports : List (List ℕ)) : Type 0 where
   pub cost : (a : ℕ) → a < length ups → number_in (at numbers a k) ≡ cost (indexed ups downs) a t
   pub next : (a : ℕ) → a < length ups → port_in (at numbers a k) (at ports a k) ≡ next_port (indexed ups downs) a t
 
--- the lanes have a row for each vertex and, if `is_routed`, each lane has costs and next ports towards its target
+-- `numbers` and `ports` have a row for each vertex; if `is_routed`, each lane has the costs and next ports towards its
+-- target in `targets`
 pub record IsBlock (ups downs : List (List Edge)) (is_routed : Bool) (targets : List ℕ) (numbers ports : List (List ℕ))
     : Type 0 where
   pub all_numbers : length numbers ≡ length ups

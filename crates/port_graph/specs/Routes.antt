@@ -8,7 +8,7 @@ use Rattle.port_graph.specs.Slopes.{Slope, ups_at, downs_at, below, cost, next_p
 abbrev pub IsDownDistance : List Slope → ℕ → ℕ → ℕ → Type 0
 IsDownDistance slopes s t n = IsShortest (below slopes) s t n
 
--- `k` wires lead up from `s` to `u`, from switches from which no walk down leads to `t`
+-- `k` wires lead up from `s` to `u`, one after the other; no walk down leads to `t` from any switch that they leave
 abbrev pub Climb : List Slope → ℕ → ℕ → ℕ → ℕ → Type 0
 Climb slopes t s u zero = s ≡ u
 Climb slopes t s u (suc k) =
@@ -61,7 +61,7 @@ abbrev pub GoesBy : List Slope → ℕ → ℕ → List Edge → Type 0
 GoesBy slopes t s [] = s ≡ t
 GoesBy slopes t s (e ∷ es) = ((s == t) ≡ false) × (next_port slopes s t ≡ Some e.port) × GoesBy slopes t e.to es
 
--- the costs to `t` of the switches that the wires lead to fall by one each, from `n` on
+-- the costs to `t` of the switches that the wires lead to are `n - 1`, `n - 2` and so on
 abbrev pub CostsFall : List Slope → ℕ → ℕ → List Edge → Type 0
 CostsFall slopes t n [] = Unit {0}
 CostsFall slopes t zero (e ∷ es) = ⊥

@@ -7,7 +7,7 @@ use Rattle.port_graph.specs.declared.edge.Edge.{Edge}
 abbrev pub Search : Type 0
 Search = List (Option ℕ) × List (ℕ × ℕ)
 
--- the search once vertex `a` is reached at `distance`: if it had no distance, it gets this one and joins the queue
+-- the search once vertex `a` is reached at `distance`: if `a` had no distance, it gets `distance` and joins the queue
 abbrev pub reach : ℕ → Search → ℕ → Search
 reach distance s a =
     if is_some (slice_index_or s.0 a None) then s else (slice_set s.0 a (Some distance), s.1 ++ (a, distance) ∷ [])

@@ -10,12 +10,12 @@ pub record Slope : Type 0 where
   pub ups : List Edge
   pub downs : List Edge
 
--- the edges up of switch `a`; none if it is not there
+-- the edges up of switch `a`; none if `slopes` do not have the switch
 abbrev pub ups_at : List Slope → ℕ → List Edge
 ups_at [] a = []
 ups_at (s ∷ slopes) a = if s.guid == a then s.ups else ups_at slopes a
 
--- the edges down of switch `a`; none if it is not there
+-- the edges down of switch `a`; none if `slopes` do not have the switch
 abbrev pub downs_at : List Slope → ℕ → List Edge
 downs_at [] a = []
 downs_at (s ∷ slopes) a = if s.guid == a then s.downs else downs_at slopes a
@@ -24,7 +24,8 @@ downs_at (s ∷ slopes) a = if s.guid == a then s.downs else downs_at slopes a
 abbrev pub below : List Slope → ℕ → List ℕ
 below slopes a = map (λ e. e.to) (downs_at slopes a)
 
--- the down distance from `s` to `t`, the length of a shortest walk down; None if there is none
+-- the down distance from `s` to `t`, the length of a shortest walk down; None if no walk down of fewer edges than there
+-- are switches leads there
 abbrev pub down_distance : List Slope → ℕ → ℕ → Option ℕ
 down_distance slopes s t = shortest (below slopes) (length slopes) s t
 
@@ -38,8 +39,8 @@ abbrev pub least_of : List ℕ → Option ℕ
 least_of [] = None
 least_of (n ∷ ns) = Some (lesser n (least_of ns))
 
--- the cost from `s` to `t` with at most a number of wires up: the down distance if there is one, else one more than the
--- least cost over the wires up; None if there is neither
+-- the cost from `s` to `t` with at most a number of wires up: the down distance if it exists, else one more than the
+-- least cost, with one wire up fewer, of the switches that wires up lead to; None if no such cost exists
 abbrev pub cost_within : List Slope → ℕ → ℕ → ℕ → Option ℕ
 cost_within slopes zero s t = down_distance slopes s t
 cost_within slopes (suc climbs) s t = let down = down_distance slopes s t in
@@ -51,20 +52,21 @@ cost_within slopes (suc climbs) s t = let down = down_distance slopes s t in
 abbrev pub cost : List Slope → ℕ → ℕ → Option ℕ
 cost slopes s t = cost_within slopes (length slopes) s t
 
--- whether both numbers are there and equal
+-- whether two numbers are equal and not None
 abbrev pub same_number : Option ℕ → Option ℕ → Bool
 same_number (Some a) (Some b) = a == b
 same_number _ _ = false
 
--- the port of the first edge down to a switch one nearer to `t`, the least if ports rise; None if there is none
+-- the port of the first edge down from `s` to a switch one nearer to `t`; None if no edge down leads to one. If the
+-- ports of the edges rise, it is the least such port
 abbrev pub port_down : List Slope → ℕ → ℕ → Option ℕ
 port_down slopes s t =
     option_map (λ e. e.port)
     (find (λ e. same_number (option_map suc (down_distance slopes e.to t)) (down_distance slopes s t))
     (downs_at slopes s))
 
--- the port of the first edge up to a switch whose cost to `t` is one less, the least if ports rise; None if there is
--- none
+-- the port of the first edge up from `s` to a switch whose cost to `t` is one less; None if no edge up leads to one. If
+-- the ports of the edges rise, it is the least such port
 abbrev pub port_up : List Slope → ℕ → ℕ → Option ℕ
 port_up slopes s t =
     option_map (λ e. e.port) (find (λ e. same_number (option_map suc (cost slopes e.to t)) (cost slopes s t))

@@ -7,9 +7,10 @@ use crate::adjacency::Adjacency;
 use crate::edge::Edge;
 use std::alloc::{AllocError, Global};
 
-/// Returns the cost of each vertex: its distance if it has one, otherwise one more than the least cost of the vertices
-/// up from it, or `None` if none of these has a cost. `ups` must lead to lesser vertices. Takes time linear in the
-/// number of vertices and edges.
+/// Returns the cost of each vertex. The cost of a vertex with a distance is its distance. The cost of any other vertex
+/// is one more than the least cost of the vertices up from it. If no vertex up from it has a cost, its cost is `None`.
+/// Each edge of `ups` must lead to a lesser vertex. `distances` must have one entry for each vertex, `None` or less
+/// than the number of vertices. Takes time linear in the number of vertices and edges.
 pub(crate) fn costs(
     alloc: Global,
     ups: &Adjacency,
@@ -28,7 +29,8 @@ pub(crate) fn costs(
     Ok(costs)
 }
 
-/// Returns the cost of a vertex with `distance` and the edges `ups`, given the `costs` of the vertices up from it.
+/// Returns the cost of a vertex with the distance `distance` and the edges up `ups`. `costs` must have an entry for
+/// each vertex that `ups` lead to, `None` or less than `usize::MAX`.
 fn cost(distance: Option<usize>, ups: &[Edge], costs: &[Option<usize>]) -> Option<usize>
     requires known { All (λ edge. edge.to < length costs.now) ups.now }
     requires room { AreLess usize.MAX costs.now }
@@ -41,7 +43,8 @@ fn cost(distance: Option<usize>, ups: &[Edge], costs: &[Option<usize>]) -> Optio
     Some(least + 1)
 }
 
-/// Returns the least cost of the vertices that `edges` lead to, or `None` if none of them has a cost.
+/// Returns the least cost of the vertices that `edges` lead to, or `None` if none of these vertices has a cost. `costs`
+/// must have an entry for each of these vertices.
 fn least_cost(edges: &[Edge], costs: &[Option<usize>]) -> Option<usize>
     requires { All (λ edge. edge.to < length costs.now) edges.now }
     ensures { result ≡ least_of (filter_map (λ edge. slice_index_or costs.now edge.to None) edges.now) }
@@ -53,7 +56,8 @@ fn least_cost(edges: &[Edge], costs: &[Option<usize>]) -> Option<usize>
     least
 }
 
-/// Returns the lesser of `one` and `other`, or the only one, or `None` if there is none.
+/// Returns the lesser of `one` and `other`. If only one of the two is a number, returns that number; if neither is,
+/// `None`.
 fn lesser(one: Option<usize>, other: Option<usize>) -> Option<usize>
     ensures { result ≡ lesser_of one other }
 {

@@ -7,8 +7,9 @@ use crate::edge::Edge;
 use std::alloc::{AllocError, Global};
 use std::collections::VecDeque;
 
-/// Returns the length of a shortest walk from `from` to each vertex, or `None` if no walk leads there, by a
-/// breadth-first search. Takes time linear in the number of vertices and edges.
+/// Returns for each vertex the length of a shortest walk from `from`, or `None` if no walk leads from `from` to the
+/// vertex. `from` must be a vertex, and all edges must lead to vertices. Searches breadth first, in time linear in the
+/// number of vertices and edges.
 pub fn distances(
     alloc: Global,
     edges: &Adjacency,
@@ -28,8 +29,8 @@ pub fn distances(
     Ok(distances)
 }
 
-/// Sets `distance` as that of each vertex that `edges` lead to and whose distance is not known yet, and adds the vertex
-/// to `queue`.
+/// Gives the distance `distance` to each vertex that `edges` lead to and that has no distance yet, and appends the
+/// vertex to `queue`. `distances` must have an entry for each of these vertices.
 fn reach_all(
     edges: &[Edge],
     distance: usize,

@@ -7,7 +7,7 @@ use smp_bytes::PortNum;
 /// The number of targets to which routes are computed at a time.
 pub(crate) const LANES: usize = 16;
 
-/// What stands in a lane that has no number.
+/// The value of a lane that has no number.
 const NONE: u8 = 255;
 
 /// A number and a port for each lane.
@@ -17,8 +17,9 @@ pub(crate) struct Hops {
     pub(crate) ports: [u8; LANES],
 }
 
-/// Finds, for each lane, the least number of the vertices that `edges` lead to, and the port of the first edge to a
-/// vertex with that number. A lane where none of them has a number gets `NONE` and port 0.
+/// Returns for each lane the least number of the vertices that `edges` lead to. The port is that of the first edge to a
+/// vertex with this number. A lane gets `NONE` and port 0 if none of these vertices has a number in the lane. `numbers`
+/// must have an entry for each of these vertices.
 pub(crate) fn nearest(edges: &[Edge], numbers: &[[u8; LANES]]) -> Hops
     requires { All (λ edge. edge.to < length numbers.now) edges.now }
     ensures { EachLane (λ k. (slice_index result.numbers k, slice_index result.ports k)
@@ -34,7 +35,8 @@ pub(crate) fn nearest(edges: &[Edge], numbers: &[[u8; LANES]]) -> Hops
     nearest
 }
 
-/// Sets the number of `numbers`, with `port`, in each lane in which it is less than the number found so far.
+/// Replaces the number of `found` by the number of `numbers`, and its port by `port`, in each lane where the number of
+/// `numbers` is less.
 fn take_nearer(found: &mut Hops, numbers: &[u8; LANES], port: u8)
     ensures { EachLane (λ k. (slice_index found.new.numbers k, slice_index found.new.ports k)
         ≡ nearer (slice_index found.old.numbers k, slice_index found.old.ports k) (slice_index numbers.now k) port) }
@@ -79,7 +81,7 @@ pub(crate) fn set_at_target(numbers: &mut [u8; LANES], targets: &[usize; LANES],
     }
 }
 
-/// Sets the number and the port of `others` in each lane of `hops` without a number.
+/// Copies the number and the port of `others` into each lane of `hops` that has no number.
 pub(crate) fn fill_in(hops: &mut Hops, others: &Hops)
     ensures numbers { EachLane (λ k. slice_index hops.new.numbers k
         ≡ cond (nat_lt (slice_index hops.old.numbers k) 255) (slice_index hops.old.numbers k)

@@ -2,13 +2,14 @@
 ghost use Rattle.port_graph.specs.Heads.{DistancesLaw};
 ghost use Rattle.port_graph.specs.Indexed.{WaysLaw};
 
-/// If a vertex has a distance, a shortest walk to it is as long; if it has none, no walk leads there.
+/// If all edges lead to vertices, each distance is the length of a shortest walk, and no walk leads to a vertex without
+/// a distance.
 pub fn distances_law()
     ensures { DistancesLaw }
 {}
 
-/// From each vertex with a cost to a target, the next ports lead to the target, first up and then down, over as many
-/// edges as the cost.
+/// If the edges are slopes (`AreSlopes`), next ports lead from each vertex with a cost to the target, over as many
+/// edges as the cost. They lead first up and then down.
 pub fn ways_law()
     ensures { WaysLaw }
 {}

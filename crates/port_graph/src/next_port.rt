@@ -8,9 +8,10 @@ use crate::edge::Edge;
 use smp_bytes::PortNum;
 use std::alloc::{AllocError, Global};
 
-/// Returns the next port of each vertex towards `target`: the first port down to a vertex one nearer if a walk down
-/// leads there, otherwise the first port up to a vertex of least cost. `target` has `None`, and so does a vertex
-/// without a route. Takes time linear in the number of vertices and edges.
+/// Returns the next port of each vertex towards `target`. If a walk down leads from the vertex to `target`, the port is
+/// that of the first edge down to a vertex one nearer. Otherwise the port is that of the first edge up to a vertex of
+/// least cost. `target` and a vertex without a route have `None`. The edges must be slopes (`AreSlopes`), and `target`
+/// a vertex. Takes time linear in the number of vertices and edges.
 pub(crate) fn next_ports(
     alloc: Global,
     ups: &Adjacency,
@@ -30,7 +31,8 @@ pub(crate) fn next_ports(
     Ok(ports)
 }
 
-/// Returns the next port of `vertex`, given the down distances and costs of all vertices.
+/// Returns the next port of `vertex`, or `None` if no edge leads to a vertex one nearer. `distances` has the down
+/// distances of all vertices, and `costs` their costs.
 fn next_port(
     ups: &Adjacency,
     downs: &Adjacency,
@@ -52,7 +54,8 @@ fn next_port(
     }
 }
 
-/// Returns the port of the first edge to a vertex whose number is one less than `number`, or `None` if there is none.
+/// Returns the port of the first edge to a vertex whose number is one less than `number`. Returns `None` if `number` is
+/// `None`, or if no edge leads to such a vertex.
 fn port_nearer(edges: &[Edge], numbers: &[Option<usize>], number: Option<usize>) -> Option<PortNum>
     requires { All (λ edge. edge.to < length numbers.now) edges.now }
     ensures { result ≡ port_nearer edges.now numbers.now number }

@@ -12,9 +12,10 @@ use crate::next_port::next_ports;
 use smp_bytes::PortNum;
 use std::alloc::{AllocError, Global};
 
-/// Returns the next ports between `vertices`: row `i` has the next port of each of them towards `vertices[i]`. Walks
-/// all vertices and edges once down and once up for every 16 of `vertices`, and also for each of them if a cost is over
-/// 254.
+/// Returns the next ports between `vertices`: row `i` has the next port of each of `vertices` towards `vertices[i]`.
+/// The edges must be slopes (`AreSlopes`), and `vertices` be vertices. Goes over all vertices and edges once down and
+/// once up for every 16 targets. If the numbers that this computes do not fit in the lanes, also searches the graph for
+/// each of these targets.
 pub fn next_ports_between(
     alloc: Global,
     ups: &Adjacency,
@@ -39,8 +40,8 @@ pub fn next_ports_between(
     Ok(rows)
 }
 
-/// Returns the targets of the lanes: `vertices` from index `first` on. Lanes for which none is left get the last of
-/// them.
+/// Returns the targets of the lanes: `vertices` from index `first` on. `first` must be an index of `vertices`. A lane
+/// for which no vertex is left gets the last of `vertices`.
 fn targets_from(vertices: &[usize], first: usize) -> [usize; LANES]
     requires { first < length vertices.now }
     ensures { EachLane (λ k. slice_index result k ≡ target_in vertices.now first k) }
@@ -53,11 +54,12 @@ fn targets_from(vertices: &[usize], first: usize) -> [usize; LANES]
     targets
 }
 
-/// The target of each lane, with the costs of all vertices and their next ports towards it.
+/// The target of each lane, and for each vertex its costs and its next ports towards the targets.
 #[derive(Drop)]
 struct Block {
     targets: [usize; LANES],
-    /// Whether the costs fit in the lanes.
+    /// Whether `numbers` and `ports` have the costs and the next ports towards `targets`. If not, `numbers` and `ports`
+    /// have no meaning.
     is_routed: bool,
     numbers: Vec<[u8; LANES]>,
     ports: Vec<[u8; LANES]>,
@@ -77,7 +79,8 @@ impl Block {
         })
     }
 
-    /// Computes the costs of all vertices and their next ports towards `targets`, if the costs fit in the lanes.
+    /// Computes the costs of all vertices and their next ports towards `targets`. Sets `is_routed` to whether all
+    /// numbers that this computes fit in the lanes.
     fn route(&mut self, ups: &Adjacency, downs: &Adjacency, targets: [usize; LANES])
         requires slopes { AreSlopes ups.now downs.now }
         requires numbers { length self.old.numbers.items ≡ length ups.now }
@@ -122,9 +125,9 @@ impl Block {
     }
 }
 
-/// Computes, for each lane, the costs of all vertices and their next ports towards its target: first down distances,
-/// from the last vertex to the first, then costs, from the first to the last. Returns `false` if a distance or a cost
-/// is too great for a lane.
+/// Computes, for each lane, the costs of all vertices and their next ports towards the lane's target. Computes down
+/// distances first, from the last vertex to the first, and then costs, from the first to the last. Returns `false` if a
+/// number that is computed for this is too great for a lane, which is over 254.
 fn route_in_lanes(
     ups: &Adjacency,
     downs: &Adjacency,
@@ -172,8 +175,8 @@ fn route_in_lanes(
     true
 }
 
-/// Returns the down distances of `vertex` and its ports down, given the numbers of the vertices down from it, or `None`
-/// if a distance is too great for a lane.
+/// Returns the down distances of `vertex` and its ports down, or `None` if a distance is too great for a lane.
+/// `numbers` has the down distances of the vertices down from `vertex`.
 fn down_from(
     downs: &[Edge],
     numbers: &[[u8; LANES]],
@@ -193,8 +196,10 @@ fn down_from(
     })
 }
 
-/// Returns the hops of a vertex whose hops `down` are known: where a lane has no down distance, its cost and its port
-/// up, given the costs of the vertices up from it. Returns `None` if a cost is too great for a lane.
+/// Returns the hops of a vertex with the edges `ups`. A lane in which `down` has a down distance keeps this distance
+/// and its port. Any other lane gets one more than the least cost of the vertices up from the vertex. Its port is that
+/// of the first edge to a vertex of that cost. `numbers` has the costs of these vertices. Returns `None` if a sum is
+/// too great for a lane.
 fn up_from(ups: &[Edge], numbers: &[[u8; LANES]], down: Hops) -> Option<Hops>
     requires { All (λ edge. edge.to < length numbers.now) ups.now }
     ensures { IfSome result (λ hops. EachLane (λ k. IsStepUp (slice_index down.numbers k) (slice_index down.ports k)
@@ -210,7 +215,7 @@ fn up_from(ups: &[Edge], numbers: &[[u8; LANES]], down: Hops) -> Option<Hops>
     Some(hops)
 }
 
-/// Returns the ports of `vertices` in `lane`, each `None` if the vertex is the target or has no route.
+/// Returns the ports of `vertices` in `lane`. The port is `None` if the vertex is the target or has no route.
 fn ports_in_lane(
     alloc: Global,
     numbers: &[[u8; LANES]],

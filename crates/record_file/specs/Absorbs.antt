@@ -11,14 +11,14 @@ use Rattle.record_file.specs.declared.format.Format.{Format}
 use Rattle.record_file.specs.Head.{IsFormat, floored_magic, format_in, head_bytes}
 use Rattle.record_file.specs.RecordFile.{AreGoodRecords, Judgement, facts_in, fault_in, outcome}
 
--- what absorbing one record does: if it is good, its sightings are merged into the store, or memory runs out and the
--- store stays; if it is bad, the result is its fault at `index`, and the store stays
+-- what absorbing one record does. The sightings of a good record are merged into the store, unless memory runs out;
+-- then the store stays. For a bad record the result is the record's fault at `index`, and the store stays
 abbrev pub AbsorbsJudged : {K : Type 0} → Judgement → ℕ → Result K FileFault → Facts → Facts → Type 0
 AbsorbsJudged (Ok sightings) index (Ok key) old new = new ≡ merge old (view sightings)
 AbsorbsJudged (Ok sightings) index (Err f) old new = (f ≡ Memory) × (new ≡ old)
 AbsorbsJudged (Err fault) index result old new = (result ≡ Err (fault index)) × (new ≡ old)
 
--- `taken` is a head, good records, at least one, and fewer than 4096 bytes after them
+-- `taken` is a head, at least one good record, and fewer than 4096 bytes after the last good record
 pub record EndsBehindRecord (taken : List ℕ) : Type 0 where
   pub format : Format
   pub records : List (List ℕ)
@@ -29,15 +29,15 @@ pub record EndsBehindRecord (taken : List ℕ) : Type 0 where
   pub good : AreGoodRecords format None (records ++ last ∷ [])
   pub near : length behind < 4096
 
--- the facts in the bytes `taken` were merged into the store; if memory ran out, only those in the head and in the
--- records before the one that needed memory
+-- `new` is `old` with the facts in the bytes `taken` merged into it. If memory ran out, only the facts in the head and
+-- in the records before the one that needed memory were merged
 abbrev pub HoldsKept : Result (Unit {0}) FileFault → Facts → Facts → List ℕ → Type 0
 HoldsKept (Err Memory) old new taken =
     (wanted : EndsBehindRecord taken) × (new ≡ merge old (facts_in (head_bytes wanted.format ++ concat wanted.records)))
 HoldsKept _ old new taken = new ≡ merge old (facts_in taken)
 
--- the answer is the outcome of `bytes`; only `Read` and `Memory` may come whatever the outcome is, and `TooLong` if
--- `interrupted` holds
+-- the answer is the outcome of `bytes`, except that `Read` and `Memory` may be the answer whatever the outcome is, and
+-- `TooLong` if `interrupted` is true
 abbrev pub AnswersOutcome : Result (Unit {0}) FileFault → List ℕ → Type 0 → Type 0
 AnswersOutcome (Ok u) bytes interrupted = outcome bytes ≡ Ok u
 AnswersOutcome (Err Read) bytes interrupted = Unit {0}
@@ -45,7 +45,8 @@ AnswersOutcome (Err Memory) bytes interrupted = Unit {0}
 AnswersOutcome (Err TooLong) bytes interrupted = (outcome bytes ≡ Err TooLong) ⊎ interrupted
 AnswersOutcome (Err f) bytes interrupted = outcome bytes ≡ Err f
 
--- `taken` is shorter than its head: it has fewer than 8 bytes, or fewer than 16 after the magic that a header follows
+-- `taken` is shorter than its head: it has fewer than 8 bytes, or it begins with the magic that a header follows and
+-- has fewer than 16 bytes
 abbrev pub HasNoHeadYet : List ℕ → Type 0
 HasNoHeadYet taken = (length taken < 8) ⊎ ((starts_with nat_eq taken floored_magic ≡ true) × (length taken < 16))
 
@@ -80,7 +81,8 @@ IsBounded (Err TooLong) bytes interruptions interruptions' =
     (bytes ≤ 2 ^ 40) × (interruptions' ≤ 2 ^ 40 + interruptions)
 IsBounded _ bytes interruptions interruptions' = (bytes < 2 ^ 40) × (interruptions' < 2 ^ 40 + interruptions)
 
--- the bytes `taken` were taken from the source, the store holds the facts in them, and `answer` is the one for them
+-- the bytes `taken` were taken from the source. The facts in `taken` were merged into the store (`HoldsKept`), and
+-- `answer` is the answer for `taken` (`AnswersOutcome`)
 pub record AbsorbsFrom (left left' : Option (List ℕ)) (interruptions interruptions' : ℕ)
     (answer : Result (Unit {0}) FileFault) (old new : Facts) : Type 0 where
   pub taken : List ℕ
@@ -97,8 +99,8 @@ Absorbs state answer source source' old new =
     AbsorbsFrom (state source).left (state source').left (state source).interruptions (state source').interruptions
     answer old new
 
--- if the bytes that the source had before are known, and those that it has left, the answer is the outcome of the bytes
--- that it had before, with the exceptions of `AnswersOutcome`
+-- the answer is the outcome of the bytes that the source had before, with the exceptions of `AnswersOutcome`, if these
+-- bytes and the bytes that the source has left are known
 abbrev pub AnswersKnown : {S : Type 0} → (S → SourceState) → Result (Unit {0}) FileFault → S → S → Type 0
 AnswersKnown state answer source source' =
     IfSome (state source).left (λ bytes. IfSome (state source').left

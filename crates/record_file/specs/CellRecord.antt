@@ -38,7 +38,7 @@ abbrev pub state_byte : Cell Value → ℕ
 state_byte (Known generation value) = 1
 state_byte (Disputed generation) = 2
 
--- the bytes, filled up with zeros to `n` bytes; unchanged if they are `n` or more
+-- `bytes`, filled up with zeros to `n` bytes; unchanged if there are `n` bytes or more
 abbrev pub filled_up : ℕ → List ℕ → List ℕ
 filled_up n bytes = bytes ++ replicate (n - length bytes) 0
 
@@ -48,15 +48,16 @@ record_bytes e =
     key_kind e.0 ∷ state_byte e.1 ∷ key_port e.0 ∷ 0 ∷
     (to_be_bytes w32 (generation_of e.1) ++ to_be_bytes w64 (key_guid e.0) ++ filled_up 16 (cell_value_bytes e.1))
 
--- the six keys, one of each kind, with this GUID and, except for a node and a table's room, this port
+-- the six keys, one of each kind, with the GUID `guid`; they have the port `port`, except for a node and a table's room
 abbrev pub keys_of : ℕ → ℕ → List Key
 keys_of guid port = Node guid ∷ PortGuid guid port ∷ Link guid port ∷ Port guid port ∷ Claim guid port ∷ Cap guid ∷ []
 
--- the key with the kind number `kind`, this GUID and this port; None if `kind` is not from 1 to 6
+-- the key with the kind number `kind`, the GUID `guid` and the port `port`; None if `kind` is not from 1 to 6
 abbrev pub key_of : ℕ → ℕ → ℕ → Option Key
 key_of kind guid port = find (λ key. kind == key_kind key) (keys_of guid port)
 
--- the value of the kind of `key` at the start of `bytes`; None if it is a node's and its type is reserved
+-- the value at the start of `bytes`, of the kind that `key` asks for; None if `key` is of a node and the type is
+-- reserved
 abbrev pub value_of : Key → List ℕ → Option Value
 value_of (Node g) bytes = option_map (λ kind. Kind kind (slice_index bytes 1)) (type_of_number (slice_index bytes 0))
 value_of (PortGuid g p) bytes = Some (Guid (from_be_bytes w64 (take 8 bytes)))
@@ -65,13 +66,14 @@ value_of (Port g p) bytes = Some (Up (slice_index bytes 0 == 1))
 value_of (Claim g p) bytes = Some (Lid (from_be_bytes w16 (take 2 bytes)))
 value_of (Cap g) bytes = Some (Count (from_be_bytes w16 (take 2 bytes)))
 
--- the cell of `key`: if `state` is 1, known with the value in `bytes`, or None if they have none; else disputed
+-- the cell of `key` in `generation`: if `state` is 1, known with the value in `bytes`, else disputed; None if `state`
+-- is 1 and `bytes` have no value
 abbrev pub state_of : Key → ℕ → ℕ → List ℕ → Option (Cell Value)
 state_of key state generation bytes =
     if state == 1 then option_map (Known generation) (value_of key bytes) else Some (Disputed generation)
 
--- the key and the cell that a record spells, whatever its other bytes are; None if its kind, or the type of a node, is
--- reserved
+-- the key and the cell that a record spells, whatever its other bytes are; None if its kind is reserved, or if it is of
+-- a known node and the node's type is reserved
 abbrev pub candidate : List ℕ → Option (Key × Cell Value)
 candidate bytes =
     option_and_then (λ key. option_map (λ cell. (key, cell))
@@ -86,6 +88,6 @@ if_sighting e = if is_sighting e then Some e else None
 abbrev pub if_spelled : List ℕ → Key × Cell Value → Option (Key × Cell Value)
 if_spelled bytes e = if bytes_eq (record_bytes e) bytes then Some e else None
 
--- the sighting that `bytes` are the record of; None if there is none
+-- the sighting whose record `bytes` are; None if they are the record of no sighting
 unfoldable pub cell_of : List ℕ → Option (Key × Cell Value)
 cell_of bytes = option_and_then (if_spelled bytes) (option_and_then if_sighting (candidate bytes))

@@ -18,7 +18,8 @@ use Rattle.record_file.specs.Absorbs.{AbsorbsJudged}
 use Rattle.record_file.specs.Head.{IsFormat, floor_told, floored_magic, format_in, head_bytes, head_size}
 use Rattle.record_file.specs.RecordFile.{AreGoodRecords, floor_in, judged, kept, key_in, last_key, outcome, record_size}
 
--- what an absorber waits for, or the fault with which it stopped; and the bytes of the awaited part that have come
+-- an absorber: the part of the file that it awaits, or the fault with which it stopped; and the bytes of the awaited
+-- part that have come
 pub record Absorbing : Type 0 where
   pub awaited : Result Awaited FileFault
   pub part : List ℕ
@@ -39,13 +40,14 @@ offset_of (awaited.Record format index last) = head_size format + record_size fo
 abbrev pub IsShortOf : Awaited → List ℕ → Type 0
 IsShortOf awaited part = length part < awaited_size awaited
 
--- if a part is awaited, `part` has fewer bytes than it, and fewer than 2^40 bytes have come in all; true after a fault
+-- if a part is awaited, `part` has fewer bytes than the awaited part, and fewer than 2^40 bytes have come in all; true
+-- after a fault
 abbrev pub IsInReach : Result Awaited FileFault → List ℕ → Type 0
 IsInReach (Ok awaited) part = IsShortOf awaited part × (offset_of awaited + length part < 2 ^ 40)
 IsInReach (Err fault) part = Unit {0}
 
--- the bytes `fed` are a head, `index` good records, the last with the key `last`, and `part`, the first bytes of the
--- next record
+-- the bytes `fed` are a head, `index` good records, and `part`, the first bytes of the next record; `last` is the key
+-- in the last of the good records (`last_key`)
 pub record IsBehindRecords (format : Format) (index : ℕ) (last : Option Key) (part fed : List ℕ) : Type 0 where
   pub records : List (List ℕ)
   pub sound : IsFormat format
@@ -72,8 +74,8 @@ pub record WasFed (a : Absorbing) (fed : List ℕ) : Type 0 where
 abbrev pub HasStopped : Absorbing → FileFault → Type 0
 HasStopped a fault = a.awaited ≡ Err fault
 
--- the fault in the outcome of `n` bytes if it stays whatever follows them; None if there is none, if they are
--- truncated, or if they are fewer than 8 and no head yet
+-- the fault in the outcome of `n` bytes, if it stays whatever bytes follow; None if the outcome is no fault, is
+-- `Truncated`, or is `Magic` and `n` is less than 8
 abbrev pub staying : ℕ → Result (Unit {0}) FileFault → Option FileFault
 staying n (Ok u) = None
 staying n (Err Magic) = if nat_lt n 8 then None else Some Magic
@@ -88,15 +90,15 @@ fault_so_far bytes = staying (length bytes) (outcome bytes)
 abbrev pub floor_behind : List ℕ → List ℕ → ℕ
 floor_behind fed piece = if floor_in fed == 1 then floor_in (fed ++ piece) else 1
 
--- what `piece` adds to the sightings kept of the bytes `fed` was merged into the store, at the floor that `piece`
--- brings
+-- the sightings that `piece` adds to those kept of the bytes `fed` were merged into the store, at the floor that
+-- `piece` brings (`floor_behind`)
 pub record AddsSightings (fed piece : List ℕ) (old new : Facts) : Type 0 where
   pub sightings : List (Key × Cell Value)
   pub more : kept (fed ++ piece) ≡ kept fed ++ sightings
   pub held : new ≡ merge old (view_at (floor_behind fed piece) sightings)
 
--- memory ran out for a good record that `piece` completes; the sightings that `piece` adds before this record, and its
--- floor, were merged into the store
+-- memory ran out for a good record that `piece` completes. The sightings that `piece` adds before this record were
+-- merged into the store, at the floor that `piece` brings
 pub record WantsMemory (fed piece : List ℕ) (old new : Facts) : Type 0 where
   pub format : Format
   pub records : List (List ℕ)
@@ -111,8 +113,8 @@ pub record WantsMemory (fed piece : List ℕ) (old new : Facts) : Type 0 where
   pub more : kept (head_bytes format ++ concat records) ≡ kept fed ++ sightings
   pub held : new ≡ merge old (view_at (floor_behind fed piece) sightings)
 
--- feeding `piece` after the bytes `fed` stops with `fault`: memory ran out for a record that `piece` completes, or the
--- bytes have this fault; what comes before was merged into the store
+-- feeding `piece` after the bytes `fed` stops with `fault`: memory ran out for a record that `piece` completes, or all
+-- these bytes have this fault. The sightings that `piece` adds before were merged into the store
 abbrev pub StopsWith : FileFault → List ℕ → List ℕ → Facts → Facts → Type 0
 StopsWith fault fed piece old new =
     ((fault ≡ Memory) × WantsMemory fed piece old new)
@@ -147,18 +149,18 @@ behind_magic (Ok format) = Ok (awaited.Record format 0 None)
 behind_magic (Err (Truncated offset)) = Ok awaited.Header
 behind_magic (Err fault) = Err fault
 
--- what is awaited after eight bytes that are the header of a floor: the first record; `BadFloor` if they are no header,
--- which is None here
+-- what is awaited after eight bytes that should be a header: the first record if they are the header of a floor;
+-- `BadFloor` if they are no header, which is None here
 abbrev pub behind_header : Option ℕ → Result Awaited FileFault
 behind_header None = Err BadFloor
 behind_header (Some floor) = Ok (awaited.Record (Cells (Some floor)) 0 None)
 
--- `facts` raised to the floor, if one is given
+-- `facts` raised to the floor that is given; unchanged if none is given
 abbrev pub raised_to : Option ℕ → Facts → Facts
 raised_to None facts = facts
 raised_to (Some floor) facts = raised facts floor
 
--- the outcome of a file that ends after `n` bytes of a part that is awaited, if `n` is less than its size
+-- the outcome of a file that ends after `n` bytes of the awaited part, which has more bytes
 abbrev pub ending_at : Awaited → ℕ → Result (Unit {0}) FileFault
 ending_at awaited.Magic n = Err Magic
 ending_at awaited.Header n = Err (Truncated (offset_of awaited.Header))
@@ -179,12 +181,13 @@ abbrev pub TakesTo : List ℕ → List ℕ → Result Awaited FileFault → List
 TakesTo fed piece (Ok next) part old new = Awaits next part (fed ++ piece) × AddsSightings fed piece old new
 TakesTo fed piece (Err fault) part old new = StopsWith fault fed piece old new
 
--- taking `piece` leads to `answer` after any bytes after which the bytes `part` of the awaited part have come
+-- taking `piece` leads to `answer`, whatever bytes were fed before, if the bytes `part` of the awaited part have come
+-- (`Awaits`)
 abbrev pub TakesPiece : Awaited → List ℕ → List ℕ → Result Awaited FileFault → List ℕ → Facts → Facts → Type 0
 TakesPiece awaited part piece answer part' old new =
     (fed : List ℕ) → Awaits awaited part fed → TakesTo fed piece answer part' old new
 
--- the first `n` of `bytes`, at least one, were taken, and lead to `next`, of which the bytes `part'` have come
+-- the first `n` of `bytes`, at least one, were taken; then `next` is awaited, and the bytes `part'` of `next` have come
 pub record TakesSome (awaited : Awaited) (part bytes : List ℕ) (next : Awaited) (n : ℕ) (part' : List ℕ)
     (old new : Facts) : Type 0 where
   pub some : 0 < n

@@ -1,5 +1,4 @@
--- What is printed about a file that was not read to its end without a fault: words, a number, and the fault of a
--- report.
+-- What is printed about the fault of a file: words, a number, and the fault of a report.
 use Rattle.std.specs.Prelude.{ℕ, Bool, true, false, List, Option, None, Some, codes}
 use Rattle.reply_facts.specs.declared.report_fault.ReportFault.{ReportFault}
 use Rattle.record_file.specs.declared.file_fault.FileFault.{FileFault}

@@ -40,7 +40,7 @@ is_format (Cells (Some floor)) = is_generation floor
 abbrev pub IsFormat : Format → Type 0
 IsFormat format = IsTrue (is_format format)
 
--- the floor in the head of a file of this format; 1 if it has none
+-- the floor in the head of a file of this format; 1 if the head has none
 abbrev pub floor_of : Format → ℕ
 floor_of Reports = 1
 floor_of (Cells head_floor) = unwrap_or head_floor 1
@@ -64,7 +64,7 @@ abbrev pub behind_floored : List ℕ → Result Format FileFault
 behind_floored bytes =
     if nat_lt (length bytes) 16 then Err (Truncated 8) else floored (floor_told (take 8 (drop 8 bytes)))
 
--- the format of a file by the first bytes of it, or the fault of its head
+-- the format of a file by its first bytes, or the fault of its head
 abbrev pub format_in : List ℕ → Result Format FileFault
 format_in bytes =
     if starts_with nat_eq bytes (head_bytes Reports) then Ok Reports

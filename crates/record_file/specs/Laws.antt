@@ -29,11 +29,11 @@ pub record StaysBad (bytes rest : List ℕ) (f : FileFault) : Type 0 where
 abbrev pub BadPartStays : Type 0
 BadPartStays = (bytes rest : List ℕ) (f : FileFault) → IsBadPart f → outcome bytes ≡ Err f → StaysBad bytes rest f
 
--- the bytes are 272, and spell a report without a fault
+-- `r` has 272 bytes, and spells a report without a fault
 abbrev pub IsGoodReport : List ℕ → Type 0
 IsGoodReport r = (length r ≡ 272) × IsOk (report_judged r)
 
--- each number is less than 256
+-- each number of `bytes` is less than 256
 abbrev pub AreBytes : List ℕ → Type 0
 AreBytes bytes = (i : ℕ) → slice_index bytes i < 256
 
@@ -43,14 +43,15 @@ pub record IsWritable (r : Report) : Type 0 where
   pub guid : context_guid r.context < 2 ^ 64
   pub reply : length r.bytes ≡ 256
 
--- 272 bytes spell a report that fits a record exactly if they are its record
+-- 272 bytes spell the report `r` exactly if they are the record of `r`, for each report that fits a record
+-- (`IsWritable`)
 abbrev pub ReportsHaveOneSpelling : Type 0
 ReportsHaveOneSpelling =
     (bytes : List ℕ) (r : Report) → length bytes ≡ 272 → AreBytes bytes → IsWritable r → (report_of bytes ≡ Some r)
     ↔ (bytes ≡ report_bytes r)
 
--- a file of good records and some bytes of one more, in fewer than 2^40 bytes, is truncated at the offset of that
--- record
+-- a file of good records and the first bytes of another record is truncated at the offset of that record, if the file
+-- has fewer than 2^40 bytes
 abbrev pub TruncationIsTold : Type 0
 TruncationIsTold =
     (format : Format) (rs : List (List ℕ)) (part : List ℕ) → IsFormat format → AreGoodRecords format None rs → 0
@@ -59,8 +60,8 @@ TruncationIsTold =
     → outcome (head_bytes format ++ (concat rs ++ part))
     ≡ Err (Truncated (head_size format + record_size format * length rs))
 
--- a file of good records, then a bad one that ends within 2^40 bytes, and then anything, has the bad record's fault at
--- its index
+-- a file with a bad record after good ones has the bad record's fault at its index, whatever follows, if the bad record
+-- ends within the first 2^40 bytes
 abbrev pub FirstBadRecordIsTold : Type 0
 FirstBadRecordIsTold =
     (format : Format) (rs : List (List ℕ)) (r rest : List ℕ) (f : ℕ → FileFault) → IsFormat format

@@ -8,14 +8,14 @@ use Rattle.record_file.specs.declared.file_fault.FileFault.TheVariants.{Memory}
 use Rattle.record_file.specs.Feeding.{Absorbing, FeedsPiece, Finishes, WasFed, fault_so_far}
 use Rattle.record_file.specs.RecordFile.{facts_in, floor_in, kept, outcome}
 
--- the pieces are fed to the absorber `a` one after the other, and none runs out of memory
+-- the pieces are fed to the absorber `a` one after the other, and memory runs out for none of them
 abbrev pub FeedsEach : List (List ℕ) → Absorbing → Absorbing → Facts → Facts → Type 0
 FeedsEach [] a a' old new = (a' ≡ a) × (new ≡ old)
 FeedsEach (piece ∷ pieces) a a' old new =
     (answer : Result (Unit {0}) FileFault) × (next : Absorbing) × (mid : Facts)
     × FeedsPiece a piece answer next old mid × (answer ≡ Err Memory → ⊥) × FeedsEach pieces next a' mid new
 
--- a new absorber is fed `pieces`, none of which runs out of memory, and then finished, with `answer`
+-- a new absorber is fed `pieces`, and memory runs out for none of them; then the absorber is finished, with `answer`
 pub record ReadsPieces (pieces : List (List ℕ)) (answer : Result (Unit {0}) FileFault) (old new : Facts) : Type 0 where
   pub a : Absorbing
   pub a' : Absorbing
@@ -23,15 +23,15 @@ pub record ReadsPieces (pieces : List (List ℕ)) (answer : Result (Unit {0}) Fi
   pub feeds : FeedsEach pieces a a' old new
   pub finishes : Finishes a' answer
 
--- if memory does not run out, pieces give the outcome of all their bytes together, and the facts in these are merged
--- into the store
+-- pieces give the outcome of all their bytes together, and the facts in these bytes are merged into the store, if
+-- memory does not run out
 abbrev pub PiecesAreRead : Type 0
 PiecesAreRead =
     (pieces : List (List ℕ)) (answer : Result (Unit {0}) FileFault) (old new : Facts)
     → ReadsPieces pieces answer old new
     → (answer ≡ outcome (concat pieces)) × (new ≡ merge old (facts_in (concat pieces)))
 
--- if memory does not run out, pieces give the answer and the store that all their bytes give as one piece
+-- pieces give the answer and the store that all their bytes give as one piece, if memory runs out in neither case
 abbrev pub CutsChangeNothing : Type 0
 CutsChangeNothing =
     (pieces : List (List ℕ)) (answer whole_answer : Result (Unit {0}) FileFault) (old new whole_new : Facts)

@@ -26,18 +26,18 @@ record_size (Cells head_floor) = 32
 abbrev pub Judgement : Type 0
 Judgement = Result (List (Key × Cell Value)) (ℕ → FileFault)
 
--- the `Judgement` of a report: its sightings, or its fault as that of a record
+-- the `Judgement` of a report: its sightings, or `BadReport` with its fault
 abbrev pub of_report : Result (List (Key × Cell Value)) ReportFault → Judgement
 of_report (Ok sightings) = Ok sightings
 of_report (Err f) = Err (λ index. BadReport index f)
 
--- whether `cell` is at the floor in the head or above it; true if the head has none
+-- whether `cell` is at the floor in the head or above it; true if the head has no floor
 abbrev pub is_at_told : Option ℕ → Cell Value → Bool
 is_at_told None cell = true
 is_at_told (Some floor) cell = is_kept floor cell
 
--- the `Judgement` of a cell's record: its sighting; `BadCell` if it spells none, or one below the floor in the head;
--- `CellOrder` if its key does not come after `last`
+-- the `Judgement` of a cell's record: its sighting; `BadCell` if it spells no sighting, or one below the floor in the
+-- head; `CellOrder` if its key does not come after `last`
 abbrev pub of_cell : Option ℕ → Option Key → Option (Key × Cell Value) → Judgement
 of_cell head_floor last None = Err BadCell
 of_cell head_floor last (Some e) =
@@ -85,7 +85,7 @@ abbrev pub sightings_then : Judgement → List (Key × Cell Value) → List (Key
 sightings_then (Ok sightings) later = sightings ++ later
 sightings_then (Err f) later = []
 
--- the sightings of the good records before the first bad one; `last` is the key before them
+-- the sightings of the good records before the first bad one, or of all if none is bad; `last` is the key before them
 abbrev pub sightings_by : Format → Option Key → List (List ℕ) → List (Key × Cell Value)
 sightings_by format last [] = []
 sightings_by format last (r ∷ rs) = sightings_then (judged format last r) (sightings_by format (key_in format r) rs)
@@ -114,7 +114,7 @@ fault_first (Some f) otherwise = Err f
 abbrev pub records_in_reach : Format → List ℕ → List (List ℕ)
 records_in_reach format bytes = records (record_size format) (drop (head_size format) (take (2 ^ 40) bytes))
 
--- the fault of the first bad record within the first 2^40 bytes; None if there is none
+-- the fault of the first bad record within the first 2^40 bytes; None if no record there is bad
 abbrev pub fault_in : Format → List ℕ → Option FileFault
 fault_in format bytes = first_fault format None 0 (records_in_reach format bytes)
 
@@ -142,7 +142,7 @@ abbrev pub floor_as : Result Format FileFault → ℕ
 floor_as (Err fault) = 1
 floor_as (Ok format) = floor_of format
 
--- the floor that reading `bytes` raises: that in their header; 1 if there is none or the head has a fault
+-- the floor that reading `bytes` gives: that in their header; 1 if they have no header or their head has a fault
 unfoldable pub floor_in : List ℕ → ℕ
 floor_in bytes = floor_as (format_in bytes)
 

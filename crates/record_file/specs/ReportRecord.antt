@@ -11,7 +11,7 @@ use Rattle.reply_facts.specs.declared.report_fault.ReportFault.{ReportFault}
 use Rattle.reply_facts.specs.declared.report_fault.ReportFault.TheVariants as fault
 use Rattle.reply_facts.specs.Report.{report_fault, sightings_of}
 
--- the context that a byte, a port and a GUID spell; None if they spell none
+-- the context that `byte`, `port` and `guid` spell; None if they spell no context
 abbrev pub context_of : ℕ → ℕ → ℕ → Option Context
 context_of byte port guid =
     if byte == 0 then (if (port == 0) && (guid == 0) then Some Start else None)
@@ -67,6 +67,6 @@ abbrev pub report_sightings : Option Report → Result (List (Key × Cell Value)
 report_sightings None = Err fault.Context
 report_sightings (Some r) = unless_fault (report_fault r) (sightings_of r)
 
--- the sightings of the report that `bytes` spell, or its fault; `Context` if they spell none
+-- the sightings of the report that `bytes` spell, or its fault; `Context` if they spell no report
 unfoldable pub report_judged : List ℕ → Result (List (Key × Cell Value)) ReportFault
 report_judged bytes = report_sightings (report_of bytes)

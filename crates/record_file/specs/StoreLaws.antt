@@ -14,13 +14,13 @@ use Rattle.record_file.specs.Head.{IsFormat, floor_of, floored_magic, format_in}
 use Rattle.record_file.specs.RecordFile.{facts_in, kept, outcome}
 use Rattle.record_file.specs.StoreFile.{cells_file}
 
--- bytes spell a sighting exactly if they are its record and it is in range
+-- `bytes` spell `e` exactly if `e` is a sighting and `bytes` are the record of `e`
 abbrev pub RecordsAreSpellings : Type 0
 RecordsAreSpellings =
     (bytes : List ℕ) (e : Key × Cell Value) → (cell_of bytes ≡ Some e) ↔ (IsSighting e × (bytes ≡ record_bytes e))
 
--- `bytes` are the store file of `facts` in range, and are fewer than 2^40 bytes; `head_floor` is the facts' floor, or
--- may be None if that is 1
+-- `bytes` are the store file of `facts` in range, and are fewer than 2^40 bytes. `head_floor` is the floor of `facts`;
+-- if this floor is 1, `head_floor` may be None instead
 pub record IsStoreFile (head_floor : Option ℕ) (bytes : List ℕ) (facts : Facts) : Type 0 where
   pub whole : bytes ≡ cells_file head_floor (cells_of facts)
   pub sound : IsFormat (Cells head_floor)
@@ -55,8 +55,8 @@ abbrev pub FactsHaveOneSpelling : Type 0
 FactsHaveOneSpelling = (bytes others : List ℕ) → IsFlooredFile bytes → IsFlooredFile others → facts_in bytes
     ≡ facts_in others → bytes ≡ others
 
--- if a source whose bytes are the store file of some facts is absorbed with `Ok` into an empty store, the store then
--- holds these facts
+-- if a source with the bytes of a store file is absorbed into an empty store with `Ok`, the store then holds the facts
+-- of that file. The bytes that the source has left must be known
 abbrev pub AbsorbingReadsBack : {S : Type 0} → (S → SourceState) → Type 0
 AbsorbingReadsBack {S} state =
     (source source' : S) (head_floor : Option ℕ) (bytes rest : List ℕ) (facts new : Facts)

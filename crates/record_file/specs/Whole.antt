@@ -17,8 +17,9 @@ abbrev pub IsTooLong : List ℕ → ℕ → ℕ → Type 0
 IsTooLong taken interruptions interruptions' =
     (2 ^ 40 ≤ length taken) ⊎ (2 ^ 40 + interruptions ≤ length taken + interruptions')
 
--- why reading stops after the bytes `taken`: `Read` if a call failed; `TooLong` if the source is too long; `Memory`
--- before either; never for another fault
+-- why reading stops after the bytes `taken`: `Read` if a call failed, `TooLong` if no call failed and the source is too
+-- long (`IsTooLong`). It is `Memory` only if no call failed, fewer than 2^40 bytes were taken and fewer than 2^40 calls
+-- were interrupted; it is no other fault
 abbrev pub IsReadFault : FileFault → List ℕ → Bool → ℕ → ℕ → Type 0
 IsReadFault Read taken has_failed interruptions interruptions' = IsTrue has_failed
 IsReadFault TooLong taken has_failed interruptions interruptions' =

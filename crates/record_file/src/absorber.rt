@@ -14,8 +14,8 @@ use std::marker::Model;
 /// The bytes of the awaited part that came with earlier pieces. No part is longer than a record of a report.
 type Part = ArrayVec<u8, RECORD_LEN>;
 
-/// Reads a file piece by piece. Judges each record once its last byte has come: in the piece if all of it is there, and
-/// otherwise after putting it together. Allocates only what the store needs.
+/// A reader of a file that comes in pieces. Judges each record once its last byte has come. A record that is whole
+/// within a piece is judged there; any other record is put together first. Allocates only what the store needs.
 #[derive(Drop)]
 pub struct Absorber {
     awaited: Result<Awaited, FileFault>,
@@ -67,8 +67,8 @@ impl Absorber {
     ///
     /// # Errors
     ///
-    /// Returns the fault that `feed` returned, if it did. Otherwise returns `Magic` if there were fewer than 8 bytes,
-    /// and `Truncated` if the file ends within a header or a record.
+    /// Returns the fault that `feed` returned, if `feed` returned a fault. Otherwise returns `Magic` if the file has
+    /// fewer than 8 bytes, and `Truncated` if the file ends within a header or a record.
     pub fn finish(self) -> Result<(), FileFault>
         ensures finishes { Finishes self result }
     {
@@ -80,7 +80,8 @@ impl Absorber {
     }
 }
 
-/// Takes the bytes of `piece` up to the file's 2^40th byte. Returns what is awaited after them, or the first fault.
+/// Takes the bytes of `piece` up to the file's 2^40th byte. Returns the part that is awaited after these bytes, or the
+/// first fault. If the bytes reach the 2^40th and have no other fault, the fault is `TooLong`.
 fn take_piece(
     awaited: Awaited,
     part: &mut Part,
@@ -107,8 +108,9 @@ fn take_piece(
     Ok(next)
 }
 
-/// Takes those of `bytes` that belong to the awaited part. Returns what is awaited after them, and their number, or the
-/// part's fault. There must be a byte, and `part` must not be complete.
+/// Takes those of `bytes` that belong to the awaited part. Returns the part that is awaited after them, and how many
+/// bytes were taken, or the fault of the awaited part. `bytes` must not be empty, and `part` must not be complete. All
+/// bytes must be among the file's first 2^40.
 fn take_front(
     awaited: Awaited,
     part: &mut Part,

@@ -15,7 +15,8 @@ pub(crate) enum Awaited {
     Magic,
     /// The header after the magic of a store file that has a floor.
     Header,
-    /// The record at `index`. `last` is the key of the cell before it.
+    /// The record at `index` of a file in `format`. `last` is the key of the cell before it, or `None` for the first
+    /// record and in a file of reports.
     Record {
         format: Format,
         index: u64,
@@ -38,7 +39,7 @@ impl Awaited {
         }
     }
 
-    /// Returns the offset of the part in the file, which must be less than 2^40.
+    /// Returns the offset of the part in the file. The offset must be less than 2^40.
     pub(crate) fn offset(&self) -> u64
         requires { offset_of self.now < 2 ^ 40 }
         ensures { result ≡ offset_of self.now }
@@ -51,7 +52,7 @@ impl Awaited {
         }
     }
 
-    /// Returns the outcome if the file ends after `count` bytes of the part.
+    /// Returns the outcome if the file ends after `count` bytes of the part, whose offset must be less than 2^40.
     pub(crate) fn end(&self, count: usize) -> Result<(), FileFault>
         requires { offset_of self.now < 2 ^ 40 }
         ensures { result ≡ ending_at self.now count }
@@ -65,8 +66,9 @@ impl Awaited {
         }
     }
 
-    /// Judges `bytes`, which must be all of the part, adds what they contain to `store`, and returns what is awaited
-    /// after them. Returns the part's fault if it has one.
+    /// Judges `bytes`, which must be all of the part, adds its contents to `store`, and returns the part that is
+    /// awaited after them. Returns the part's fault if the part has one, and `Memory` if memory runs out. The part's
+    /// offset must be less than 2^40.
     pub(crate) fn absorb(self, bytes: &[u8], store: &mut Store) -> Result<Awaited, FileFault>
         requires whole { length bytes.now ≡ awaited_size self }
         requires in_reach { offset_of self < 2 ^ 40 }
@@ -92,7 +94,8 @@ impl Awaited {
     }
 }
 
-/// Returns what is awaited after the first 8 bytes of a file, or the fault `Magic` if they are not a magic.
+/// Returns the part that is awaited after the first 8 bytes of a file, or the fault `Magic` if these bytes are not a
+/// magic.
 fn behind_magic(front: &[u8]) -> Result<Awaited, FileFault>
     requires { length front.now ≡ 8 }
     ensures { result ≡ behind_magic_of (format_in front.now) }
@@ -108,8 +111,8 @@ fn behind_magic(front: &[u8]) -> Result<Awaited, FileFault>
     }
 }
 
-/// Raises the store's floor to the floor of the header `bytes`, and returns what is awaited after the header. Returns
-/// `BadFloor` if the bytes are not a header.
+/// Raises the store's floor to the floor of the header `bytes`, and returns the part that is awaited after the header.
+/// Returns `BadFloor` if the bytes are not a header.
 fn absorb_header(bytes: &[u8], store: &mut Store) -> Result<Awaited, FileFault>
     requires { length bytes.now ≡ 8 }
     ensures takes { TakesAwaited Awaited.Header bytes.now result store.old store.new }
@@ -121,7 +124,7 @@ fn absorb_header(bytes: &[u8], store: &mut Store) -> Result<Awaited, FileFault>
     Ok(first_record(Format::Cells { floor: Some(floor) }))
 }
 
-/// Returns the first record of a file in `format`, as what is awaited.
+/// Returns the first record of a file in `format`, as the awaited part.
 fn first_record(format: Format) -> Awaited
     ensures { result ≡ Awaited.Record format 0 None }
 {

@@ -1,4 +1,4 @@
-//! The facts of a store as text: a line for its floor, and one for each cell.
+//! The facts of a store as text: a line for its floor, if that is over 1, and a line for each cell.
 ghost use Rattle.std.specs.Prelude.{◌≡◌, IsTrue, OnOk};
 ghost use Rattle.byte_io.specs.Writes.{Writes};
 ghost use Rattle.fact_store.specs.View.{AreInRange};
@@ -52,7 +52,7 @@ fn write_value<W: Sink>(sink: &mut W, value: &Value) -> Result<(), WriteFault>
     }
 }
 
-/// Writes the value of `cell`, or `disputed`, and `@` with its generation.
+/// Writes the value of `cell`, or `disputed`, and `@` with the generation of `cell`.
 fn write_state<W: Sink>(sink: &mut W, cell: &Cell<Value>) -> Result<(), WriteFault>
     ensures writes { Writes W.written W.has_failed result sink.old sink.new (cell_text cell.now) }
 {
@@ -64,7 +64,7 @@ fn write_state<W: Sink>(sink: &mut W, cell: &Cell<Value>) -> Result<(), WriteFau
     write_number(sink, u64::from(cell.generation().number()))
 }
 
-/// Writes the key of `cell`, and its value or `disputed` with its generation.
+/// Writes the key of `cell`, its value or `disputed`, and `@` with its generation.
 fn write_fact<W: Sink>(sink: &mut W, cell: &Sighting) -> Result<(), WriteFault>
     ensures writes { Writes W.written W.has_failed result sink.old sink.new (fact_text cell.now) }
 {

@@ -7,7 +7,7 @@ use thiserror::Error;
 /// Why a file was rejected, or not read to its end. Offsets count bytes, and indices count records, from 0.
 #[derive(Clone, Copy, Debug, PartialEq, Eq, Error)]
 pub enum FileFault {
-    /// There are fewer than 8 bytes, or the first 8 bytes are not a magic.
+    /// The file has fewer than 8 bytes, or the first 8 bytes are not a magic.
     #[error("bad magic")]
     Magic,
     /// The input ends within the header or the record that begins at `offset`.
@@ -48,7 +48,7 @@ impl From<PieceFault> for FileFault {
 impl FileFault {
     ghost use Rattle.record_file.specs.FileFault.{fault_words, fault_number, fault_of_report, is_of_file};
 
-    /// Returns the fault's text up to its number, or all of it if it has none.
+    /// Returns the fault's text up to its number, or the whole text if the fault has no number.
     pub fn words(&self) -> &'static str
         ensures { result.now ≡ fault_words self.now }
     {
@@ -65,7 +65,7 @@ impl FileFault {
         }
     }
 
-    /// Returns the offset or the index of the record, or `None` if the fault has neither.
+    /// Returns the offset or the index of the record that the fault names, or `None` if the fault names neither.
     pub fn number(&self) -> Option<u64>
         ensures { result ≡ fault_number self.now }
     {

@@ -8,7 +8,8 @@ use smp_bytes::Generation;
 pub(crate) enum Format {
     /// Reports, in any order.
     Reports,
-    /// The cells of a store, in the order of keys. None is below the floor of the header, if there is one.
+    /// The cells of a store, in the order of keys. No cell is below `floor`, the floor of the header. `floor` is `None`
+    /// if the file has no header.
     Cells { floor: Option<Generation> },
 }
 

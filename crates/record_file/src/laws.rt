@@ -8,7 +8,8 @@ ghost use Rattle.record_file.specs.PieceLaws.{CutsChangeNothing, FaultsStay, Pie
 
 use byte_io::Source;
 
-/// Neither the fault of a bad header or record, nor the floor, nor what is kept depends on what follows it.
+/// If bytes have a bad header or a bad record, their fault, their floor and what is kept of them stay, whatever
+/// follows.
 pub fn bad_part_stays()
     ensures { BadPartStays }
 {}
@@ -24,7 +25,8 @@ pub fn first_bad_record_is_told()
     ensures { FirstBadRecordIsTold }
 {}
 
-/// A record of a report file spells a report exactly if its bytes are those that are written for that report.
+/// A record of 272 bytes spells a report that fits a record exactly if its bytes are those that are written for that
+/// report.
 pub fn reports_have_one_spelling()
     ensures { ReportsHaveOneSpelling }
 {}
@@ -39,13 +41,14 @@ pub fn records_are_spellings()
     ensures { RecordsAreSpellings }
 {}
 
-/// A store file, with either head, is accepted exactly if it has a record for each cell of some facts that are in range
-/// and at its floor, and fewer than 2^40 bytes.
+/// Bytes with the head of a store file are accepted exactly if they are fewer than 2^40, and are the store file of some
+/// facts in range. The facts have the floor in the head, or floor 1 if the head has no floor.
 pub fn store_files_are_accepted()
     ensures { StoreFilesAreAccepted }
 {}
 
-/// A store file of facts is read back as these facts, at its floor or, if it has none, at floor 1.
+/// The store file of facts in range is read back as these facts, if it has fewer than 2^40 bytes. Their floor is the
+/// floor in the head, or 1 if the head has no floor.
 pub fn facts_are_read_back()
     ensures { FactsAreReadBack }
 {}
@@ -55,22 +58,23 @@ pub fn facts_have_one_spelling()
     ensures { FactsHaveOneSpelling }
 {}
 
-/// If an empty store absorbs the store file of some facts without a fault, it holds these facts.
+/// If an empty store absorbs the store file of some facts without a fault, from a source whose bytes are known, it
+/// holds these facts.
 pub fn absorbing_reads_back<S: Source>()
     ensures { AbsorbingReadsBack S.state }
 {}
 
-/// If no piece runs out of memory, a file that comes in pieces is read as if it came whole.
+/// If memory runs out for no piece, a file that comes in pieces is read as if it came whole.
 pub fn pieces_are_read()
     ensures { PiecesAreRead }
 {}
 
-/// If no piece runs out of memory, it does not matter where a file is cut into pieces.
+/// If memory runs out for no piece, neither the answer nor the store depends on where a file is cut into pieces.
 pub fn cuts_change_nothing()
     ensures { CutsChangeNothing }
 {}
 
-/// The fault of a file that comes in pieces stays, whatever follows, and nothing more is kept.
+/// The fault that the bytes of a file so far have stays, whatever follows, and so do the floor and what is kept.
 pub fn faults_stay()
     ensures { FaultsStay }
 {}

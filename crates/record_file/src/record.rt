@@ -12,9 +12,9 @@ use crate::store_file::cell_of;
 use fact_store::{Cell, IngestFault, Key, ReportFault, Store, Value};
 use smp_bytes::Generation;
 
-/// Adds the contents of the record `bytes` to `store`. Returns the key of the record's cell, or `None` if it is a
-/// report. Returns the record's fault, with `index`, if it has one, and `Memory` if memory runs out. `index` is the
-/// number of the record in its file, and `last` the key of the cell before it, if there is one.
+/// Adds the contents of the record `bytes` to `store`. Returns the key of the record's cell, or `None` if the record is
+/// a report. Returns the record's fault, with `index`, if the record has one, and `Memory` if memory runs out. `index`
+/// is the index of the record in its file. `last` is the key of the cell before it, or `None` if no cell is before it.
 pub(crate) fn absorb_record(
     format: Format,
     last: Option<Key>,
@@ -36,8 +36,8 @@ pub(crate) fn absorb_record(
     }
 }
 
-/// Adds the facts of the report that `bytes` spell. Returns `BadReport` if they spell none or the report has a fault,
-/// and `Memory` if memory runs out.
+/// Adds the facts of the report that `bytes` spell. Returns `BadReport` if `bytes` spell no report or the report has a
+/// fault, and `Memory` if memory runs out.
 fn absorb_report(bytes: &[u8], index: u64, store: &mut Store) -> Result<(), FileFault>
     requires { length bytes.now ≡ 272 }
     ensures judged { AbsorbsJudged (judged Reports None bytes.now) index result
@@ -56,9 +56,9 @@ fn absorb_report(bytes: &[u8], index: u64, store: &mut Store) -> Result<(), File
     }
 }
 
-/// Adds the cell that `bytes` spell, and returns its key. Returns `BadCell` if they spell none or the cell is below
-/// `floor`, the floor of the header; `CellOrder` if its key does not come after `last`; and `Memory` if memory runs
-/// out.
+/// Adds the cell that `bytes` spell, and returns its key. Returns `BadCell` if `bytes` spell no cell or the cell is
+/// below `floor`, the floor of the header. Returns `CellOrder` if the cell's key does not come after `last`, and
+/// `Memory` if memory runs out.
 fn absorb_cell(
     floor: Option<Generation>,
     last: Option<Key>,

@@ -8,7 +8,7 @@ use smp_bytes::{Guid, PortNum};
 /// The number of bytes of a record: generation, context, port, two zero bytes, GUID and the 256 bytes of the reply.
 pub(crate) const RECORD_LEN: usize = 272;
 
-/// Returns the report that the record `bytes` spells, or `None` if it spells none.
+/// Returns the report that the record `bytes` spells, or `None` if `bytes` spell no report.
 #[tactic(auto, unfolding(crate::specs::ReportRecord::report_of))]
 pub(crate) fn report_of(bytes: &[u8]) -> Option<Report>
     requires { length bytes.now ≡ 272 }

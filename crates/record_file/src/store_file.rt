@@ -17,11 +17,11 @@ use smp_bytes::{Generation, Guid, Lid, PortNum};
 /// The number of bytes of a record: kind, state, port, a zero byte, generation, GUID and 16 value bytes.
 pub(crate) const RECORD_LEN: usize = 32;
 
-/// The number of value bytes of a record. The bytes after the value are 0. All are 0 for a disputed cell.
+/// The number of value bytes of a record. The bytes after the value are 0. For a disputed cell all value bytes are 0.
 const VALUE_LEN: usize = 16;
 
-/// Writes the store file of all that `store` holds, which is its floor and a record for each cell in the order of keys,
-/// and flushes. Does not allocate. If a write fails, how much was written is unspecified.
+/// Writes the store file of `store`, and flushes. The file has a head with the store's floor, and a record for each
+/// cell in the order of keys. Does not allocate. If a write fails, how much was written is unspecified.
 pub fn write_store<W: Sink>(sink: &mut W, store: &Store) -> Result<(), WriteFault>
     ensures writes { Writes W.written W.has_failed result sink.old sink.new
         (store_bytes store.now.floor (cells_of store.now)) }
@@ -92,7 +92,7 @@ fn value_bytes(value: Value) -> [u8; VALUE_LEN]
     bytes
 }
 
-/// Returns the cell that the record `bytes` spells, or `None` if it spells none.
+/// Returns the cell that the record `bytes` spells, or `None` if `bytes` spell no cell.
 #[tactic(auto, unfolding(crate::specs::CellRecord::cell_of))]
 pub(crate) fn cell_of(bytes: &[u8]) -> Option<Sighting>
     requires { length bytes.now ≡ 32 }
@@ -106,8 +106,8 @@ pub(crate) fn cell_of(bytes: &[u8]) -> Option<Sighting>
     }
 }
 
-/// Returns the cell of the record `bytes`, or `None` if its key, generation or value is out of range. Does not check
-/// the bytes that have to be 0, and takes each state byte other than 1 as disputed.
+/// Returns the cell of the record `bytes`, or `None` if the cell's key, generation or value is reserved or out of
+/// range. Does not check the bytes that have to be 0, and takes each state byte other than 1 as disputed.
 fn sighting_in(bytes: &[u8]) -> Option<Sighting>
     requires { length bytes.now ≡ 32 }
     ensures { result ≡ option_and_then if_sighting (candidate bytes.now) }
@@ -122,7 +122,7 @@ fn sighting_in(bytes: &[u8]) -> Option<Sighting>
     Sighting::new(key, cell)
 }
 
-/// Returns the key with the kind byte `kind`, `guid` and `port`, or `None` if there is no such kind.
+/// Returns the key with the kind byte `kind`, `guid` and `port`, or `None` if `kind` is not from 1 to 6.
 fn key_of(kind: u8, guid: u64, port: u8) -> Option<Key>
     ensures { result ≡ key_with kind guid port }
 {

@@ -13,8 +13,8 @@ const READ_LEN: usize = 4096;
 ///
 /// # Errors
 ///
-/// Returns `Read` if the source fails, `TooLong` at 2^40 bytes or at 2^40 calls that took bytes or were interrupted,
-/// and `Memory` if memory runs out, whichever comes first.
+/// Returns the first fault: `Read` if the source fails, `TooLong` at 2^40 bytes or at 2^40 calls that took bytes or
+/// were interrupted, and `Memory` if memory runs out.
 pub fn read_whole<S: Source>(alloc: Global, source: &mut S) -> Result<Vec<u8>, FileFault>
     ensures whole { IfOk result (λ bytes.
         IsReadWhole S.state source.old source.new bytes.items) }

@@ -106,7 +106,7 @@ abbrev pub number_of : Cell Value → ℕ
 number_of (Known generation value) = value_number value
 number_of (Disputed generation) = 0
 
--- what `form` does not spell is 0, so that a key with its cell is spelled in only one way
+-- each of `other`, `number` and `port` that `form` does not use is 0; so a key with its cell is spelled in only one way
 pub record IsSpelled (form : CellForm) (guid other generation number port : ℕ) : Type 0 where
   pub other_is : other_of (cell_in form generation other number) ≡ other
   pub number_is : number_of (cell_in form generation other number) ≡ number

@@ -10,13 +10,13 @@ use Rattle.reply_facts.specs.declared.value.Value.{Value}
 use Rattle.reply_facts.specs.declared.value.Value.TheVariants.{Kind, Guid, Peer, Up, Lid, Count}
 use Rattle.reply_facts.specs.Key.{key_cmp}
 
--- the value of a cell; None if there is no cell or it is disputed
+-- the value of a cell; None if there is no cell, or if the cell is disputed
 abbrev pub value_in : Option (Cell Value) → Option Value
 value_in None = None
 value_in (Some (Known generation value)) = Some value
 value_in (Some (Disputed generation)) = None
 
--- the known value of `key`; None if it has no cell or is disputed
+-- the known value of `key`; None if `cells` have no cell for `key`, or a disputed one
 abbrev pub known_in : List (Key × Cell Value) → Key → Option Value
 known_in cells key = value_in (find key_cmp key cells)
 
@@ -37,7 +37,7 @@ abbrev pub peer_in : Option Value → Option (ℕ × ℕ)
 peer_in (Some (Peer guid port)) = Some (guid, port)
 peer_in _ = None
 
--- whether a value of a port's state says that it is up; None if there is no value, or one of another kind
+-- whether a value of a port's state says that the port is up; None if there is no value, or one of another kind
 abbrev pub up_in : Option Value → Option Bool
 up_in (Some (Up up)) = Some up
 up_in _ = None

@@ -26,13 +26,13 @@ use Rattle.reply_facts.specs.declared.value.Value.TheVariants.{Kind, Guid, Peer,
 
 -- faults ------------------------------------------------------------------------------
 
--- the first of two faults if it is there, else the second; None if neither is
+-- the first of two faults, or the second if the first is None; None if both are None
 abbrev pub or_else : Option ReportFault → Option ReportFault → Option ReportFault
 or_else None next = next
 or_else (Some first) next = Some first
 
--- the first reason why `packet` is not a GetResp that has come back over a directed route with status 0; None if it is
--- one
+-- the first reason why `packet` is not a GetResp with status 0 that has come back over a directed route; None if
+-- `packet` is one
 abbrev pub answer_fault : List ℕ → Option ReportFault
 answer_fault packet =
     if not (is_directed packet) then Some fault.Class
@@ -41,39 +41,39 @@ answer_fault packet =
     else if not (status packet == done) then Some fault.Status
     else None
 
--- whether the context fits an answer of NodeInfo over `hops` hops: `Start` fits no hop, the sender's own node; `Via`
--- fits one or more; `About` fits none
+-- whether the context fits an answer of NodeInfo over `hops` hops. `Start`, the sender's own node, fits 0 hops; `Via`
+-- fits 1 hop or more; `About` fits no answer of NodeInfo
 abbrev pub fits_node_info : Context → ℕ → Bool
 fits_node_info Start hops = hops == 0
 fits_node_info (Via guid port) hops = nat_lt 0 hops
 fits_node_info (About guid) hops = false
 
--- whether a node of type `kind` can have been asked through `port`: through 0 only the manager's own node (`Start`), if
--- it is a switch; after a port `via`, only if that is from 1 to 254
+-- whether a node of type `kind` can have been asked through `port`. Port 0 is only possible at the manager's own node
+-- (`Start`), if that is a switch. In the context `Via` the port `via` must be from 1 to 254
 abbrev pub may_be_asked_by : Context → NodeType → ℕ → Bool
 may_be_asked_by Start kind port = is_switch kind || nat_lt 0 port
 may_be_asked_by (Via guid via) kind port = nat_lt 0 port && is_cabled_port via
 may_be_asked_by (About guid) kind port = nat_lt 0 port
 
--- whether the ports in `info` are in range: it has 1 to 254, the port that was asked is at most as great, and the node
--- may be asked through it (`may_be_asked_by`)
+-- whether the ports in `info` are in range: NumPorts is from 1 to 254, LocalPortNum is at most NumPorts, and the node
+-- may be asked through LocalPortNum (`may_be_asked_by`)
 abbrev pub are_ports_in_range : Context → NodeType → NodeInfo → Bool
 are_ports_in_range context kind info =
     is_cabled_port info.num_ports && nat_le info.local_port_num info.num_ports
     && may_be_asked_by context kind info.local_port_num
 
--- the fault of an answer of NodeInfo: a reserved type, which is None here, or a port out of range; None if it has
--- neither
+-- the fault of an answer of NodeInfo: its type is reserved, which is None here, or a port is out of range; None if
+-- neither is so
 abbrev pub kind_fault : Context → NodeInfo → Option NodeType → Option ReportFault
 kind_fault context info None = Some fault.NodeType
 kind_fault context info (Some kind) = if are_ports_in_range context kind info then None else Some fault.Port
 
--- the NodeInfo that a packet carries
+-- the NodeInfo that `packet` carries
 abbrev pub node_info_of : List ℕ → NodeInfo
 node_info_of packet = node_info_in (bytes_in attribute_data packet)
 
 -- the first fault of an answer of NodeInfo: a context that does not fit, a reserved type, or a port out of range; None
--- if it has none
+-- if the answer has no fault
 abbrev pub node_info_fault : Context → List ℕ → Option ReportFault
 node_info_fault context packet =
     if not (fits_node_info context (number_in hop_count packet)) then Some fault.Context
@@ -91,18 +91,19 @@ about_of Start = None
 about_of (Via guid port) = None
 about_of (About guid) = Some guid
 
--- `Context` if the context does not name the node, as an answer of PortInfo or SwitchInfo needs; else None
+-- the fault `Context` if the context is not `About`, as an answer of PortInfo or SwitchInfo needs; None if it is
 abbrev pub about_fault : Context → Option ReportFault
 about_fault context = if is_some (about_of context) then None else Some fault.Context
 
--- the first fault of an answer of PortInfo: a context that does not name the node, or a port, which is the modifier,
--- over 254; None if it has none
+-- the first fault of an answer of PortInfo: a context that is not `About`, or a modifier over 254, which is the number
+-- of the port; None if the answer has no fault
 abbrev pub port_info_fault : Context → List ℕ → Option ReportFault
 port_info_fault context packet =
     or_else (about_fault context) (if nat_lt 254 (number_in attribute_modifier packet) then Some fault.Modifier else
     None)
 
--- the first fault of an answer by its attribute, which has to be NodeInfo, PortInfo or SwitchInfo; None if it has none
+-- the first fault of an answer by its attribute: an attribute other than NodeInfo, PortInfo and SwitchInfo, or a fault
+-- of an answer of that attribute; None if the answer has no fault
 abbrev pub attribute_fault : Context → List ℕ → Option ReportFault
 attribute_fault context packet =
     if number_in attribute_id packet == node_info then node_info_fault context packet
@@ -114,11 +115,13 @@ attribute_fault context packet =
 abbrev pub packet_fault : List ℕ → Option ReportFault
 packet_fault packet = or_else (option_map fault.Smp (fault_of packet)) (answer_fault packet)
 
--- the first fault of a reply, as an answer and then by its attribute, if `packet` is a packet; None if it has none
+-- the first fault of the reply `packet`, as an answer and then by its attribute; None if the reply has no fault.
+-- `packet` must be a packet
 abbrev pub reply_fault : Context → List ℕ → Option ReportFault
 reply_fault context packet = or_else (answer_fault packet) (attribute_fault context packet)
 
--- the first fault of a report: generation 0, then a fault of its packet, then one by its attribute; None if it has none
+-- the first fault of a report: generation 0, then a fault of its packet, then one by its attribute; None if the report
+-- has no fault
 abbrev pub report_fault : Report → Option ReportFault
 report_fault report =
     if report.generation == 0 then Some fault.Generation
@@ -126,7 +129,7 @@ report_fault report =
 
 -- facts -------------------------------------------------------------------------------
 
--- keys with cells, as they are said
+-- sightings: keys with the cells that are said of them
 abbrev pub Sightings : Type 0
 Sightings = List (Key × Cell Value)
 
@@ -167,8 +170,8 @@ is_up_state state = nat_le 2 state && nat_le state 4
 abbrev pub payload_of : List ℕ → List ℕ
 payload_of packet = bytes_in attribute_data packet
 
--- the facts of an answer of PortInfo: whether a port of the node is up, and the LID that it claims; none unless the
--- context is `About`
+-- the facts of an answer of PortInfo: whether the port that the modifier names is up, and the LID that this port
+-- claims; none unless the context is `About`
 abbrev pub sightings_by_port_info : ℕ → Context → List ℕ → Sightings
 sightings_by_port_info generation (About node) packet = (
   Port node (number_in attribute_modifier packet),
@@ -191,13 +194,13 @@ sightings_by_switch_info generation (About node) packet =
 sightings_by_switch_info generation Start packet = []
 sightings_by_switch_info generation (Via guid port) packet = []
 
--- the facts of an answer by its attribute: NodeInfo, PortInfo, and any other as SwitchInfo
+-- the facts of an answer by its attribute; an answer that is neither of NodeInfo nor of PortInfo is read as SwitchInfo
 abbrev pub sightings_by_packet : ℕ → Context → List ℕ → Sightings
 sightings_by_packet generation context packet =
     if number_in attribute_id packet == node_info then sightings_by_node_info generation context packet
     else if number_in attribute_id packet == port_info then sightings_by_port_info generation context packet
     else sightings_by_switch_info generation context packet
 
--- the sightings of a report, if it has no fault
+-- the sightings of `report`, as if it had no fault
 abbrev pub sightings_of : Report → Sightings
 sightings_of report = sightings_by_packet report.generation report.context report.bytes

@@ -8,7 +8,7 @@ use Rattle.reply_facts.specs.declared.key.Key.TheVariants.{Node, PortGuid, Link,
 use Rattle.reply_facts.specs.declared.value.Value.{Value}
 use Rattle.reply_facts.specs.declared.value.Value.TheVariants.{Kind, Guid, Peer, Up, Lid, Count}
 
--- whether `port` is from 1 to 254, as a port that can have a cable is, and a node's number of ports
+-- whether `port` is from 1 to 254, as the port of a cable is, and the port count of a node
 abbrev pub is_cabled_port : ℕ → Bool
 is_cabled_port port = nat_le 1 port && nat_le port 254
 

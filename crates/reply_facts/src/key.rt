@@ -23,8 +23,8 @@ pub enum Key {
 impl Key {
     ghost use Rattle.reply_facts.specs.Key.{key_guid, key_kind, key_numbers, key_port, kind_word};
 
-    /// Returns the number of the key's kind, the GUID, and the port, or 0 if the key has none. Keys are ordered by
-    /// these.
+    /// Returns the numbers by which keys are ordered: the number of the key's kind, the GUID, and the port. The port is
+    /// 0 if the key has no port.
     pub(crate) fn sort_key(&self) -> [u64; 3]
         ensures { result ≡ key_numbers self.now }
     {
@@ -35,7 +35,7 @@ impl Key {
         ]
     }
 
-    /// Returns the number of the key's kind, from 1 on, in the order of the kinds.
+    /// Returns the number of the key's kind, from 1 to 6, in the order of the kinds.
     pub fn kind(&self) -> u8
         ensures { result ≡ key_kind self.now }
     {
@@ -77,7 +77,7 @@ impl Key {
         }
     }
 
-    /// Returns the port, or 0 if the key has none.
+    /// Returns the port, or 0 if the key has no port.
     pub fn port(&self) -> PortNum
         ensures { result ≡ key_port self.now }
     {

@@ -3,8 +3,9 @@ ghost use Rattle.reply_facts.specs.Sighting.{is_guid};
 
 use smp_bytes::{Guid, PortNum};
 
-/// What a manager knows about the node that a reply came from. `Start` says that it is the manager's own node. `Via`
-/// has the node and the port that the request's path leaves last. `About` has the node's own GUID.
+/// What a manager knows about the node that a reply came from. `Start` says that this node is the manager's own. `Via`
+/// has the node that the request's path leaves last, and the port by which the path leaves it. `About` has the GUID of
+/// the node that the reply came from.
 #[derive(Clone, Copy, Debug, PartialEq, Eq)]
 pub enum Context {
     Start,
@@ -15,7 +16,8 @@ pub enum Context {
 impl Context {
     ghost use Rattle.reply_facts.specs.Report.{about_of, via_of};
 
-    /// Returns the node and the port that the request's path leaves last, or `None` if the context has none.
+    /// Returns the node that the request's path leaves last, and the port by which the path leaves it. Returns `None`
+    /// unless the context is `Via`.
     pub(crate) fn via(&self) -> Option<(Guid, PortNum)>
         ensures parts { result ≡ via_of self.now }
         ensures in_range { IfSome result (λ via. IsTrue (is_guid via.0)) }
@@ -27,7 +29,7 @@ impl Context {
         }
     }
 
-    /// Returns the node that the reply is about, or `None` if the context does not name it.
+    /// Returns the node that the reply is about, or `None` unless the context is `About`.
     pub(crate) fn about(&self) -> Option<Guid>
         ensures node { result ≡ about_of self.now }
         ensures in_range { IfSome result (λ node. IsTrue (is_guid node)) }

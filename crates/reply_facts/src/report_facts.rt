@@ -59,7 +59,8 @@ pub fn sightings_in(
     }
 }
 
-/// Returns the first reason why `smp` is not a successful answer on a directed route, or `None` if it is one.
+/// Returns the first reason why `smp` is not a successful answer that came back over a directed route, or `None` if
+/// `smp` is one.
 pub fn answer_fault(smp: &Smp) -> Option<ReportFault>
     ensures { result ≡ answer_fault smp.now }
 {
@@ -76,8 +77,8 @@ pub fn answer_fault(smp: &Smp) -> Option<ReportFault>
     }
 }
 
-/// Returns the facts in `smp`, by the attribute that it carries, or the first fault. Does not judge whether `smp` is an
-/// answer.
+/// Returns the facts in `smp`, by the attribute that `smp` carries, or the first fault. Does not judge whether `smp` is
+/// an answer.
 fn sightings_by_packet(
     generation: Generation,
     context: &Context,
@@ -120,9 +121,9 @@ fn sightings_by_node_info(
     }
 }
 
-/// Returns the facts that an answer of NodeInfo contains about a node of type `kind`: its type and number of ports, a
-/// port GUID, and, if the context is `Via`, both directions of the link over which the request came. The ports must be
-/// in range.
+/// Returns the facts that an answer of NodeInfo contains about a node of type `kind`: its type and number of ports, and
+/// a port GUID. If the context is `Via`, the facts include both directions of the link over which the request came. The
+/// ports must be in range.
 fn sightings_of_kind(
     generation: Generation,
     context: &Context,
@@ -164,8 +165,8 @@ fn fits_node_info(context: &Context, hops: u8) -> bool
     }
 }
 
-/// Returns whether the number of ports, the port that was asked, and the port in `context` are in range. Only the
-/// manager's own node can be asked through port 0, and only if it is a switch.
+/// Returns whether the ports are in range. NumPorts must be from 1 to 254, and LocalPortNum at most NumPorts. The port
+/// in a `Via` context must be from 1 to 254. LocalPortNum may be 0 only if the node is the manager's own and a switch.
 fn are_ports_in_range(context: &Context, kind: NodeType, info: &NodeInfo) -> bool
     ensures { result ≡ are_ports_in_range context.now kind info.now }
 {
@@ -207,7 +208,7 @@ fn sightings_by_port_info(
     Ok(sightings)
 }
 
-/// Returns whether the port is up, which it is in Initialize, Armed and Active.
+/// Returns whether the port is up: its state is Initialize, Armed or Active.
 pub fn is_up(info: &PortInfo) -> bool
     ensures { result ≡ is_up_state (bits_in port_state info.now) }
 {

@@ -3,7 +3,7 @@ ghost use Rattle.std.specs.Prelude.{◌≡◌};
 use smp_bytes::SmpFault;
 use thiserror::Error;
 
-/// Why a report is rejected. The first fault in this order is reported.
+/// Why a report is rejected. If several faults apply, the first in this order is reported.
 #[derive(Clone, Copy, Debug, PartialEq, Eq, Error)]
 pub enum ReportFault {
     /// The generation is 0.
@@ -24,7 +24,7 @@ pub enum ReportFault {
     /// The agent rejected the request: the status is not 0.
     #[error("Status")]
     Status,
-    /// The attribute is not NodeInfo, PortInfo or SwitchInfo, and no facts are read from others.
+    /// The attribute is not NodeInfo, PortInfo or SwitchInfo, and no facts are read from other attributes.
     #[error("Attribute")]
     Attribute,
     /// The context does not fit the attribute or the number of hops.
@@ -36,7 +36,7 @@ pub enum ReportFault {
     /// The node type is a reserved number.
     #[error("NodeType")]
     NodeType,
-    /// A port or the number of ports in NodeInfo is out of range, or the port in the context.
+    /// A port or the number of ports in NodeInfo, or the port in the context, is out of range.
     #[error("Port")]
     Port,
 }

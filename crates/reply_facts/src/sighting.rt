@@ -17,12 +17,13 @@ use std::marker::Model;
 pub struct Sighting {
     /// The GUID of the key.
     guid: Guid,
-    /// The GUID of the value, or 0.
+    /// The GUID of the value, or 0 if the value has no GUID or the cell is disputed.
     other: Guid,
     generation: Generation,
-    /// The value's number of ports, port, LID or table room, or 0.
+    /// The value's number of ports, port, LID or table room, or 0 if the value has none of these or the cell is
+    /// disputed.
     number: u16,
-    /// The port of the key, or 0.
+    /// The port of the key, or 0 if the key has no port.
     port: PortNum,
     form: CellForm,
 }
@@ -66,8 +67,8 @@ impl Model for Sighting {
 impl Sighting {
     ghost use Rattle.reply_facts.specs.Sighting.{IsSighting};
 
-    /// Creates a sighting of `cell` under `key`. Returns `None` if the key's port is out of range, or if the value is
-    /// not of the key's kind or has a number out of range.
+    /// Creates a sighting of `cell` under `key`. Returns `None` if the key's port is out of range, if the value is not
+    /// of the key's kind, or if a number in the value is out of range.
     pub fn new(key: Key, cell: Cell<Value>) -> Option<Self>
         ensures exact { IsSome result ↔ IsSighting (key, cell) }
         ensures value { IfSome result (λ s. s ≡ (key, cell)) }
@@ -79,8 +80,8 @@ impl Sighting {
         }
     }
 
-    /// Creates a sighting of `value`, as reported at `generation`. `value` must be of the kind of `key`, with all
-    /// numbers in range.
+    /// Creates a sighting of `value`, as reported in `generation`, under `key`. `value` must be of the kind of `key`,
+    /// and all numbers in range.
     pub(crate) fn known(generation: Generation, key: Key, value: Value) -> Self
         requires { IsSighting (key, Known generation value) }
         ensures { result ≡ (key, Known generation value) }
@@ -135,7 +136,7 @@ impl Sighting {
         sort_key.cmp(&other.sort_key())
     }
 
-    /// Returns the cell: its generation, and the value that was reported or that it is disputed.
+    /// Returns the cell: known with its generation and value, or disputed with its generation.
     pub fn cell(&self) -> Cell<Value>
         ensures value { result ≡ self.now.1 }
         ensures in_range { IsSighting self.now }
@@ -146,7 +147,7 @@ impl Sighting {
         }
     }
 
-    /// Returns the value that was reported, or `None` if it is disputed.
+    /// Returns the value of the cell, or `None` if the cell is disputed.
     pub fn value(&self) -> Option<Value>
         ensures { result ≡ value_in (Some self.now.1) }
     {
@@ -170,7 +171,7 @@ impl Sighting {
     }
 }
 
-/// Returns the GUID of the value of `cell`, or 0 if it has none.
+/// Returns the GUID of the value of `cell`, or 0 if the value has no GUID or `cell` is disputed.
 fn other_of(cell: &Cell<Value>) -> Guid
     ensures { result ≡ other_of cell.now }
 {
@@ -180,7 +181,8 @@ fn other_of(cell: &Cell<Value>) -> Guid
     }
 }
 
-/// Returns the number of ports, port, LID or table room of the value of `cell`, or 0 if it has none of these.
+/// Returns the number in the value of `cell`: a number of ports, a port, a LID or a table room. Returns 0 if the value
+/// has no number, or if `cell` is disputed.
 fn number_of(cell: &Cell<Value>) -> u16
     ensures { result ≡ number_of cell.now }
 {

@@ -1,7 +1,7 @@
 use fact_join::Exact;
 use smp_bytes::{Guid, Lid, NodeType, PortNum};
 
-/// The value of a fact, whose key is its subject.
+/// The value of a fact. The fact's key says what the value is about.
 #[derive(Clone, Copy, Debug)]
 pub enum Value {
     /// For a node: its type and its number of ports.

@@ -1,7 +1,7 @@
 -- Requests in the order of their numbers, which rise.
 use Rattle.std.specs.Prelude.{◌≡◌, ℕ, ◌+◌, ◌≤◌, ◌^◌, not, List, [], ◌∷◌, filter, find, slice_get, ◌==◌, Option, Some, None}
 
--- the number of the next request, the requests, and for how many more there is memory
+-- a table of requests: the number of the next request, the requests, and for how many more requests there is memory
 pub record Table (T : Type 0) : Type 0 where
   pub next : ℕ
   pub requests : List T
@@ -12,20 +12,20 @@ abbrev pub AreRising : {T : Type 0} → (T → ℕ) → ℕ → List T → ℕ �
 AreRising number least [] next = least ≤ next
 AreRising number least (r ∷ requests) next = (least ≤ number r) × AreRising number (number r + 1) requests next
 
--- the numbers of the requests rise, are below `next`, and fit 32 bits
+-- the numbers of the requests rise and are below `next`, which is at most 2^32
 pub record AreNumbered {T : Type 0} (number : T → ℕ) (requests : List T) (next : ℕ) : Type 0 where
   pub rising : AreRising number 0 requests next
   pub bound : next ≤ 2 ^ 32
 
--- the request with the number `n`; None if there is none
+-- the request with the number `n`; None if no request has this number
 abbrev pub with_number : {T : Type 0} → (T → ℕ) → ℕ → List T → Option T
 with_number number n requests = find (λ r. number r == n) requests
 
--- the requests without the one with the number `n`
+-- the requests without those that have the number `n`
 abbrev pub without_number : {T : Type 0} → (T → ℕ) → ℕ → List T → List T
 without_number number n requests = filter (λ r. not (number r == n)) requests
 
--- the given index is that of `found`, the request that was looked for; None if that was not found
+-- the given index is the index of the request in `found`; it is None only if `found` is None
 abbrev pub IsIndexFor : {T : Type 0} → Option T → List T → Option ℕ → Type 0
 IsIndexFor found requests None = found ≡ None
 IsIndexFor {T} found requests (Some index) = (r : T) × (slice_get requests index ≡ Some r) × (found ≡ Some r)

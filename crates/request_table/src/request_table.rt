@@ -9,7 +9,7 @@ use std::collections::VecDeque;
 use std::marker::Model;
 
 /// Requests in ascending order of their numbers. No number is given twice. Contracts see the requests, the number of
-/// the next one, and how many more fit in memory that is reserved.
+/// the next request, and for how many more requests memory is reserved.
 #[derive(Drop)]
 pub struct RequestTable<T: Numbered> {
     next: u64,
@@ -75,7 +75,8 @@ impl<T: Numbered + Drop> RequestTable<T> {
         count as u64 <= 0x1_0000_0000 - self.next
     }
 
-    /// Reserves memory for `count` more requests.
+    /// Reserves memory for `count` more requests. Returns an error if memory runs out. The requests stay in either
+    /// case.
     pub fn reserve(&mut self, count: usize) -> Result<(), AllocError>
         ensures next { self.new.next ≡ self.old.next }
         ensures requests { self.new.requests ≡ self.old.requests }
@@ -84,8 +85,8 @@ impl<T: Numbered + Drop> RequestTable<T> {
         self.requests.reserve(count)
     }
 
-    /// Adds `request`, which must have the next number. There must be room for it, and a number must be left. Does not
-    /// allocate.
+    /// Adds `request`. The number of `request` must be the table's next number, and be less than 2^32. Memory for one
+    /// more request must be reserved. Does not allocate.
     pub fn push(&mut self, request: T)
         requires room { 0 < self.old.room }
         requires number { T.number request ≡ self.old.next }
@@ -98,15 +99,15 @@ impl<T: Numbered + Drop> RequestTable<T> {
         self.next += 1;
     }
 
-    /// Returns the request at `index`, in the order of their numbers, or `None` if there is none.
+    /// Returns the request at `index`, in ascending order of numbers, or `None` if the table has no such index.
     pub fn get(&self, index: usize) -> Option<&T>
         ensures { option_copied result ≡ slice_get self.now.requests index }
     {
         self.requests.get(index)
     }
 
-    /// Returns the number of requests whose numbers are below `number`. It is the index of the request with `number`,
-    /// if there is one. Takes a binary search.
+    /// Returns the number of requests whose numbers are below `number`. If a request has the number `number`, this is
+    /// its index. Takes a binary search.
     pub fn count_below(&self, number: u64) -> usize
         ensures index { IsIndex (λ r. nat_lt (T.number r) number) self.now.requests result }
         ensures numbered { AreNumbered T.number self.now.requests self.now.next }
@@ -115,7 +116,8 @@ impl<T: Numbered + Drop> RequestTable<T> {
             .partition_point(|request| u64::from(request.number()) < number)
     }
 
-    /// Returns the index of the request with `number`, or `None` if there is none. Takes a binary search.
+    /// Returns the index of the request with the number `number`, or `None` if no request has this number. Takes a
+    /// binary search.
     pub fn index_of(&self, number: u64) -> Option<usize>
         ensures { IsIndexFor (with_number T.number number self.now.requests)
             self.now.requests result }

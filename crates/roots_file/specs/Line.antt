@@ -6,17 +6,17 @@ use Rattle.text_words.specs.Number.{number_of}
 use Rattle.roots_file.specs.declared.fault.RootsTextError.{RootsTextError}
 use Rattle.roots_file.specs.declared.fault.RootsTextError.TheVariants as wrong
 
--- the digits of a word: what follows `0x` if it begins with that, else the word itself
+-- the digits of a word: what follows `0x` if `word` begins with `0x`, else `word` itself
 abbrev pub digits_of : List ℕ → List ℕ
 digits_of word = if bytes_eq (take 2 word) (codes "0x") then drop 2 word else word
 
--- the root `n` with these hex digits; `Syntax` if they are no number, which is None here; `Guid` if there are over
--- sixteen digits or `n` is 0
+-- the root that `digits` spell, given the number that they spell in hex: `Syntax` if they spell none (None); `Guid` if
+-- there are over sixteen digits or the number is 0
 abbrev pub guid_by : List ℕ → Option ℕ → Result ℕ RootsTextError
 guid_by digits None = Err wrong.Syntax
 guid_by digits (Some n) = if nat_le (length digits) 16 && not (n == 0) then Ok n else Err wrong.Guid
 
--- the root that `word` names in hex digits, with or without `0x`; `Syntax` or `Guid` if it names none
+-- the root that `word` names in hex digits, with or without `0x`; `Syntax` or `Guid` if `word` names none
 abbrev pub root_of : List ℕ → Result ℕ RootsTextError
 root_of word = guid_by (digits_of word) (number_of 16 (digits_of word))
 

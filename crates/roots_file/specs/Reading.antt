@@ -11,19 +11,19 @@ use Rattle.roots_file.specs.Line.{root_on}
 abbrev pub is_among : List ℕ → ℕ → Bool
 is_among roots root = list_any (λ r. r == root) roots
 
--- the roots with `root` appended, or `Repeated` at line `number` if it is there already
+-- the roots with `root` appended, or `Repeated` at line `number` if `root` is among them already
 abbrev pub root_more : ℕ → List ℕ → ℕ → Result (List ℕ) RootsLineFault
 root_more number roots root =
     if is_among roots root then Err (record { line = number; wrong = Repeated })
     else Ok (roots ++ root ∷ [])
 
--- the roots, with what line `number` says appended, or its fault
+-- the roots, with what line `number` says appended, or the fault of that line
 abbrev pub more_by : ℕ → List ℕ → Result (Option ℕ) RootsTextError → Result (List ℕ) RootsLineFault
 more_by number roots (Ok None) = Ok roots
 more_by number roots (Ok (Some root)) = root_more number roots root
 more_by number roots (Err what) = Err (record { line = number; wrong = what })
 
--- the roots, with what the line `line` at number `number` says appended, or its fault
+-- the roots, with what `line`, the line at number `number`, says appended, or the fault of that line
 abbrev pub with_line : ℕ → List ℕ → List ℕ → Result (List ℕ) RootsLineFault
 with_line number roots line = more_by number roots (root_on line)
 
@@ -54,8 +54,8 @@ is_root root _ = false
 abbrev pub names : ℕ → List ℕ → Bool
 names root line = is_root root (root_on line)
 
--- the fault of a line below the lines `above`, given what it says: its own fault, or `Repeated` if one of `above` names
--- its root; None if it has none
+-- the fault of a line below the lines `above`, given what the line says: its own fault, or `Repeated` if a line of
+-- `above` names the same root; None if the line has neither fault
 abbrev pub wrong_below : List (List ℕ) → Result (Option ℕ) RootsTextError → Option RootsTextError
 wrong_below above (Ok None) = None
 wrong_below above (Ok (Some root)) = if list_any (names root) above then Some Repeated else None

@@ -20,7 +20,7 @@ wrong_word Syntax = codes "syntax"
 wrong_word Guid = codes "guid"
 wrong_word Repeated = codes "repeated"
 
--- the result is what the text says, which is `told`: the roots or the first fault; `Memory` may come whatever it says
+-- the result is `told`, what the text says: the roots or the first fault. `Memory` is possible whatever the text says
 abbrev pub Reads : Result (List ℕ) RootsTextFault → Result (List ℕ) RootsLineFault → Type 0
 Reads (Ok roots) told = told ≡ Ok roots
 Reads (Err (Line fault)) told = told ≡ Err fault

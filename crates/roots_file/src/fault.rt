@@ -1,9 +1,9 @@
 use text_words::{LineError, LineFault, LinesFault};
 
-/// A fault of one line.
+/// A fault of a line of a text of roots.
 #[derive(Clone, Copy, Debug, PartialEq, Eq)]
 pub enum RootsTextError {
-    /// It has more than one word, or a word that is not hex digits, with or without `0x`.
+    /// The line has more than one word, or a word that is not hex digits, with or without `0x`.
     Syntax,
     /// The GUID is 0, or has more than 16 digits.
     Guid,
@@ -25,8 +25,8 @@ impl LineError for RootsTextError {
     }
 }
 
-/// The first faulty line of a text, counted from 1, and its fault.
+/// The number of the first faulty line of a text of roots, counted from 1, and the fault of this line.
 pub type RootsLineFault = LineFault<RootsTextError>;
 
-/// Why a text is refused.
+/// Why a text of roots is refused: the fault of its first faulty line, or a lack of memory.
 pub type RootsTextFault = LinesFault<RootsTextError>;

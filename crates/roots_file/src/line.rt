@@ -5,7 +5,7 @@ use crate::fault::RootsTextError;
 use smp_bytes::Guid;
 use text_words::{number, split_word};
 
-/// Returns the root that `line` names, or `None` if it has no word. Returns the line's fault if it has one.
+/// Returns the root that `line` names, or `None` if `line` has no word. Returns the fault of `line` if there is one.
 #[tactic(auto, unfolding(crate::specs::Line::root_on))]
 pub(crate) fn root_on(line: &[u8]) -> Result<Option<Guid>, RootsTextError>
     ensures { result ≡ root_on line.now }
@@ -23,7 +23,7 @@ pub(crate) fn root_on(line: &[u8]) -> Result<Option<Guid>, RootsTextError>
 }
 
 /// Parses a root: 1 to 16 hex digits, not all 0, with or without `0x`. Returns `Guid` if there are more digits or the
-/// number is 0, and `Syntax` if `word` is anything else.
+/// number is 0, and `Syntax` if `word` is not hex digits, with or without `0x`.
 #[tactic(auto, using(crate::proofs::Guids::whole, crate::proofs::Guids::long, crate::proofs::Guids::zero_is_none, crate::proofs::Guids::no_digits))]
 fn root(word: &[u8]) -> Result<Guid, RootsTextError>
     ensures { result ≡ root_of word.now }
@@ -38,7 +38,7 @@ fn root(word: &[u8]) -> Result<Guid, RootsTextError>
     Ok(Guid::new(number))
 }
 
-/// Returns the digits of `word`: what follows `0x`, if it begins with that, and otherwise all of it.
+/// Returns the digits of `word`: the part after `0x` if `word` begins with `0x`, and otherwise the whole word.
 fn digits(word: &[u8]) -> &[u8]
     ensures { result.now ≡ digits_of word.now }
 {

@@ -38,8 +38,8 @@ impl Roots {
         }
     }
 
-    /// Appends the root of line `line`. Returns `Repeated` at that line if the root is there already. Takes time
-    /// logarithmic in the number of roots.
+    /// Appends `root`, which line `line` names. Returns `Repeated` at that line if the list already has `root`, and
+    /// `Memory` if memory is refused. Takes time logarithmic in the number of roots.
     pub(crate) fn with(self, line: usize, root: Guid) -> Result<Self, RootsTextFault>
         ensures { Reads result (root_more line self root) }
     {

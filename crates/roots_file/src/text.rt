@@ -45,7 +45,7 @@ pub fn parse(alloc: Global, text: &[u8]) -> Result<Vec<Guid>, RootsTextFault>
     }
 }
 
-/// Returns the roots that the lines of `text` name, or the first fault.
+/// Returns the roots that the lines of `text` name, or their first fault, or `Memory` if memory is refused before.
 #[tactic(auto, using(crate::proofs::Folds::reading))]
 fn read_lines(alloc: Global, text: &[u8]) -> Result<Roots, RootsTextFault>
     ensures { Reads result (roots_of text.now) }
@@ -61,7 +61,8 @@ fn read_lines(alloc: Global, text: &[u8]) -> Result<Roots, RootsTextFault>
     Ok(roots)
 }
 
-/// Appends the root that line `number` names, if it names one. Returns the line's fault if it has one.
+/// Appends the root that `line` names, if it names one. `number` is the number of `line`. Returns the fault of `line`
+/// if there is one, and `Memory` if memory is refused.
 fn with_line(roots: Roots, number: usize, line: &[u8]) -> Result<Roots, RootsTextFault>
     ensures { Reads result (with_line number roots line.now) }
 {
@@ -75,7 +76,7 @@ fn with_line(roots: Roots, number: usize, line: &[u8]) -> Result<Roots, RootsTex
     }
 }
 
-/// Returns the first fault of the lines of `text`, or `None` if they have none. Does not allocate.
+/// Returns the first fault of the lines of `text`, or `None` if there is none. Does not allocate.
 #[tactic(auto, using(crate::proofs::Folds::judging))]
 fn first_fault(text: &[u8]) -> Option<RootsLineFault>
     ensures { result ≡ result_err (roots_of text.now) }

@@ -1,5 +1,5 @@
--- What the managers of a world take in while a schedule runs: what each learns, and what the managers took in whose
--- facts it merges.
+-- What the managers of a world take in while a schedule runs: what each learns and, if it merges the facts of another
+-- manager, all that the other took in.
 use Rattle.std.specs.Prelude.{◌≡◌, ℕ, zero, suc, max, List, [], ◌∷◌, ◌++◌, slice_get, ◌==◌, if◌then◌else◌, Some, Result, Ok, Err}
 use Rattle.std.specs.Option.{option_map_or}
 use Rattle.fabric_model.specs.declared.cable.NodePort.{NodePort}
@@ -23,7 +23,7 @@ use Rattle.schedule_world.specs.Commands.{after_command, after_commands, seat_at
 use Rattle.schedule_world.specs.Flights.{serial_of}
 use Rattle.schedule_world.specs.World.{SeatedValue, WorldValue, after_fabric_call}
 
--- what a manager took in: its sightings, and the greatest floor that it was given, or 1
+-- the account of a manager: the sightings that it took in, and the greatest floor that it was given, or 1
 pub record Account : Type 0 where
   pub told : Sightings
   pub floor : ℕ
@@ -61,7 +61,7 @@ told_by_packet w accounts packet seat =
 abbrev pub told_at : WorldValue → Accounts → NodePort → Packet → Accounts
 told_at w accounts p packet = option_map_or (told_by_packet w accounts packet) (seat_at w p) accounts
 
--- the accounts once a delivery has handed a packet up; unchanged if it has not
+-- the accounts once a delivery has handed a packet up; unchanged if the delivery has handed none up
 abbrev pub told_by_delivery : WorldValue → Accounts → Result Delivered FabricFault → Accounts
 told_by_delivery w accounts (Ok (delivered_is.ToManager p packet)) = told_at w accounts p packet
 told_by_delivery w accounts (Ok (delivered_is.Moved serial)) = accounts
@@ -78,7 +78,7 @@ told_by_step w accounts serial = let called =
 abbrev pub told_by_deliver : WorldValue → Accounts → Which → Accounts
 told_by_deliver w accounts which = option_map_or (told_by_step w accounts) (serial_of w.fabric.flights which) accounts
 
--- the accounts once the packet with the least serial number has taken one step, at most `most` times
+-- the accounts once, at most `most` times, the packet with the least serial number has taken one step
 abbrev pub told_by_drain : WorldValue → Accounts → ℕ → Accounts
 told_by_drain w accounts zero = accounts
 told_by_drain w accounts (suc most) =
@@ -116,7 +116,7 @@ abbrev pub world_after : Planning → Layout → Script → WorldValue
 world_after planning topology script =
     (after_commands topology.nodes (world_of planning topology script.seats) script.commands).now
 
--- what the manager in a seat has taken in after a schedule has run
+-- the account of the manager in a seat after a schedule has run
 abbrev pub account_after : Planning → Layout → Script → ℕ → Account
 account_after planning topology script =
     told_by_commands topology.nodes (world_of planning topology script.seats) opened script.commands

@@ -101,8 +101,8 @@ at_end nodes w between after = (after_commands nodes (at_first_steps nodes w bet
 abbrev pub IsOnly : WorldValue → SeatedValue → Manager → Type 0
 IsOnly w s manager = w.managers ≡ record s { manager = manager } ∷ []
 
--- One new manager sits on a fabric of distinct GUIDs where no packet is on its way. It is told to sweep and later, when
--- the sweep has every answer, to write; in the end its plan is written.
+-- one new manager sits on a fabric of distinct GUIDs where no packet is on its way. The manager is called to sweep and
+-- later, when the sweep has every answer, to write. In the end its plan is written
 pub record BringsUpAlone (nodes : List Node) (w : WorldValue) (s : SeatedValue) (between after : List SeatCommand) :
     Type 0 where
   pub port_guid : ℕ
@@ -134,8 +134,8 @@ pub record BringsUpAlone (nodes : List Node) (w : WorldValue) (s : SeatedValue) 
   pub only_at_end : IsOnly (at_end nodes w between after) s writer
   pub written : shown_of (at_end nodes w between after) 0 Written ≡ written_line (Some s.name) true
 
--- after a run in which one manager brings its subnet up, each `ping` from an end port that is joined to its port, for
--- each LID of the plan, prints that it reached the LID's owner
+-- after a run in which one manager brings its subnet up, each `ping` from an end port that is joined to the manager's
+-- port, for each LID of the plan, prints that it reached the LID's owner
 abbrev pub RunsOfOneAreReached : Type 0
 RunsOfOneAreReached = (nodes : List Node) (w : WorldValue) (s : SeatedValue) (between after : List SeatCommand)
     → (b : BringsUpAlone nodes w s between after)

@@ -1,4 +1,4 @@
--- What managers print alike that took in the same sightings, and what `written` and `progress` say.
+-- Managers that took in the same sightings print the same facts and plans. What `written`, `progress` and `silent` say.
 use Rattle.lft_blocks.specs.Planning.{Planning}
 use Rattle.std.specs.Prelude.{◌≡◌, ◌↔◌, ◌<◌, ◌^◌, ℕ, true, List, [], ◌∷◌, ◌++◌, length, slice_get, Some}
 use Rattle.topo_file.specs.Topology.{Layout}
@@ -19,7 +19,7 @@ use Rattle.run_laws.specs.Accounts.{account_after, world_after}
 abbrev pub and_lines : Script → List SeatCommand → Script
 and_lines script lines = record script { commands = script.commands ++ lines }
 
--- lines after a schedule do not change what it prints, and print what they print in the world that it leaves
+-- lines after a schedule leave its output as it is, and add what they print in the world that the schedule leaves
 abbrev pub LaterLinesComeBehind : Type 0
 LaterLinesComeBehind =
     (planning : Planning) (topology : Layout) (script : Script) (lines : List SeatCommand)
@@ -32,8 +32,8 @@ pub record TellTheSame (one other : WorldValue) (seat seat' : ℕ) : Type 0 wher
   pub facts : shown_of one seat Facts ≡ shown_of other seat' Facts
   pub plan : shown_of one seat Plan ≡ shown_of other seat' Plan
 
--- two managers of one run, or of two with the same rule of routing and LMC, print the same facts and plan if they took
--- in the same, in whatever order and however often, and have the same greatest floor
+-- two managers, of one run or of two with the same rule of routing and LMC, print the same facts and plan, if they took
+-- in the same sightings, in any order and each any number of times, and have the same greatest floor
 abbrev pub SameTakenInSameLines : Type 0
 SameTakenInSameLines =
     (planning : Planning) (topology topology' : Layout) (script script' : Script) (seat seat' : ℕ) → seat
@@ -50,7 +50,8 @@ pub record PrintsPlansAlike (planning : Planning) (topology : Layout) (script : 
       script_text planning topology (and_lines script (Show seat Plan ∷ Show other Plan ∷ []))
       ≡ script_text planning topology script ++ (plan ++ plan)
 
--- the plans of two managers of a run are printed alike if both took in the same and have the same greatest floor
+-- the plans of two managers of a run are printed alike if both took in the same sightings and have the same greatest
+-- floor
 abbrev pub SameTakenInPlansAlike : Type 0
 SameTakenInPlansAlike =
     (planning : Planning) (topology : Layout) (script : Script) (seat other : ℕ) → seat < length script.seats → other
@@ -74,7 +75,7 @@ WrittenLinesTell =
     → (shown_of w seat Written ≡ written_line (Some s.name) true) ↔ (is_written s.manager ≡ true)
 
 -- `progress` and `silent` print that the manager's sweep is done, with `unanswered` requests without an answer, all of
--- them to managers, and no port that leads too far
+-- them to managers, and that no request was left out because its path was too long
 pub record SayAllAnswered (w : WorldValue) (seat : ℕ) (name : List ℕ) (unanswered : ℕ) : Type 0 where
   pub few : unanswered < 2 ^ 64
   pub progress : shown_of w seat Progress ≡ progress_line (Some name) (Done unanswered 0)

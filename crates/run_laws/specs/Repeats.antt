@@ -6,7 +6,7 @@ use Rattle.sm_cli.specs.declared.asked.RuleAsked.{RuleAsked}
 use Rattle.schedule_world.specs.Commands.{run_text}
 use Rattle.schedule_run.specs.Run.{HasRun, schedule_source, topology_source}
 
--- if a run ends well, exactly `run_text` was written of the texts that its sources of topology and schedule held when
+-- a run that ends well has written exactly `run_text` of the texts that its sources of topology and schedule held when
 -- it began
 abbrev pub TextsDecideOutput : {S W : Type 0} → (S → SourceState) → (W → Option (List ℕ)) → Type 0
 TextsDecideOutput {S} {W} state written =

@@ -54,7 +54,7 @@ sm_key_in (word ∷ key ∷ []) =
     if bytes_eq word (codes "live") then option_map (λ k. Some k) (number_up_to (2 ^ 64 - 1) key) else None
 sm_key_in _ = None
 
--- a new manager: its name, its port, its priority and its SM_Key; None if the words are others
+-- a new manager: its name, its port, its priority and its SM_Key; None for other words
 abbrev pub new_manager : List (List ℕ) → Option NewManager
 new_manager (name ∷ at ∷ priority ∷ more) =
     option_and_then (λ n. option_and_then (λ p. option_and_then
@@ -64,7 +64,7 @@ new_manager _ = None
 
 -- commands of one word -----------------------------------------------------------------------
 
--- the command of the one word `word`; None if there is none
+-- the command of the one word `word`; None if `word` is no command
 abbrev pub bare_of : List ℕ → Option NamedCommand
 bare_of word =
     if bytes_eq word (codes "tables") then Some command.Tables
@@ -75,15 +75,16 @@ bare_of word =
 
 -- commands of two words --------------------------------------------------------------------------
 
--- the command that asks the manager `name` for something; None if `name` is no name of a manager
+-- the command that asks the manager `name` for `what`; None if `name` is no name of a manager
 abbrev pub ask : Ask → List ℕ → Option NamedCommand
 ask what name = option_map (λ manager. command.Ask manager what) (manager_name_in name)
 
--- the command that shows something of the manager `name`; None if `name` is no name of a manager
+-- the command that shows `what` of the manager `name`; None if `name` is no name of a manager
 abbrev pub show : Shown → List ℕ → Option NamedCommand
 show what name = option_map (λ manager. command.Show manager what) (manager_name_in name)
 
--- a command to the manager `name`, by its first word; None if there is none
+-- the command with the first word `word` about the manager `name`; None if there is none, or `name` is no name of a
+-- manager
 abbrev pub to_manager : List ℕ → List ℕ → Option NamedCommand
 to_manager word name =
     option_map_or (λ what. ask what name) (asked_by word)
@@ -94,7 +95,7 @@ to_manager word name =
 abbrev pub packet : Fate → List ℕ → Option NamedCommand
 packet fate which = option_map (λ w. command.Packet w fate) (which_of which)
 
--- any command of the two words `word` and `arg`; None if there is none
+-- any command of the two words `word` and `arg`; None if they are no command
 abbrev pub of_one : List ℕ → List ℕ → Option NamedCommand
 of_one word arg =
     if bytes_eq word (codes "deliver") then packet Deliver arg
@@ -110,25 +111,25 @@ of_one word arg =
 abbrev pub merge : List ℕ → List ℕ → Option NamedCommand
 merge one other = option_and_then (λ m. option_map (command.Merge m) (manager_name_in other)) (manager_name_in one)
 
--- `poll` with a manager and a LID; None if one of the words is wrong
+-- `poll` with a manager and a LID; None if `name` is no name of a manager, or `lid` is no LID
 abbrev pub poll : List ℕ → List ℕ → Option NamedCommand
 poll name lid =
     option_and_then (λ m. option_map (λ n. command.Ask m (Poll (Some n))) (lid_of lid)) (manager_name_in name)
 
--- `floor` with a manager and a generation; None if one of the words is wrong
+-- `floor` with a manager and a generation; None if `name` is no name of a manager, or `generation` is no generation
 abbrev pub floor : List ℕ → List ℕ → Option NamedCommand
 floor name generation =
     option_and_then (λ m. option_map (command.Floor m) (generation_of generation)) (manager_name_in name)
 
--- `plug` with two ports; None if one of the words is wrong
+-- `plug` with two ports; None if `one` or `other` names no port
 abbrev pub plug : List ℕ → List ℕ → Option NamedCommand
 plug one other = option_and_then (λ p. option_map (command.Plug p) (port_name other)) (port_name one)
 
--- `ping` with a port and a LID; None if one of the words is wrong
+-- `ping` with a port and a LID; None if `port` names no port, or `lid` is no LID
 abbrev pub ping : List ℕ → List ℕ → Option NamedCommand
 ping port lid = option_and_then (λ p. option_map (command.Ping p) (lid_of lid)) (port_name port)
 
--- any command of three words; None if there is none
+-- any command of three words; None if they are no command
 abbrev pub of_two : List ℕ → List ℕ → List ℕ → Option NamedCommand
 of_two word one other =
     if bytes_eq word (codes "merge") then merge one other
@@ -140,7 +141,7 @@ of_two word one other =
 
 -- the words of commands ---------------------------------------------------------------------
 
--- a port, with the name of its node
+-- the word for a port: the name of its node in quotes, and its number in brackets
 abbrev pub port_word : PortName → List ℕ
 port_word p = named_text p.node p.port
 
@@ -197,7 +198,7 @@ named_words command.Flight = codes "flight" ∷ []
 
 -- lines ----------------------------------------------------------------------------------------
 
--- the command of the word `word` and the words after it; None if there is none
+-- the command of the word `word` and the words after it; None if they are no command
 abbrev pub command_in : List ℕ → List (List ℕ) → Option NamedCommand
 command_in word [] = bare_of word
 command_in word (arg ∷ []) = of_one word arg

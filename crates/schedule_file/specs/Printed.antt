@@ -11,11 +11,11 @@ use Rattle.schedule_file.specs.declared.schedule.Seat.{Seat}
 use Rattle.schedule_file.specs.Command.{named_words, port_word, sm_key_words}
 use Rattle.schedule_file.specs.Schedule.{Script, SeatCommand, schedule_of}
 
--- the name of the manager at the index `seat`; empty if there is none
+-- the name of the manager at the index `seat`; empty if there is no such manager
 abbrev pub manager_at : List Seat → ℕ → List ℕ
 manager_at seats seat = option_map_or (λ s. s.name) (slice_get seats seat) []
 
--- a port with the name of its node
+-- the port `p`, with its node named by its name in `nodes`, not by its index
 abbrev pub port_at : List Node → NodePort → PortName
 port_at nodes p = record { node = name_at nodes p.node; port = p.port }
 
@@ -23,7 +23,7 @@ port_at nodes p = record { node = name_at nodes p.node; port = p.port }
 abbrev pub seat_words : List Node → Seat → List (List ℕ)
 seat_words nodes s = codes "manager" ∷ s.name ∷ port_word (port_at nodes s.at) ∷ decimal s.priority ∷ sm_key_words s.sm_key
 
--- the words of a command as it is run
+-- the words of a command's line, with the names of its managers and nodes
 abbrev pub command_words : List Node → List Seat → SeatCommand → List (List ℕ)
 command_words nodes seats (command.Manager seat) = option_map_or (seat_words nodes) (slice_get seats seat) []
 command_words nodes seats (command.Ask seat what) = named_words (command.Ask (manager_at seats seat) what)

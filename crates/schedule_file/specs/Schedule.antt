@@ -26,7 +26,7 @@ use Rattle.schedule_file.specs.Command.{NamedCommand, line_of}
 abbrev pub SeatCommand : Type 0
 SeatCommand = Command ℕ NodePort
 
--- the managers and the commands
+-- a schedule: its managers with their seats, and its commands, in the order of their lines
 pub record Script : Type 0 where
   pub seats : List Seat
   pub commands : List SeatCommand
@@ -37,7 +37,7 @@ abbrev pub ◌>>=◌ : {A B : Type 0} → Result A ScheduleFault → (A → Resu
 (Ok value) >>= next = next value
 (Err fault) >>= next = Err fault
 
--- the index of the manager with the name `name`; None if there is none
+-- the index of the manager with the name `name`; None if no manager has this name
 abbrev pub seat_of : List Seat → List ℕ → Option ℕ
 seat_of seats name = position (λ seat. bytes_eq seat.name name) seats
 
@@ -49,7 +49,7 @@ is_taken seats p = list_any (λ seat. is_same_port seat.at p) seats
 abbrev pub may_seat : Node → ℕ → Bool
 may_seat node port = not (is_switch node.kind) && is_within port node.ports
 
--- a manager may sit at the port `p`: one of an adapter of `nodes`
+-- a manager may sit at the port `p`: it is a port of an adapter of `nodes`
 abbrev pub is_seat : List Node → NodePort → Bool
 is_seat nodes p = option_map_or (λ node. may_seat node p.port) (slice_get nodes p.node) false
 
@@ -57,7 +57,8 @@ is_seat nodes p = option_map_or (λ node. may_seat node p.port) (slice_get nodes
 abbrev pub is_free : List Node → List Seat → NodePort → Bool
 is_free nodes seats p = is_seat nodes p && not (is_taken seats p)
 
--- the port that `name` names; None if no node has its node's name; whether the node has the port is left open
+-- the port that `name` names, whether or not its node has a port of that number; None if no node has the node name in
+-- `name`
 abbrev pub port_of : List Node → PortName → Option NodePort
 port_of nodes name = option_map (λ id. record { node = id; port = name.port }) (id_of nodes name.node)
 
@@ -90,8 +91,8 @@ where_known number None = Err (fault.Name number)
 abbrev pub with_command : Script → SeatCommand → Script
 with_command before command = record before { commands = before.commands ++ command ∷ [] }
 
--- the seat of the new manager `new` at a port, if a manager may sit there and none does; otherwise, or if the port is
--- unknown (None), the fault of the line `number`
+-- the seat of the new manager `new` at a port, or the fault of the line `number`: the port is unknown (None), taken, or
+-- no adapter's
 abbrev pub seat_at : List Node → List Seat → ℕ → NewManager → Option NodePort → Result Seat ScheduleFault
 seat_at nodes seats number new (Some p) =
     if is_free nodes seats p then Ok (record { name = new.name; at = p; priority = new.priority; sm_key = new.sm_key })
@@ -114,7 +115,7 @@ with_seat before seat =
           ∷ [];
     }
 
--- `before`, the schedule so far, with what the line `number` adds, or its fault
+-- `before`, the schedule so far, with what the line `number` adds, or that line's fault
 abbrev pub with_line : List Node → ℕ → Script → Option ScheduleLine → Result Script ScheduleFault
 with_line nodes number before None = Err (fault.Syntax number)
 with_line nodes number before (Some line.Empty) = Ok before

@@ -3,17 +3,17 @@ use Rattle.std.specs.Prelude.{◌≡◌, ℕ, List, Option, None, Some, Result, 
 use Rattle.schedule_file.specs.declared.fault.ScheduleFault.{ScheduleFault}
 use Rattle.schedule_file.specs.declared.fault.ScheduleFault.TheVariants.{Syntax, Name, Seat, Memory}
 
--- a call is refused for a fault: that in `told`, or lack of memory
+-- a call is refused for the given fault: lack of memory, or else the fault in `told`
 abbrev pub IsRefused : {T : Type 0} → ScheduleFault → Result T ScheduleFault → Type 0
 IsRefused Memory told = Unit {0}
 IsRefused fault told = told ≡ Err fault
 
--- the result of a call is `told`, a value or the first fault, unless memory ran out
+-- the result of a call is `told`, a value or the first fault, or it is lack of memory
 abbrev pub Reads : {T : Type 0} → Result T ScheduleFault → Result T ScheduleFault → Type 0
 Reads (Ok value) told = told ≡ Ok value
 Reads (Err fault) told = IsRefused fault told
 
--- what is written about the fault, without its line
+-- the word that is written for the fault
 abbrev pub fault_word : ScheduleFault → List ℕ
 fault_word (Syntax line) = codes "syntax"
 fault_word (Name line) = codes "name"

@@ -9,17 +9,17 @@ pub enum Command<M, P> {
     Manager(M),
     /// Asks a manager for something, which it may refuse.
     Ask(M, Ask),
-    /// Makes a manager stop waiting for all answers.
+    /// Makes a manager give up each request that waits for its answer.
     Timeout(M),
-    /// Makes a manager forget what is older than the generation.
+    /// Makes a manager forget the facts that are older than the generation.
     Floor(M, Generation),
-    /// Merges the facts of the second manager into those of the first.
+    /// Makes the first manager take in all that the second one knows, and the floor of the second if that is greater.
     Merge(M, M),
     /// Shows something of a manager.
     Show(M, Shown),
     /// Delivers, loses or duplicates a packet in flight.
     Packet(Which, Fate),
-    /// Delivers at most this many packets, up to 1,000,000.
+    /// Takes a step of the packet in flight with the least serial number, at most this many times, up to 1,000,000.
     Drain(u32),
     /// Cuts the cable in the port.
     Cut(P),
@@ -29,7 +29,7 @@ pub enum Command<M, P> {
     Traps,
     /// Sends the waiting traps again.
     Resend,
-    /// Sends a packet from the port to the LID.
+    /// Shows how the tables would forward a packet from the port to the LID.
     Ping(P, Lid),
     /// Shows the forwarding tables.
     Tables,
@@ -42,46 +42,46 @@ pub enum Command<M, P> {
 pub enum Ask {
     /// A sweep of the fabric.
     Sweep,
-    /// A write of the plan that follows from what it knows.
+    /// A writing of the plan that follows from what the manager knows.
     Write,
-    /// A handover to its successor among the managers that its last sweep saw.
+    /// A HANDOVER to the manager's successor among the managers that its last sweep saw.
     Handover,
-    /// A poll of the manager at the LID or, without a LID, of a manager that its last sweep saw.
+    /// A poll of the manager at the LID; without a LID, of a manager that the last sweep saw.
     Poll(Option<Lid>),
 }
 
 /// What is shown of a manager.
 #[derive(Clone, Copy, PartialEq, Eq)]
 pub enum Shown {
-    /// Its facts.
+    /// The manager's facts.
     Facts,
-    /// Its plan.
+    /// The manager's plan.
     Plan,
-    /// The progress of its sweep.
+    /// The progress of the manager's sweep.
     Progress,
-    /// The number of requests for SMInfo in its last sweep that were not answered.
+    /// The number of requests for SMInfo in the manager's last sweep that were given up.
     Silent,
-    /// Whether the plan that it wrote last is written.
+    /// Whether the plan of the manager's last writing counts as written.
     Written,
-    /// Its state.
+    /// The manager's state.
     State,
 }
 
 /// What happens to a packet in flight.
 #[derive(Clone, Copy, PartialEq, Eq)]
 pub enum Fate {
-    /// It takes one step: it moves over a wire, is answered, is handed to a manager, or is discarded.
+    /// The packet takes one step: it moves over a wire, is answered, is handed to a manager, or is discarded.
     Deliver,
-    /// It is lost.
+    /// The packet is lost.
     Lose,
-    /// It is duplicated: a copy of it is in flight as well.
+    /// A copy of the packet is in flight as well.
     Repeat,
 }
 
 /// Which packet in flight is meant.
 #[derive(Clone, Copy, PartialEq, Eq)]
 pub enum Which {
-    /// The packet in flight that was sent last.
+    /// The packet in flight with the greatest serial number.
     Last,
     /// The packet with the serial number.
     Serial(u64),

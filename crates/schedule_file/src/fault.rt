@@ -4,14 +4,14 @@ use std::alloc::{AllocError, AllocFailed};
 use std::error::Error;
 use std::fmt;
 
-/// Why a text is not a schedule, in the order of checks of each line. Lines count from 1.
+/// Why a text is not a schedule. The variants are in the order of a line's checks. Lines are counted from 1.
 #[derive(Clone, Copy, Debug, PartialEq, Eq)]
 pub enum ScheduleFault {
     /// The line is not in the grammar, or a number in it is out of its range.
     Syntax { line: usize },
-    /// No node, or no manager above, has the name, or a new manager's name is taken.
+    /// No node has the name, no manager of an earlier line has the name, or a new manager's name is taken.
     Name { line: usize },
-    /// A new manager is at a switch, at a port that the node does not have, or where a manager sits.
+    /// A new manager is at a switch, at a port that the adapter does not have, or at a port with a manager already.
     Seat { line: usize },
     /// Memory ran out.
     Memory,

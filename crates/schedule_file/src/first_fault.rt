@@ -13,10 +13,11 @@ use arrayvec::ArrayVec;
 use text_words::split_line;
 use topo_file::Topology;
 
-/// The managers so far, as many as can be stored without memory from the allocator.
+/// The managers so far, at most 64, which take no memory from the allocator.
 type Seats = ArrayVec<Seat, 64>;
 
-/// Returns the first fault of a text. Returns `None` if there is none, or if more than 64 managers come before it.
+/// Returns the first fault of `text`. Returns `None` if `text` has no fault, or has more than 64 managers before its
+/// first fault.
 pub(crate) fn first_fault(topology: &Topology, text: &[u8]) -> Option<ScheduleFault>
     ensures found { IfSome result (λ fault.
         fault_of (schedule_of_lines topology.now.nodes (lines text.now)) ≡ Some fault) }
@@ -36,8 +37,8 @@ pub(crate) fn first_fault(topology: &Topology, text: &[u8]) -> Option<ScheduleFa
     None
 }
 
-/// Checks the line `number`, given the managers above, and adds its manager, if it has one. Returns the line's fault if
-/// it has one, and `false` if there is no room for the manager.
+/// Checks `line`, whose number is `number`, given `seats`, the managers above. If the line has a new manager, appends
+/// it to `seats`. Returns the line's fault if it has one, and `false` if `seats` has no room for the manager.
 fn judge_line(
     topology: &Topology,
     seats: &mut Seats,

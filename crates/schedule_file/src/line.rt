@@ -9,7 +9,7 @@ use crate::numbers::{number_up_to, serial};
 use attr_codec::Priority;
 use text_words::{is_word, split_word};
 
-/// What a line says.
+/// What a line of a schedule says: nothing, a new manager or a command.
 #[derive(Drop)]
 pub(crate) enum ScheduleLine {
     Empty,
@@ -57,8 +57,8 @@ fn new_manager(line: &[u8]) -> Option<NewManager>
     })
 }
 
-/// Parses what follows the priority of a new manager: nothing, or `live` and an SM_Key in decimal. The inner value is
-/// `None` if nothing follows. Returns `None` for anything else.
+/// Parses `line`, what follows the priority of a new manager: nothing, or `live` and an SM_Key in decimal. The inner
+/// value is `None` if nothing follows. Returns `None` for anything else.
 fn sm_key_in(line: &[u8]) -> Option<Option<u64>>
     ensures { result ≡ sm_key_in (words line.now) }
 {
@@ -73,7 +73,7 @@ fn sm_key_in(line: &[u8]) -> Option<Option<u64>>
     }
 }
 
-/// Parses a priority in decimal. Returns `None` if `word` is none, or is over 15.
+/// Parses a priority in decimal. Returns `None` if `word` is no decimal number, or is over 15.
 fn priority_of(word: &[u8]) -> Option<Priority>
     ensures { result ≡ number_up_to 15 word.now }
 {

@@ -25,7 +25,7 @@ impl Model for ManagerName {
 }
 
 impl ManagerName {
-    /// Returns `name` as a manager's name, or `None` if it is not one.
+    /// Returns `name` as a manager's name, or `None` unless `name` is 1 to 16 ASCII letters and digits.
     pub fn new(name: &[u8]) -> Option<Self>
         ensures { result ≡ manager_name_in name.now }
     {
@@ -44,7 +44,7 @@ impl ManagerName {
         self.text.as_str()
     }
 
-    /// Returns whether the two names are equal.
+    /// Returns whether `self` and `other` are equal.
     pub(crate) fn is(&self, other: &ManagerName) -> bool
         ensures { result ≡ bytes_eq self.now other.now }
     {
@@ -52,7 +52,7 @@ impl ManagerName {
     }
 }
 
-/// The value of the unused slots of a vector of fixed capacity.
+/// The name `0`, which fills the unused slots of a vector of fixed capacity.
 impl Default for ManagerName {
     fn default() -> Self {
         ManagerName { text: text(b"0") }
@@ -66,7 +66,7 @@ fn is_manager_name(name: &[u8]) -> bool
     !name.is_empty() && name.len() <= 16 && are_letters_and_digits(name)
 }
 
-/// Returns whether all bytes are ASCII letters or digits.
+/// Returns whether each of `bytes` is an ASCII letter or digit.
 fn are_letters_and_digits(bytes: &[u8]) -> bool
     ensures { result ≡ list_all is_ascii_alphanumeric bytes.now }
 {

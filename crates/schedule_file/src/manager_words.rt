@@ -7,7 +7,8 @@ use crate::numbers::number_up_to;
 use smp_bytes::{Generation, Lid};
 use text_words::is_word;
 
-/// Returns the request that `word` alone makes to a manager, or `None` if it makes none.
+/// Returns the request that `word` makes to a manager if only the manager's name follows, or `None` if `word` makes
+/// none.
 pub fn asked_by(word: &[u8]) -> Option<Ask>
     ensures { result ≡ asked_by word.now }
 {
@@ -24,7 +25,7 @@ pub fn asked_by(word: &[u8]) -> Option<Ask>
     }
 }
 
-/// Returns what `word` shows of a manager, or `None` if it shows nothing.
+/// Returns what `word` shows of a manager, or `None` if `word` shows nothing.
 pub fn shown_by(word: &[u8]) -> Option<Shown>
     ensures { result ≡ shown_by word.now }
 {
@@ -45,14 +46,14 @@ pub fn shown_by(word: &[u8]) -> Option<Shown>
     }
 }
 
-/// Parses a LID in decimal. Returns `None` if `word` is none, or is over 65,535.
+/// Parses a LID in decimal. Returns `None` if `word` is no decimal number, or is over 65,535.
 pub fn lid_of(word: &[u8]) -> Option<Lid>
     ensures { result ≡ lid_of word.now }
 {
     Some(Lid::new(number_up_to(word, 0xFFFF)? as u16))
 }
 
-/// Parses a generation in decimal. Returns `None` if `word` is none, or is not from 1 to 4,294,967,295.
+/// Parses a generation in decimal. Returns `None` if `word` is no decimal number, or is not from 1 to 4,294,967,295.
 pub fn generation_of(word: &[u8]) -> Option<Generation>
     ensures { result ≡ generation_of word.now }
 {

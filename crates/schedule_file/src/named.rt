@@ -19,10 +19,12 @@ pub(crate) struct PortName {
     pub(crate) port: PortNum,
 }
 
-/// A command as its line gives it. A `manager` line says more, and becomes a command when its seat is found.
+/// A command as its line gives it. A new manager's line is a `NewManager` instead, and becomes a command when its seat
+/// is found.
 pub(crate) type NamedCommand = Command<ManagerName, PortName>;
 
-/// Parses a command from its first word and the rest of its line. Returns `None` if the grammar has no such command.
+/// Parses a command from `word`, the first word of its line, and `line`, the rest. Returns `None` if the grammar has no
+/// such command.
 pub(crate) fn named_command(word: &[u8], line: &[u8]) -> Option<NamedCommand>
     ensures { result ≡ command_in word.now (words line.now) }
 {
@@ -38,7 +40,7 @@ pub(crate) fn named_command(word: &[u8], line: &[u8]) -> Option<NamedCommand>
     of_two(word, one, other)
 }
 
-/// Parses a command of one word, other than `manager`.
+/// Returns the command whose only word is `word`, or `None` if the grammar has no such command.
 fn bare(word: &[u8]) -> Option<NamedCommand>
     ensures { result ≡ bare_of word.now }
 {
@@ -55,7 +57,7 @@ fn bare(word: &[u8]) -> Option<NamedCommand>
     }
 }
 
-/// Parses a command of two words: the first, `word`, and `arg`.
+/// Parses the command of the two words `word` and `arg`. Returns `None` if the grammar has no such command.
 fn of_one(word: &[u8], arg: &[u8]) -> Option<NamedCommand>
     ensures { result ≡ of_one word.now arg.now }
 {
@@ -74,7 +76,7 @@ fn of_one(word: &[u8], arg: &[u8]) -> Option<NamedCommand>
     }
 }
 
-/// Parses a command of two words to one manager: the first, `word`, and the manager's name.
+/// Parses the command of two words, `word` and a manager's name. Returns `None` if the grammar has no such command.
 fn to_manager(word: &[u8], name: &[u8]) -> Option<NamedCommand>
     ensures { result ≡ to_manager word.now name.now }
 {
@@ -87,7 +89,7 @@ fn to_manager(word: &[u8], name: &[u8]) -> Option<NamedCommand>
     }
 }
 
-/// Parses a command of three words, other than `manager`.
+/// Parses the command of the three words `word`, `one` and `other`. Returns `None` if the grammar has no such command.
 fn of_two(word: &[u8], one: &[u8], other: &[u8]) -> Option<NamedCommand>
     ensures { result ≡ of_two word.now one.now other.now }
 {
@@ -159,7 +161,8 @@ fn ping(port: &[u8], lid: &[u8]) -> Option<NamedCommand>
     Some(Command::Ping(port, lid_of(lid)?))
 }
 
-/// Parses which packet in flight is meant: `last`, or a serial number.
+/// Parses `word` as the name of a packet in flight: `last`, or a serial number in decimal. Returns `None` for anything
+/// else.
 fn which(word: &[u8]) -> Option<Which>
     ensures { result ≡ which_of word.now }
 {
@@ -192,7 +195,7 @@ fn bracketed_number(word: &[u8]) -> Option<u8>
     Some(number_up_to(port, 255)? as u8)
 }
 
-/// Splits a line into its two words. Returns `None` if it has more or fewer.
+/// Splits `line` into two words. Returns `None` if `line` has more words, or fewer.
 pub(crate) fn pair(line: &[u8]) -> Option<(&[u8], &[u8])>
     ensures { option_map (λ x. (x.0.now, x.1.now)) result ≡ pair (words line.now) }
 {

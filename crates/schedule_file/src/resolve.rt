@@ -12,7 +12,7 @@ use fabric_model::NodePort;
 use smp_bytes::PortNum;
 use topo_file::{Node, Topology};
 
-/// A command as it is run: managers by the indices of their seats, from 0, and nodes by their indices.
+/// A command as it is run: managers by the indices of their seats, from 0, and nodes by their ids.
 pub type SeatCommand = Command<usize, NodePort>;
 
 /// Resolves the names in the command of the line `line`.
@@ -34,7 +34,7 @@ pub(crate) fn resolve(
     }
 }
 
-/// Resolves the names in a command. Returns `None` if one is unknown.
+/// Resolves the names in `command`. Returns `None` if a name is unknown.
 fn command_of(topology: &Topology, seats: &[Seat], command: NamedCommand) -> Option<SeatCommand>
     ensures { result ≡ command_of topology.now.nodes seats.now command }
 {
@@ -63,16 +63,16 @@ fn command_of(topology: &Topology, seats: &[Seat], command: NamedCommand) -> Opt
     })
 }
 
-/// Returns the index of the manager with the name `name`, or `None` if there is none. Takes time linear in the number
-/// of managers.
+/// Returns the index of the manager with the name `name`, or `None` if no manager has this name. Takes time linear in
+/// the number of managers.
 pub(crate) fn seat(seats: &[Seat], name: &ManagerName) -> Option<usize>
     ensures { result ≡ seat_of seats.now name.now }
 {
     seats.iter().position(|seat| seat.name.is(name))
 }
 
-/// Returns the port with the name `name`, or `None` if no node has the name of its node. The node need not have the
-/// port.
+/// Returns the port with the name `name`, or `None` if the topology has no node of that name. The node need not have
+/// the port.
 pub(crate) fn port(topology: &Topology, name: &PortName) -> Option<NodePort>
     ensures { result ≡ port_of topology.now.nodes name.now }
 {
@@ -82,7 +82,7 @@ pub(crate) fn port(topology: &Topology, name: &PortName) -> Option<NodePort>
     })
 }
 
-/// Returns whether a manager may sit at `port`, and none does. Takes time linear in the number of managers.
+/// Returns whether a manager may sit at `port`, and no manager does. Takes time linear in the number of managers.
 pub(crate) fn is_free(topology: &Topology, seats: &[Seat], port: &NodePort) -> bool
     ensures { result ≡ is_free topology.now.nodes seats.now port.now }
 {

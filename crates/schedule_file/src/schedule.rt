@@ -19,18 +19,18 @@ use std::marker::Model;
 use text_words::split_line;
 use topo_file::Topology;
 
-/// A subnet manager as its line adds it.
+/// A subnet manager as its line in the schedule gives it.
 #[derive(Drop)]
 pub struct Seat {
     pub name: ManagerName,
-    /// The port at which it sits.
+    /// The port at which the manager sits.
     pub at: NodePort,
     pub priority: Priority,
     /// The SM_Key of a manager by the live conduct; `None` for a plain manager.
     pub sm_key: Option<u64>,
 }
 
-/// The value of the unused slots of a vector of fixed capacity.
+/// A seat that fills the unused slots of a vector of fixed capacity.
 impl Default for Seat {
     fn default() -> Self {
         Seat {
@@ -85,7 +85,7 @@ impl Schedule {
         }
     }
 
-    /// Adds the next line, whose number is `number`, or returns its fault.
+    /// Adds `line`, whose number is `number`. Returns the line's fault if it has one, and `Memory` if memory runs out.
     fn with(self, topology: &Topology, number: usize, line: &[u8]) -> Result<Self, ScheduleFault>
         ensures { Reads result (with_line topology.now.nodes number self (line_of line.now)) }
     {
@@ -119,8 +119,9 @@ fn and_one<T: Drop>(items: Vec<T>, item: T) -> Result<Vec<T>, ScheduleFault>
     Ok(items)
 }
 
-/// Builds the seat of the new manager of the line `line`. Returns `Name` if its name is taken or no node has the name
-/// of its node, and `Seat` if no manager may sit at its port, or one does.
+/// Builds the seat of the manager `new`, of the line `line`. Returns `Name` if the manager's name is taken, or if no
+/// node has the name in `new.at`. Otherwise returns `Seat` if no manager may sit at this port, or if a manager sits
+/// there already.
 pub(crate) fn new_seat(
     topology: &Topology,
     seats: &[Seat],
@@ -152,8 +153,8 @@ pub(crate) fn new_seat(
     })
 }
 
-/// Parses the text of a schedule for a fabric. Each line, which ends with LF or CR LF, is empty or a command. `#`
-/// outside quotes begins a comment:
+/// Parses the text of a schedule for a fabric. A line ends with LF or CR LF, and the last one may end with the text. A
+/// line is empty or a command. `#` outside quotes begins a comment:
 ///
 /// ```text
 /// manager A "H1"[1] 5
@@ -176,13 +177,14 @@ pub(crate) fn new_seat(
 /// | `ping "node"[port] LID` | LID 0 to 65,535 |
 /// | `traps`, `resend`, `tables`, `flight` | |
 ///
-/// A manager sits at an adapter's port, and has a name of 1 to 16 ASCII letters and digits, known from its line on.
-/// Takes time linear in the number of managers for each line, besides the time to find its nodes.
+/// A manager sits at an adapter's port. Its name is 1 to 16 ASCII letters and digits, and is known from its line on.
+/// Each line takes time linear in the number of managers, besides the time to parse it and to find its nodes.
 ///
 /// # Errors
 ///
-/// Returns the first fault. Returns `Memory` only if memory runs out, and no line has a fault or more than 64 managers
-/// come before the first fault: the lines are then checked again without memory, and only 64 managers can be stored.
+/// Returns the first fault. If memory runs out, the lines are checked again without memory from the allocator, with
+/// room for only 64 managers. So after `Memory` no line has a fault, or more than 64 managers come before the first
+/// fault.
 #[tactic(auto, using(crate::proofs::Scripts::told_is_script), unfolding(crate::specs::Schedule::schedule_of))]
 pub fn parse(alloc: Global, text: &str, topology: &Topology) -> Result<Schedule, ScheduleFault>
     ensures reads { Reads result (schedule_of topology.now.nodes text.now) }
@@ -200,7 +202,7 @@ pub fn parse(alloc: Global, text: &str, topology: &Topology) -> Result<Schedule,
     }
 }
 
-/// Parses the lines of a text, or returns the first fault.
+/// Parses the lines of `text`. Returns the first fault, and `Memory` if memory runs out.
 fn read_lines(alloc: Global, text: &[u8], topology: &Topology) -> Result<Schedule, ScheduleFault>
     ensures { Reads result (schedule_of_lines topology.now.nodes (lines text.now)) }
 {

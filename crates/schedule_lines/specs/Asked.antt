@@ -1,4 +1,4 @@
--- Requests to a manager, and what is shown about it.
+-- Requests to a manager, and what commands show about a manager.
 use Rattle.std.specs.Prelude.{ℕ, List, [], Option, None, Some}
 use Rattle.fact_store.specs.View.{cells_of}
 use Rattle.lft_blocks.specs.Plan.{plan_of}
@@ -19,7 +19,8 @@ use Rattle.sm_manager.specs.declared.fault.ManagerFault.{ManagerFault}
 use Rattle.schedule_lines.specs.Lines.{progress_line, silent_line, state_line, written_line}
 use Rattle.schedule_lines.specs.Refusals.{refusal_line}
 
--- the fault for which a manager refuses the request `sweep`, `write`, `handover` or `poll`; None if it does not
+-- the fault for which a manager refuses the request `sweep`, `write`, `handover` or `poll`; None if it may take the
+-- request
 abbrev pub asked_fault : Ask → Manager → Option ManagerFault
 asked_fault Sweep m = begin_fault m
 asked_fault Write m = writing_fault m
@@ -41,12 +42,13 @@ emptied m = record m { outgoing = [] }
 abbrev pub manager_line : ManagerFault → List ℕ
 manager_line fault = refusal_line (manager_fault_name fault)
 
--- the text of the plan by `planning`, or the line of the fault for which there is none
+-- the text of the plan of the facts `cells` by `planning`, or the line of the given fault
 abbrev pub plan_or_refusal : Planning → Cells → Option ManagerFault → List ℕ
 plan_or_refusal planning cells None = plan_text (plan_of planning.rule planning.lmc cells)
 plan_or_refusal planning cells (Some fault) = manager_line fault
 
--- what `facts`, `plan`, `progress`, `silent`, `written` or `state` shows about a manager, with its name if there is one
+-- what `facts`, `plan`, `progress`, `silent`, `written` or `state` shows about a manager; the last four of these show
+-- its name too, if it has one
 abbrev pub text_of : Shown → Option (List ℕ) → Manager → List ℕ
 text_of Facts name m = facts_text m.store
 text_of Plan name m =

@@ -27,7 +27,7 @@ stage_text Never = codes " never"
 stage_text (Running unanswered too_far) = codes " running" ++ counts_text unanswered too_far
 stage_text (Done unanswered too_far) = codes " done" ++ counts_text unanswered too_far
 
--- the name of a manager; None if there is none
+-- the borrowed name of a manager, as a value; None without a name
 abbrev pub name_of : Option (Bor (List ℕ)) → Option (List ℕ)
 name_of name = option_map (λ n. n.now) name
 
@@ -44,12 +44,12 @@ end_word word = codes " " ++ word ++ codes "\n"
 abbrev pub progress_line : Option (List ℕ) → Progress → List ℕ
 progress_line manager progress = head_text (codes "progress") manager ++ stage_text progress ++ codes "\n"
 
--- how many managers did not answer a sweep; for None, that there was no sweep
+-- how many managers did not answer a sweep; for None, that no sweep was begun
 abbrev pub silent_text : Option ℕ → List ℕ
 silent_text None = codes " never"
 silent_text (Some silent) = count_text (codes " ") silent
 
--- the line of how many managers did not answer the last sweep of a manager
+-- the line that says how many managers did not answer the last sweep of `manager`
 abbrev pub silent_line : Option (List ℕ) → Option ℕ → List ℕ
 silent_line manager silent = head_text (codes "silent") manager ++ silent_text silent ++ codes "\n"
 
@@ -58,7 +58,7 @@ abbrev pub answer_word : Bool → List ℕ
 answer_word true = codes "yes"
 answer_word false = codes "no"
 
--- the line of whether the plan of a manager is written
+-- the line that says whether the plan of `manager` is written
 abbrev pub written_line : Option (List ℕ) → Bool → List ℕ
 written_line manager written = head_text (codes "written") manager ++ end_word (answer_word written)
 
@@ -66,7 +66,7 @@ written_line manager written = head_text (codes "written") manager ++ end_word (
 abbrev pub state_line : Option (List ℕ) → SmState → List ℕ
 state_line manager state = head_text (codes "state") manager ++ end_word (state_word state)
 
--- the line of a manager that repressed a trap that a port with the LID `issuer` issued
+-- the line of a trap that `manager` repressed; `issuer` is the LID of the port that issued the trap
 abbrev pub trap_line : Option (List ℕ) → ℕ → List ℕ
 trap_line manager issuer = head_text (codes "trap") manager ++ count_text (codes " ") issuer ++ codes "\n"
 
@@ -79,16 +79,17 @@ trap_text manager (Some trap) = trap_line manager trap.issuer
 abbrev pub port_text : List Node → NodePort → List ℕ
 port_text nodes p = quoted_text (name_at nodes p.node) ++ bracketed_text p.port
 
--- the port that a packet is sent from, and its LID
+-- the beginning of a ping's line: the port that the packet is sent from, and the LID that it is sent to
 unfoldable pub start_text : List Node → NodePort → ℕ → List ℕ
 start_text nodes source lid = codes "ping " ++ port_text nodes source ++ codes " " ++ decimal lid
 
--- the port where a packet ends, or the node where it is lost
+-- the end of a ping's line: the port that the packet reaches and the number of wires that it takes, or the node where
+-- it is lost
 unfoldable pub end_text : List Node → Ping → List ℕ
 end_text nodes (Reached p hops) = codes " reached " ++ port_text nodes p ++ codes " hops " ++ decimal hops
 end_text nodes (Lost number) = codes " lost " ++ quoted_text (name_at nodes number)
 
--- the line of a packet: the port that it is sent from, its LID, and where it ends
+-- the line of a ping: the port that the packet is sent from, the LID that it is sent to, and where it ends
 abbrev pub ping_line : List Node → NodePort → ℕ → Ping → List ℕ
 ping_line nodes source lid ping = start_text nodes source lid ++ end_text nodes ping ++ codes "\n"
 

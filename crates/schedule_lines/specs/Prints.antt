@@ -1,4 +1,4 @@
--- What a run prints, and how much of it if the run ends before its schedule.
+-- What a run prints, and how much of it if the run fails before the end of its schedule.
 use Rattle.std.specs.Prelude.{◌≡◌, ℕ, Bool, false, List, ◌++◌, Option, Result, Ok, Err, IsTrue}
 use Rattle.std.specs.Io.KnownBytes.{Appends}
 use Rattle.schedule_lines.specs.declared.run_fault.RunFault.{RunFault}
@@ -18,8 +18,8 @@ pub record PrintsSome {W : Type 0} (written : W → Option (List ℕ)) (has_fail
   pub parts : front ++ rest ≡ text
   pub prints : Prints written has_failed old new front
 
--- by its result, a call prints `text`; if it ended for lack of memory, it printed a beginning of `text`; if for a
--- failed write, the output has failed
+-- what a call prints, by its result: `text` if it succeeds, and a beginning of `text` if it failed for lack of memory.
+-- If a write failed, the output has failed, and what was printed is left open
 abbrev pub PrintsUnless : {W T : Type 0} → (W → Option (List ℕ)) → (W → Bool) → Result T RunFault → W → W → List ℕ
     → Type 0
 PrintsUnless written has_failed (Ok value) old new text = Prints written has_failed old new text

@@ -9,7 +9,7 @@ use Rattle.fabric_sim.specs.Simulation.{Simulation}
 
 -- an order ---------------------------------------------------------------------------------------------
 
--- the list with `x` inserted before the first item that `before` does not put before it
+-- the list with `x` inserted before the first item that `before` does not put before `x`
 abbrev pub put_in_order : {X : Type 0} → (X → X → Bool) → X → List X → List X
 put_in_order before x [] = x ∷ []
 put_in_order before x (y ∷ ys) = if before y x then y ∷ put_in_order before x ys else x ∷ y ∷ ys

@@ -9,7 +9,7 @@ use schedule_file::Ask;
 use sm_manager::{Manager, ManagerFault};
 use std::alloc::{AllocError, Global};
 
-/// Makes the request `what` to `manager`, or returns why the manager refuses it. A refusal leaves the manager
+/// Makes the request `what` to `manager`. If the manager refuses the request, returns the reason and leaves the manager
 /// unchanged.
 pub fn ask_manager(manager: &mut Manager, what: Ask) -> Result<(), ManagerFault>
     ensures judged { JudgesButFor is_memory result (asked_fault what manager.old) }
@@ -24,7 +24,8 @@ pub fn ask_manager(manager: &mut Manager, what: Ask) -> Result<(), ManagerFault>
     }
 }
 
-/// Returns the TransactionIDs of the requests whose answers `manager` waits for, in rising order.
+/// Returns the TransactionIDs of the requests whose answers `manager` waits for, in rising order. Returns an error if
+/// memory runs out.
 pub fn waiting(alloc: Global, manager: &Manager) -> Result<Vec<u64>, AllocError>
     ensures { IfOk result (λ waiting. waiting.items ≡ outstanding manager.now) }
 {

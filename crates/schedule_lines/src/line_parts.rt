@@ -5,7 +5,7 @@ ghost use Rattle.schedule_lines.specs.Lines.{count_text};
 
 use byte_io::{Sink, WriteFault, write_number};
 
-/// Prints `words` and then `count`.
+/// Prints `words`, and then `count` in decimal.
 pub(crate) fn write_count<W: Sink>(sink: &mut W, words: &[u8], count: u64) -> Result<(), WriteFault>
     ensures writes { Writes W.written W.has_failed result sink.old sink.new
         (count_text words.now count) }

@@ -10,7 +10,7 @@ use sm_manager::Progress;
 use sm_state::SmState;
 use smp_bytes::Lid;
 
-/// Prints the progress of a manager's last sweep, with the manager's name if there is one.
+/// Prints the progress of a manager's last sweep, with the manager's name unless `manager` is `None`.
 pub fn write_progress<W: Sink>(
     sink: &mut W,
     manager: Option<&str>,
@@ -24,7 +24,7 @@ pub fn write_progress<W: Sink>(
     sink.write(b"\n")
 }
 
-/// Prints `word`, and then the name of a manager if there is one.
+/// Prints `word`, and then a space and the manager's name unless `manager` is `None`.
 fn write_head<W: Sink>(sink: &mut W, word: &[u8], manager: Option<&str>) -> Result<(), WriteFault>
     ensures writes { Writes W.written W.has_failed result sink.old sink.new
         (head_text word.now (name_of manager.entry)) }
@@ -58,7 +58,7 @@ fn write_stage<W: Sink>(sink: &mut W, progress: Progress) -> Result<(), WriteFau
 }
 
 /// Prints how many managers did not answer a manager's last sweep, or that there was no sweep if `silent` is `None`.
-/// The line has the manager's name if there is one.
+/// The line has the manager's name unless `manager` is `None`.
 pub fn write_silent<W: Sink>(
     sink: &mut W,
     manager: Option<&str>,
@@ -81,7 +81,7 @@ fn write_how_many<W: Sink>(sink: &mut W, silent: Option<u64>) -> Result<(), Writ
     }
 }
 
-/// Prints whether a manager's plan is written, with the manager's name if there is one.
+/// Prints whether a manager's plan is written, with the manager's name unless `manager` is `None`.
 pub fn write_written<W: Sink>(
     sink: &mut W,
     manager: Option<&str>,
@@ -107,7 +107,7 @@ fn answer_word(answer: bool) -> &'static str
     if answer { "yes" } else { "no" }
 }
 
-/// Prints a manager's state, with the manager's name if there is one.
+/// Prints a manager's state, with the manager's name unless `manager` is `None`.
 pub fn write_state<W: Sink>(
     sink: &mut W,
     manager: Option<&str>,
@@ -120,8 +120,8 @@ pub fn write_state<W: Sink>(
     write_end_word(sink, state.word())
 }
 
-/// Prints that a manager repressed a trap that a port with the LID `issuer` issued, with the manager's name if there is
-/// one.
+/// Prints that a manager repressed a trap that a port with the LID `issuer` issued, with the manager's name unless
+/// `manager` is `None`.
 pub(crate) fn write_trap<W: Sink>(
     sink: &mut W,
     manager: Option<&str>,
@@ -135,8 +135,8 @@ pub(crate) fn write_trap<W: Sink>(
     sink.write(b"\n")
 }
 
-/// Prints ` unanswered `, the number of requests that were not answered, ` toofar `, and the number of ports by which
-/// the sweep did not go on.
+/// Prints ` unanswered ` and the number of requests that were not answered, and then ` toofar ` and the number of ports
+/// by which the sweep did not go on.
 #[tactic(auto, unfolding(crate::specs::Lines::counts_text))]
 fn write_counts<W: Sink>(sink: &mut W, unanswered: u64, too_far: u64) -> Result<(), WriteFault>
     ensures writes { Writes W.written W.has_failed result sink.old sink.new

@@ -12,7 +12,7 @@ use fabric_sim::Ping;
 use smp_bytes::Lid;
 use topo_file::Topology;
 
-/// Returns the name of `node`, or an empty name if there is no such node.
+/// Returns the name of `node`, or an empty name if the topology has no such node.
 fn name_at(topology: &Topology, node: NodeId) -> &str
     ensures { result.now ≡ name_at topology.now.nodes node }
 {
@@ -22,8 +22,8 @@ fn name_at(topology: &Topology, node: NodeId) -> &str
     }
 }
 
-/// Prints the line of a packet from the port `from` to `lid`: where it is sent from, its LID, and the port where it
-/// ends or the node where it is lost.
+/// Prints the line of a packet that is sent from the port `from` to `lid`: the port, the LID, and then the port where
+/// the packet ends and the number of wires, or the node where it is lost.
 pub fn write_ping<W: Sink>(
     sink: &mut W,
     topology: &Topology,
@@ -54,7 +54,7 @@ fn write_start<W: Sink>(
     write_count(sink, b" ", u64::from(lid.number()))
 }
 
-/// Prints the port where a packet ends, and over how many wires, or the node where it is lost.
+/// Prints the port where a packet ends and the number of wires that it took, or the node where it is lost.
 fn write_end<W: Sink>(sink: &mut W, topology: &Topology, ping: &Ping) -> Result<(), WriteFault>
     ensures writes { Writes W.written W.has_failed result sink.old sink.new
         (end_text topology.now.nodes ping.now) }

@@ -1,4 +1,4 @@
-//! Lines of refused calls. Each has the name of the innermost fault.
+//! Lines of refused calls. Each line has the name of the innermost fault.
 ghost use Rattle.std.specs.Prelude.{◌≡◌, ◌↔◌, Err};
 ghost use Rattle.byte_io.specs.Writes.{Writes};
 ghost use Rattle.fabric_sim.specs.FabricFault.{fabric_fault_name};

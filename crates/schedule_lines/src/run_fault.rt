@@ -1,7 +1,7 @@
 use byte_io::WriteFault;
 use std::alloc::{AllocError, AllocFailed};
 
-/// Why a run ends before its schedule does.
+/// Why a run ends before the end of its schedule.
 #[derive(Clone, Copy, Debug, PartialEq, Eq)]
 pub enum RunFault {
     /// A write to the output failed.

@@ -27,10 +27,10 @@ pub fn show_tables<W: Sink>(alloc: Global, fabric: &Fabric, sink: &mut W) -> Res
     write_tables(sink, &switches)
 }
 
-/// A LID, with the GUID of the node and the number of the port that hold it, and its LMC.
+/// A LID with the node GUID and the number of the port that holds it, and the port's LMC.
 type AgentLid = (Lid, Guid, PortNum, Lmc);
 
-/// Prints a line for each of `lids`, with the node and port that hold it.
+/// Prints a line for each of `lids`: the LID, its LMC unless that is 0, and the node and port that hold it.
 fn write_held<W: Sink>(sink: &mut W, lids: &[AgentLid]) -> Result<(), RunFault>
     ensures prints { PrintsUnless W.written W.has_failed result sink.old sink.new
         (flat_map held_line lids.now) }
@@ -45,7 +45,7 @@ fn write_held<W: Sink>(sink: &mut W, lids: &[AgentLid]) -> Result<(), RunFault>
     Ok(())
 }
 
-/// Returns the LIDs that ports hold, sorted by LID, by the GUID of the node and by port, and for ties by node number.
+/// Returns the LIDs that ports hold, sorted by LID, node GUID and port. Equal ones are in the order of their nodes.
 fn held_lids(alloc: Global, fabric: &Fabric) -> Result<Vec<AgentLid>, AllocError>
     ensures { IfOk result (λ held. held.items ≡ all_held fabric.now.agents) }
 {
@@ -57,7 +57,7 @@ fn held_lids(alloc: Global, fabric: &Fabric) -> Result<Vec<AgentLid>, AllocError
     Ok(held)
 }
 
-/// Appends the LIDs that the ports of `agent` hold, from port 0 on. LID 0 is none.
+/// Appends the LIDs that the ports of `agent` hold, from port 0 on. A port with LID 0 holds no LID.
 fn hold_lids(held: &mut Vec<AgentLid>, agent: &Agent) -> Result<(), AllocError>
     ensures { OnOk result (held.new.items ≡ held.old.items ++ held_by agent.now) }
 {
@@ -72,7 +72,7 @@ fn hold_lids(held: &mut Vec<AgentLid>, agent: &Agent) -> Result<(), AllocError>
     Ok(())
 }
 
-/// Returns the agents of the switches, sorted by GUID, and for equal GUIDs by node number.
+/// Returns the agents of the switches, sorted by GUID. Agents with equal GUIDs are in the order of their nodes.
 fn switches<'f>(alloc: Global, fabric: &'f Fabric) -> Result<Vec<&'f Agent>, AllocError>
     ensures { IfOk result (λ found. map (λ agent. agent.now) found.items ≡ switches fabric.now.agents) }
 {

@@ -40,7 +40,8 @@ abbrev pub schedule_fault : ℕ → List Node → List ℕ → Option Fault
 schedule_fault input nodes text =
     if is_utf8 text then fault_of_script input (schedule_of nodes text) else Some (Text input NotUtf8)
 
--- the fault of the topology at `input` or, if it is sound, of the text of the schedule after it
+-- the fault of the topology at `input`, given the result of parsing it. If the topology is sound, the fault of the
+-- schedule at the next input, or None if the schedule has none
 abbrev pub fault_behind : ℕ → Result Layout TopoFault → List ℕ → Option Fault
 fault_behind input (Ok layout) schedule = schedule_fault (input + 1) layout.nodes schedule
 fault_behind input (Err fault) schedule = Some (Text input (Topology fault))
@@ -55,34 +56,34 @@ pub record TellsTopology (text : List ℕ) (layout : Layout) : Type 0 where
   pub utf8 : is_utf8 text ≡ true
   pub told : topology_of text ≡ Ok layout
 
--- the texts are refused for a fault of one of the two, the inputs `first` and `first` + 1, which is `found` unless it
--- is lack of memory
+-- the texts are refused for a fault of one of them, the input `first` or `first` + 1; unless memory ran out, the fault
+-- is `found`
 abbrev pub IsRefused : ℕ → Option Fault → Fault → Type 0
 IsRefused first found (Text input fault) =
     ((input ≡ first) ⊎ (input ≡ first + 1)) × (is_of_text fault ≡ true → found ≡ Some (Text input fault))
 IsRefused first found fault = ⊥
 
--- if a topology is refused for lack of memory, none of its lines has a fault, except for faults of a link's peer and
--- ports
+-- if a topology is refused for lack of memory, none of its lines has a fault, except perhaps a fault of a link's peer
+-- or ports
 abbrev pub HidesLinksAlone : List ℕ → Fault → Type 0
 HidesLinksAlone topology (Text input (Topology topologies.Memory)) = first_line_fault topology ≡ None
 HidesLinksAlone topology _ = Unit {0}
 
--- if a schedule is refused for lack of memory, none of its lines has a fault, except for lines below more than 64
--- managers
+-- if a schedule is refused for lack of memory, its lines have no fault; or, up to some line, they have no fault and add
+-- more than 64 managers
 abbrev pub HidesBelowManagers : List Node → List ℕ → Fault → Type 0
 HidesBelowManagers nodes schedule (Text input (Schedule schedules.Memory)) = IsSoundOrCrowded nodes (lines schedule)
 HidesBelowManagers nodes schedule _ = Unit {0}
 
--- the text of a schedule, the input after the topology at `first`, is refused for `fault`: its first one, or lack of
--- memory as it was judged
+-- the text of a schedule, the input after the topology at `first`, is refused for `fault`: its first fault, or lack of
+-- memory while it was judged
 pub record RefusesScript (first : ℕ) (nodes : List Node) (text : List ℕ) (fault : Fault) : Type 0 where
   pub refused : IsRefused first (schedule_fault (first + 1) nodes text) fault
   pub hides : HidesBelowManagers nodes text fault
   pub no_topology : (topology : List ℕ) → HidesLinksAlone topology fault
 
--- the texts of a topology and a schedule are refused for `fault`: the first one of both, or lack of memory as they were
--- judged
+-- the texts of a topology and a schedule are refused for `fault`: the first fault of the two, or lack of memory while
+-- they were judged
 pub record RefusesTexts (first : ℕ) (topology schedule : List ℕ) (fault : Fault) : Type 0 where
   pub refused : IsRefused first (input_fault first topology schedule) fault
   pub hides : HidesLinksAlone topology fault
@@ -103,14 +104,14 @@ pub record AreRead {S : Type 0} (state : S → SourceState) (old new : S) (old' 
   pub topology_read : IsReadWhole state old new topology
   pub schedule_read : IsReadWhole state old' new' schedule
 
--- the topology, the input `first`, cannot be read whole for `fault`, and the schedule was not touched
+-- reading the topology, the input `first`, fails with `fault`, and the schedule was not touched
 pub record FailsAtTopology {S : Type 0} (state : S → SourceState) (first : ℕ) (old new old' new' : S)
     (input : ℕ) (fault : FileFault) : Type 0 where
   pub is_first : input ≡ first
   pub fails : FailsToRead state old new fault
   pub untouched : new' ≡ old'
 
--- the topology, the input `first`, was read, and the schedule, the next input, cannot be read whole for `fault`
+-- the topology, the input `first`, was read, and reading the schedule, the next input, fails with `fault`
 pub record FailsAtSchedule {S : Type 0} (state : S → SourceState) (first : ℕ) (old new old' new' : S)
     (input : ℕ) (fault : FileFault) : Type 0 where
   pub is_second : input ≡ first + 1
@@ -118,8 +119,8 @@ pub record FailsAtSchedule {S : Type 0} (state : S → SourceState) (first : ℕ
   pub read : IsReadWhole state old new topology
   pub fails : FailsToRead state old' new' fault
 
--- a fault of the run is that of the first of two sources that cannot be read whole: the topology, the input `first`, or
--- the schedule
+-- reading the topology, the input `first`, fails with this fault of the run; or the topology was read, and reading the
+-- schedule fails with it
 abbrev pub FailsToReadThem : {S : Type 0} → (S → SourceState) → ℕ → S → S → S → S → Fault
     → Type 0
 FailsToReadThem state first old new old' new' (File input fault) =
@@ -150,15 +151,15 @@ pub record AreRefused {S : Type 0} (state : S → SourceState) (first : ℕ) (ol
   pub read : AreRead state old new old' new' topology schedule
   pub refuses : RefusesTexts first topology schedule fault
 
--- for `fault`, one of the two sources cannot be read whole, or their texts are refused
+-- reading one of the two sources fails with `fault`, or their texts are refused for `fault`
 abbrev pub IsTextsFault : {S : Type 0} → (S → SourceState) → ℕ → S → S → S → S → Fault
     → Type 0
 IsTextsFault state first old new old' new' fault =
     FailsToReadThem state first old new old' new' fault
     ⊎ AreRefused state first old new old' new' fault
 
--- there are two sources, a topology, the input `first`, and a schedule, and for `fault` one is not read, or the texts
--- are refused
+-- there are two sources: a topology, the input `first`, and a schedule. Reading one of them fails with `fault`, or
+-- their texts are refused for `fault`
 pub record AreNotTold {S : Type 0} (state : S → SourceState) (first : ℕ) (olds news : List S)
     (fault : Fault) : Type 0 where
   pub were : AreTexts olds
@@ -175,8 +176,8 @@ texts_reader state = record {
   has_switch = λ setting. has_switch setting.topology.nodes;
 }
 
--- The inputs were read: the text that the rule takes, the topology and the schedule. `prints` holds of what their run
--- prints, with managers that plan under `lmc` and by the rule.
+-- the inputs were read: the text that the rule takes, the topology and the schedule. `prints` holds of what their run
+-- prints, with managers that plan under `lmc` and by the rule
 pub record HasRun {S : Type 0} (state : S → SourceState) (lmc : ℕ) (asked : RuleAsked) (olds news : List S)
     (prints : List ℕ → Type 0) : Type 0 where
   pub rule : RuleValue
@@ -202,8 +203,8 @@ abbrev pub fault_of_run : RunFault → Fault
 fault_of_run runs.Write = Write
 fault_of_run runs.Memory = Memory
 
--- a run ends early for a fault: the inputs were read and a write failed, or memory ran out, and then `prints` holds of
--- what the run would have printed
+-- the inputs were read, and a run ends early with a fault: a write failed, or memory ran out. If memory ran out,
+-- `prints` holds of what the run would have printed
 abbrev pub StopsEarly : {S : Type 0} → (S → SourceState) → ℕ → RuleAsked → List S → List S
     → (List ℕ → Type 0) → Bool → Fault → Type 0
 StopsEarly state lmc asked olds news prints sink_failed Write =
@@ -212,7 +213,7 @@ StopsEarly state lmc asked olds news prints sink_failed Memory =
     HasRun state lmc asked olds news prints
 StopsEarly state lmc asked olds news prints sink_failed fault = ⊥
 
--- a run over open inputs fails for `fault`: the inputs are not read or refused, or it ends early
+-- a run over open inputs ends with `fault`: the inputs are not read, or are refused, or the run ends early
 abbrev pub IsRunFault : {S : Type 0} → (S → SourceState) → ℕ → RuleAsked → List S → List S
     → (List ℕ → Type 0) → Bool
     → Fault → Type 0

@@ -28,7 +28,8 @@ pub(crate) struct Setting {
     pub(crate) schedule: Schedule,
 }
 
-/// A reader of the text of a topology and then of that of a schedule. It finds switches in the topology that it read.
+/// A reader of the text of a topology and then of the text of a schedule. The switches that it knows are the
+/// topology's.
 #[derive(Clone, Copy, Debug, PartialEq, Eq)]
 pub(crate) struct TopologyAndSchedule;
 
@@ -51,13 +52,13 @@ impl<S: Source> InputReader<S> for TopologyAndSchedule {
     }
 }
 
-/// Reads both texts to their ends, the topology first, and returns what they describe. There must be these two.
-/// `before` inputs precede them.
+/// Reads the two `texts` to their ends, the topology first, and returns what they describe. `before` other inputs come
+/// before `texts`. There must be at most `usize::MAX` inputs in all.
 ///
 /// # Errors
 ///
-/// Returns the fault of the first text that cannot be read. If both were read, returns the fault of the topology if it
-/// is refused, otherwise that of the schedule.
+/// Returns the fault of the first text that cannot be read. If both texts were read, returns the fault of the topology
+/// if the topology is refused, and otherwise the fault of the schedule.
 fn read_setting<S: Source>(alloc: Global, before: usize, texts: &mut [S]) -> Result<Setting, Fault>
     requires two { length texts.old ≡ 2 }
     requires counted { before + length texts.old ≤ usize.MAX }
@@ -76,7 +77,8 @@ fn read_setting<S: Source>(alloc: Global, before: usize, texts: &mut [S]) -> Res
     }
 }
 
-/// Reads both texts to their ends, the topology first. `first` is the index of the topology's input.
+/// Reads the texts of `topology` and then of `schedule` to their ends. `first`, the index of the topology's input, must
+/// be below `usize::MAX`.
 fn read_texts<S: Source>(
     alloc: Global,
     first: usize,
@@ -107,7 +109,7 @@ fn read_texts<S: Source>(
     Ok(Texts { topology, schedule })
 }
 
-/// Parses both texts, the topology first. `first` is the index of the topology's input.
+/// Parses both texts, the topology first. `first`, the index of the topology's input, must be below `usize::MAX`.
 #[tactic(auto, using(crate::proofs::Judging::behind, crate::proofs::Judging::refused_behind))]
 fn judge(alloc: Global, first: usize, texts: &Texts) -> Result<Setting, Fault>
     requires { first < usize.MAX }
@@ -124,7 +126,7 @@ fn judge(alloc: Global, first: usize, texts: &Texts) -> Result<Setting, Fault>
     Ok(Setting { topology, schedule })
 }
 
-/// Parses the topology. `first` is the index of its input.
+/// Parses `bytes` as a topology. `first` is the index of the topology's input.
 fn judge_topology(alloc: Global, first: usize, bytes: &[u8]) -> Result<Topology, Fault>
     ensures sound { IfOk result (λ topology. TellsTopology bytes.now topology) }
     ensures refused { (schedule : List ℕ) → IfErr result (RefusesTexts first bytes.now schedule) }
@@ -138,8 +140,8 @@ fn judge_topology(alloc: Global, first: usize, bytes: &[u8]) -> Result<Topology,
     }
 }
 
-/// Parses the schedule for `topology`. `first` is the index of the topology's input, after which that of the schedule
-/// comes.
+/// Parses `bytes` as a schedule for `topology`. `first`, the index of the topology's input, must be below `usize::MAX`.
+/// The schedule's input is the next one.
 fn judge_schedule(
     alloc: Global,
     first: usize,
@@ -162,7 +164,7 @@ fn judge_schedule(
     }
 }
 
-/// Returns `fault` as that of the text at `input`.
+/// Returns `fault` as a fault of the text whose input has the index `input`.
 fn refused(input: usize, fault: TextFault) -> Fault
     ensures { result ≡ Fault.Text input fault }
 {

@@ -44,21 +44,21 @@ use Rattle.schedule_world.specs.World.{SeatedValue, WorldValue, after_ask, at_se
 
 -- managers -----------------------------------------------------------------------------------------
 
--- `manager M "n"[p] P`: the manager takes the seat at its port
+-- `manager M "n"[p] P`, with `live K` or without: the manager is seated at its port, or the fabric refuses
 unfoldable pub after_manager_line : WorldValue → ℕ → Outcome WorldValue
 after_manager_line w seat = at_seat w seat (λ s. after_fabric_call w (after_seat w.fabric s.at))
 
--- `sweep`, `write`, `handover` or `poll`: the request to the manager of a seat is made, and then the packets that it
--- has queued are sent
+-- `sweep`, `write`, `handover` or `poll`: the manager of a seat is asked, and then the packets that it has queued are
+-- sent; or the manager refuses, and the line of its fault is printed
 unfoldable pub after_ask_line : WorldValue → ℕ → Ask → Outcome WorldValue
 after_ask_line w seat what = after_ask (λ now. after_send now seat) w seat (asked_fault what) (after_asked what)
 
--- `merge M N`: the first manager takes in all that the second manager knows
+-- `merge M N`: the manager M takes in all facts of the manager N
 unfoldable pub after_merge_line : WorldValue → ℕ → ℕ → Outcome WorldValue
 after_merge_line w seat other =
     at_seat w seat (λ s. at_seat w other (λ o. quiet (with_manager w seat s (after_merge s.manager o.manager.store))))
 
--- `floor M G`: the manager forgets facts that are older than G
+-- `floor M G`: the floor of the manager M is raised to G, and facts that are older than G are forgotten
 unfoldable pub after_floor_line : WorldValue → ℕ → ℕ → Outcome WorldValue
 after_floor_line w seat floor = at_seat w seat (λ s. quiet (with_manager w seat s (after_raise_floor s.manager floor)))
 
@@ -82,12 +82,13 @@ after_timeout_line w seat =
 
 -- packets ------------------------------------------------------------------------------------------
 
--- the line of the trap that the manager of a seat represses; empty if the packet is not such a trap
+-- the line of the trap in `packet` if the manager of a seat represses it, else empty
 abbrev pub heard_text : WorldValue → ℕ → Packet → List ℕ
 heard_text w seat packet =
     option_map_or (λ s. trap_text (Some s.name) (manager.trap_told s.manager packet.bytes)) (slice_get w.managers seat) []
 
--- the manager of a seat takes in a packet, and a trap that it represses is printed; or it refuses the packet
+-- the manager of a seat takes in a packet, and the line of a trap that it represses is printed; or it refuses the
+-- packet, and the line of its fault is printed
 abbrev pub after_take : WorldValue → ℕ → Packet → Outcome WorldValue
 after_take w seat packet =
     after_ask (shows (heard_text w seat packet)) w seat (λ m. (manager.after_packet m packet.bytes (Some packet.slid)).fault)
@@ -114,8 +115,8 @@ after_arrival w (Ok (delivered_is.Answered serial)) = quiet w
 after_arrival w (Ok (delivered_is.Discarded reason)) = quiet w
 after_arrival w (Err fault) = quiet w
 
--- the packet with the number `serial` takes one step, and if it is handed up, the manager there takes it in; or the
--- fabric refuses
+-- the packet with the number `serial` takes one step, and a packet that is handed up goes to the manager at the port;
+-- or the fabric refuses
 unfoldable pub after_step : WorldValue → ℕ → Outcome WorldValue
 after_step w serial = let called =
     after_deliver w.fabric serial in and_then (after_fabric_call w called) (λ now. after_arrival now called.result)
@@ -133,7 +134,7 @@ after_packet_line w which fate =
     option_map_or (after_fate w fate) (serial_of w.fabric.flights which)
     (shows (refusal_line (fabric_fault_name NoSuchPacket)) w)
 
--- `drain N`: the packet with the least serial number takes one step, at most N times
+-- `drain N`: N times, the packet with the least serial number takes one step; no more steps once none is in flight
 abbrev pub after_drain_line : WorldValue → ℕ → Outcome WorldValue
 after_drain_line w zero = quiet w
 after_drain_line w (suc most) =
@@ -150,7 +151,7 @@ flights_text nodes flights = flat_map (flight_shown nodes) flights
 
 -- cables and ports -----------------------------------------------------------------------------------
 
--- the state of a port of the node `id` has changed, and its agent is informed
+-- the agent of the node `id` is informed that the state of one of its ports has changed
 abbrev pub after_tell : WorldValue → ℕ → Outcome WorldValue
 after_tell w id = after_fabric_call w (after_port_change w.fabric id)
 
@@ -169,12 +170,12 @@ abbrev pub after_parting : WorldValue → NodePort → Option NodePort → Resul
 after_parting w p other (Ok done) = option_map_or (after_tell_ends w p) other (quiet w)
 after_parting w p other (Err fault) = quiet w
 
--- `cut "n"[p]`: the cable is cut, and the agents at both ends are informed
+-- `cut "n"[p]`: the cable is cut, and the agents at both ends are informed; or the fabric refuses
 unfoldable pub after_cut_line : WorldValue → NodePort → Outcome WorldValue
 after_cut_line w p = let called = after_cut w.fabric p in
     and_then (after_fabric_call w called) (λ now. after_parting now p (across w.fabric.peers p) called.result)
 
--- `plug "n"[p] "m"[q]`: the cable is plugged in, and the agents at both ends are informed
+-- `plug "n"[p] "m"[q]`: the cable is plugged in, and the agents at both ends are informed; or the fabric refuses
 unfoldable pub after_plug_line : WorldValue → NodePort → NodePort → Outcome WorldValue
 after_plug_line w p q = let called =
     after_plug w.fabric p q in and_then (after_fabric_call w called) (λ now. after_change now p q called.result)
@@ -198,7 +199,7 @@ after_resends w id (suc left) = and_then (after_resend w id) (λ now. after_rese
 abbrev pub after_resend_line : WorldValue → Outcome WorldValue
 after_resend_line w = after_resends w 0 (length w.fabric.agents)
 
--- `ping "n"[p] L`: the line of where the packet ends, or of why it cannot be sent
+-- `ping "n"[p] L`: the line that says where the packet ends or, for a fault, why it cannot be sent
 abbrev pub ping_text : List Node → Simulation → NodePort → ℕ → Option FabricFault → List ℕ
 ping_text nodes fabric source lid None = ping_line nodes source lid (ping (fabric_of fabric) lid source)
 ping_text nodes fabric source lid (Some fault) = refusal_line (fabric_fault_name fault)
@@ -243,8 +244,8 @@ after_commands nodes w [] = quiet w
 after_commands nodes w (command ∷ later) =
     and_then (after_command nodes w command) (λ now. after_commands nodes now later)
 
--- The manager of a seat, which plans by `planning`. It is live if the seat has an SM_Key. The GUID of an adapter's port
--- is its node's GUID plus the port's number.
+-- the manager of `seat` before any call, under its name; it plans by `planning`, and is live if the seat has an SM_Key.
+-- Its port GUID is the GUID of the adapter plus the port's number
 abbrev pub new_seated : Planning → List Node → Seat → SeatedValue
 new_seated planning nodes seat =
     let guid = option_map_or (λ node. node.guid + seat.at.port) (slice_get nodes seat.at.node) 0 in
@@ -270,7 +271,8 @@ abbrev pub schedule_text : Planning → Layout → Result Script ScheduleFault �
 schedule_text planning topology (Ok script) = script_text planning topology script
 schedule_text planning topology (Err fault) = []
 
--- what the run of a schedule's text prints in the fabric of a topology; nothing if one of them is refused
+-- what the run of a schedule's text prints in the fabric of a topology; nothing if the topology or the schedule is
+-- refused
 abbrev pub topology_text : Planning → Result Layout TopoFault → List ℕ → List ℕ
 topology_text planning (Ok topology) schedule = schedule_text planning topology (schedule_of topology.nodes schedule)
 topology_text planning (Err fault) schedule = []

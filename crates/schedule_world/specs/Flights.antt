@@ -15,7 +15,8 @@ abbrev pub serial_of : List Flight → Which → Option ℕ
 serial_of flights Last = option_map (λ flight. flight.serial) (slice_get flights (length flights - 1))
 serial_of flights (Serial serial) = Some serial
 
--- the packet in flight that a manager sends: to a LID, or on a directed route with the permissive LID at both ends
+-- the packet that a manager sends: its DLID is the LID that it is sent to, or the permissive LID on a directed route;
+-- its SLID is the permissive LID
 abbrev pub packet_out : Outgoing → Packet
 packet_out outgoing =
     record { bytes = outgoing.packet; slid = 0xFFFF; dlid = option_map_or (λ lid. lid) outgoing.to 0xFFFF }

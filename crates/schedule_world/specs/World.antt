@@ -32,7 +32,7 @@ pub record WorldValue : Type 0 where
   pub fabric : Simulation
   pub managers : List SeatedValue
 
--- the manager of the code's world with its seat, as a value
+-- a manager of the code's world, with its name and its seat, as a value
 abbrev pub seated_value : Seated → SeatedValue
 seated_value s = record { name = s.seat.now.name; at = s.seat.now.at; manager = s.manager }
 
@@ -47,7 +47,7 @@ abbrev pub fabric_line : {R : Type 0} → Result R FabricFault → List ℕ
 fabric_line (Ok value) = []
 fabric_line (Err fault) = refusal_line (fabric_fault_name fault)
 
--- the fabric that a call on it leaves, and the line of a refusal, if it is refused
+-- the fabric that a call leaves, and the line of the call's refusal, if it is refused
 abbrev pub after_fabric : {R : Type 0} → Called R → Outcome Simulation
 after_fabric called = record { now = called.fabric; text = fabric_line called.result }
 
@@ -55,7 +55,7 @@ after_fabric called = record { now = called.fabric; text = fabric_line called.re
 abbrev pub in_fabric : WorldValue → Outcome Simulation → Outcome WorldValue
 in_fabric w outcome = record { now = record w { fabric = outcome.now }; text = outcome.text }
 
--- the world `w` with the fabric that a call on it leaves, and the line of a refusal, if it is refused
+-- the world `w` with the fabric that a call leaves, and the line of the call's refusal, if it is refused
 abbrev pub after_fabric_call : {R : Type 0} → WorldValue → Called R → Outcome WorldValue
 after_fabric_call w called = in_fabric w (after_fabric called)
 
@@ -67,16 +67,16 @@ after_inject_all fabric at (out ∷ later) =
 
 -- the managers -------------------------------------------------------------------------------------
 
--- what `run` does with the manager of a seat; nothing if there is none
+-- the outcome of `run` for the manager at the index `seat`; if there is no such manager, `w`, and nothing is printed
 abbrev pub at_seat : WorldValue → ℕ → (SeatedValue → Outcome WorldValue) → Outcome WorldValue
 at_seat w seat run = option_map_or run (slice_get w.managers seat) (quiet w)
 
--- the world with `manager` in place of that of `s`, at a seat
+-- the world `w` with `manager` at the index `seat`, under the name and at the port of `s`
 abbrev pub with_manager : WorldValue → ℕ → SeatedValue → Manager → WorldValue
 with_manager w seat s manager = record w { managers = slice_set w.managers seat (record s { manager = manager }) }
 
--- what a call on the manager of a seat leaves and prints: if it is refused, the world `w` and a line that says why;
--- otherwise what `next` leaves and prints, from the world with `manager` at the seat
+-- what a call on the manager of a seat leaves and prints. If the call is refused, this is the world `w` and the line of
+-- the fault. Otherwise it is what `next` leaves and prints, from the world with `manager` at the seat
 abbrev pub after_manager_call : (WorldValue → Outcome WorldValue) → WorldValue → ℕ → SeatedValue → Option ManagerFault
     → Manager → Outcome WorldValue
 after_manager_call next w seat s None manager = next (with_manager w seat s manager)
@@ -89,20 +89,22 @@ abbrev pub after_ask : (WorldValue → Outcome WorldValue) → WorldValue → �
 after_ask next w seat fault after =
     at_seat w seat (λ s. after_manager_call next w seat s (fault s.manager) (after s.manager))
 
--- the world once all packets that the manager `s` of a seat has queued are sent
+-- the world once all packets that the manager `s` of a seat has queued are sent, and the line of each that the fabric
+-- refuses
 abbrev pub after_send_by : WorldValue → ℕ → SeatedValue → Outcome WorldValue
 after_send_by w seat s =
     in_fabric (with_manager w seat s (emptied s.manager)) (after_inject_all w.fabric s.at s.manager.outgoing)
 
--- the world once all packets that the manager of a seat has queued are sent; unchanged if there is no such manager
+-- the world once all packets that the manager of a seat has queued are sent, and the line of each that the fabric
+-- refuses; unchanged if there is no such manager
 unfoldable pub after_send : WorldValue → ℕ → Outcome WorldValue
 after_send w seat = at_seat w seat (after_send_by w seat)
 
 -- calls --------------------------------------------------------------------------------------------
 
--- A call on a world does what `outcome` says: it leaves the world of `outcome`, with as many managers as before, and
--- prints its text. If it fails, the world may be any with as many managers, and either a beginning of the text was
--- printed or the output has failed.
+-- a call on a world does what `outcome` says: it leaves the world of `outcome`, with as many managers as before, and
+-- prints the text of `outcome`. If the call fails, the world may be any with as many managers. Then a beginning of the
+-- text was printed, or the output has failed
 pub record Does {W : Type 0} (written : W → Option (List ℕ)) (has_failed : W → Bool) (old new : World)
     (result : Result (Unit {0}) RunFault) (sink sink' : W) (outcome : Outcome WorldValue) : Type 0 where
   pub managers : length new.managers.items ≡ length old.managers.items

@@ -12,7 +12,8 @@ use smp_bytes::Generation;
 use std::alloc::Global;
 
 impl World<'_> {
-    /// Seats the manager at index `seat`, which must exist, at its port. If the fabric refuses it, prints the refusal.
+    /// Seats the manager at index `seat`, which must exist, at its port. If the fabric refuses the call, prints the
+    /// refusal.
     pub(crate) fn seat<W: Sink>(&mut self, seat: usize, sink: &mut W) -> Result<(), RunFault>
         requires { seat < length self.old.managers.items }
         ensures does { Does W.written W.has_failed self.old self.new result sink.old sink.new
@@ -24,8 +25,8 @@ impl World<'_> {
         }
     }
 
-    /// Makes the request `what` to the manager at index `seat`, which must exist. Sends the packets that the manager
-    /// then has queued or, if it refuses the request, prints the refusal.
+    /// Makes the request `what` to the manager at index `seat`, which must exist, and sends the packets that the
+    /// manager then has queued. If the manager refuses the request, prints the refusal instead.
     pub(crate) fn ask<W: Sink>(
         &mut self,
         seat: usize,
@@ -51,8 +52,9 @@ impl World<'_> {
         self.managers[seat].manager.raise_floor(floor);
     }
 
-    /// Times out all requests that the manager at index `seat`, which must exist, waits for when the call begins, and
-    /// then sends the packets that it has queued. Prints a line for each timeout that the manager refuses.
+    /// Times out each request whose answer the manager at index `seat`, which must exist, waits for when the call
+    /// begins. Then sends the packets that the manager has queued. Prints a line for each timeout that the manager
+    /// refuses.
     pub(crate) fn time_out<W: Sink>(
         &mut self,
         alloc: Global,
@@ -70,8 +72,8 @@ impl World<'_> {
         self.send(seat, sink)
     }
 
-    /// Times out the request of the manager at index `seat`, which must exist, with the TransactionID `transaction`. If
-    /// the manager refuses it, prints the refusal.
+    /// Times out the request with the TransactionID `transaction` of the manager at index `seat`, which must exist. If
+    /// the manager refuses the timeout, prints the refusal.
     fn give_up<W: Sink>(
         &mut self,
         seat: usize,

@@ -11,7 +11,8 @@ use schedule_lines::{RunFault, refuse_fabric};
 use std::alloc::Global;
 
 impl World<'_> {
-    /// Cuts the cable in `port`, and informs the agents at both ends. If the fabric refuses it, prints the refusal.
+    /// Cuts the cable in `port`, and informs the agents at both ends. If the fabric refuses the cut, prints the
+    /// refusal.
     #[tactic(auto, unfolding(crate::specs::Commands::after_cut_line))]
     pub(crate) fn cut<W: Sink>(&mut self, port: NodePort, sink: &mut W) -> Result<(), RunFault>
         ensures does { Does W.written W.has_failed self.old self.new result sink.old sink.new
@@ -27,8 +28,8 @@ impl World<'_> {
         }
     }
 
-    /// Plugs a cable into the ports `one` and `other`, and informs the agents at both ends. If the fabric refuses it,
-    /// prints the refusal.
+    /// Plugs a cable into the ports `one` and `other`, and informs the agents at both ends. If the fabric refuses the
+    /// cable, prints the refusal.
     #[tactic(auto, unfolding(crate::specs::Commands::after_plug_line))]
     pub(crate) fn plug<W: Sink>(
         &mut self,
@@ -103,7 +104,7 @@ impl World<'_> {
         Ok(())
     }
 
-    /// Resends the trap that waits at `node`, if there is one and it can leave.
+    /// Resends the trap that waits at `node`, if a trap waits there and can leave.
     fn resend_one<W: Sink>(&mut self, node: NodeId, sink: &mut W) -> Result<(), RunFault>
         ensures does { Does W.written W.has_failed self.old self.new result sink.old sink.new
             (after_resend (value_of self.old) node) }

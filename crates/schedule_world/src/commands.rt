@@ -13,8 +13,8 @@ use schedule_lines::{RunFault, show_tables};
 use std::alloc::Global;
 use topo_file::Topology;
 
-/// Runs the commands of a schedule in the fabric of its topology, with managers that plan by `planning`, and flushes.
-/// The managers of `schedule` must sit at ports of adapters of `topology`, and its commands name no others.
+/// Runs the commands of `schedule` in the fabric of `topology`, with managers that plan by `planning`, and flushes. The
+/// managers of `schedule` must sit at ports of adapters of `topology`, and its commands must name no other managers.
 ///
 /// If the fabric or a manager refuses a call, prints a line and goes on.
 ///

@@ -10,8 +10,8 @@ use schedule_lines::{RunFault, refuse_manager};
 use sm_manager::ManagerFault;
 
 impl World<'_> {
-    /// Merges all that the manager at index `other` knows into the manager at index `seat`. Both must exist. Does
-    /// nothing if they are the same manager.
+    /// Merges all that the manager at index `other` knows into the manager at index `seat`. Both managers must exist.
+    /// Does nothing if `seat` is `other`.
     #[tactic(auto, unfolding(crate::specs::Commands::after_merge_line))]
     pub(crate) fn merge<W: Sink>(
         &mut self,
@@ -35,7 +35,7 @@ impl World<'_> {
 }
 
 /// Merges all that the manager at index `other` knows into the manager at index `seat`, which is taken out of the list
-/// meanwhile. Both must exist, and differ. Returns an error only if memory runs out.
+/// meanwhile. Both managers must exist, and differ. Returns an error only if memory runs out.
 fn merge_at(managers: &mut Vec<Seated>, seat: usize, other: usize) -> Result<(), ManagerFault>
     requires seat { seat < length managers.old.items }
     requires other { other < length managers.old.items }

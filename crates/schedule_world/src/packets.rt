@@ -13,8 +13,8 @@ use schedule_file::{Fate, Which};
 use schedule_lines::{RunFault, refuse_fabric, refuse_manager, show_trap};
 
 impl World<'_> {
-    /// Delivers the packet in flight that `which` names by one step, loses it or repeats it, by `fate`. If there is no
-    /// such packet, or the fabric refuses it, prints the refusal.
+    /// Delivers the packet in flight that `which` names by one step, loses it or copies it, as `fate` says. If no such
+    /// packet is in flight, or the fabric refuses the call, prints the refusal.
     #[tactic(auto, unfolding(crate::specs::Commands::after_packet_line))]
     pub(crate) fn handle_packet<W: Sink>(
         &mut self,
@@ -35,7 +35,7 @@ impl World<'_> {
         }
     }
 
-    /// Loses the packet in flight with the serial number `serial`. If the fabric refuses it, prints the refusal.
+    /// Loses the packet in flight with the serial number `serial`. If the fabric refuses the call, prints the refusal.
     fn lose<W: Sink>(&mut self, serial: u64, sink: &mut W) -> Result<(), RunFault>
         ensures does { Does W.written W.has_failed self.old self.new result sink.old sink.new
             (after_fate (value_of self.old) Fate.Lose serial) }
@@ -46,7 +46,7 @@ impl World<'_> {
         }
     }
 
-    /// Copies the packet in flight with the serial number `serial`. If the fabric refuses it, prints the refusal.
+    /// Copies the packet in flight with the serial number `serial`. If the fabric refuses the call, prints the refusal.
     fn repeat<W: Sink>(&mut self, serial: u64, sink: &mut W) -> Result<(), RunFault>
         ensures does { Does W.written W.has_failed self.old self.new result sink.old sink.new
             (after_fate (value_of self.old) Fate.Repeat serial) }
@@ -57,7 +57,8 @@ impl World<'_> {
         }
     }
 
-    /// Moves the packet with the least serial number by one step, at most `most` times. Stops once none is in flight.
+    /// Delivers the packet in flight with the least serial number by one step, at most `most` times. Stops once no
+    /// packet is in flight.
     pub(crate) fn drain<W: Sink>(&mut self, most: u32, sink: &mut W) -> Result<(), RunFault>
         ensures does { Does W.written W.has_failed self.old self.new result sink.old sink.new
             (after_drain_line (value_of self.old) most) }
@@ -72,8 +73,9 @@ impl World<'_> {
         Ok(())
     }
 
-    /// Moves the packet with the serial number `serial` by one step. If it reaches a manager, the manager takes it in,
-    /// and the packets that the manager then has queued are sent. If the fabric refuses the step, prints the refusal.
+    /// Delivers the packet in flight with the serial number `serial` by one step. If the packet is handed up to a
+    /// manager, the manager takes it in, and the packets that the manager then has queued are sent. If the fabric
+    /// refuses the step, prints the refusal.
     #[tactic(auto, using(schedule_lines::proofs::Printing::prints_then), unfolding(crate::specs::Commands::after_step))]
     fn deliver<W: Sink>(&mut self, serial: u64, sink: &mut W) -> Result<(), RunFault>
         ensures does { Does W.written W.has_failed self.old self.new result sink.old sink.new
@@ -86,8 +88,8 @@ impl World<'_> {
         }
     }
 
-    /// Hands `packet` to the manager at `port`, and sends the packets that the manager then has queued. Drops `packet`
-    /// if no manager sits there.
+    /// Hands `packet` to the manager at `port`, and sends the packets that the manager then has queued. If no manager
+    /// sits at `port`, drops `packet`.
     #[tactic(auto, unfolding(crate::specs::Commands::after_hand_up))]
     fn hand_up<W: Sink>(
         &mut self,
@@ -125,8 +127,8 @@ impl World<'_> {
     }
 }
 
-/// Returns the serial number of the packet that `which` names. Returns `None` if `which` is the last packet and none is
-/// in flight. A packet that is named by its serial number need not be in flight.
+/// Returns the serial number of the packet that `which` names. Returns `None` if `which` is the last packet and no
+/// packet is in flight. A packet that is named by its serial number need not be in flight.
 fn serial(fabric: &Fabric, which: Which) -> Option<u64>
     ensures { result ≡ serial_of fabric.now.flights which }
 {

@@ -27,7 +27,7 @@ impl World<'_> {
         show_manager(sink, Some(seated.seat.name.as_str()), &seated.manager, what)
     }
 
-    /// Prints where a packet from the port `from` to `lid` ends. If it cannot be sent, prints the refusal.
+    /// Prints where a packet from the port `from` to `lid` ends. If the fabric refuses the ping, prints the refusal.
     #[tactic(auto, using(schedule_lines::proofs::Printing::wrote), unfolding(crate::specs::Commands::ping_shown))]
     pub(crate) fn show_ping<W: Sink>(
         &self,

@@ -42,7 +42,7 @@ pub(crate) struct World<'s> {
 
 impl<'s> World<'s> {
     /// Builds the fabric of `topology`, and for each of `seats` a manager that plans by `planning`. Each seat must be
-    /// at a port of an adapter of `topology`.
+    /// at a port of an adapter of `topology`. Returns an error if memory runs out.
     pub(crate) fn of(
         alloc: Global,
         topology: &Topology,
@@ -64,7 +64,7 @@ impl<'s> World<'s> {
         Ok(World { fabric, managers })
     }
 
-    /// Sends all packets that the manager at index `seat`, which must exist, has queued. Prints a line for each one
+    /// Sends all packets that the manager at index `seat`, which must exist, has queued. Prints a line for each packet
     /// that the fabric refuses.
     #[tactic(auto, using(crate::proofs::Seats::sits), unfolding(crate::specs::World::after_send))]
     pub(crate) fn send<W: Sink>(&mut self, seat: usize, sink: &mut W) -> Result<(), RunFault>
@@ -76,7 +76,7 @@ impl<'s> World<'s> {
         send_outgoing(&mut self.fabric, &seat.at, manager, sink)
     }
 
-    /// Returns the index of the manager that sits at `port`, or `None` if none does.
+    /// Returns the index of the manager that sits at `port`, or `None` if no manager sits there.
     pub(crate) fn manager_at(&self, port: &NodePort) -> Option<usize>
         ensures seat { result ≡ seat_at (value_of self.now) port.now }
         ensures within { IfSome result (λ seat. seat < length self.now.managers.items) }
@@ -93,7 +93,7 @@ impl<'s> World<'s> {
     }
 }
 
-/// Sends all packets that `manager` has queued from the port `from`, in their order. Prints a line for each one that
+/// Sends all packets that `manager` has queued from the port `from`, in their order. Prints a line for each packet that
 /// the fabric refuses.
 fn send_outgoing<W: Sink>(
     fabric: &mut Fabric,
@@ -112,7 +112,7 @@ fn send_outgoing<W: Sink>(
     Ok(())
 }
 
-/// Sends `outgoing` from the port `from`. If the fabric refuses it, prints the refusal.
+/// Sends `outgoing` from the port `from`. If the fabric refuses the packet, prints the refusal.
 fn send_one<W: Sink>(
     fabric: &mut Fabric,
     from: &NodePort,
@@ -130,8 +130,8 @@ fn send_one<W: Sink>(
     }
 }
 
-/// Returns `outgoing` as it is sent: to its LID or, for a directed route, to the permissive LID. Its SLID is the
-/// permissive LID, which the fabric replaces if switches forward the packet by LIDs.
+/// Returns the packet of `outgoing` as it is sent: to its LID or, for a directed route, to the permissive LID. The SLID
+/// is the permissive LID, which the fabric replaces if switches forward the packet by LIDs.
 fn packet(outgoing: &Outgoing) -> Packet
     ensures { result ≡ packet_out outgoing.now }
 {

@@ -1,4 +1,4 @@
--- That an answer ends at the first of its lines that begins with a dot.
+-- An answer ends at the first of its lines that begins with a dot.
 use Rattle.std.specs.Prelude.{◌≡◌, ℕ, Bool, true, false, ◌&&◌, ◌||◌, List, [], ◌∷◌, ◌++◌, ◌==◌}
 use Rattle.sm_manager.specs.Manager.{Manager}
 use Rattle.serve_lines.specs.declared.line.ServeLine.{ServeLine}
@@ -9,7 +9,8 @@ abbrev pub has_dot : Bool → List ℕ → Bool
 has_dot start [] = false
 has_dot start (b ∷ text) = (start && b == 46) || has_dot (b == 10) text
 
--- a line begins after the text: it ends with a line feed, or is empty and `start` says that a line begins at its start
+-- a line begins after the text: the text ends with a line feed, or it is empty and `start` says that a line begins at
+-- its start
 abbrev pub is_line_end : Bool → List ℕ → Bool
 is_line_end start [] = start
 is_line_end start (b ∷ text) = is_line_end (b == 10) text
@@ -21,6 +22,7 @@ pub record EndsOnce (text : List ℕ) : Type 0 where
   pub no_dot : has_dot true said ≡ false
   pub whole : is_line_end true said ≡ true
 
--- each answer ends at its first line with a dot, so that a reader that reads up to it has read one answer and no more
+-- each answer ends at its first line that begins with a dot. So a reader that reads up to this line has read one answer
+-- and no more
 abbrev pub AnswersEndOnce : Type 0
 AnswersEndOnce = (m : Manager) (line : ServeLine) → EndsOnce (served m line).text

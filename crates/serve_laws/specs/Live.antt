@@ -15,8 +15,9 @@ use Rattle.serve_lines.specs.declared.line.ServeLine.TheVariants.{Ask, Floor, Pa
 use Rattle.serve_run.specs.Served.{served, served_all}
 use Rattle.serve_laws.specs.Told.{given_by}
 
--- Something happens on the fabric; the process is given a line that is not a packet; a packet that was handed up at its
--- seat is given to it, and may be given again; a packet that it printed is sent from its seat, and may be sent again.
+-- an event of the process: something happens on the fabric (`Around`); the process is given a line that is not a packet
+-- (`Tell`); a packet that was handed up at its seat is given to it, perhaps again (`Hear`, by index); a packet that it
+-- printed is sent from its seat, perhaps again (`Send`, by index)
 pub data LiveEvent : Type 0 where
   Around : (event : Event) → LiveEvent
   Tell : (line : ServeLine) → LiveEvent
@@ -40,8 +41,7 @@ CanLive seat event = Unit {0}
 
 -- the lines --------------------------------------------------------------------------------------
 
--- the line of the packet, with the LID that it came from, if it was handed up at the seat; none if it was handed up
--- elsewhere, or there is none
+-- the line of the packet, with its source LID; none if there is no packet, or if it was not handed up at the seat
 abbrev pub lines_heard : Managing → Option Handed → List ServeLine
 lines_heard w None = []
 lines_heard w (Some h) = if is_same_port h.at w.seat then Packet h.packet.bytes h.packet.slid ∷ [] else []
@@ -75,7 +75,7 @@ abbrev pub takes_of : List Outgoing → List ManagerEvent
 takes_of [] = []
 takes_of (out ∷ later) = managing.Take ∷ takes_of later
 
--- the packets that are printed for the packet, if it was handed up at the seat; otherwise none
+-- the packets that are printed for the packet; none if there is no packet, or if it was not handed up at the seat
 abbrev pub given_heard : Managing → Option Handed → List Outgoing
 given_heard w None = []
 given_heard w (Some h) =
@@ -118,7 +118,7 @@ pub record IsServed (w : Managing) (events : List LiveEvent) : Type 0 where
   -- the events are events that can be
   pub can_be : All (CanBe w.seat) (events_of events w)
 
--- whatever live events happen, the manager of the process is the manager at the seat, and what it printed is what that
--- one gave out
+-- whatever live events happen, the manager of the process is the manager at the seat, and the packets that the process
+-- printed are those that this manager gave out (`IsServed`)
 abbrev pub ServedIsManaging : Type 0
 ServedIsManaging = (w : Managing) (events : List LiveEvent) → All (CanLive w.seat) events → IsServed w events

@@ -71,8 +71,8 @@ live_after_write w before between = after_live (live_at_writing w before between
 abbrev pub live_at_end : Managing → List LiveEvent → List LiveEvent → List LiveEvent → Managing
 live_at_end w before between after = all_live after (live_after_write w before between)
 
--- A new process that holds no facts is told to sweep and later, when the sweep has every answer, to write; in the end
--- its plan counts as written. (By `served_is_managing` the managers here are those of the process.)
+-- a new process that holds no facts is given `sweep` and later, when the sweep has every answer, `write`. In the end
+-- its plan counts as written. By `served_is_managing` the managers here are those of the process
 pub record BringsUpLive (who : Who) (w : Managing) (before between after : List LiveEvent) : Type 0 where
   pub new : w.manager ≡ new_by who
   pub starts : Starts w

@@ -9,8 +9,8 @@ use Rattle.schedule_lines.specs.Asked.{text_of}
 use Rattle.serve_run.specs.Served.{after_line, end_line, send_line, served}
 use Rattle.serve_laws.specs.Told.{given_by}
 
--- an answer has the text of what the line does, then each packet that the line sends, in order, and then the line of a
--- dot
+-- an answer is the text that the line itself prints, then a line for each packet that is sent, in order, and then the
+-- line of a dot
 abbrev pub PacketsArePrinted : Type 0
 PacketsArePrinted =
     (m : Manager) (line : ServeLine) → (served m line).text

@@ -16,8 +16,8 @@ use Rattle.serve_laws.specs.Told.{calls_of, floor_by, told_by}
 abbrev pub manager_after : Manager → List ℕ → Manager
 manager_after m bytes = (served_all m (lines_told [] bytes)).now
 
--- bytes that are read later do not change what was printed; they only print more, by the manager at that moment and the
--- line that has begun
+-- bytes that are read later do not change the text that was printed. They only add to it the answers of the manager at
+-- that moment to their lines, the first of which may have begun before
 abbrev pub EarlierAnswersStay : Type 0
 EarlierAnswersStay =
     (m : Manager) (before later : List ℕ) → served_by m (before ++ later)
@@ -40,8 +40,9 @@ pub record TellTheSame (one other : Manager) : Type 0 where
   pub plan : (served one (Show Plan)).text ≡ (served other (Show Plan)).text
   pub know : KnowTheSame one other
 
--- two new processes answer `facts` and `plan` with the same text, and know the same, if they plan by the same rule and
--- LMC, took in the same, in whatever order and however often, and have the same greatest floor
+-- two new processes answer `facts` and `plan` with the same text, and know the same, if three conditions hold: they
+-- plan by the same rule and LMC; they took in the same sightings, in any order and each any number of times; and they
+-- have the same greatest floor
 abbrev pub SameToldSameTexts : Type 0
 SameToldSameTexts =
     (who who' : Who) (lines lines' : List ServeLine) → who.planning ≡ who'.planning

@@ -14,7 +14,7 @@ use Rattle.serve_lines.specs.declared.line.ServeLine.TheVariants.{Ask, Floor, Pa
 
 -- words ------------------------------------------------------------------------------------------
 
--- the 256 bytes that two hex digits each write; None if the word does not write them
+-- the 256 bytes that the word writes, each with two hex digits; None if the word does not write 256 bytes
 abbrev pub packet_of : List ℕ → Option (List ℕ)
 packet_of word = result_ok (decode_sized word 256)
 
@@ -46,7 +46,7 @@ of_one word arg =
     else if bytes_eq word (codes "timeout") then option_map Timeout (transaction_of arg)
     else None
 
--- the meaning of the four words `packet`, a packet, `from` and the LID that it came from; None if they are others
+-- the meaning of the four words `packet`, a packet, `from` and the LID that the packet came from; None for other words
 abbrev pub packet_in : List ℕ → List ℕ → List ℕ → List ℕ → Option ServeLine
 packet_in word hex between lid =
     if bytes_eq word (codes "packet") && bytes_eq between (codes "from")
@@ -68,24 +68,24 @@ line_in (word ∷ hex ∷ between ∷ lid ∷ more ∷ rest) = None
 abbrev pub most_bytes : ℕ
 most_bytes = 600
 
--- the meaning of a line; wrong if it has more than `most_bytes` bytes, or the grammar has no such line
+-- the meaning of a line; `Wrong` if it has more than `most_bytes` bytes, or the grammar has no such line
 unfoldable pub line_of : List ℕ → ServeLine
 line_of line =
     if nat_lt most_bytes (length line) then Wrong else option_map_or (λ said. said) (line_in (words line)) Wrong
 
 -- lines as they come -----------------------------------------------------------------------------
 
--- the lines that end in these bytes; each ends with a line feed, the first begins with the bytes `begun`, and bytes
--- after the last line feed are not a line yet
+-- the lines that end in the given bytes, without their line feeds; the first line begins with the bytes `begun`, and
+-- bytes after the last line feed are not a line yet
 abbrev pub lines_ended : List ℕ → List ℕ → List (List ℕ)
 lines_ended begun [] = []
 lines_ended begun (b ∷ bytes) = if b == 10 then begun ∷ lines_ended [] bytes else lines_ended (begun ++ b ∷ []) bytes
 
--- the bytes after the last line feed; if there is none, `begun` and then all bytes
+-- the bytes after the last line feed; if there is no line feed, `begun` and then all bytes
 abbrev pub begun_by : List ℕ → List ℕ → List ℕ
 begun_by begun [] = begun
 begun_by begun (b ∷ bytes) = if b == 10 then begun_by [] bytes else begun_by (begun ++ b ∷ []) bytes
 
--- what the lines say that end in these bytes, of which the first begins with the bytes `begun`
+-- what the lines say that end in `bytes`; the first line begins with the bytes `begun`
 abbrev pub lines_told : List ℕ → List ℕ → List ServeLine
 lines_told begun bytes = map line_of (lines_ended begun bytes)

@@ -10,11 +10,11 @@ pub enum ServeLine {
     Floor(Generation),
     /// A packet from this LID came to the manager's port.
     Packet([u8; 256], Lid),
-    /// The manager stops waiting for the answer with this TransactionID.
+    /// The manager gives up the request with this TransactionID.
     Timeout(u64),
-    /// The manager stops waiting for all answers.
+    /// The manager gives up each request that waits for its answer.
     GiveUp,
-    /// What is named is shown of the manager.
+    /// What the line names is shown of the manager.
     Show(Shown),
     /// The managers that the last sweep saw are shown.
     Managers,

@@ -11,8 +11,8 @@ use text_words::{is_word, number, split_word};
 /// The greatest number of bytes of a line, without its line feed.
 pub const MOST_BYTES: usize = 600;
 
-/// Parses `line`, a line without its line feed. A line of more than `MOST_BYTES` bytes, or one that the grammar lacks,
-/// is `Wrong`.
+/// Parses `line`, a line without its line feed. Returns `Wrong` if `line` has more than `MOST_BYTES` bytes, or the
+/// grammar has no such line.
 #[tactic(auto, unfolding(crate::specs::ServeLine::line_of))]
 pub fn read_line(line: &[u8]) -> ServeLine
     ensures { result ≡ line_of line.now }
@@ -42,7 +42,8 @@ fn said_by(line: &[u8]) -> Option<ServeLine>
     behind_three(word, one, other, rest)
 }
 
-/// Parses a line of three words and the words of `rest`. Returns `None` if the grammar has no such line.
+/// Parses the line of the words `word`, `one` and `other`, and then the words of `rest`. Returns `None` if the grammar
+/// has no such line.
 fn behind_three(word: &[u8], one: &[u8], other: &[u8], rest: &[u8]) -> Option<ServeLine>
     ensures { result ≡ line_in (word.now ∷ one.now ∷ other.now ∷ words rest.now) }
 {
@@ -53,7 +54,7 @@ fn behind_three(word: &[u8], one: &[u8], other: &[u8], rest: &[u8]) -> Option<Se
     packet_in(word, one, other, last)
 }
 
-/// Parses a line of one word. Returns `None` if the grammar has no such line.
+/// Parses the line of the one word `word`. Returns `None` if the grammar has no such line.
 fn bare(word: &[u8]) -> Option<ServeLine>
     ensures { result ≡ bare_of word.now }
 {
@@ -68,7 +69,7 @@ fn bare(word: &[u8]) -> Option<ServeLine>
     }
 }
 
-/// Parses a line of two words. Returns `None` if the grammar has no such line.
+/// Parses the line of the words `word` and `arg`. Returns `None` if the grammar has no such line.
 fn of_one(word: &[u8], arg: &[u8]) -> Option<ServeLine>
     ensures { result ≡ of_one word.now arg.now }
 {
@@ -83,8 +84,8 @@ fn of_one(word: &[u8], arg: &[u8]) -> Option<ServeLine>
     }
 }
 
-/// Parses a line of four words: `packet`, the packet in hex digits, `from`, and the LID that it came from. Returns
-/// `None` if the grammar has no such line.
+/// Parses a line of four words: `packet`, the packet in hex digits, `from`, and the LID that the packet came from.
+/// Returns `None` if the grammar has no such line.
 fn packet_in(word: &[u8], hex: &[u8], between: &[u8], lid: &[u8]) -> Option<ServeLine>
     ensures { result ≡ packet_in word.now hex.now between.now lid.now }
 {
@@ -95,8 +96,8 @@ fn packet_in(word: &[u8], hex: &[u8], between: &[u8], lid: &[u8]) -> Option<Serv
     Some(ServeLine::Packet(bytes, lid_of(lid)?))
 }
 
-/// Parses the 256 bytes of a packet, each written as two hex digits of either case. Returns `None` if `word` is not
-/// such bytes.
+/// Parses the 256 bytes of a packet, each written as two hex digits of either case. Returns `None` unless `word` is 512
+/// hex digits.
 fn packet_of(word: &[u8]) -> Option<[u8; 256]>
     ensures { result ≡ packet_of word.now }
 {
@@ -107,7 +108,7 @@ fn packet_of(word: &[u8]) -> Option<[u8; 256]>
     }
 }
 
-/// Parses a TransactionID, written as 16 hex digits of either case. Returns `None` if `word` is not one.
+/// Parses a TransactionID, written as 16 hex digits of either case. Returns `None` unless `word` is 16 hex digits.
 fn transaction_of(word: &[u8]) -> Option<u64>
     ensures { result ≡ transaction_of word.now }
 {
@@ -117,7 +118,7 @@ fn transaction_of(word: &[u8]) -> Option<u64>
     hex_number(word)
 }
 
-/// Parses a number, written as 1 to 16 hex digits of either case. Returns `None` if `word` is not one.
+/// Parses a number, written as 1 to 16 hex digits of either case. Returns `None` unless `word` is 1 to 16 hex digits.
 pub fn hex_number(word: &[u8]) -> Option<u64>
     ensures { result ≡ hex_number word.now }
 {

@@ -14,7 +14,7 @@ pub record ServerValue : Type 0 where
 abbrev pub kept_with : List ℕ → ℕ → List ℕ
 kept_with begun b = if nat_le (length begun) most_bytes then begun ++ b ∷ [] else begun
 
--- the outcome once a line was handled, with no line begun
+-- the outcome `o` of handling a line, after which no line is begun
 abbrev pub after_kept : Outcome Manager → Outcome ServerValue
 after_kept o = record { now = record { manager = o.now; begun = [] }; text = o.text }
 

@@ -35,7 +35,7 @@ send_line out = codes "send " ++ encode_lower out.packet ++ to_text out.to ++ co
 abbrev pub end_line : List ℕ
 end_line = codes ".\n"
 
--- the word of the state that a manager reported; the number itself if it is not that of a state
+-- the word of the state with the number `number`; the number in decimal if no state has it
 abbrev pub told_state : ℕ → List ℕ
 told_state number = option_map_or state_word (state_of_number number) (decimal number)
 
@@ -58,7 +58,7 @@ abbrev pub heard_text : Option Trap → Option ManagerFault → List ℕ
 heard_text trap None = trap_text None trap
 heard_text trap (Some fault) = manager_line fault
 
--- the line of a refusal; empty if there is none
+-- the line of the given refusal; empty for None
 abbrev pub fault_text : Option ManagerFault → List ℕ
 fault_text fault = heard_text None fault
 
@@ -72,12 +72,12 @@ after_called c = record { now = c.manager; text = fault_text c.fault }
 abbrev pub after_heard : Called → Option Trap → Outcome Manager
 after_heard c trap = record { now = c.manager; text = heard_text trap c.fault }
 
--- what a request to the manager `m` comes to: if there is a fault, a refusal for it, and otherwise the manager `after`
+-- the outcome of a request to the manager `m`: a refusal if there is a fault, and otherwise the manager `after`
 abbrev pub asked_with : Manager → Option ManagerFault → Manager → Called
 asked_with m None after = done after
 asked_with m (Some fault) after = refused m fault
 
--- what the request `what` to the manager `m` comes to: the manager after it, or a refusal
+-- the outcome of the request `what` to the manager `m`: the manager after the request, or a refusal
 abbrev pub asked : Manager → Asking → Called
 asked m what = asked_with m (asked_fault what m) (after_asked what m)
 

@@ -40,20 +40,20 @@ pub record HasServedSome {S : Type 0} (state : S → SourceState) (old new : S) 
   pub read : Consumes (state old).left (state new).left bytes
   pub printed : prints (served_by m bytes)
 
--- the source has failed, or no more calls can be counted: 2^64 - 1 were made, each of which gave a byte or was
--- interrupted
+-- the source has failed, or the number `count` of bytes that were read and the number of interruptions meanwhile add up
+-- to 2^64 - 1 or more
 abbrev pub CannotBeRead : SourceState → SourceState → ℕ → Type 0
 CannotBeRead old new count =
     IsTrue new.has_failed ⊎ (2 ^ 64 - 1 + old.interruptions ≤ count + new.interruptions)
 
--- what was read was answered, as `prints` says, and no more could be read
+-- `prints` holds of what the manager prints for the bytes that were read, and no more can be read
 pub record FailsToRead {S : Type 0} (state : S → SourceState) (old new : S) (m : Manager)
     (prints : List ℕ → Type 0) : Type 0 where
   pub served : HasServedSome state old new m prints
   pub why : CannotBeRead (state old) (state new) (length served.bytes)
 
--- serving stops for a fault: if memory is refused, `some` holds of what is printed; if no more can be read, `whole`
--- does; or a write failed
+-- serving stopped for the given fault: `whole` holds of what was printed if no more can be read, and `some` if memory
+-- is refused; or a write failed
 abbrev pub StopsServing : {S : Type 0} → (S → SourceState) → S → S → Manager → (List ℕ → Type 0) → (List ℕ → Type 0)
     → Bool → ServeFault → Type 0
 StopsServing state old new m some whole sink_failed Read = FailsToRead state old new m whole
@@ -66,7 +66,7 @@ stopped fault = Err fault
 
 -- pieces -----------------------------------------------------------------------------------------
 
--- one read gives bytes, perhaps none, and the lines that end in them are handled
+-- one read gives bytes, or none and is interrupted, and the lines that end in these bytes are handled
 pub record GoesOn {S W : Type 0} (state : S → SourceState) (written : W → Option (List ℕ)) (has_failed : W → Bool)
     (old new : S) (server server' : ServerValue) (sink sink' : W) : Type 0 where
   pub bytes : List ℕ
@@ -83,7 +83,7 @@ pub record IsOver {S W : Type 0} (state : S → SourceState) (old new : S) (serv
   pub same_server : server' ≡ server
   pub same_sink : sink' ≡ sink
 
--- one read fails, and nothing else changes
+-- one read gives no bytes and fails, and nothing is printed
 pub record Unread {S W : Type 0} (state : S → SourceState) (old new : S) (sink sink' : W) : Type 0 where
   pub read : Consumes (state old).left (state new).left []
   pub failed : IsTrue (state new).has_failed

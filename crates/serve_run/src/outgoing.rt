@@ -12,7 +12,7 @@ use schedule_lines::RunFault;
 use sm_manager::{Manager, Outgoing};
 use smp_bytes::Lid;
 
-/// Prints a line for each packet that `manager` has queued, in their order. Empties the queue.
+/// Prints a line for each packet that `manager` has queued, in the order of the queue, and empties the queue.
 pub(crate) fn send_all<W: Sink>(manager: &mut Manager, sink: &mut W) -> Result<(), RunFault>
     ensures manager { OnOk result (manager.new ≡ emptied manager.old) }
     ensures prints { PrintsUnless W.written W.has_failed result sink.old sink.new
@@ -24,7 +24,7 @@ pub(crate) fn send_all<W: Sink>(manager: &mut Manager, sink: &mut W) -> Result<(
     Ok(())
 }
 
-/// Writes the line of a packet that is sent.
+/// Writes the line of `outgoing`, a packet that is sent.
 #[tactic(auto, unfolding(crate::specs::Served::send_line))]
 fn write_outgoing<W: Sink>(sink: &mut W, outgoing: &Outgoing) -> Result<(), WriteFault>
     ensures writes { Writes W.written W.has_failed result sink.old sink.new (send_line outgoing.now) }
@@ -35,7 +35,7 @@ fn write_outgoing<W: Sink>(sink: &mut W, outgoing: &Outgoing) -> Result<(), Writ
     sink.write(b"\n")
 }
 
-/// Writes the bytes of `packet` as two hex digits each.
+/// Writes the bytes of `packet` as two lower-case hex digits each.
 fn write_hex<W: Sink>(sink: &mut W, packet: &[u8; 256]) -> Result<(), WriteFault>
     ensures writes { Writes W.written W.has_failed result sink.old sink.new (encode_lower packet.now) }
 {
@@ -44,7 +44,8 @@ fn write_hex<W: Sink>(sink: &mut W, packet: &[u8; 256]) -> Result<(), WriteFault
     sink.write(&digits)
 }
 
-/// Writes the LID that a packet is sent to. Writes nothing if the packet goes by the path that it carries.
+/// Writes `to`, the LID that a packet is sent to. Writes nothing if `to` is `None`: the packet goes by the path that it
+/// carries.
 fn write_to<W: Sink>(sink: &mut W, to: Option<Lid>) -> Result<(), WriteFault>
     ensures writes { Writes W.written W.has_failed result sink.old sink.new (to_text to) }
 {

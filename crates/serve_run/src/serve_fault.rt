@@ -1,10 +1,10 @@
 use byte_io::WriteFault;
 use schedule_lines::RunFault;
 
-/// Why serving stopped before the lines ended.
+/// Why serving stopped before the end of the lines.
 #[derive(Clone, Copy, Debug, PartialEq, Eq)]
 pub enum ServeFault {
-    /// No more lines can be read, though they have not ended.
+    /// No more lines can be read, but the lines have not ended.
     Read,
     /// A write to the output failed.
     Write,

@@ -1,4 +1,4 @@
-//! Handling of one line: it is answered, the queued packets are written, and the answer ends.
+//! Handling of one line: the line is answered, the queued packets are written, and the answer ends.
 ghost use Rattle.std.specs.Prelude.{◌≡◌, OnOk, IsTrue, Some};
 ghost use Rattle.sm_manager.specs.Packets.{after_packet, after_timeout, trap_told};
 ghost use Rattle.sm_manager.specs.Manager.{outstanding};
@@ -17,7 +17,7 @@ use sm_manager::Manager;
 use smp_bytes::Lid;
 use std::alloc::Global;
 
-/// Handles `line`: answers it, writes all queued packets, ends the answer, and flushes.
+/// Handles `line`: answers the line, writes all queued packets, ends the answer, and flushes.
 pub(crate) fn serve_line<W: Sink>(
     alloc: Global,
     manager: &mut Manager,
@@ -53,7 +53,7 @@ fn print<W: Sink>(sink: &mut W, text: &[u8]) -> Result<(), RunFault>
     Ok(())
 }
 
-/// Does what `line` asks for, and prints the result. Leaves the packets that are then queued.
+/// Does what `line` asks for, and prints the result. The packets that are then queued stay in the queue.
 fn do_line<W: Sink>(
     alloc: Global,
     manager: &mut Manager,
@@ -79,7 +79,7 @@ fn do_line<W: Sink>(
     }
 }
 
-/// Makes the request `what` to `manager`. If the manager refuses it, prints the refusal.
+/// Makes the request `what` to `manager`. If the manager refuses the request, prints the refusal.
 fn ask<W: Sink>(manager: &mut Manager, what: Ask, sink: &mut W) -> Result<(), RunFault>
     ensures does { Lives W.written W.has_failed manager.new result sink.old sink.new
         (after_called (asked manager.old what)) }
@@ -90,8 +90,8 @@ fn ask<W: Sink>(manager: &mut Manager, what: Ask, sink: &mut W) -> Result<(), Ru
     }
 }
 
-/// Hands `manager` a packet that came to its port from the LID `from`. Prints the refusal if the manager refuses the
-/// packet, or the trap if it repressed one.
+/// Hands `manager` a packet that came to its port from the LID `from`. If the manager refuses the packet, prints the
+/// refusal. If the packet is a trap that the manager represses, prints the trap.
 fn take_in<W: Sink>(
     manager: &mut Manager,
     bytes: &[u8; 256],
@@ -107,8 +107,8 @@ fn take_in<W: Sink>(
     }
 }
 
-/// Informs `manager` that the request with the TransactionID `transaction` timed out. If the manager refuses it, prints
-/// the refusal.
+/// Informs `manager` that the request with the TransactionID `transaction` timed out. If the manager refuses the
+/// timeout, prints the refusal.
 fn time_out<W: Sink>(manager: &mut Manager, transaction: u64, sink: &mut W) -> Result<(), RunFault>
     ensures does { Lives W.written W.has_failed manager.new result sink.old sink.new
         (after_called (after_timeout manager.old transaction)) }
@@ -119,8 +119,8 @@ fn time_out<W: Sink>(manager: &mut Manager, transaction: u64, sink: &mut W) -> R
     }
 }
 
-/// Times out all requests that `manager` waits for when the call begins, by rising TransactionID. Prints a line for
-/// each timeout that the manager refuses.
+/// Times out each request whose answer `manager` waits for when the call begins, by rising TransactionID. Prints a line
+/// for each timeout that the manager refuses.
 fn give_up<W: Sink>(alloc: Global, manager: &mut Manager, sink: &mut W) -> Result<(), RunFault>
     ensures does { Lives W.written W.has_failed manager.new result sink.old sink.new
         (after_giving_up manager.old (outstanding manager.old)) }

@@ -17,23 +17,23 @@ use std::alloc::{AllocError, Global};
 /// The greatest number of bytes that are read at a time.
 const PIECE: usize = 4096;
 
-/// A manager, and the line that has begun. Of the line, the first bytes are kept, up to one more than a line may have.
+/// A manager, and the line that has begun. Of a line the first 601 bytes are kept, one more than a line may have.
 #[derive(Drop)]
 pub(crate) struct Server {
     manager: Manager,
     begun: Vec<u8>,
 }
 
-/// Serves a manager by lines until they end. Answers each line, and flushes the answer, before it reads more.
+/// Serves `manager` by `lines` until the lines end. Answers each line, and flushes the answer, before more is read.
 ///
 /// Writes `served_by` of all bytes that were read. Bytes after the last line feed are not a line. At most 601 bytes are
 /// kept of the line that has begun.
 ///
 /// # Errors
 ///
-/// Returns `Read` if no more lines can be read after all earlier lines have been answered. Returns `Memory` if memory
-/// runs out after a beginning of the answers was written. Returns `Write` if a write fails; how much was written is
-/// then unspecified.
+/// Returns `Read` if no more lines can be read; all earlier lines have then been answered. Returns `Memory` if memory
+/// runs out; a beginning of the answers has then been written. Returns `Write` if a write fails; how much was written
+/// is then unspecified.
 pub fn serve<S: Source, W: Sink>(
     alloc: Global,
     manager: Manager,
@@ -62,8 +62,8 @@ pub fn serve<S: Source, W: Sink>(
 }
 
 impl Server {
-    /// Reads some bytes, and handles the lines that end in them. `sink` must be flushed, so that no output is held back
-    /// while bytes are read. Returns whether more bytes may come.
+    /// Reads some bytes, and handles the lines that end in them. Returns whether more bytes may come, or an error if
+    /// reading, writing or memory fails. `sink` must be flushed, so that no output is held back while bytes are read.
     fn serve_piece<S: Source, W: Sink>(
         &mut self,
         alloc: Global,
@@ -105,7 +105,7 @@ impl Server {
         Ok(())
     }
 
-    /// Handles the line that has begun if `byte` ends it, and otherwise adds `byte` to the line. `sink` must be
+    /// Handles the line that has begun if `byte` is a line feed, and otherwise adds `byte` to the line. `sink` must be
     /// flushed.
     fn serve_byte<W: Sink>(&mut self, alloc: Global, byte: u8, sink: &mut W) -> Result<(), RunFault>
         requires { IsTrue (W.is_flushed sink.old) }
@@ -123,7 +123,8 @@ impl Server {
     }
 }
 
-/// Appends `byte` to the bytes of a line. Does nothing if the line is already too long.
+/// Appends `byte` to `begun`, the bytes of a line, unless the line is too long already. Returns an error if memory runs
+/// out.
 fn keep(begun: &mut Vec<u8>, byte: u8) -> Result<(), AllocError>
     ensures { OnOk result (begun.new.items ≡ kept_with begun.old.items byte) }
 {

@@ -14,7 +14,7 @@ use Rattle.serve_run.specs.declared.serve_fault.ServeFault.{ServeFault}
 use Rattle.serve_run.specs.declared.serve_fault.ServeFault.TheVariants as stop
 use Rattle.serve_task.specs.declared.serving.Serving.{Serving}
 
--- the reader of no files, for which any GUID may be that of a switch
+-- the reader of no inputs, which says of any GUID that it is a usable switch
 abbrev pub no_files : {S : Type 0} → Reader S (Unit {0})
 no_files = record { reads = λ olds news told. news ≡ olds; refuses = λ before olds news fault. ⊥; has_switch = λ told guid. true }
 
@@ -24,7 +24,7 @@ pub record Inputs {S : Type 0} (inputs : List S) : Type 0 where
   pub lines : S
   pub are : inputs ≡ texts ++ lines ∷ []
 
--- the manager that is asked for, as it begins, by the live conduct
+-- the manager that is asked for, with the live conduct, before its first line
 abbrev pub manager_asked : Serving → RuleValue → Manager
 manager_asked asked rule =
     new_manager asked.guid asked.port asked.priority (Live asked.sm_key) (record { lmc = asked.lmc; rule = rule })
@@ -45,7 +45,7 @@ abbrev pub HasServedLines : {S : Type 0} → (S → SourceState) → Serving →
 HasServedLines state asked olds news prints =
     WithManager state asked olds news (λ old new m. HasServed state old new m prints)
 
--- the text that the rule takes is refused for `fault`, and the lines were not touched
+-- the text that the rule takes is not read, or is refused, and `fault` says why; the lines were not touched
 pub record RefusesTexts {S : Type 0} (state : S → SourceState) (asked : Serving) (olds news : List S)
     (fault : Fault) : Type 0 where
   pub were : Inputs olds
@@ -59,15 +59,15 @@ fault_of_serving lines stop.Read = File lines files.Read
 fault_of_serving lines stop.Write = Write
 fault_of_serving lines stop.Memory = Memory
 
--- serving the manager `m` stopped for `fault`; `some` or `whole` holds of what was printed, as `StopsServing` says
+-- serving the manager `m` stopped with `fault`; `some` or `whole` holds of what was printed, as `StopsServing` says
 pub record StopsEarly {S : Type 0} (state : S → SourceState) (lines : ℕ) (old new : S) (m : Manager)
     (some whole : List ℕ → Type 0) (sink_failed : Bool) (fault : Fault) : Type 0 where
   pub stopped : ServeFault
   pub is : fault ≡ fault_of_serving lines stopped
   pub why : StopsServing state old new m some whole sink_failed stopped
 
--- a manager is not served to the end of its lines for `fault`: the text that its rule takes is refused, or serving
--- stopped
+-- serving a manager ends with `fault` before the end of its lines: the text that its rule takes is not read or is
+-- refused, or serving stopped
 abbrev pub IsServeFault : {S : Type 0} → (S → SourceState) → Serving → List S → List S → (List ℕ → Type 0)
     → (List ℕ → Type 0) → Bool → Fault → Type 0
 IsServeFault state asked olds news some whole sink_failed fault =

@@ -28,17 +28,17 @@ pub struct Serving {
     pub priority: Priority,
     /// The SM_Key of the manager.
     pub sm_key: u64,
-    /// The LMC of the manager's plans. They have 2^LMC LIDs for each adapter port.
+    /// The LMC of the manager's plans: a plan has 2^LMC LIDs for each adapter port.
     pub lmc: Lmc,
     pub rule: RuleAsked,
 }
 
-/// Serves a manager by lines, as `serve` does. The manager begins without facts. The inputs must be the text that its
-/// rule takes, if it takes one, and the lines. The text is read first.
+/// Serves a manager by lines, as `serve` does. The manager begins without facts. The inputs must be the text that the
+/// manager's rule takes, if the rule takes a text, and the lines. The text is read first.
 ///
 /// Writes `served_by` of that manager and the lines. Writes nothing if the text is refused. If memory is refused or a
-/// write fails while it serves, how much was written is as `serve` says. Roots may be any GUIDs, since no switch is
-/// known yet.
+/// write fails while the manager is served, how much was written is as `serve` says. Roots may be any GUIDs, since no
+/// switch is known yet.
 pub fn run_serve<S: Source, W: Sink>(
     alloc: Global,
     inputs: &mut [S],

@@ -1,4 +1,4 @@
--- The exit status of a run, and which fault ends with which.
+-- The exit status of a run, and the status that each fault gives.
 use Rattle.std.specs.Prelude.{ℕ, if◌then◌else◌}
 use Rattle.record_file.specs.declared.file_fault.FileFault.{FileFault}
 use Rattle.record_file.specs.declared.file_fault.FileFault.TheVariants.{Magic, Truncated, BadReport, BadCell, CellOrder, Read, Memory as NoMemoryForFile}

@@ -10,11 +10,11 @@ use Rattle.sm_cli.specs.declared.fault.Fault.TheVariants.{Open, File, Text, NoRo
 use Rattle.sm_cli.specs.declared.text_fault.TextFault.{TextFault}
 use Rattle.sm_cli.specs.TextFault.{is_of_text, said_of_text}
 
--- the name of a file, before what is written about it
+-- the name of a file, a colon and a space
 abbrev pub name_text : List ℕ → List ℕ
 name_text name = name ++ codes ": "
 
--- the name of a file, and what is written about it
+-- the name of a file, a colon, a space and `words`
 abbrev pub named_text : List ℕ → List ℕ → List ℕ
 named_text name words = name_text name ++ words
 
@@ -28,15 +28,17 @@ abbrev pub cause_text : Option ReportFault → List ℕ
 cause_text None = []
 cause_text (Some fault) = codes ": " ++ report_fault_name fault
 
--- what is written about a file's fault, without the file's name
+-- the words about a file's fault, without the file's name
 abbrev pub words_of : FileFault → List ℕ
 words_of fault = fault_words fault ++ number_text (fault_number fault) ++ cause_text (fault_of_report fault)
 
--- what is written about the file `name`; lack of memory is not the file's fault, so the name is left out
+-- the words about the fault of the file `name`, after the name; lack of memory is not the file's fault, and leaves the
+-- name out
 abbrev pub file_fault_text : List ℕ → FileFault → List ℕ
 file_fault_text name fault = if is_of_file fault then named_text name (words_of fault) else words_of fault
 
--- what is written about the text `name`; lack of memory is not the text's fault, so the name is left out
+-- the words about the fault of the text `name`, after the name; lack of memory is not the text's fault, and leaves the
+-- name out
 abbrev pub text_fault_text : List ℕ → TextFault → List ℕ
 text_fault_text name fault = if is_of_text fault then named_text name (said_of_text fault) else said_of_text fault
 
@@ -48,7 +50,7 @@ count_text endports = decimal endports ++ codes " end ports"
 abbrev pub no_room_text : Lack → List ℕ
 no_room_text why = codes "no room: " ++ count_text why.endports ++ codes ", room " ++ decimal why.room
 
--- the message of a run that ends with a fault; `name` is the name of the input that it concerns, if it concerns one
+-- the message of a run that ends with a fault; `name` is the name of the input that the fault concerns, if there is one
 abbrev pub fault_text : List ℕ → Fault → List ℕ
 fault_text name (Open input) = named_text name (codes "cannot open")
 fault_text name (File input fault) = file_fault_text name fault

@@ -16,7 +16,7 @@ use Rattle.sm_cli.specs.declared.fault.Fault.TheVariants.{File}
 abbrev pub floor_among : ℕ → List (List ℕ) → ℕ
 floor_among floor files = fold max floor (map floor_in files)
 
--- what `files` say together, by their records before the first bad one of each, at the greatest of `floor` and their
+-- the view of `files` together, by the records of each before its first bad one, at the greatest of `floor` and their
 -- floors
 abbrev pub facts_of : ℕ → List (List ℕ) → Facts
 facts_of floor files = view_at (floor_among floor files) (flat_map kept files)
@@ -43,12 +43,13 @@ pub record IsReadAt {S : Type 0} (state : S → SourceState) (olds news : List S
   pub there_after : slice_get news input ≡ Some new
   pub read : IsReadAs state old new file
 
--- the first sources were read, one as each of `files`
+-- each of the first sources was read to its end without a failure: the source at an index as the file of `files` at
+-- this index, which is accepted
 abbrev pub AreReadAs : {S : Type 0} → (S → SourceState) → List S → List S → List (List ℕ) → Type 0
 AreReadAs state olds news files =
     (input : ℕ) (file : List ℕ) → slice_get files input ≡ Some file → IsReadAt state olds news input file
 
--- all sources were read, and `facts` is what their files say together, at `floor` or their greatest floor
+-- all sources were read, and `facts` is what their files say together, at the greatest of `floor` and their floors
 pub record HasRead {S : Type 0} (state : S → SourceState) (floor : ℕ) (olds news : List S)
     (facts : Facts) : Type 0 where
   pub files : List (List ℕ)
@@ -57,7 +58,7 @@ pub record HasRead {S : Type 0} (state : S → SourceState) (floor : ℕ) (olds 
   pub told : facts ≡ facts_of floor files
 
 -- reading the source ended with `fault`: it is the first fault of the bytes taken, or a read or an allocation failed
--- before any
+-- before any fault of the bytes
 pub record Refuses {S : Type 0} (state : S → SourceState) (old new : S) (fault : FileFault) : Type 0 where
   pub taken : List ℕ
   pub consumed : Consumes (state old).left (state new).left taken
@@ -88,7 +89,7 @@ pub record IsRefusedAt {S : Type 0} (state : S → SourceState) (before : ℕ) (
   pub is : input ≡ before + index
   pub refuses : RefusesFile state olds news index fault
 
--- reading the files ends with `fault`, which is that of one of them; `before` inputs precede the files
+-- reading the files ends with `fault`, which is the fault of a file; `before` inputs precede the files
 abbrev pub IsRefusedFile : {S : Type 0} → (S → SourceState) → ℕ → List S → List S → Fault
     → Type 0
 IsRefusedFile state before olds news (File input fault) =

@@ -41,7 +41,7 @@ abbrev pub IsTextRefused : {S : Type 0} → (S → SourceState) → S → S → 
 IsTextRefused state old new (texts.Lanes fault) = RefusesLanes state old new fault
 IsTextRefused state old new fault = ⊥
 
--- the text of lanes, the input `at`, is not read for a fault of the run: the source fails, or its text is refused
+-- reading the text of lanes, the input `at`, fails with a fault of the run: the source fails, or its text is refused
 abbrev pub IsLanesFault : {S : Type 0} → (S → SourceState) → ℕ → S → S → Fault → Type 0
 IsLanesFault state at old new (File input fault) =
     (input ≡ at) × FailsToRead state old new fault
@@ -49,7 +49,7 @@ IsLanesFault state at old new (Text input fault) =
     (input ≡ at) × IsTextRefused state old new fault
 IsLanesFault state at old new fault = ⊥
 
--- there is one source, the input `at`, and its text of lanes is not read for `fault`
+-- there is one source, the input `at`, and reading its text of lanes fails with `fault`
 abbrev pub AreNoLanes : {S : Type 0} → (S → SourceState) → ℕ → List S → List S → Fault → Type 0
 AreNoLanes state at olds news fault = IsOneRead olds news (λ old new. IsLanesFault state at old new fault)
 
@@ -61,17 +61,17 @@ AreLanesAndFiles state floor olds news told =
     AreReadInParts olds news (λ os ns. AreLanes state os ns told.lanes)
     (λ os ns. AreTablesAndFiles state floor os ns told.read)
 
--- the text of lanes, the first input, is refused for `fault`, and no other input was touched
+-- reading the text of lanes, the first input, fails with `fault`, and no other input was touched
 abbrev pub StopsAtLanes : {S : Type 0} → (S → SourceState) → List S → List S → Fault → Type 0
 StopsAtLanes state olds news fault =
     AreReadInParts olds news (λ os ns. AreNoLanes state 0 os ns fault) (λ os ns. ns ≡ os)
 
--- the text of lanes was read, and the tables or a file after it are refused for `fault`
+-- the text of lanes was read, and reading the tables or a file after it fails with `fault`
 abbrev pub StopsBehindLanes : {S : Type 0} → (S → SourceState) → List S → List S → Fault → Type 0
 StopsBehindLanes state olds news fault =
     (said : LanesSaid) × AreReadInParts olds news (λ os ns. AreLanes state os ns said)
     (λ os ns. AreNoTablesAndFiles state 1 os ns fault)
 
--- the lanes, or the tables and files after them, are not read for `fault`
+-- reading the lanes, or the tables and files after them, fails with `fault`
 abbrev pub AreNoLanesAndFiles : {S : Type 0} → (S → SourceState) → List S → List S → Fault → Type 0
 AreNoLanesAndFiles state olds news fault = StopsAtLanes state olds news fault ⊎ StopsBehindLanes state olds news fault

@@ -7,18 +7,18 @@ use Rattle.sm_cli.specs.InputTables.{AreNoTablesAndFiles, AreTablesAndFiles}
 use Rattle.sm_cli.specs.Inputs.{IsRoots, IsRootsFault}
 use Rattle.sm_cli.specs.Sources.{AreReadInParts, IsOneRead}
 
--- how many texts are read where one may be asked for: 1 if it is (true), otherwise 0
+-- the number of texts that an option adds to the inputs: 1 if the option is given (true), otherwise 0
 abbrev pub texts_if : Bool → ℕ
 texts_if false = 0
 texts_if true = 1
 
--- the text of an order was read and names `switches`; if there is no such text (false), there are none, and no input
--- was touched
+-- the text of an order was read and names `switches`. If there is no such text (false), `switches` is empty, and no
+-- input was touched
 abbrev pub AreSwitches : {S : Type 0} → (S → SourceState) → Bool → List S → List S → List ℕ → Type 0
 AreSwitches state false olds news switches = (news ≡ olds) × (switches ≡ [])
 AreSwitches state true olds news switches = IsOneRead olds news (λ old new. IsRoots state old new switches)
 
--- the text of an order, the input `at`, is not read for `fault`; never if there is no such text (false)
+-- reading the text of an order, the input `at`, fails with `fault`; never if there is no such text (false)
 abbrev pub AreNoSwitches : {S : Type 0} → (S → SourceState) → Bool → ℕ → List S → List S → Fault → Type 0
 AreNoSwitches state false at olds news fault = ⊥
 AreNoSwitches state true at olds news fault = IsOneRead olds news (λ old new. IsRootsFault state at old new fault)
@@ -29,19 +29,19 @@ AreOrderAndTables state floor has_order olds news told =
     AreReadInParts olds news (λ os ns. AreSwitches state has_order os ns told.order.items)
     (λ os ns. AreTablesAndFiles state floor os ns told.read)
 
--- the text of the order, the input `at`, is refused for `fault`, and no other input was touched
+-- reading the text of the order, the input `at`, fails with `fault`, and no other input was touched
 abbrev pub StopsAtOrder : {S : Type 0} → (S → SourceState) → Bool → ℕ → List S → List S → Fault → Type 0
 StopsAtOrder state has_order at olds news fault =
     AreReadInParts olds news (λ os ns. AreNoSwitches state has_order at os ns fault) (λ os ns. ns ≡ os)
 
--- the text of the order, the input `at`, was read, if there is one, and the tables or a file after it are refused for
--- `fault`
+-- the text of the order, the input `at`, was read, if there is one, and reading the tables or a file after it fails
+-- with `fault`
 abbrev pub StopsBehindOrder : {S : Type 0} → (S → SourceState) → Bool → ℕ → List S → List S → Fault → Type 0
 StopsBehindOrder state has_order at olds news fault =
     (switches : List ℕ) × AreReadInParts olds news (λ os ns. AreSwitches state has_order os ns switches)
     (λ os ns. AreNoTablesAndFiles state (at + texts_if has_order) os ns fault)
 
--- the text of the order in the input `at`, or the tables and files after it, are not read for `fault`
+-- reading the text of the order, the input `at`, or the tables and files after it, fails with `fault`
 abbrev pub AreNoOrderAndTables : {S : Type 0} → (S → SourceState) → Bool → ℕ → List S → List S → Fault → Type 0
 AreNoOrderAndTables state has_order at olds news fault =
     StopsAtOrder state has_order at olds news fault ⊎ StopsBehindOrder state has_order at olds news fault

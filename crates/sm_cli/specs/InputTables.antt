@@ -41,7 +41,7 @@ abbrev pub IsTextRefused : {S : Type 0} → (S → SourceState) → S → S → 
 IsTextRefused state old new (texts.Tables fault) = RefusesTables state old new fault
 IsTextRefused state old new fault = ⊥
 
--- the text of tables, the input `at`, is not read for a fault of the run: the source fails, or its text is refused
+-- reading the text of tables, the input `at`, fails with a fault of the run: the source fails, or its text is refused
 abbrev pub IsTablesFault : {S : Type 0} → (S → SourceState) → ℕ → S → S → Fault → Type 0
 IsTablesFault state at old new (File input fault) =
     (input ≡ at) × FailsToRead state old new fault
@@ -49,7 +49,7 @@ IsTablesFault state at old new (Text input fault) =
     (input ≡ at) × IsTextRefused state old new fault
 IsTablesFault state at old new fault = ⊥
 
--- there is one source, the input `at`, and its text of tables is not read for `fault`
+-- there is one source, the input `at`, and reading its text of tables fails with `fault`
 abbrev pub AreNoTables : {S : Type 0} → (S → SourceState) → ℕ → List S → List S → Fault
     → Type 0
 AreNoTables state at olds news fault =
@@ -62,18 +62,18 @@ abbrev pub AreTablesAndFiles : {S : Type 0} → (S → SourceState) → ℕ → 
 AreTablesAndFiles state floor olds news told =
     AreReadInParts olds news (λ os ns. AreTables state os ns told.held) (λ os ns. HasRead state floor os ns told.store)
 
--- the tables, the input `at`, are refused for `fault`, and no file was touched
+-- reading the tables, the input `at`, fails with `fault`, and no file was touched
 abbrev pub StopsAtTables : {S : Type 0} → (S → SourceState) → ℕ → List S → List S → Fault → Type 0
 StopsAtTables state at olds news fault =
     AreReadInParts olds news (λ os ns. AreNoTables state at os ns fault) (λ os ns. ns ≡ os)
 
--- the tables, the input `at`, were read, and a file after them is refused for `fault`
+-- the tables, the input `at`, were read, and reading a file after them fails with `fault`
 abbrev pub StopsAtFiles : {S : Type 0} → (S → SourceState) → ℕ → List S → List S → Fault → Type 0
 StopsAtFiles state at olds news fault =
     (held : HeldPlan) × AreReadInParts olds news (λ os ns. AreTables state os ns held)
     (λ os ns. IsRefusedFile state (at + 1) os ns fault)
 
--- the tables in the input `at`, or the files after them, are not read for `fault`
+-- reading the tables, the input `at`, or the files after them, fails with `fault`
 abbrev pub AreNoTablesAndFiles : {S : Type 0} → (S → SourceState) → ℕ → List S → List S → Fault → Type 0
 AreNoTablesAndFiles state at olds news fault =
     StopsAtTables state at olds news fault ⊎ StopsAtFiles state at olds news fault

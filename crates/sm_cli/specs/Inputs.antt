@@ -23,26 +23,26 @@ use Rattle.sm_cli.specs.declared.text_fault.TextFault.TheVariants as texts
 abbrev pub first_unusable : (ℕ → Bool) → List ℕ → Option ℕ
 first_unusable usable roots = find (λ root. not (usable root)) roots
 
--- why no plan can be made from `roots`: there is no root, or `unusable` is the first that is not a usable switch; None
--- if a plan can be made
+-- the fault of `roots`: there is no root, or `unusable` is the first that is not a usable switch; None if a plan can be
+-- made from `roots`
 abbrev pub fault_of_first : List ℕ → Option ℕ → Option TextFault
 fault_of_first [] unusable = Some texts.NoRoot
 fault_of_first (root ∷ roots) unusable = option_map texts.NoSwitch unusable
 
--- why no plan can be made from `roots`: there is no root, or one is not a usable switch, by `usable`; None if a plan
--- can be made
+-- the fault of `roots`: there is no root, or one is not a usable switch, by `usable`; None if a plan can be made from
+-- `roots`
 abbrev pub roots_fault : (ℕ → Bool) → List ℕ → Option TextFault
 roots_fault usable roots = fault_of_first roots (first_unusable usable roots)
 
--- why no plan can be made by an order: only roots that it grows from can be at fault; None if a plan can be made
+-- the fault of an order: only roots that the order grows from can be at fault; None if a plan can be made by the order
 abbrev pub order_fault : (ℕ → Bool) → OrderValue → Option TextFault
 order_fault usable (from_roots roots) = roots_fault usable roots
 order_fault usable (as_named switches) = None
 order_fault usable (balanced_as switches) = None
 order_fault usable least_loaded = None
 
--- why no plan can be made by the rule that was asked for: only roots that a text names can be at fault; None if a plan
--- can be made
+-- the fault of the rule that was asked for: only roots that a text names can be at fault; None if a plan can be made by
+-- the rule
 abbrev pub rule_fault : (ℕ → Bool) → RuleAsked → RuleValue → Option TextFault
 rule_fault usable UpDown rule = None
 rule_fault usable Spread rule = None
@@ -76,8 +76,8 @@ abbrev pub IsTextRefused : {S : Type 0} → (S → SourceState) → S → S → 
 IsTextRefused state old new (texts.Roots fault) = RefusesRootsText state old new fault
 IsTextRefused state old new fault = ⊥
 
--- the text of roots or of an order, the input `at`, is not read for a fault of the run: the source fails, or its text
--- is refused
+-- reading the text of roots or of an order, the input `at`, fails with a fault of the run: the source fails, or its
+-- text is refused
 abbrev pub IsRootsFault : {S : Type 0} → (S → SourceState) → ℕ → S → S → Fault → Type 0
 IsRootsFault state at old new (File input fault) =
     (input ≡ at) × FailsToRead state old new fault
@@ -85,16 +85,15 @@ IsRootsFault state at old new (Text input fault) =
     (input ≡ at) × IsTextRefused state old new fault
 IsRootsFault state at old new fault = ⊥
 
--- there is one source, and it was read as the text that the rule takes; `rule` spreads in the order that `grows` makes
--- from the GUIDs that it names
+-- there is one source, and its text, of roots or of an order, names `guids`; `rule` spreads in the order that `grows`
+-- makes of them
 pub record IsOrderRead {S : Type 0} (state : S → SourceState) (grows : List ℕ → OrderValue) (olds news : List S)
     (rule : RuleValue) : Type 0 where
   pub guids : List ℕ
   pub read : IsOneRead olds news (λ old new. IsRoots state old new guids)
   pub is : rule ≡ spread_in (grows guids)
 
--- `rule` is the rule that was asked for; the text that it takes was read, if it takes one, and otherwise no input was
--- touched
+-- `rule` is the rule that was asked for. If the rule takes a text, this text was read; otherwise no input was touched
 abbrev pub IsRuleRead : {S : Type 0} → (S → SourceState) → RuleAsked → List S → List S → RuleValue
     → Type 0
 IsRuleRead state UpDown olds news rule = (news ≡ olds) × (rule ≡ up_and_down)
@@ -104,7 +103,7 @@ IsRuleRead state SpreadInOrder olds news rule = IsOrderRead state as_named olds 
 IsRuleRead state Balance olds news rule = (news ≡ olds) × (rule ≡ spread_in least_loaded)
 IsRuleRead state BalanceInOrder olds news rule = IsOrderRead state balanced_as olds news rule
 
--- the rule that was asked for is not read for `fault`: that of its text, the input 0; never if it takes no text
+-- reading the text that the rule takes, the input 0, fails with `fault`; never if the rule takes no text
 abbrev pub IsRuleFault : {S : Type 0} → (S → SourceState) → RuleAsked → List S → List S
     → Fault → Type 0
 IsRuleFault state UpDown olds news fault = ⊥
@@ -119,9 +118,9 @@ IsRuleFault state BalanceInOrder olds news fault =
 
 -- inputs ----------------------------------------------------------------------------------------
 
--- A reader of the inputs after the text that a rule takes. `reads` relates them, before and after, to what they say,
--- and `refuses n` to a fault if n inputs precede them. `has_switch` says, by what they say, which GUIDs are usable
--- switches.
+-- a reader of the inputs after the text that a rule takes. `reads` relates these inputs, before and after, to what they
+-- say. `refuses n` relates them to the fault that reading them fails with, if n inputs precede them. `has_switch` says
+-- of a GUID whether it is a usable switch, by what the inputs say
 pub record Reader (S T : Type 0) : Type 1 where
   pub reads : List S → List S → T → Type 0
   pub refuses : ℕ → List S → List S → Fault → Type 0
@@ -133,7 +132,8 @@ module _ {S T : Type 0} (state : S → SourceState) (reader : Reader S T) (asked
   AreRead rule told =
       AreReadInParts olds news (λ os ns. IsRuleRead state asked os ns rule) (λ os ns. reader.reads os ns told)
 
-  -- the inputs were read, and if a text names roots there is one, and all are usable switches
+  -- the inputs were read, and roots that a text names are not at fault: there is at least one, and all are usable
+  -- switches
   pub record AreInputs (rule : RuleValue) (told : T) : Type 0 where
     pub read : AreRead rule told
     pub sound : rule_fault (reader.has_switch told) asked rule ≡ None
@@ -146,17 +146,17 @@ module _ {S T : Type 0} (state : S → SourceState) (reader : Reader S T) (asked
     pub inputs : AreInputs rule told
     pub so : holds rule told
 
-  -- the text that the rule takes is refused for `fault`, and no other input was touched
+  -- reading the text that the rule takes fails with `fault`, and no other input was touched
   abbrev pub RefusesRule : Fault → Type 0
   RefusesRule fault = AreReadInParts olds news (λ os ns. IsRuleFault state asked os ns fault) (λ os ns. ns ≡ os)
 
-  -- the text that the rule takes was read, if it takes one, and an input after it is refused for `fault`
+  -- the text that the rule takes was read, if it takes one, and reading the inputs after it fails with `fault`
   abbrev pub RefusesOthers : Fault → Type 0
   RefusesOthers fault =
       (rule : RuleValue) × AreReadInParts olds news (λ os ns. IsRuleRead state asked os ns rule)
       (λ os ns. reader.refuses (texts_for asked) os ns fault)
 
-  -- all inputs were read, and no plan can be made from the roots, which is `fault`, that of the input 0
+  -- all inputs were read, and no plan can be made from the roots; `fault` says why, and names the input 0
   pub record RefusesRoots (fault : Fault) : Type 0 where
     pub rule : RuleValue
     pub told : T
@@ -165,6 +165,6 @@ module _ {S T : Type 0} (state : S → SourceState) (reader : Reader S T) (asked
     pub is : fault ≡ Text 0 why
     pub refused : rule_fault (reader.has_switch told) asked rule ≡ Some why
 
-  -- the inputs are not read for `fault`, or no plan can be made from the roots
+  -- reading the inputs fails with `fault`, or they were read, no plan can be made from the roots, and `fault` says why
   abbrev pub IsInputFault : Fault → Type 0
   IsInputFault fault = RefusesRule fault ⊎ (RefusesOthers fault ⊎ RefusesRoots fault)

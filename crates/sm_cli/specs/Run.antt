@@ -27,7 +27,8 @@ abbrev pub order_by : RuleValue → Cells → List ℕ
 order_by up_and_down cells = []
 order_by (spread_in order) cells = order_of order cells
 
--- what a run writes from `facts`: their text, a store file, a plan or an order; a plan or an order is by `rule`
+-- the bytes that a run writes from `facts`: their text, a store file, a plan or an order; a plan or an order is by
+-- `rule`
 abbrev pub answer_to : Output → RuleValue → Facts → List ℕ
 answer_to output.Facts rule facts = facts_text facts
 answer_to output.Join rule facts = store_bytes facts.floor (cells_of facts)
@@ -42,29 +43,30 @@ IsAnswered output.Join facts = AreInRange facts
 IsAnswered (output.Plan lmc asked) facts = no_room lmc (cells_of facts) ≡ None
 IsAnswered (output.Order asked) facts = ⊤
 
--- `output` is a plan, and `why` says why it has no room, or is None if it has room; or it is an order, and `why` is
--- None
+-- `output` is a plan, and `why` is the lack of room, or None if the plan has room; or `output` is an order, and `why`
+-- is None
 abbrev pub IsPlanned : Output → Facts → Option LacksRoom → Type 0
 IsPlanned output.Facts facts why = ⊥
 IsPlanned output.Join facts why = ⊥
 IsPlanned (output.Plan lmc asked) facts why = no_room lmc (cells_of facts) ≡ why
 IsPlanned (output.Order asked) facts why = why ≡ None
 
--- the plan of `facts` is not written for a fault: it has no room, a write failed, or it has room and memory ran out
+-- writing the plan of `facts` ends with a fault: the plan has no room, a write failed, or the plan has room and memory
+-- ran out
 abbrev pub IsWritingFault : ℕ → Facts → Bool → Fault → Type 0
 IsWritingFault lmc facts sink_failed (NoRoom why) = no_room lmc (cells_of facts) ≡ Some why
 IsWritingFault lmc facts sink_failed Write = IsTrue sink_failed
 IsWritingFault lmc facts sink_failed Memory = no_room lmc (cells_of facts) ≡ None
 IsWritingFault lmc facts sink_failed fault = ⊥
 
--- an order is not written for a fault: a write failed, or memory ran out
+-- writing an order ends with a fault: a write failed, or memory ran out
 abbrev pub IsOrderFault : Bool → Fault → Type 0
 IsOrderFault sink_failed Write = IsTrue sink_failed
 IsOrderFault sink_failed Memory = ⊤
 IsOrderFault sink_failed fault = ⊥
 
--- an output is not made from `facts` for a fault: a plan has no room, a write failed, or memory ran out, which is
--- possible for an order and for a plan with room
+-- making an output from `facts` ends with a fault: a plan has no room, a write failed, or memory ran out. Memory runs
+-- out only for an order or for a plan with room
 abbrev pub IsAnswerFault : Output → Facts → Bool → Fault → Type 0
 IsAnswerFault what facts sink_failed (NoRoom why) = IsPlanned what facts (Some why)
 IsAnswerFault what facts sink_failed Write = IsTrue sink_failed
@@ -84,7 +86,7 @@ HasAnswered state request olds news prints =
     WithInputs state (files_reader state request.floor) (rule_for request.output) olds news
     (λ rule facts. IsAnswer request.output rule facts prints)
 
--- a run over open inputs fails for `fault`: the inputs are not read, or the output is not made
+-- a run over open inputs ends with `fault`: the inputs are not read, or the output is not made
 abbrev pub IsFaultOf : {S : Type 0} → (S → SourceState) → Invocation → List S → List S → Bool
     → Fault → Type 0
 IsFaultOf state request olds news sink_failed fault =

@@ -26,7 +26,8 @@ pub record SayTheSame (floor : ℕ) (files others : List (List ℕ)) : Type 0 wh
   pub sightings : HaveSameMembers (flat_map kept files) (flat_map kept others)
   pub floors : floor_among floor files ≡ floor_among floor others
 
--- if two lists of files keep the same sightings and have the same greatest floor, the answer to a request is the same
+-- the answer to a request from two lists of files is the same, if they keep the same sightings and have the same
+-- greatest floor
 abbrev pub SightingsDecideAnswer : Type 0
 SightingsDecideAnswer = (request : Invocation) (rule : RuleValue) (files others : List (List ℕ))
     → SayTheSame request.floor files others → answer_to request.output rule (facts_of request.floor files)
@@ -60,15 +61,16 @@ pub record StandFor (request : Invocation) (rule : RuleValue) (whole front back 
   pub same : answer_to request.output rule (facts_of request.floor (whole ∷ others))
       ≡ answer_to request.output rule (facts_of request.floor (front ∷ back ∷ others))
 
--- if a report file is split between its records, the two report files of the parts are accepted, and stand for it
+-- if a report file is split between its records, the report files of the two parts are accepted, and stand for the
+-- whole
 abbrev pub SplitFileStands : Type 0
 SplitFileStands =
     (request : Invocation) (rule : RuleValue) (whole front back : List ℕ) (first second : List (List ℕ))
     (others : List (List ℕ)) → IsReportFile whole (first ++ second) → front ≡ report_file first → back
     ≡ report_file second → StandFor request rule whole front back others
 
--- if a store file is split between its cells, the two store files of the parts, each with the floor of the whole, are
--- accepted, and stand for it
+-- if a store file is split between its cells, the store files of the two parts, each with the floor of the whole, are
+-- accepted, and stand for the whole
 abbrev pub SplitStoreStands : Type 0
 SplitStoreStands =
     (request : Invocation) (rule : RuleValue) (told : Option ℕ) (whole front back : List ℕ) (facts : Facts)
@@ -76,8 +78,8 @@ SplitStoreStands =
     → cells_of facts ≡ first ++ second → front ≡ cells_file told first → back ≡ cells_file told second
     → StandFor request rule whole front back others
 
--- the printed order is read as switches, and the order that grows as these are named is printed the same and gives the
--- same plans
+-- the printed order is read back as the switches `named`. The order that grows as they are named is printed alike and
+-- gives the same plans
 pub record OrderStands (order : OrderValue) (asked again : RuleAsked) (facts : Facts) : Type 0 where
   pub named : List ℕ
   pub is_read : roots_of (answer_to (Order asked) (spread_in order) facts) ≡ Ok named

@@ -25,7 +25,7 @@ text_fault_line NoRoot = None
 text_fault_line (NoSwitch guid) = None
 text_fault_line (Moves lid) = None
 
--- what a text is refused for, in a word or a few
+-- the words that say why a text is refused
 abbrev pub text_fault_word : TextFault → List ℕ
 text_fault_word NotUtf8 = codes "not UTF-8"
 text_fault_word (Topology fault) = topologies.fault_word fault
@@ -71,7 +71,7 @@ abbrev pub guid_behind : Option ℕ → List ℕ
 guid_behind None = []
 guid_behind (Some guid) = codes " " ++ guid_text guid
 
--- what is written about a text, without its name
+-- the words about the fault of a text, without the text's name
 abbrev pub said_of_text : TextFault → List ℕ
 said_of_text fault =
     line_text (text_fault_line fault) ++ lid_before (text_fault_lid fault) ++ text_fault_word fault

@@ -12,7 +12,7 @@ use lid_assign::NoRoom;
 use record_file::FileFault;
 use smp_bytes::{Guid, Lid};
 
-/// Writes the line of `fault`. `name` is the name of the input that it concerns, if it concerns one.
+/// Writes the line of `fault`. `name` is the name of the input that the fault concerns, if it concerns an input.
 pub fn write_fault<W: Sink>(sink: &mut W, fault: &Fault, name: &str) -> Result<(), WriteFault>
     ensures writes { Writes W.written W.has_failed result sink.old sink.new
         (program_line (fault_text name.now fault.now)) }
@@ -49,7 +49,7 @@ fn write_no_room<W: Sink>(sink: &mut W, why: NoRoom) -> Result<(), WriteFault>
     write_number(sink, u64::from(why.room))
 }
 
-/// Writes `endports`, the number of end ports.
+/// Writes `endports`, the number of end ports, and what is counted.
 fn write_count<W: Sink>(sink: &mut W, endports: usize) -> Result<(), WriteFault>
     ensures writes { Writes W.written W.has_failed result sink.old sink.new (count_text endports) }
 {

@@ -21,12 +21,12 @@ pub struct LanesAndFiles {
     pub read: TablesAndFacts,
 }
 
-/// Reads the text of lanes, the first of `inputs`, then the text of tables, the second, and then the files after them,
-/// at least at `floor`. There must be at least two inputs.
+/// Reads the text of lanes, the first of `inputs`, then the text of tables, the second, and then the files. What the
+/// files say is read at `floor` or a greater floor. There must be at least two inputs.
 ///
 /// # Errors
 ///
-/// Returns the fault of the first input that is refused, also if memory is refused.
+/// Returns the fault of the first input that is refused. Memory that is refused counts as a fault of its input.
 pub fn read_lanes_and_files<S: Source>(
     alloc: Global,
     inputs: &mut [S],
@@ -47,7 +47,8 @@ pub fn read_lanes_and_files<S: Source>(
     }
 }
 
-/// Reads the lanes from the only source of `texts`, to its end. There must be one. `input` is its index in the run.
+/// Reads the lanes from the only source of `texts`, to its end. `texts` must have one source. `input` is the index of
+/// the source in the run.
 pub(crate) fn read_lanes<S: Source>(
     alloc: Global,
     input: usize,
@@ -63,7 +64,7 @@ pub(crate) fn read_lanes<S: Source>(
     }
 }
 
-/// Reads the lanes from `source`, to its end. `input` is its index in the run.
+/// Reads the lanes from `source`, to its end. `input` is the index of `source` in the run.
 fn read_text<S: Source>(alloc: Global, input: usize, source: &mut S) -> Result<Lanes, Fault>
     ensures read { IfOk result (IsLanes S.state source.old source.new) }
     ensures refused { IfErr result (IsLanesFault S.state input source.old source.new) }

@@ -1,4 +1,4 @@
-//! The text of an order of switches, if there is one, and the text of tables and the files after it.
+//! Reading of a text of an order of switches, if it is given, of a text of tables, and of the files after them.
 ghost use Rattle.std.specs.Prelude.{◌≡◌, ◌+◌, ◌≤◌, length, IfErr, IfOk};
 ghost use Rattle.sm_cli.specs.InputOrders.{AreNoOrderAndTables, AreNoSwitches, AreOrderAndTables, AreSwitches};
 ghost use Rattle.sm_cli.specs.InputOrders.{texts_if};
@@ -26,12 +26,13 @@ pub fn texts_if(has_text: bool) -> usize
     if has_text { 1 } else { 0 }
 }
 
-/// Reads the text of an order, if there is one, then the text of tables, and then the files, at least at `floor`.
-/// `before` inputs precede them. There must be an input for each text.
+/// Reads the text of an order if `has_order` is true, then the text of tables, and then the files. What the files say
+/// is read at `floor` or a greater floor. `before` other inputs come before `inputs`. There must be an input for each
+/// text, and at most `usize::MAX` inputs in all.
 ///
 /// # Errors
 ///
-/// Returns the fault of the first input that is refused, also if memory is refused.
+/// Returns the fault of the first input that is refused. Memory that is refused counts as a fault of its input.
 pub(crate) fn read_order_and_tables<S: Source>(
     alloc: Global,
     before: usize,
@@ -56,8 +57,8 @@ pub(crate) fn read_order_and_tables<S: Source>(
     }
 }
 
-/// Reads the order from the only source of `texts`, to its end, and returns the switches that it names. Returns none if
-/// `has_order` is false; there must then be no source. `input` is the index of the source in the run.
+/// Reads the order from the only source of `texts`, to its end, and returns the switches that it names. Returns no
+/// switches if `has_order` is false; `texts` must then be empty. `input` is the index of the source in the run.
 fn read_order<S: Source>(
     alloc: Global,
     input: usize,

@@ -1,5 +1,5 @@
-//! The inputs of a step after the text that its rule takes: the text of lanes and the text of an order, if there are
-//! such, and the text of tables and the files after them.
+//! The inputs of a step after the text that its rule takes: a text of lanes and a text of an order, each only if it is
+//! given, then the text of tables, and then the files.
 ghost use Rattle.std.specs.Prelude.{◌≡◌, ◌+◌, ◌≤◌, length, IfErr, IfOk};
 ghost use Rattle.sm_cli.specs.InputOrders.{texts_if};
 ghost use Rattle.sm_cli.specs.InputSteps.{AreLanesIf, AreNoLanesIf, AreNoStepInputs, AreStepInputs};
@@ -54,13 +54,13 @@ impl<S: Source> InputReader<S> for StepReader {
     }
 }
 
-/// Reads the text of lanes, if there is one, then the text of an order, if there is one, then the text of tables, and
-/// then the files, at least at the floor of `asked`. `before` inputs precede them. There must be an input for each
-/// text.
+/// Reads the text of lanes and the text of an order, each only if `asked` has it, then the text of tables, and then the
+/// files. What the files say is read at the floor of `asked` or a greater one. `before` other inputs come before
+/// `inputs`. There must be an input for each text, and no more than `usize::MAX` inputs in all.
 ///
 /// # Errors
 ///
-/// Returns the fault of the first input that is refused, also if memory is refused.
+/// Returns the fault of the first input that is refused. Memory that is refused counts as a fault of its input.
 fn read_step_inputs<S: Source>(
     alloc: Global,
     before: usize,
@@ -86,8 +86,8 @@ fn read_step_inputs<S: Source>(
     }
 }
 
-/// Reads the lanes from the only source of `texts`, to its end. Returns `None` if `has_lanes` is false; there must then
-/// be no source. `input` is the index of the source in the run.
+/// Reads the lanes from the only source of `texts`, to its end. Returns `None` if `has_lanes` is false; `texts` must
+/// then be empty. `input` is the index of the source in the run.
 fn read_lanes_if<S: Source>(
     alloc: Global,
     input: usize,

@@ -56,8 +56,10 @@ impl<S: Source> InputReader<S> for TablesAndFiles {
     }
 }
 
-/// Reads the text of tables, the first of `inputs`, which there must be, and the files after it, at least at `floor`.
-/// `before` inputs precede them. Returns the fault of the first input that is refused, also if memory is refused.
+/// Reads the text of tables, the first of `inputs`, and then the files. What the files say is read at `floor` or a
+/// greater floor. `before` other inputs come before `inputs`. There must be at least one of `inputs`, and at most
+/// `usize::MAX` inputs in all. Returns the fault of the first input that is refused, which may be that memory was
+/// refused.
 pub fn read_tables_and_files<S: Source>(
     alloc: Global,
     before: usize,
@@ -80,7 +82,8 @@ pub fn read_tables_and_files<S: Source>(
     }
 }
 
-/// Reads the tables from the only source of `texts`, to its end. There must be one. `input` is its index in the run.
+/// Reads the tables from the only source of `texts`, to its end. `texts` must have one source. `input` is the index of
+/// the source in the run.
 fn read_tables<S: Source>(alloc: Global, input: usize, texts: &mut [S]) -> Result<Held, Fault>
     requires { length texts.old ≡ 1 }
     ensures read { IfOk result (AreTables S.state texts.old texts.new) }
@@ -93,7 +96,7 @@ fn read_tables<S: Source>(alloc: Global, input: usize, texts: &mut [S]) -> Resul
     }
 }
 
-/// Reads the tables from `source`, to its end. `input` is its index in the run.
+/// Reads the tables from `source`, to its end. `input` is the index of `source` in the run.
 fn read_text<S: Source>(alloc: Global, input: usize, source: &mut S) -> Result<Held, Fault>
     ensures read { IfOk result (IsTables S.state source.old source.new) }
     ensures refused { IfErr result

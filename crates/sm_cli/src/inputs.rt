@@ -29,26 +29,28 @@ pub trait InputReader<S: Source> {
     // Which numbers of inputs can be read.
     ghost takes: { Self → ℕ → Type 0 };
 
-    /// Reads `inputs` and returns what they say, or why one is refused. `before` other inputs precede them. There must
-    /// be as many as the reader takes.
+    /// Reads `inputs`, and returns what they say, or the fault of an input that is refused. `before` other inputs come
+    /// before `inputs`. The reader must take this number of `inputs`, and there must be at most `usize::MAX` inputs in
+    /// all.
     fn read(&self, alloc: Global, before: usize, inputs: &mut [S]) -> Result<Self::Told, Fault>
         requires enough { takes self.now (length inputs.old) }
         requires counted { before + length inputs.old ≤ usize.MAX }
         ensures read { IfOk result ((reader self.now).reads inputs.old inputs.new) }
         ensures refused { IfErr result ((reader self.now).refuses before inputs.old inputs.new) };
 
-    /// Returns whether `guid` is a usable switch, by what the inputs say.
+    /// Returns whether `guid` is a usable switch by `told`, which is what the inputs say.
     fn has_switch(&self, told: &Self::Told, guid: Guid) -> bool
         ensures { result ≡ (reader self.now).has_switch told.now guid };
 }
 
-/// Returns the rule that is asked for, and what the inputs after its text say. Reads the inputs in order, each to its
-/// end. There must be a text if the rule takes one, and as many inputs after it as `reader` takes.
+/// Reads the inputs in order, each to its end. Returns the rule that is asked for, and what the inputs after its text
+/// say. There must be a text if the rule takes one, and as many inputs after it as `reader` takes.
 ///
 /// # Errors
 ///
-/// Returns the fault of the first input that is refused, also if memory is refused. If a text names roots, and there is
-/// none or one is not a usable switch, returns that as a fault of the first input, once all are read.
+/// Returns the fault of the first input that is refused. Memory that is refused counts as a fault of its input. If the
+/// rule takes a text of roots, and the text names no root, or a root that is not a usable switch, returns this as a
+/// fault of the first input, once all inputs are read.
 pub fn read_inputs<S: Source, R: InputReader<S>>(
     alloc: Global,
     asked: RuleAsked,
@@ -76,8 +78,8 @@ pub fn read_inputs<S: Source, R: InputReader<S>>(
     }
 }
 
-/// Reads the rule that is asked for. If it takes a text, which names its roots or its order, reads it to its end.
-/// `texts` must have this text alone, or be empty if the rule takes none.
+/// Reads the rule that is asked for. If a text names the rule's roots or its order, reads the text to its end. `texts`
+/// must have this text alone, or be empty if the rule takes no text.
 fn read_rule<S: Source>(alloc: Global, asked: RuleAsked, texts: &mut [S]) -> Result<Rule, Fault>
     requires { length texts.old ≡ texts_for asked }
     ensures read { IfOk result (λ rule.
@@ -116,7 +118,7 @@ fn read_rule<S: Source>(alloc: Global, asked: RuleAsked, texts: &mut [S]) -> Res
     }
 }
 
-/// Reads a text of roots, or of the switches of an order, to its end. `input` is its index in the run.
+/// Reads a text of roots, or of the switches of an order, to its end. `input` is the index of the text in the run.
 pub(crate) fn read_switches<S: Source>(
     alloc: Global,
     input: usize,
@@ -140,7 +142,7 @@ pub(crate) fn read_switches<S: Source>(
     }
 }
 
-/// Returns why no plan can be made by `rule`: a text names roots for it, but there is no root or one is not a usable
+/// Returns why no plan can be made by `rule`: the text of its roots names no root, or a root that is not a usable
 /// switch. Returns `None` if a plan can be made.
 fn rule_fault<S: Source, R: InputReader<S>>(
     asked: RuleAsked,
@@ -156,8 +158,8 @@ fn rule_fault<S: Source, R: InputReader<S>>(
     }
 }
 
-/// Returns why no plan can be made by `order`: it grows from roots, but there is no root or one is not a usable switch.
-/// Returns `None` if a plan can be made.
+/// Returns why no plan can be made by `order`: it grows from roots, but has no root, or a root that is not a usable
+/// switch. Returns `None` if a plan can be made.
 fn order_fault<S: Source, R: InputReader<S>>(
     order: &SwitchOrder,
     reader: &R,
@@ -174,8 +176,8 @@ fn order_fault<S: Source, R: InputReader<S>>(
     }
 }
 
-/// Returns the fault of `roots`: there is no root, or else `unusable`, the first that is not a usable switch, if it is
-/// not `None`. Returns `None` if there is no fault.
+/// Returns `NoRoot` if `roots` is empty, and otherwise `NoSwitch` with `unusable`, the first root that is not a usable
+/// switch. Returns `None` if there are roots and `unusable` is `None`.
 fn fault_of_first(roots: &[Guid], unusable: Option<Guid>) -> Option<TextFault>
     ensures { result ≡ fault_of_first roots.now unusable }
 {

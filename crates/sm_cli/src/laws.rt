@@ -2,14 +2,13 @@
 ghost use Rattle.sm_cli.specs.RunLaws.{FilesDecideAnswer, JoinedFileStands, SightingsDecideAnswer};
 ghost use Rattle.sm_cli.specs.RunLaws.{PrintedOrdersStand, SplitFileStands, SplitStoreStands};
 
-/// The answers for two lists of files are equal if the files keep the same sightings, in any order and each any number
-/// of times, and have the same greatest floor.
+/// The answers for two lists of files are equal if the files keep the same sightings, in any order and however often,
+/// and the greatest of their floors and the floor asked for is the same.
 pub fn sightings_decide_answer()
     ensures { SightingsDecideAnswer }
 {}
 
-/// The answers for two lists of files are equal if the lists have the same files, in any order and each any number of
-/// times.
+/// The answers for two lists of files are equal if the lists have the same files, in any order and however often.
 pub fn files_decide_answer()
     ensures { FilesDecideAnswer }
 {}

@@ -1,4 +1,4 @@
-//! A run over files of records: it reads them, and writes what they say as text.
+//! A run over files of records: the files are read, and what they say is written, as text or as a store file.
 #![tactic(auto)]
 
 mod asked;

@@ -8,7 +8,7 @@ ghost use Rattle.sm_cli.specs.OrderText.{order_line, order_text};
 use byte_io::{Sink, WriteFault, write_guid};
 use smp_bytes::Guid;
 
-/// Writes a line for each of `switches`, with `0x` and its GUID, and flushes.
+/// Writes a line for each of `switches`, `0x` and the switch's GUID, and flushes.
 pub fn write_order<W: Sink>(sink: &mut W, switches: &[Guid]) -> Result<(), WriteFault>
     ensures writes { Writes W.written W.has_failed result sink.old sink.new (order_text switches.now) }
     ensures flushed { OnOk result (IsTrue (W.is_flushed sink.new)) }

@@ -26,8 +26,8 @@ use std::alloc::Global;
 
 /// Reads the inputs in order: the text that the rule takes, if any, and then the files (`read_inputs`). Writes what
 /// `request` asks for, from all that the files say together, and flushes. There must be a text if the rule takes one.
-/// Returns an error if an input is refused, there is no room for a plan, memory is refused, or a write fails. Nothing
-/// is written unless a write fails; how much is written then is unspecified.
+/// Returns an error if an input is refused, there is no room for a plan, memory is refused, or a write fails. How much
+/// is written before a write fails is unspecified; with any other error nothing is written.
 pub fn run_files<S: Source, W: Sink>(
     alloc: Global,
     inputs: &mut [S],
@@ -100,7 +100,8 @@ fn write_plan_by<W: Sink>(
     Ok(())
 }
 
-/// Writes the usable switches of the facts in `store` in the order by which `rule` plans, and flushes.
+/// Writes the usable switches of the facts in `store` in the order by which `rule` plans, and flushes. Returns `Memory`
+/// if memory is refused, or `Write` if a write fails.
 fn write_order_by<W: Sink>(
     alloc: Global,
     sink: &mut W,
@@ -119,7 +120,8 @@ fn write_order_by<W: Sink>(
     Ok(())
 }
 
-/// Returns the usable switches in the order by which `rule` plans; none by `UpDown`.
+/// Returns the usable switches in the order by which `rule` plans, or none for `UpDown`. Returns an error if memory is
+/// refused.
 fn order_by(alloc: Global, store: &Store, rule: &Rule) -> Result<Vec<Guid>, Refused>
     ensures { IfOk result (λ found. found.items ≡ order_by (value_of rule.now) (cells_of store.now)) }
 {

@@ -1,4 +1,4 @@
--- Which steps of a writing were answered as done, call by call; a plan is written if all that count were.
+-- Which steps of a writing were answered with status 0, call by call; a plan is written if all that count were.
 use Rattle.std.specs.Prelude.{◌≡◌, ◌≢◌, ◌↔◌, ℕ, ◌+◌, Bool, true, false, ◌&&◌, List, [], ◌∷◌, length, ◌==◌, if◌then◌else◌, Option, Some, None, is_none}
 use Rattle.smp_bytes.specs.Header.{done}
 use Rattle.smp_bytes.specs.Packet.{fault_of, status}
@@ -15,15 +15,14 @@ use Rattle.sm_manager.specs.ManagerRequests.{counts}
 use Rattle.sm_manager.specs.Traps.{represses}
 use Rattle.sm_manager.specs.Writing.{is_written, phases_by, after_write_steps}
 
--- whether the packet, which answers the given request, does a step that counts: its status is 0, and the manager
--- accepts it; false if there is no request
+-- whether `packet`, as the answer to the given request, completes a step that counts: the request is a step that
+-- counts, the status is 0, and the manager accepts the packet; false if there is no request
 abbrev pub does_request : Manager → List ℕ → Option Pending → Bool
 does_request m packet None = false
 does_request m packet (Some p) =
     counts p && (status packet == done && is_none (request_answered m packet (Some p)).fault)
 
--- whether a step that counts was answered as done by these bytes, given the fault that they have as a packet; false if
--- they have one
+-- whether the bytes `packet` complete a step that counts, given their fault as a packet; false if they have a fault
 abbrev pub does_by_packet : Manager → List ℕ → Option SmpFault → Bool
 does_by_packet m packet (Some why) = false
 does_by_packet m packet None =
@@ -32,7 +31,7 @@ does_by_packet m packet None =
     else if is_for_sweep packet then false
     else does_request m packet (pending_for m packet)
 
--- whether a step that counts was answered as done by this call
+-- whether a call brings the packet that completes a step that counts
 abbrev pub does_step : Manager → Call → Bool
 does_step m BeginSweep = false
 does_step m WriteSteps = false
@@ -49,7 +48,7 @@ abbrev pub one_if : Bool → ℕ
 one_if true = 1
 one_if false = 0
 
--- how many steps that count were answered as done by these calls, in turn
+-- how many of the calls, in turn, bring a packet that completes a step that counts
 abbrev pub steps_done : List Call → Manager → ℕ
 steps_done [] m = 0
 steps_done (call ∷ calls) m = one_if (does_step m call) + steps_done calls (after_call m call)
@@ -64,13 +63,13 @@ abbrev pub BeginNone : List Call → Manager → Type 0
 BeginNone [] m = Unit {0}
 BeginNone (call ∷ calls) m = BeginsNone m call × BeginNone calls (after_call m call)
 
--- the number of steps in those of the phases that count
+-- the number of steps in the phases that count
 abbrev pub counting_in : List Phase → ℕ
 counting_in [] = 0
 counting_in (p ∷ phases) = (if p.counts then length p.steps else 0) + counting_in phases
 
--- if a writing begins after any calls on a new manager, and none begins after it, the plan is written exactly if as
--- many steps that count were answered as done as the writing has
+-- the plan of a writing is written exactly if as many steps that count were completed as the writing has. The writing
+-- begins after any calls on a new manager. No other writing begins after it
 abbrev pub WrittenIsEachStepDone : Type 0
 WrittenIsEachStepDone =
     (port_guid port priority : ℕ) (conduct : Conduct) (planning : Planning) (before after : List Call)

@@ -21,8 +21,10 @@ use Rattle.sm_manager.specs.Traps.{represses}
 use Rattle.sm_manager.specs.Plans.{writing_fault}
 use Rattle.sm_manager.specs.Writing.{after_write_steps}
 
--- The calls that may change a manager. A merged store is given by its floor and by sightings; it is their view at that
--- floor. A poll goes to a LID, or to a manager that the last sweep saw
+-- a call that may change a manager. `Packet` brings bytes to its port; `from` is the LID of their sender, if that is
+-- known. `Timeout` ends the wait of the request with the TransactionID `transaction`. `Raise` raises the floor of the
+-- facts to `floor`. `Merge` merges the view of `sightings` at `floor`. `Poll` polls at the LID `lid` or, for None, a
+-- manager that the last sweep saw
 pub data Call : Type 0 where
   BeginSweep : Call
   WriteSteps : Call
@@ -34,7 +36,7 @@ pub data Call : Type 0 where
   Poll : (lid : Option ℕ) → Call
   Handover : Call
 
--- the manager after a call; one that is refused leaves it as it is; one that is refused memory counts as not made
+-- the manager `m` after a call; unchanged if the call is refused. A call that is refused memory counts as not made
 abbrev pub after_call : Manager → Call → Manager
 after_call m BeginSweep = if is_none (begin_fault m) then after_begin_sweep m else m
 after_call m WriteSteps = if is_none (writing_fault m) then after_write_steps m else m
@@ -58,12 +60,12 @@ abbrev pub sightings_if : Result Answer SweepFault → Sightings
 sightings_if (Ok answer) = sightings_by answer
 sightings_if (Err why) = []
 
--- the sightings of a reply to a sweep; none if no sweep was begun
+-- the sightings of the reply `bytes` to a sweep; none if no sweep was begun, or the sweep refuses the reply
 abbrev pub sightings_of_reply : List ℕ → Option Sweep → Sightings
 sightings_of_reply bytes None = []
 sightings_of_reply bytes (Some s) = sightings_if (judged s bytes)
 
--- the sightings that bytes bring in, given the fault that they have as a packet: those of a reply to the sweep, else
+-- the sightings that `bytes` bring in, given their fault as a packet: those of a reply that the sweep accepts, else
 -- none
 abbrev pub sightings_of_packet : Manager → List ℕ → Option SmpFault → Sightings
 sightings_of_packet m bytes (Some why) = []
@@ -73,7 +75,7 @@ sightings_of_packet m bytes None =
     else if is_for_sweep bytes then sightings_of_reply bytes m.sweep
     else []
 
--- the sightings that a call brings in: those of a reply to the sweep that it accepts, or of the store that it merges
+-- the sightings that a call brings in: those of a reply that the sweep accepts, or those that are merged; else none
 abbrev pub sightings_of_call : Manager → Call → Sightings
 sightings_of_call m BeginSweep = []
 sightings_of_call m WriteSteps = []
@@ -90,7 +92,7 @@ abbrev pub taken_in : List Call → Manager → Sightings
 taken_in [] m = []
 taken_in (call ∷ calls) m = sightings_of_call m call ++ taken_in calls (after_call m call)
 
--- the floor that a call raises or merges; 1 for other calls
+-- the floor of a call that raises the floor of the facts, or merges a view; 1 for other calls
 abbrev pub floor_in : Call → ℕ
 floor_in BeginSweep = 1
 floor_in WriteSteps = 1
@@ -102,7 +104,7 @@ floor_in (Merge floor sightings) = floor
 floor_in (Poll lid) = 1
 floor_in Handover = 1
 
--- the greatest floor that these calls raise or merge, at least 1
+-- the greatest floor (`floor_in`) of the calls, at least 1
 abbrev pub greatest_floor : List Call → ℕ
 greatest_floor [] = 1
 greatest_floor (call ∷ calls) = max (floor_in call) (greatest_floor calls)
@@ -114,8 +116,8 @@ KnowsWhatItTookIn = (port_guid port priority : ℕ) (conduct : Conduct) (plannin
     (after_calls calls (new_manager port_guid port priority conduct planning)).store
     ≡ view_at (greatest_floor calls) (taken_in calls (new_manager port_guid port priority conduct planning))
 
--- two managers have equal facts and equal plans; if the first one's plan has room and is in force in a part, every
--- packet arrives there
+-- `one` and `other` have equal facts and equal plans. If there is room for the LIDs, every packet arrives by the plan
+-- of `one` (`EveryPacketArrives`)
 pub record KnowTheSame (one other : Manager) : Type 0 where
   pub facts : one.store ≡ other.store
   pub plan : plan_of one.planning.rule one.planning.lmc (cells_of one.store)
@@ -124,8 +126,8 @@ pub record KnowTheSame (one other : Manager) : Type 0 where
       → EveryPacketArrives one.planning.rule (cells_of one.store)
       (plan_of one.planning.rule one.planning.lmc (cells_of one.store))
 
--- managers that took in the same sightings, in any order and number, have the same greatest floor, and plan by the same
--- LMC and rule, know the same (`KnowTheSame`)
+-- two managers know the same (`KnowTheSame`) if they took in the same sightings, in any order and number. The greatest
+-- floors of their calls are equal. Both plan by the same LMC and rule
 abbrev pub SameTakenInSamePlan : Type 0
 SameTakenInSamePlan =
     (guid port priority guid' port' priority' : ℕ) (conduct conduct' : Conduct) (planning : Planning)

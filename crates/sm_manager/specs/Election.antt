@@ -33,16 +33,16 @@ use Rattle.sm_state.specs.Standing.{info_of, info_with, is_in, moved_to}
 
 -- requests for SMInfo ---------------------------------------------------------------------------
 
--- a request for SMInfo by LIDs that waits for its answer, with the number `number`
+-- a request for SMInfo by LIDs that waits for its answer, with this number, purpose and attribute modifier
 abbrev pub info_pending : ℕ → Purpose → ℕ → Pending
 info_pending number purpose modifier =
     record { number = number; purpose = purpose; attribute = sm_info; modifier = modifier; path = None }
 
--- a poll that waits for its answer, with the number `number`: over `path` or, if there is none, by LIDs
+-- a poll that waits for its answer, with the number `number`: over `path` or, if that is None, by LIDs
 abbrev pub poll_pending : ℕ → Option (List ℕ) → Pending
 poll_pending number path = record (info_pending number purpose.Poll 0) { path = path }
 
--- the packet of a poll, a Get of SMInfo with no data: over a path or, if there is none, by LIDs
+-- the packet of a poll, a Get of SMInfo with 64 bytes of 0: over the given path or, if that is None, by LIDs
 abbrev pub poll_packet : ℕ → Option (List ℕ) → List ℕ
 poll_packet number None = lid_routed get sm_info 0 number (replicate 64 0)
 poll_packet number (Some path) = directed get sm_info 0 number path (replicate 64 0)
@@ -51,7 +51,7 @@ poll_packet number (Some path) = directed get sm_info 0 number path (replicate 6
 abbrev pub poll_out : ℕ → Option ℕ → Option (List ℕ) → Outgoing
 poll_out number lid path = record { packet = poll_packet number path; to = lid }
 
--- a control to be sent to the LID `lid`: a Set that carries the sender's SMInfo
+-- a control to be sent to the LID `lid`: a Set with the SMInfo that the manager `s` sends with `control`
 abbrev pub control_out : Standing → ℕ → ℕ → Control → Outgoing
 control_out s number lid control =
     record {
@@ -60,7 +60,8 @@ control_out s number lid control =
           Some lid;
     }
 
--- the manager once a request is queued under its next number, and waits for its answer
+-- the manager once the packet `out` is queued and the request `waits` waits for its answer; this uses up the manager's
+-- next number
 abbrev pub asked : Manager → Pending → Outgoing → Manager
 asked m waits out =
     record m { counter = m.counter + 1; pending = m.pending ++ waits ∷ []; outgoing = m.outgoing ++ out ∷ [] }
@@ -103,26 +104,27 @@ abbrev pub is_way_out : ℕ → List ℕ → Bool
 is_way_out port [] = false
 is_way_out port (first ∷ path) = first == port && nat_lt (length path) max_hops
 
--- the path if it is there and leaves by `port` within 63 hops, else None
+-- the given path if it leaves by `port` and has at most 63 hops, else None
 abbrev pub if_way_out : ℕ → Option (List ℕ) → Option (List ℕ)
 if_way_out port None = None
 if_way_out port (Some path) = if is_way_out port path then Some path else None
 
--- the path by which the last sweep first reached the port where the manager `s` was seen; None if there was no sweep,
--- or it did not reach it
+-- the path by which the last sweep first reached the port where the manager `s` was seen; None if no sweep was begun,
+-- or the sweep did not reach that port
 abbrev pub path_seen : Option Sweep → SeenManager → Option (List ℕ)
 path_seen None s = None
 path_seen (Some sweep) s = path_to sweep s.guid s.port
 
--- the manager that a poll without a LID goes to, of those that the last sweep saw; None if there is none
+-- the manager to which a poll without a LID goes, among those that the last sweep saw; None if there is none to poll
 abbrev pub polled : Manager → Option SeenManager
 polled m = polled_of (info_of m.standing) m.seen
 
--- the path of a poll without a LID; None if there is no manager to poll, or no path to it
+-- the path of a poll without a LID: that by which the last sweep first reached the manager to poll. None if there is no
+-- manager to poll, or its path is not known, or does not leave by the own port within 63 hops
 abbrev pub polled_path : Manager → Option (List ℕ)
 polled_path m = if_way_out m.port (option_and_then (path_seen m.sweep) (polled m))
 
--- the path of a poll; None if it goes to a LID, or has neither
+-- the path of a poll; None if the poll goes to a LID, or has neither a LID nor a path
 abbrev pub poll_path : Manager → Option ℕ → Option (List ℕ)
 poll_path m (Some lid) = None
 poll_path m None = polled_path m
@@ -134,13 +136,13 @@ unless_way None (Some path) = None
 unless_way None None = Some fault.Nobody
 
 -- why no poll is sent, except for lack of memory: the manager is not standby, there is neither a LID nor a path to a
--- manager that the last sweep saw, or no number is left; None if one may be
+-- manager that the last sweep saw, or no number is left; None if a poll may be sent
 abbrev pub poll_fault : Manager → Option ℕ → Option ManagerFault
 poll_fault m lid =
     if is_in Standby m.standing then or_else (unless_way lid (polled_path m)) (number_fault (m.counter + 1))
     else Some fault.NotStandby
 
--- the manager once a poll is queued: to the LID `lid` or, if there is none, over the path to a manager that the last
+-- the manager once a poll is queued: to the LID `lid` or, if that is None, over the path to a manager that the last
 -- sweep saw
 abbrev pub after_poll : Manager → Option ℕ → Manager
 after_poll m lid =
@@ -152,19 +154,19 @@ after_poll m lid =
 abbrev pub handover_move : Manager → Transition
 handover_move m = stepped m.standing.conduct m.standing.state HandoverWanted
 
--- the manager that is to take over, of those that the last sweep saw; None if there is none
+-- the successor, the manager that is to take over, among those that the last sweep saw; None if none of them may
 abbrev pub successor : Manager → Option SeenManager
 successor m = successor_of (info_of m.standing) m.seen
 
--- the end port where the manager `s` was seen; None if that is not known to be an end port
+-- the end port where the manager `s` was seen; None if the facts `cells` have no end port there
 abbrev pub port_seen : Cells → SeenManager → Option EndPort
 port_seen cells s = if is_end_port cells s.guid s.port then Some (record { node = s.guid; port = s.port }) else None
 
--- the end port where the successor was seen; None if there is no successor, or that is not known to be an end port
+-- the end port where the successor was seen; None if there is no successor, or the facts have no end port there
 abbrev pub successor_port : Manager → Option EndPort
 successor_port m = option_and_then (port_seen (cells_of m.store)) (successor m)
 
--- the LID that the plan gives to the successor's end port; None if there is none
+-- the LID that the plan gives to the successor's end port; None if that end port is not known, or gets no LID
 abbrev pub successor_lid : Manager → Option ℕ
 successor_lid m = option_and_then (lid_of (lids m.planning.lmc (cells_of m.store))) (successor_port m)
 
@@ -174,24 +176,24 @@ unless_lid None = Some fault.Nobody
 unless_lid (Some lid) = None
 
 -- why a master does not hand over, except for lack of memory: there is no successor, the plan has no room, it gives the
--- successor's port no LID, or no number is left; None if it may
+-- successor's port no LID, or no number is left; None if the master may hand over
 abbrev pub successor_fault : Manager → Option ManagerFault
 successor_fault m =
     if is_none (successor m) then Some fault.Nobody
     else or_else (plan_fault m.planning.lmc (cells_of m.store))
     (or_else (unless_lid (successor_lid m)) (number_fault (m.counter + 1)))
 
--- why a manager does not hand over, except for lack of memory: it is not master, or there is a fault with the
--- successor; None if it may
+-- why a manager does not hand over, except for lack of memory: it is not master, or has a fault by `successor_fault`;
+-- None if it may hand over
 abbrev pub handover_fault : Manager → Option ManagerFault
 handover_fault m = if is_none (handover_move m).message then Some fault.NotMaster else successor_fault m
 
--- the manager once HANDOVER to the LID `lid` is queued and its state has moved by `handover_move`; no HANDOVER if there
--- is no LID
+-- the manager once its state has moved by `handover_move`, and the message of that move is queued as a control to the
+-- LID `lid`; nothing is queued if there is no LID or no message
 abbrev pub handed_to : Manager → Option ℕ → Manager
 handed_to m lid =
     after_message (record m { standing = moved_to (handover_move m).state m.standing }) lid (handover_move m).message
 
--- the manager once HANDOVER to its successor is queued
+-- the manager once HANDOVER to its successor's LID is queued, and its state has moved
 abbrev pub after_handover : Manager → Manager
 after_handover m = handed_to m (successor_lid m)

@@ -6,7 +6,7 @@ use Rattle.sweep.specs.Fault.{sweep_fault_name}
 use Rattle.sm_manager.specs.declared.fault.ManagerFault.{ManagerFault}
 use Rattle.sm_manager.specs.declared.fault.ManagerFault.TheVariants as manager
 
--- the name of a manager's fault; a fault of the sweep has the sweep's name for it
+-- the name of a manager's fault; for a fault of the sweep, the name that the sweep gives this fault
 abbrev pub manager_fault_name : ManagerFault → List ℕ
 manager_fault_name manager.GenerationsSpent = codes "GenerationsSpent"
 manager_fault_name manager.SweepRunning = codes "SweepRunning"
@@ -25,7 +25,7 @@ abbrev pub is_memory : ManagerFault → Bool
 is_memory manager.Memory = true
 is_memory _ = false
 
--- a fault of the sweep, as the manager's fault; lack of memory is the manager's own
+-- the manager's fault for a fault of its sweep: `Memory` for lack of memory, else `Sweep` with that fault
 abbrev pub refusal_of : SweepFault → ManagerFault
 refusal_of sweep.Memory = manager.Memory
 refusal_of given = manager.Sweep given

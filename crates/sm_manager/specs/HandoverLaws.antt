@@ -8,12 +8,12 @@ use Rattle.sm_state.specs.Transitions.{status_of, stepped}
 use Rattle.sm_manager.specs.declared.pending.Pending.{Pending}
 use Rattle.sm_manager.specs.Packets.{after_control_end, is_handover, is_relieved}
 
--- how a manager with the standing `other` moves by the control
+-- how a manager with the standing `other` moves by the control that the request `control` sends
 abbrev pub move_of : Standing → Pending → Transition
 move_of other control = stepped other.conduct other.state (event.Control control.modifier)
 
--- once a master's HANDOVER is answered with the status that the other manager's move gives it, that manager is master,
--- or the first stays it, if nothing else moves either of them meanwhile
+-- after a master's HANDOVER was answered, the manager that took the HANDOVER is master, or the sender still is. The
+-- answer has the status of the move of `other`. Nothing else moves `own` or `other` meanwhile
 abbrev pub HandoversLeaveAMaster : Type 0
 HandoversLeaveAMaster =
     (own other : Standing) (control : Pending) → own.state ≡ Master → is_handover control ≡ true

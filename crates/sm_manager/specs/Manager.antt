@@ -21,16 +21,18 @@ use Rattle.sm_state.specs.Conducts.{is_live}
 use Rattle.sm_state.specs.Election.{sweep_verdict}
 use Rattle.sm_state.specs.Standing.{active_once_more, info_of, moved_by, new_standing}
 
--- A plan that is being written, or was: the phases that have not been sent, and whether a step that counts was not
--- done.
+-- a writing of a plan, running or over. `later` has the phases that are still to be sent, in their order. `has_failed`
+-- is true if a step that counts timed out, or was answered with a status other than 0
 pub record Writing : Type 0 where
   pub later : List Phase
   pub has_failed : Bool
 
--- A manager: its standing among the managers of its subnet, the number of its port, how it plans, and all facts that it
--- took in; its last sweep, and the managers that this sweep saw, in the order in which it saw them; its last writing;
--- the number of its next request outside sweeps, and the requests outside sweeps that wait for their answers, by rising
--- numbers; and the packets that it has queued, first in, first out.
+-- a manager: `standing` is its standing among the managers of its subnet, `port` the number of its port, and `planning`
+-- how it plans. `store` is the view of all facts that it took in. `sweep` is its last sweep, and None if it began none;
+-- `seen` has the managers that this sweep saw, in the order in which it saw them. `writing` is its last writing, and
+-- None if it began none. `counter` is the number of its next request outside sweeps. `pending` has the requests outside
+-- sweeps that wait for their answers, by rising numbers. `outgoing` has the packets that it has queued, first in, first
+-- out
 pub record Manager : Type 0 where
   pub standing : Standing
   pub port : ℕ
@@ -43,7 +45,7 @@ pub record Manager : Type 0 where
   pub pending : List Pending
   pub outgoing : List Outgoing
 
--- a manager at the port `port` with the GUID `port_guid` before any call: without facts, sweeps, requests and packets
+-- a manager before any call, at the port `port` with the GUID `port_guid`: it has no facts, sweep, requests or packets
 abbrev pub new_manager : ℕ → ℕ → ℕ → Conduct → Planning → Manager
 new_manager port_guid port priority conduct planning =
     record {
@@ -59,9 +61,9 @@ new_manager port_guid port priority conduct planning =
       outgoing = [];
     }
 
--- what a sweep asks for goes out --------------------------------------------------------------
+-- sending the requests of a sweep ----------------------------------------------------------------
 
--- the packets of requests to be sent, over their paths
+-- the packets of `requests` in a sweep of the generation `generation`, to be sent over the paths of the requests
 abbrev pub requests_out : ℕ → List Request → List Outgoing
 requests_out generation requests = map (λ r. record { packet = packet_of generation r; to = None }) requests
 
@@ -69,7 +71,7 @@ requests_out generation requests = map (λ r. record { packet = packet_of genera
 abbrev pub with_all_sent : Sweep → Sweep
 with_all_sent s = record s { queued = []; outstanding = s.outstanding ++ s.queued }
 
--- the manager with the sweep `s`, whose queued requests are all put among the packets to be sent
+-- the manager `m` once `s` is its sweep: all queued requests of `s` are queued as packets, and wait for their replies
 abbrev pub with_sweep : Manager → Sweep → Manager
 with_sweep m s =
     record m {
@@ -98,26 +100,26 @@ is_over (Some s) = is_done s
 abbrev pub after_verdict : List SeenManager → Standing → Standing
 after_verdict seen s = moved_by (sweep_verdict (info_of s) seen) s
 
--- the manager once its sweep has changed: if the sweep is now done, its state moves by what the sweep saw
+-- the manager after a change of its sweep: if the sweep is now done, the manager's state moves by what the sweep saw
 abbrev pub after_sweep : Manager → Manager
 after_sweep m = record m { standing = if is_over m.sweep then after_verdict m.seen m.standing else m.standing }
 
--- the greatest generation of a cell of `facts`; 0 if there is none
+-- the greatest generation of a cell of `facts`; 0 if `facts` have no cell
 abbrev pub newest_held : Facts → ℕ
 newest_held facts = newest_of (map (λ e. e.1) (cells_of facts))
 
--- the generation of the next sweep: one more than the greatest of the facts, but at least the floor
+-- the generation of the next sweep: one more than the greatest generation in `facts`, but at least their floor
 abbrev pub next_generation : Facts → ℕ
 next_generation facts = max (newest_held facts + 1) facts.floor
 
--- why no sweep begins, except for lack of memory: one runs, or the facts have the greatest possible generation; None if
--- one may
+-- why no sweep begins, except for lack of memory: one runs, or the facts have the greatest possible generation,
+-- 2^32 - 1; None if a sweep may begin
 abbrev pub begin_fault : Manager → Option ManagerFault
 begin_fault m = if is_running m.sweep then Some SweepRunning else
     (if newest_held m.store == 2 ^ 32 - 1 then Some GenerationsSpent else None)
 
--- the manager once a sweep has begun at its own port, in the next generation, having seen no manager yet; it keeps
--- images if the conduct is live
+-- the manager once a sweep of the next generation has begun at its own port, which counts as activity; the sweep has
+-- seen no manager yet, and keeps images if the manager's conduct is live
 abbrev pub after_begin_sweep : Manager → Manager
 after_begin_sweep m =
     with_sweep (record m {
@@ -132,40 +134,42 @@ after_begin_sweep m =
 abbrev pub after_merge : Manager → Facts → Manager
 after_merge m facts = record m { store = merge m.store facts }
 
--- the manager once the floor of its facts is raised to `floor`, if that is greater
+-- the manager with the floor of its facts raised to `floor`, if `floor` is greater
 abbrev pub after_raise_floor : Manager → ℕ → Manager
 after_raise_floor m floor = record m { store = raised m.store floor }
 
--- a manager once its first queued packet was removed, and that packet; None if none was queued
+-- the outcome of taking a manager's first queued packet: `manager` is the manager without the packet, and `packet` is
+-- the packet; None, with the manager unchanged, if none was queued
 pub record Taken : Type 0 where
   pub manager : Manager
   pub packet : Option Outgoing
 
--- the manager without the first of its queued packets, and that packet; None if none is queued
+-- the manager `m` without the first of the given queued packets, and that packet; `m` and None if there is none
 abbrev pub taken_of : Manager → List Outgoing → Taken
 taken_of m [] = record { manager = m; packet = None }
 taken_of m (packet ∷ later) = record { manager = record m { outgoing = later }; packet = Some packet }
 
--- the manager once its first queued packet was removed, and that packet; None if none was queued
+-- the manager `m` without its first queued packet, and that packet; `m` and None if none is queued
 abbrev pub after_take_outgoing : Manager → Taken
 after_take_outgoing m = taken_of m m.outgoing
 
--- the TransactionIDs of the requests of a sweep that wait, rising
+-- the TransactionIDs of the waiting requests of a sweep, rising; none without a sweep
 abbrev pub transactions_of : Option Sweep → List ℕ
 transactions_of None = []
 transactions_of (Some s) = map (λ r. transaction_of s.generation r.number) s.outstanding
 
--- the TransactionIDs of all requests that wait, rising: those of a sweep have its generation in the high half, others 0
+-- the TransactionIDs of all requests of the manager that wait, rising; the high half is the generation for a request of
+-- a sweep, else 0
 abbrev pub outstanding : Manager → List ℕ
 outstanding m = map (λ p. p.number) m.pending ++ transactions_of m.sweep
 
--- how many requests of a sweep for SMInfo timed out; None if no sweep was begun
+-- how many of a sweep's requests for SMInfo timed out; None if no sweep was begun
 abbrev pub silent_in : Option Sweep → Option ℕ
 silent_in None = None
 silent_in (Some s) = Some s.silent_managers
 
--- how far the last sweep is: never begun, running, or done; with the requests that timed out and the ports that lead
--- too far
+-- how far the last sweep is: never begun, running, or done. If one was begun, also how many of its requests timed out,
+-- and how many ports would need a path of more than 63 ports
 abbrev pub progress_of : Option Sweep → Progress
 progress_of None = Never
 progress_of (Some s) = if is_done s then Done s.unanswered s.too_far else Running s.unanswered s.too_far

@@ -5,22 +5,22 @@ use Rattle.sm_manager.specs.declared.pending.Pending.{Pending}
 use Rattle.sm_manager.specs.declared.pending.Purpose.{Purpose}
 use Rattle.sm_manager.specs.declared.pending.Purpose.TheVariants as purpose
 
--- the number of the next request outside sweeps, the requests that wait for their answers, and for how many more there
--- is memory
+-- the requests outside sweeps: `counter` is the number of the next one, `pending` has those that wait for their
+-- answers, and `room` is for how many more there is memory
 pub record ManagerRequests : Type 0 where
   pub counter : ℕ
   pub pending : List Pending
   pub room : ℕ
 
--- the numbers of the requests fit 32 bits, rise, and are below `counter`
+-- the numbers of the requests `pending` fit 32 bits, rise, and are below `counter`
 abbrev pub AreNumbered : ℕ → List Pending → Type 0
 AreNumbered counter pending = numbers.AreNumbered (λ (p : Pending). p.number) pending counter
 
--- the request with the number `number`; None if there is none
+-- the request of `pending` with the number `number`; None if no request has this number
 abbrev pub with_number : ℕ → List Pending → Option Pending
 with_number number pending = numbers.with_number (λ (p : Pending). p.number) number pending
 
--- the requests except the one with the number `number`
+-- the requests `pending` without the one that has the number `number`
 abbrev pub without_number : ℕ → List Pending → List Pending
 without_number number pending = numbers.without_number (λ (p : Pending). p.number) number pending
 
@@ -36,29 +36,29 @@ is_for_step (purpose.Step counts) = true
 abbrev pub is_step : Pending → Bool
 is_step p = is_for_step p.purpose
 
--- whether a request for this purpose is a step that counts, so one that has to be done for the plan to be written
+-- whether a request for this purpose is a step that counts, and so has to be done for the plan to be written
 abbrev pub counts_as : Purpose → Bool
 counts_as purpose.Poll = false
 counts_as purpose.Control = false
 counts_as (purpose.Step counts) = counts
 
--- whether the request `p` is a step that counts, so one that has to be done for the plan to be written
+-- whether the request `p` is a step that counts, and so has to be done for the plan to be written
 abbrev pub counts : Pending → Bool
 counts p = counts_as p.purpose
 
--- how many of the requests pass the test
+-- how many of the requests `pending` pass `test`
 abbrev pub how_many : (Pending → Bool) → List Pending → ℕ
 how_many test pending = length (filter test pending)
 
--- whether none of the requests is a step of a writing
+-- whether no request of `pending` is a step of a writing
 abbrev pub no_step_waits : List Pending → Bool
 no_step_waits pending = how_many is_step pending == 0
 
--- whether none of the requests is a step that counts
+-- whether no request of `pending` is a step that counts
 abbrev pub none_counts : List Pending → Bool
 none_counts pending = how_many counts pending == 0
 
--- `steps` of the requests are steps of a writing, and `counting` of them count
+-- `steps` is how many requests of `pending` are steps of a writing, and `counting` how many are steps that count
 pub record AreCounted (pending : List Pending) (steps counting : ℕ) : Type 0 where
   pub steps_are : steps ≡ how_many is_step pending
   pub counting_are : counting ≡ how_many counts pending

@@ -4,7 +4,7 @@ use Rattle.sweep.specs.declared.answer.Answer.{Answer}
 use Rattle.sweep.specs.declared.answer.Answer.TheVariants.{Facts, Seen}
 use Rattle.sm_state.specs.declared.election.SeenManager.{SeenManager}
 
--- the managers that a sweep saw, with the one in `answer` appended, if that is an answer for SMInfo
+-- the managers `seen`, with the one in `answer` appended if `answer` is for SMInfo
 abbrev pub with_seen : Answer → List SeenManager → List SeenManager
 with_seen (Facts report) seen = seen
 with_seen (Seen guid port info) seen = seen ++ record { guid = guid; port = port; info = info } ∷ []

@@ -34,7 +34,7 @@ use Rattle.sm_state.specs.Controls.{modifier_of_control}
 use Rattle.sm_state.specs.Standing.{moved_by, poll_answered, poll_lost}
 use Rattle.sm_manager.specs.Writing.{is_done_by, is_spent, after_step, without}
 
--- the outcome of a call: the manager afterwards, and why the call was refused; None if it was not
+-- the outcome of a call: the manager afterwards, and why the call was refused; None if it was not refused
 pub record Called : Type 0 where
   pub manager : Manager
   pub fault : Option ManagerFault
@@ -49,8 +49,8 @@ done m = record { manager = m; fault = None }
 
 -- packets -------------------------------------------------------------------------------------
 
--- the manager once its sweep `s` took a reply: the facts are merged, a manager that the reply shows is noted, the
--- requests that follow are to be sent, and if the sweep is done the state moves
+-- the manager once its sweep `s` took the reply `packet`. The facts in `answer` are merged, a manager in it is added to
+-- those seen, and the requests that follow are queued. If the sweep is then done, the manager's state moves
 abbrev pub with_answer : Manager → Sweep → List ℕ → Answer → Manager
 with_answer m s packet answer =
     after_sweep (with_sweep (record m {
@@ -79,16 +79,16 @@ is_for_sweep packet =
 abbrev pub answers : List ℕ → Pending → Bool
 answers packet p = number_in method packet == get_resp && smp.answers packet p.number p.attribute p.modifier p.path
 
--- the request outside sweeps that `packet` answers; None if there is none
+-- the waiting request outside sweeps that `packet` answers; None if it answers none
 abbrev pub pending_for : Manager → List ℕ → Option Pending
 pending_for m packet = find (answers packet) m.pending
 
--- the outcome of a call that leaves the manager `after`; refused with `SequenceSpent` if that has used numbers over 32
--- bits
+-- the outcome of a call that leaves the manager `after`; if `after` has used a number over 32 bits, the call is refused
+-- with `SequenceSpent` and leaves `m`
 abbrev pub unless_spent : Manager → Manager → Called
 unless_spent m after = if is_spent after then refused m fault.SequenceSpent else done after
 
--- the standing `s` once a poll was answered, if the flag is set, or lost
+-- the standing `s` after the end of a poll: the poll was answered if the flag is set, else lost
 abbrev pub after_poll_end : Bool → Standing → Standing
 after_poll_end true s = poll_answered s
 after_poll_end false s = poll_lost s
@@ -97,29 +97,29 @@ after_poll_end false s = poll_lost s
 abbrev pub is_handover : Pending → Bool
 is_handover p = p.modifier == modifier_of_control control.Handover
 
--- whether the answer to the request `p` relieves a manager: its conduct is live, and the answer to its HANDOVER has
--- status 0
+-- whether `answer`, the status of the answer to the request `p` or None, relieves the manager `s`: its conduct is live,
+-- `p` is a HANDOVER, and the status is 0
 abbrev pub is_relieved : Standing → Pending → Option ℕ → Bool
 is_relieved s p answer = is_live s.conduct && (is_handover p && is_done_by answer)
 
--- the standing `s` once a control was answered or timed out; if that relieves the manager, it moves as by ACKNOWLEDGE
+-- the standing `s` after a control was answered or timed out: it moves as by ACKNOWLEDGE if `is_relieved`, else not
 abbrev pub after_control_end : Bool → Standing → Standing
 after_control_end is_relieved s =
     if is_relieved then moved_by (event.Control (modifier_of_control control.Acknowledge)) s else s
 
--- the number of a status; None if there is none
+-- the number of the given status; None without a status
 abbrev pub status_number : Option Status → Option ℕ
 status_number status = option_map (λ s. s.0) status
 
--- the outcome of the end of the request `p`; `answer` is the status of its answer, or None if it timed out; if it was a
--- step, the next phase may be sent
+-- the outcome of the end of the request `p`; `answer` is the status of its answer, or None if it timed out. After a
+-- step, the next phase is queued if no other step waits; `SequenceSpent` if this takes numbers over 32 bits
 abbrev pub after_request : Manager → Pending → Option ℕ → Purpose → Called
 after_request m p answer Poll = done (record (without m p) { standing = after_poll_end (is_some answer) m.standing })
 after_request m p answer Control =
     done (record (without m p) { standing = after_control_end (is_relieved m.standing p answer) m.standing })
 after_request m p answer (Step counts) = unless_spent m (after_step m p (is_done_by answer))
 
--- the outcome of an answer to a request outside sweeps; `Unasked` if there is no such request
+-- the outcome of an answer to the given request outside sweeps; `Unasked` if the packet answers no request
 abbrev pub request_answered : Manager → List ℕ → Option Pending → Called
 request_answered m packet None = refused m fault.Unasked
 request_answered m packet (Some p) = after_request m p (Some (status packet)) p.purpose
@@ -130,12 +130,13 @@ request_answered m packet (Some p) = after_request m p (Some (status packet)) p.
 abbrev pub HasSender : List ℕ → Option ℕ → Type 0
 HasSender packet from = fault_of packet ≡ None → is_lid_routed packet ≡ true → IsSome from
 
--- whether `packet` is no response, and asks for SMInfo or sets it
+-- whether `packet` has the attribute SMInfo and is no response
 abbrev pub is_info_request : List ℕ → Bool
 is_info_request packet = not (is_response packet) && number_in attribute_id packet == sm_info
 
--- the outcome of bytes that reach the manager's port, given the fault that they have as a packet, with which they are
--- refused; a packet that answers nothing is refused as `Unasked`
+-- the outcome of bytes that reach the manager's port, given their fault as a packet; bytes with a fault are refused. A
+-- request for SMInfo is served, a Trap repressed, and a reply to a sweep left to the sweep. Any other packet is refused
+-- as `Unasked` if it answers no waiting request
 abbrev pub packet_taken : Manager → List ℕ → Option ℕ → Option SmpFault → Called
 packet_taken m packet from (Some why) = refused m (fault.Sweep (Bad (Smp why)))
 packet_taken m packet from None =
@@ -166,7 +167,7 @@ abbrev pub sweep_gave_up : Manager → ℕ → Option Sweep → Called
 sweep_gave_up m transaction None = refused m fault.Unasked
 sweep_gave_up m transaction (Some s) = sweep_timed_out m s transaction (timeout_fault s transaction)
 
--- the outcome of the timeout of a request outside sweeps; `Unasked` if there is no such request
+-- the outcome of the timeout of the given request outside sweeps; `Unasked` if no such request waits
 abbrev pub request_gave_up : Manager → Option Pending → Called
 request_gave_up m None = refused m fault.Unasked
 request_gave_up m (Some p) = after_request m p None p.purpose
@@ -177,8 +178,8 @@ after_timeout m transaction =
     if nat_le (2 ^ 32) transaction then sweep_gave_up m transaction m.sweep
     else request_gave_up m (with_number transaction m.pending)
 
--- the fault of a reply if there is no memory for what it may cause: `Memory` if the sweep accepts it, else the sweep's
--- refusal
+-- `given` is the fault of a reply to the sweep if there is no memory for what it may cause: `Memory` if the sweep
+-- accepts the reply, else the sweep's refusal
 abbrev pub IsFaultWithoutRoom : Result Answer SweepFault → ManagerFault → Type 0
 IsFaultWithoutRoom (Ok answer) given = given ≡ fault.Memory
 IsFaultWithoutRoom (Err why) given = given ≡ fault.Sweep why

@@ -15,7 +15,7 @@ abbrev pub room_fault : Option NoRoom → Option ManagerFault
 room_fault None = None
 room_fault (Some why) = Some (fault.NoRoom why)
 
--- `NoRoom` if the view has no plan under the LMC `lmc`, else None
+-- `NoRoom` if the facts `cells` leave no room for LIDs under the LMC `lmc`, else None
 abbrev pub plan_fault : ℕ → Cells → Option ManagerFault
 plan_fault lmc cells = room_fault (no_room lmc cells)
 
@@ -28,12 +28,12 @@ or_else (Some why) other = Some why
 abbrev pub number_fault : ℕ → Option ManagerFault
 number_fault counter = if nat_lt (2 ^ 32) counter then Some fault.SequenceSpent else None
 
--- `SequenceSpent` if too few numbers are left, else None
+-- `SequenceSpent` if `are_numbers` says that too few numbers are left, else None
 abbrev pub unless_numbers : Bool → Option ManagerFault
 unless_numbers are_numbers = if are_numbers then None else Some fault.SequenceSpent
 
 -- why no writing begins, except for lack of memory: the manager is not master, a sweep or a writing runs, there is no
--- plan, or a phase could need numbers over 32 bits; None if one may
+-- plan, or a phase could need numbers over 32 bits; None if a writing may begin
 abbrev pub writing_fault : Manager → Option ManagerFault
 writing_fault m =
     or_else (write_fault m)

@@ -1,4 +1,4 @@
--- The law of polls: an answer to a poll is taken as that.
+-- The law of polls: an answer to a poll is taken as the answer to that poll.
 use Rattle.std.specs.Prelude.{◌≡◌, ℕ, ◌<◌, ◌≤◌, ◌^◌, true, false, List, length, IfSome, Option}
 use Rattle.smp_bytes.specs.Packet.{max_hops}
 use Rattle.smp_bytes.specs.Requests.{answer_packet}
@@ -11,7 +11,8 @@ pub record IsTakenForPoll (packet : List ℕ) (number : ℕ) (path : Option (Lis
   pub answers : answers packet (poll_pending number path) ≡ true
   pub no_sweep : is_for_sweep packet ≡ false
 
--- each answer to a poll, by LIDs or over a path of at most 63 hops, is taken as the answer to that poll
+-- each answer to a poll is taken as the answer to that poll. The poll has a number of 32 bits, and goes by LIDs or over
+-- a path of at most 63 ports. The answer has a status of 15 bits and 64 bytes of data
 abbrev pub AnswersReachPolls : Type 0
 AnswersReachPolls =
     (number : ℕ) (path : Option (List ℕ)) (status : ℕ) (payload : List ℕ) → number < 2 ^ 32

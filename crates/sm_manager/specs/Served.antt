@@ -1,5 +1,5 @@
--- What a manager answers if another manager asks for its SMInfo or wants to control it. InfiniBand Architecture
--- Specification, Volume 1: subnet management, SMInfo; management methods and status.
+-- What a manager answers to a request for its SMInfo, and to a control. InfiniBand Architecture Specification, Volume
+-- 1: subnet management, SMInfo; management methods and status.
 use Rattle.std.specs.Prelude.{ℕ, Bool, ◌&&◌, ◌||◌, not, List, [], ◌∷◌, ◌++◌, ◌==◌, if◌then◌else◌, Option, None}
 use Rattle.smp_bytes.specs.Field.{bytes_in, number_in}
 use Rattle.smp_bytes.specs.Header.{get, set, done, invalid_field, method_not_supported}
@@ -22,7 +22,8 @@ use Rattle.sm_state.specs.Standing.{after_request_heard, info_of, moved_to}
 abbrev pub answer_data : Standing → List ℕ → ℕ → List ℕ
 answer_data s packet status = if status == done then sm_info_bytes (info_of s) else bytes_in attribute_data packet
 
--- an answer to be sent: back over its path if the request is directed, else to the LID of its sender
+-- an answer to be sent: back over the request's path if the request `packet` is directed, else to the sender's LID
+-- `from`
 abbrev pub answer_out : Standing → List ℕ → Option ℕ → ℕ → Outgoing
 answer_out s packet from status =
     record {
@@ -35,7 +36,7 @@ answer_out s packet from status =
 abbrev pub answering : Manager → List ℕ → Option ℕ → ℕ → Manager
 answering m packet from status = record m { outgoing = m.outgoing ++ answer_out m.standing packet from status ∷ [] }
 
--- the manager once a request for SMInfo is counted, before it is answered
+-- the manager once a request for SMInfo is counted as activity, before it is answered; only the live conduct counts it
 abbrev pub request_counted : Manager → Manager
 request_counted m = record m { standing = after_request_heard m.standing }
 
@@ -45,18 +46,19 @@ request_counted m = record m { standing = after_request_heard m.standing }
 abbrev pub is_control : Standing → List ℕ → Bool
 is_control s packet = number_in method packet == set && (is_live s.conduct || not (is_directed packet))
 
--- the LID to which a control is acknowledged: the sender's; None if it came over a directed route, and so is not
+-- the LID to which a control is acknowledged: that of its sender; None for a control over a directed route, which is
+-- not acknowledged
 abbrev pub acknowledged_at : List ℕ → Option ℕ → Option ℕ
 acknowledged_at packet from = if is_directed packet then None else from
 
--- the manager once its state has moved and the answer is queued, and after it the message of the move, if it has one
--- and the packet came by LIDs
+-- the manager once its state has moved by `move` and the answer is queued. The message of `move` is queued after the
+-- answer, if `move` has one and the packet came by LIDs
 abbrev pub moved_on : Manager → List ℕ → Option ℕ → Transition → Manager
 moved_on m packet from move =
     after_message (answering (record m { standing = moved_to move.state m.standing }) packet from (status_of move))
     (acknowledged_at packet from) move.message
 
--- the manager once its state has moved by the control in `packet`, and that is answered
+-- the manager once its state has moved by the control in `packet`, and the control is answered
 abbrev pub controlled : Manager → List ℕ → Option ℕ → Manager
 controlled m packet from =
     moved_on (request_counted m) packet from
@@ -64,7 +66,8 @@ controlled m packet from =
 
 -- any request for SMInfo --------------------------------------------------------------------------
 
--- the status of the answer to a request for SMInfo that is no control: done for a Get, else a refusal
+-- the status of the answer to a request for SMInfo that is no control: 0 for a Get, an invalid field for a Set, else a
+-- method that is not supported
 abbrev pub status_for : List ℕ → ℕ
 status_for packet =
     if number_in method packet == get then done

@@ -1,5 +1,6 @@
--- Traps, and how a manager by the live conduct represses them: after its answer the agent does not repeat the trap.
--- InfiniBand Architecture Specification, Volume 1: subnet management, traps; management methods (TrapRepress).
+-- Traps, and how a manager by the live conduct represses them: once the manager's answer has arrived, the agent does
+-- not repeat the trap. InfiniBand Architecture Specification, Volume 1: subnet management, traps; management methods
+-- (TrapRepress).
 use Rattle.std.specs.Prelude.{ℕ, Bool, ◌&&◌, not, List, [], ◌∷◌, ◌++◌, ◌==◌, Option}
 use Rattle.smp_bytes.specs.Field.{Field, bytes_in, number_in}
 use Rattle.smp_bytes.specs.Packet.{attribute_data, attribute_id, attribute_modifier, is_directed, method, transaction_id}
@@ -21,8 +22,8 @@ trap_repress = 0x07
 abbrev pub represses : Manager → List ℕ → Bool
 represses m packet = is_live m.standing.conduct && (number_in method packet == trap && not (is_directed packet))
 
--- the TrapRepress for the trap `packet`, with its attribute, modifier, TransactionID and data, to be sent to the LID of
--- its sender
+-- the TrapRepress for the trap `packet`, with its attribute, modifier, TransactionID and data, to be sent to the LID
+-- `from` of its sender
 abbrev pub repress_out : List ℕ → Option ℕ → Outgoing
 repress_out packet from =
     record {
@@ -31,7 +32,7 @@ repress_out packet from =
       to = from;
     }
 
--- the field of a packet with a trap that has the LID of the port that issued the notice
+-- the LID of a notice's issuer, as a field of a trap's packet
 abbrev pub issuer_lid : Field
 issuer_lid = record { at = 70; len = 2 }
 

@@ -19,7 +19,7 @@ use Rattle.sm_state.specs.declared.state.SmState.TheVariants.{Master}
 use Rattle.sm_state.specs.Standing.{is_in}
 use Rattle.sm_manager.specs.ManagerRequests.{counts, how_many, is_step, no_step_waits, none_counts, without_number}
 
--- a phase goes out --------------------------------------------------------------------------------
+-- sending a phase --------------------------------------------------------------------------------
 
 -- the step `s` as a request that waits, with the number `number`
 abbrev pub pending_step : ℕ → Bool → Step → Pending
@@ -48,7 +48,7 @@ abbrev pub without_empty_phases : List Phase → List Phase
 without_empty_phases [] = []
 without_empty_phases (p ∷ phases) = if length p.steps == 0 then without_empty_phases phases else p ∷ phases
 
--- the first of the phases; one without steps if there is none
+-- the first of the phases; a phase without steps if there are no phases
 abbrev pub next_phase : List Phase → Phase
 next_phase [] = record { counts = false; steps = [] }
 next_phase (p ∷ phases) = p
@@ -57,7 +57,7 @@ next_phase (p ∷ phases) = p
 abbrev pub next_pending : ℕ → List Phase → List Pending
 next_pending number phases = numbered (next_phase phases).counts number (next_phase phases).steps
 
--- the manager once the steps of the next phase are all queued, and wait
+-- the manager once the steps of the next phase of `w` are all queued, and wait
 abbrev pub phase_sent : Manager → Writing → Manager
 phase_sent m w =
     record m {
@@ -67,12 +67,12 @@ phase_sent m w =
       outgoing = m.outgoing ++ steps_out m.counter (next_phase w.later).steps;
     }
 
--- the manager once the next phase of the given writing is queued, if there is one and no step waits; else unchanged
+-- the manager once the next phase of the given writing is queued; unchanged if there is no writing, or a step waits
 abbrev pub went_on_with : Manager → Option Writing → Manager
 went_on_with m None = m
 went_on_with m (Some w) = if no_step_waits m.pending then phase_sent m w else m
 
--- the manager once the next phase of its writing is queued, if it has one and no step waits; else unchanged
+-- the manager once the next phase of its writing is queued; unchanged if there is no writing, or a step waits
 abbrev pub went_on : Manager → Manager
 went_on m = went_on_with m m.writing
 
@@ -83,7 +83,7 @@ is_spent m = nat_lt (2 ^ 32) m.counter
 -- beginning a writing -----------------------------------------------------------------------------
 
 -- why the manager does not write, given its last sweep: it is not master, the sweep runs, or a step of a writing waits;
--- `NotMaster` without a sweep; None if it may
+-- `NotMaster` without a sweep; None if it may write
 abbrev pub write_fault_with : Manager → Option Sweep → Option ManagerFault
 write_fault_with m None = Some NotMaster
 write_fault_with m (Some s) =
@@ -93,7 +93,7 @@ write_fault_with m (Some s) =
     else None
 
 -- why the manager does not write: it is not master, its sweep runs, or a step of a writing waits; `NotMaster` without a
--- sweep; None if it may
+-- sweep; None if it may write
 abbrev pub write_fault : Manager → Option ManagerFault
 write_fault m = write_fault_with m m.sweep
 
@@ -103,30 +103,30 @@ phases_by m None = []
 phases_by m (Some s) =
     phases_of (plan_of m.planning.rule m.planning.lmc (cells_of m.store)) (cells_of m.store) s m.standing.guid m.port
 
--- the manager once a writing of these phases has begun, and its first phase with steps is queued
+-- the manager once a writing of these phases has begun, and the first phase with steps, if there is one, is queued
 abbrev pub begun_with : Manager → List Phase → Manager
 begun_with m phases = phase_sent m (record { later = without_empty_phases phases; has_failed = false })
 
--- the manager once a writing of its plan has begun, and its first phase with steps is queued
+-- the manager once a writing of its plan has begun, and the first phase with steps, if there is one, is queued
 abbrev pub after_write_steps : Manager → Manager
 after_write_steps m = begun_with m (phases_by m m.sweep)
 
 -- a plan is written ----------------------------------------------------------------------------------
 
--- whether a writing was begun, no step of it that counts failed, and none waits or is still to be sent
+-- whether a writing was begun, and none of its steps that count failed, waits or is still to be sent
 abbrev pub is_written_by : List Pending → Option Writing → Bool
 is_written_by pending None = false
 is_written_by pending (Some w) =
     not w.has_failed && (not (list_any (λ p. p.counts) w.later) && none_counts pending)
 
--- whether the plan of the last writing is written: one was begun, and each of its steps that count was answered with
--- status 0
+-- whether the plan of the last writing is written: a writing was begun, and each of its steps that count was answered
+-- with status 0
 abbrev pub is_written : Manager → Bool
 is_written m = is_written_by m.pending m.writing
 
 -- a step is over --------------------------------------------------------------------------------------
 
--- the writing, with whether a step was done noted if the step counts; None if there is none
+-- the writing, marked as failed if a step that counts was not done; None if there is no writing
 abbrev pub noted : Bool → Bool → Option Writing → Option Writing
 noted counts was_done None = None
 noted counts was_done (Some w) = Some (record w { has_failed = w.has_failed || (counts && not was_done) })
@@ -145,7 +145,8 @@ abbrev pub after_step : Manager → Pending → Bool → Manager
 after_step m p was_done =
     went_on (record m { pending = without_number p.number m.pending; writing = noted (counts p) was_done m.writing })
 
--- how many steps are sent when a waiting step ends: those of the next phase, if only that one waits; else 0
+-- how many steps are sent when a waiting step ends: those of the next phase if no other step waits; 0 if one does, or
+-- there is no writing
 abbrev pub count_with : List Pending → Option Writing → ℕ
 count_with pending None = 0
 count_with pending (Some w) = if nat_lt 1 (how_many is_step pending) then 0 else length (next_phase w.later).steps

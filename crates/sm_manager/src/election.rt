@@ -33,7 +33,7 @@ use smp_bytes::{Lid, Method, Path, PortNum};
 use std::collections::VecDeque;
 use subnet_view::{EndPort, is_end_port};
 
-/// Moves the state at the end of a sweep that saw the managers `seen`.
+/// Moves `standing` at the end of a sweep that saw the managers `seen`.
 pub(crate) fn end_sweep(standing: &mut Standing, seen: &[SeenManager])
     ensures { standing.new ≡ after_verdict seen.now standing.old }
 {
@@ -43,14 +43,14 @@ pub(crate) fn end_sweep(standing: &mut Standing, seen: &[SeenManager])
 
 impl Manager {
     /// Queues a poll to the manager at `lid` or, if `lid` is `None`, to a manager that the last sweep saw. That is the
-    /// first master that this manager hears. If there is none, it is the greatest manager that outranks this one, and
-    /// of equals the first. A poll without `lid` goes over the path by which the sweep asked that manager for SMInfo.
-    /// The answer or its timeout is counted when it comes.
+    /// first master that this manager hears. If this manager hears no master, it is the greatest manager that outranks
+    /// this one, the first of equals. A poll without `lid` goes over the path by which the sweep asked that manager for
+    /// SMInfo. The poll counts as answered or lost once its answer or its timeout comes.
     ///
     /// # Errors
     ///
     /// Returns the first of these that applies: `NotStandby`; `Nobody` if `lid` is `None` and the sweep saw no manager
-    /// to poll, or has no path to it; `SequenceSpent`; `Memory`.
+    /// to poll, or has no path to that manager; `SequenceSpent`; `Memory`.
     pub fn poll(&mut self, lid: Option<Lid>) -> Result<(), ManagerFault>
         ensures judged { JudgesButFor is_memory result (poll_fault self.old lid) }
         ensures ok { OnOk result (self.new ≡ after_poll self.old lid) }
@@ -65,8 +65,8 @@ impl Manager {
         Ok(())
     }
 
-    /// Returns the path of a poll, or `None` if it goes to `lid`. Returns `Nobody` if `lid` is `None` and there is no
-    /// path to a manager to poll.
+    /// Returns the path of a poll, or `None` if the poll is sent to `lid`. Returns `Nobody` if `lid` is `None` and
+    /// there is no path to a manager to poll.
     fn poll_path(&self, lid: &Option<Lid>) -> Result<Option<Path<63>>, ManagerFault>
         ensures judged { Judges result (unless_way lid.now (polled_path self.now)) }
         ensures path { IfOk result (λ path. path ≡ poll_path self.now lid.now) }
@@ -81,7 +81,7 @@ impl Manager {
     }
 
     /// Returns the path of a poll without a LID. Returns `None` if the last sweep saw no manager to poll, or has no
-    /// path to it that leaves by the manager's port and has at most 63 hops.
+    /// path to that manager that leaves by this manager's port and has at most 63 hops.
     fn polled_path(&self) -> Option<&Path<63>>
         ensures { option_copied result ≡ polled_path self.now }
     {
@@ -95,7 +95,7 @@ impl Manager {
     }
 
     /// Returns the path by which the last sweep first reached the port where it saw the manager `seen`, or `None` if
-    /// there is none.
+    /// there is no such path.
     fn path_seen(&self, seen: &SeenManager) -> Option<&Path<63>>
         ensures { option_copied result ≡ path_seen self.now.sweep seen.now }
     {
@@ -105,8 +105,8 @@ impl Manager {
         }
     }
 
-    /// Tells the successor to take over. The successor is the greatest manager that this one hears, that the last sweep
-    /// saw in Standby or Master, and that wins over this one, and of equals the first. Queues a HANDOVER to the LID
+    /// Asks the successor to take over. The successor is the greatest manager that this one hears, that the last sweep
+    /// saw in Standby or Master, and that wins over this one. Of equals it is the first. Queues a HANDOVER to the LID
     /// that the plan gives to the port where the successor was seen. This manager stays Master until the successor
     /// acknowledges or, by the live conduct, answers with status 0. Plans the LIDs anew.
     ///
@@ -157,8 +157,8 @@ impl Manager {
         where_numbered(self.planned_lid(port), self.requests.has_numbers(1))
     }
 
-    /// Returns why nothing can be sent to a port that is not a known end port: `NoRoom` if there is no plan, and
-    /// otherwise `Nobody`. Does not allocate.
+    /// Returns why nothing can be sent to a port that is not a known end port: `NoRoom` if the LIDs of the plan have no
+    /// room, and otherwise `Nobody`. Does not allocate.
     fn lidless_fault(&self) -> ManagerFault
         ensures { Some result
             ≡ or_else (plan_fault self.now.planning.lmc (cells_of self.now.store)) (Some ManagerFault.Nobody) }
@@ -194,7 +194,7 @@ impl Manager {
     }
 }
 
-/// Returns the port where the manager `seen` was seen, or `None` if the facts do not say that it is an end port.
+/// Returns the port where the manager `seen` was seen, or `None` if the facts do not say that this port is an end port.
 fn port_seen(store: &Store, seen: &SeenManager) -> Option<EndPort>
     ensures { result ≡ port_seen (cells_of store.now) seen.now }
 {
@@ -218,7 +218,7 @@ fn is_way_out(port: PortNum, path: &Path<63>) -> bool
 }
 
 /// Queues a poll over `path` or, if `path` is `None`, by LIDs. The packet is addressed to `lid`. There must be room and
-/// a number for it. Does not allocate.
+/// a number for the poll. Does not allocate.
 fn send_poll(
     lid: Option<Lid>,
     path: Option<Path<63>>,
@@ -238,8 +238,8 @@ fn send_poll(
     outgoing.push_back_reserved(Outgoing { packet, to: lid });
 }
 
-/// Queues `message` as a control to the LID `to`. Does nothing if either is `None`. Otherwise there must be room and a
-/// number for it. Does not allocate.
+/// Queues `message` as a control to the LID `to`. Does nothing if `to` or `message` is `None`. Otherwise there must be
+/// room and a number for the control. Does not allocate.
 pub(crate) fn send_message(
     to: &Option<Lid>,
     message: &Option<Message>,
@@ -265,7 +265,7 @@ pub(crate) fn send_message(
     }
 }
 
-/// Queues `control` to the LID `to`. There must be room and a number for it. Does not allocate.
+/// Queues `control` to the LID `to`. There must be room and a number for the control. Does not allocate.
 fn send_control(
     to: Lid,
     control: Control,

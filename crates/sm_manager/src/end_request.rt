@@ -16,7 +16,7 @@ use smp_bytes::{Smp, Status};
 
 impl Manager {
     /// Takes `smp` as the answer to a request outside sweeps, and ends that request. Returns `Unasked` if `smp` answers
-    /// none. Returns `SequenceSpent` or `Memory` if the next phase of a writing is due and cannot be sent.
+    /// no such request. Returns `SequenceSpent` or `Memory` if the next phase of a writing is due and cannot be sent.
     pub(crate) fn take_answer(&mut self, smp: &Smp) -> Result<(), ManagerFault>
         ensures judged { JudgesButFor is_memory result
             (request_answered self.old smp.now (pending_for self.old smp.now)).fault }
@@ -63,7 +63,7 @@ impl Manager {
     }
 }
 
-/// Returns whether `answer` is status 0, by which a step is done. `None` stands for a timeout.
+/// Returns whether a step with the answer `answer` is done: whether `answer` is status 0. `None` stands for a timeout.
 fn is_done_by(answer: Option<Status>) -> bool
     ensures { result ≡ is_done_by (status_number answer) }
 {
@@ -73,7 +73,7 @@ fn is_done_by(answer: Option<Status>) -> bool
     }
 }
 
-/// Resets the count of lost polls if the poll was answered, and otherwise counts it as lost.
+/// Resets the count of lost polls if the poll was answered, and otherwise counts the poll as lost.
 fn end_poll(standing: &mut Standing, was_answered: bool)
     ensures { standing.new ≡ after_poll_end was_answered standing.old }
 {
@@ -84,15 +84,15 @@ fn end_poll(standing: &mut Standing, was_answered: bool)
     }
 }
 
-/// Returns whether the end of the control `ended` relieves the manager. It does by the live conduct, if the control is
-/// a HANDOVER and `answer` is status 0. `None` stands for a timeout.
+/// Returns whether the end of the control `ended` relieves the manager: the conduct is live, the control is a HANDOVER,
+/// and `answer` is status 0. `None` stands for a timeout.
 fn is_relieved(standing: &Standing, ended: &Pending, answer: Option<Status>) -> bool
     ensures { result ≡ is_relieved standing.now ended.now (status_number answer) }
 {
     standing.conduct.is_live() && is_handover(ended) && is_done_by(answer)
 }
 
-/// Returns whether `ended` has the modifier of a HANDOVER. Its purpose is not looked at.
+/// Returns whether `ended` has the modifier of a HANDOVER. The purpose of `ended` is not looked at.
 fn is_handover(ended: &Pending) -> bool
     ensures { result ≡ is_handover ended.now }
 {

@@ -1,5 +1,5 @@
-//! A subnet manager as a state machine. Its caller asks it for packets to send and hands it those that come. It does no
-//! input or output.
+//! A subnet manager as a state machine. The caller asks for packets to send, and passes in packets that arrive. The
+//! state machine does no input or output itself.
 #![tactic(auto)]
 
 mod election;

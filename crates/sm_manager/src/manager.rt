@@ -32,7 +32,7 @@ pub struct Manager {
     pub(crate) alloc: Global,
     pub(crate) standing: Standing,
     pub(crate) port: PortNum,
-    /// The LMC and the rule that it plans by.
+    /// The LMC and the rule that the manager plans by.
     pub(crate) planning: Planning,
     pub(crate) store: Store,
     pub(crate) sweep: Option<Sweep>,
@@ -96,8 +96,8 @@ impl Manager {
 
     /// Begins a sweep, and queues its first request. The sweep's generation is the one after the newest in the store,
     /// or the floor if that is greater. Forgets the managers that the previous sweep saw. By the live conduct, the
-    /// sweep keeps the 64 bytes that it reads of each port and each switch, and a later writing carries them. Takes
-    /// time linear in the number of facts.
+    /// sweep keeps the first PortInfo of each port and the first SwitchInfo of each switch, which a later writing
+    /// carries. Takes time linear in the number of facts.
     ///
     /// # Errors
     ///
@@ -156,12 +156,12 @@ impl Manager {
         }
     }
 
-    /// Returns the plan of what is known: the LID of each end port, and the forwarding blocks of each usable switch.
-    /// Where the facts describe a part exactly and the part holds the plan, every packet arrives.
+    /// Returns the plan of the manager's facts: the LID of each end port, and the forwarding blocks of each usable
+    /// switch. If the facts describe a part exactly and the part holds the plan, every packet arrives there.
     ///
     /// # Errors
     ///
-    /// Returns `NoRoom` if the LIDs have no room. Returns `Memory` only if they have, and memory runs out.
+    /// Returns `NoRoom` if the LIDs have no room. Returns `Memory` only if the LIDs have room, and memory runs out.
     pub fn plan(&self) -> Result<Plan, ManagerFault>
         ensures judged { JudgesButFor is_memory result (plan_fault self.now.planning.lmc (cells_of self.now.store)) }
         ensures plan { IfOk result (λ plan.
@@ -232,8 +232,8 @@ impl Manager {
         }
     }
 
-    /// Returns how many of the last sweep's requests for SMInfo timed out. Each went to a port that reports a manager,
-    /// which was silent. Returns `None` if no sweep was begun.
+    /// Returns how many of the last sweep's requests for SMInfo timed out. Each was sent to a port that reports a
+    /// manager. Returns `None` if no sweep was begun.
     pub fn silent_managers(&self) -> Option<u64>
         ensures { result ≡ silent_in self.now.sweep }
     {

@@ -26,7 +26,7 @@ use std::collections::VecDeque;
 use std::marker::Model;
 
 /// The requests of a manager outside its sweeps that wait for their answers. Contracts see these requests, the number
-/// of the next request, and the number of further requests that there is memory for.
+/// of the next request, and the number of further requests for which there is memory.
 #[derive(Drop)]
 pub(crate) struct ManagerRequests {
     table: RequestTable<Pending>,
@@ -47,7 +47,7 @@ impl Model for ManagerRequests {
 }
 
 impl ManagerRequests {
-    /// Creates an empty table, whose next number is 1. Does not allocate.
+    /// Creates an empty table. The first request will have the number 1. Does not allocate.
     pub(crate) fn new(alloc: Global) -> Self
         ensures counter { result.counter ≡ 1 }
         ensures pending { result.pending ≡ [] }
@@ -154,7 +154,7 @@ impl ManagerRequests {
     }
 
     /// Adds a poll under the next number, and returns its packet. The poll goes over `path` or, if `path` is `None`, by
-    /// LIDs. There must be room and a number for it. Does not allocate.
+    /// LIDs. There must be room and a number for the poll. Does not allocate.
     pub(crate) fn send_poll(&mut self, path: Option<Path<63>>) -> Smp
         requires room { 0 < self.old.room }
         requires number { self.old.counter < 2 ^ 32 }
@@ -175,7 +175,7 @@ impl ManagerRequests {
         packet
     }
 
-    /// Returns the request at `index`, by rising numbers, or `None` if fewer wait.
+    /// Returns the request at `index`, by rising number, or `None` if no more than `index` requests wait.
     pub(crate) fn get(&self, index: usize) -> Option<&Pending>
         ensures { option_copied result ≡ slice_get self.now.pending index }
     {
@@ -198,16 +198,16 @@ impl ManagerRequests {
         self.counting == 0
     }
 
-    /// Returns the index of the request with the TransactionID `transaction`, or `None` if none waits. Takes a binary
-    /// search among the requests that wait.
+    /// Returns the index of the request with the TransactionID `transaction`, or `None` if no such request waits. Takes
+    /// a binary search among the requests that wait.
     pub(crate) fn index_of(&self, transaction: u64) -> Option<usize>
         ensures { IsIndexFor (with_number transaction self.now.pending) self.now.pending result }
     {
         self.table.index_of(transaction)
     }
 
-    /// Returns the index of the request that `smp` answers, or `None` if it answers none. Takes a binary search among
-    /// the requests that wait.
+    /// Returns the index of the waiting request that `smp` answers, or `None` if `smp` answers none. Takes a binary
+    /// search among the requests that wait.
     pub(crate) fn index_for(&self, smp: &Smp) -> Option<usize>
         ensures { IsIndexFor (find (answers smp.now) self.now.pending) self.now.pending result }
     {

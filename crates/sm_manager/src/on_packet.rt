@@ -16,8 +16,8 @@ use smp_bytes::{AttributeId, Lid, Method, Smp, SmpClass};
 use sweep::{REQUESTS_PER_REPLY, Sweep, SweepFault};
 
 impl Manager {
-    /// Handles a packet that came to the manager's port. `from` is the LID of its sender. A packet that came by LIDs
-    /// must have one.
+    /// Handles a packet that came to the manager's port. `from` is the LID of the sender, which must be given for a
+    /// packet that came by LIDs.
     ///
     /// A reply to the sweep adds its facts, or notes another manager, and queues the next requests. If that ends the
     /// sweep, the state changes by what the sweep saw. An answer to a poll, a control or a step of a writing ends that
@@ -28,9 +28,10 @@ impl Manager {
     /// # Errors
     ///
     /// Returns `Sweep` with the fault of the bytes if they are not a packet, and `Sweep` with the sweep's fault if the
-    /// sweep refuses the reply. Returns `Unasked` if the packet looks like a reply to a sweep and none was begun, or if
-    /// it is neither such a reply, nor a request for SMInfo, nor a trap that is repressed, and answers no request that
-    /// waits. Returns `SequenceSpent` if no numbers are left for what is to be sent, and `Memory` if memory runs out.
+    /// sweep refuses the reply. Returns `Unasked` if the packet looks like a reply to a sweep and no sweep was begun.
+    /// Also returns `Unasked` if the packet is no such reply, no request for SMInfo and no trap that is repressed, and
+    /// answers no request that waits. Returns `SequenceSpent` if no numbers are left for what is to be sent, and
+    /// `Memory` if memory runs out.
     pub fn on_packet(
         &mut self,
         bytes: &[u8; 256],
@@ -55,7 +56,7 @@ impl Manager {
         }
     }
 
-    /// Handles the packet `smp`. `from` is the LID of its sender. If `smp` came by LIDs, `from` must not be `None`.
+    /// Handles the packet `smp`. `from` is the LID of the sender. If `smp` came by LIDs, `from` must not be `None`.
     fn take(&mut self, smp: &Smp, from: Option<Lid>) -> Result<(), ManagerFault>
         requires { HasSender smp.now from }
         ensures judged { JudgesButFor is_memory result (packet_taken self.old smp.now from None).fault }
@@ -84,8 +85,9 @@ impl Manager {
         }
     }
 
-    /// Takes a reply to the sweep: adds what it shows, and queues the next requests. Returns `Unasked` if no sweep was
-    /// begun, `Sweep` if the sweep refuses the reply, and `Memory` if memory runs out.
+    /// Takes the reply `smp` to the sweep: adds its facts, or notes the manager that it shows, and queues the next
+    /// requests. Returns `Unasked` if no sweep was begun, `Sweep` if the sweep refuses the reply, and `Memory` if
+    /// memory runs out.
     fn take_reply(&mut self, smp: &Smp) -> Result<(), ManagerFault>
         ensures judged { JudgesButFor is_memory result
             (sweep_answered self.old smp.now self.old.sweep).fault }

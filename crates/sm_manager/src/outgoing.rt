@@ -13,8 +13,8 @@ pub struct Outgoing {
     pub to: Option<Lid>,
 }
 
-/// Moves all requests that `sweep` has queued to `outgoing`, where there must be room for them. They then wait for
-/// their replies. Does not allocate.
+/// Moves all requests that `sweep` has queued to `outgoing`. There must be room for these requests in `outgoing`. The
+/// requests then wait for their replies. Does not allocate.
 pub(crate) fn send_queued(sweep: &mut Sweep, outgoing: &mut VecDeque<Outgoing>)
     requires { deque_len outgoing.old + length sweep.old.queued ≤ deque_capacity outgoing.old }
     ensures sweep { sweep.new ≡ with_all_sent sweep.old }

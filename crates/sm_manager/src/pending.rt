@@ -8,7 +8,8 @@ use smp_bytes::{AttributeId, Method, Path, Smp};
 pub enum Purpose {
     /// A poll, which asks whether the master is still there.
     Poll,
-    /// A control, which tells another manager to take over, or that this manager has taken over.
+    /// A control: HANDOVER, which asks another manager to take over, or ACKNOWLEDGE, which says that this manager has
+    /// taken over.
     Control,
     /// A step of the last writing.
     Step {
@@ -26,7 +27,7 @@ pub struct Pending {
     /// The number of the attribute.
     pub attribute: u16,
     pub modifier: u32,
-    /// The ports that lead to the agent, or `None` if the request went by LIDs.
+    /// The ports that lead to the agent, or `None` if the request was sent by LIDs.
     pub path: Option<Path<63>>,
 }
 
@@ -62,7 +63,7 @@ impl Pending {
         }
     }
 
-    /// Returns whether `smp` is an answer to the request.
+    /// Returns whether `smp` is a GetResp that answers the request, whatever its status.
     pub(crate) fn is_answered_by(&self, smp: &Smp) -> bool
         ensures { result ≡ answers smp.now self.now }
     {

@@ -4,9 +4,9 @@ pub enum Progress {
     /// No sweep was begun.
     Never,
     Running {
-        /// The number of requests that were not answered.
+        /// The number of requests that timed out.
         unanswered: u64,
-        /// The number of ports through which the sweep did not go on, since the path would have been longer than 63
+        /// The number of ports through which the sweep did not go on, because the path would have had more than 63
         /// hops.
         too_far: u64,
     },

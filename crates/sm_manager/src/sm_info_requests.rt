@@ -22,10 +22,10 @@ use std::alloc::AllocError;
 use std::collections::VecDeque;
 
 impl Manager {
-    /// Answers the request `smp` for SMInfo. A control that the table of states has a move for is also obeyed. The
-    /// answer goes by the request's path if that came over a directed route, and otherwise to `from`, the LID of its
-    /// sender. Returns `SequenceSpent` if an acknowledgement is due and no number is left for it, and `Memory` if
-    /// memory runs out.
+    /// Answers the request `smp` for SMInfo. A control by LIDs or, by the live conduct, any control is also obeyed if
+    /// the table of states has a move for it. The answer is sent back over the path of `smp` if `smp` came over a
+    /// directed route, and otherwise to `from`, the LID of the sender. Returns `SequenceSpent` if ACKNOWLEDGE is due
+    /// and no number is left for it, and `Memory` if memory runs out.
     pub(crate) fn serve(&mut self, smp: &Smp, from: Option<Lid>) -> Result<(), ManagerFault>
         ensures judged { JudgesButFor is_memory result
             (unless_spent self.old (served self.old smp.now from)).fault }
@@ -88,7 +88,8 @@ impl Manager {
     }
 }
 
-/// Moves `standing` by `transition`, and returns the answer to the control `smp`. The answer has the new state.
+/// Moves `standing` by `transition`, and returns the answer to the control `smp`. If its status is 0, the answer has
+/// the new state.
 fn move_on(
     transition: &Transition,
     smp: &Smp,
@@ -103,8 +104,8 @@ fn move_on(
     answer(smp, from, transition.status(), standing)
 }
 
-/// Builds the answer to `smp` with `status`, which must be below 2^15. The answer goes by the path of `smp` if that
-/// came over a directed route, and otherwise to `from`.
+/// Builds the answer to `smp` with `status`, which must be below 2^15. The answer is sent back over the path of `smp`
+/// if `smp` came over a directed route, and otherwise to `from`.
 fn answer(smp: &Smp, from: &Option<Lid>, status: Status, standing: &Standing) -> Outgoing
     requires { status.0 < 2 ^ 15 }
     ensures { result ≡ answer_out standing.now smp.now from.now status.0 }
@@ -147,7 +148,7 @@ fn is_control(standing: &Standing, smp: &Smp) -> bool
 }
 
 /// Returns the status of the answer to a request that is not taken as a control: 0 for a Get, invalid field for a Set,
-/// and method not supported for any other.
+/// and method not supported for any other method.
 fn status_for(smp: &Smp) -> Status
     ensures status { result.0 ≡ status_for smp.now }
     ensures small { result.0 < 2 ^ 15 }
@@ -162,8 +163,8 @@ fn status_for(smp: &Smp) -> Status
     }
 }
 
-/// Returns the number of requests that are sent for `message`: 1 if there are both a message and a LID to send it to,
-/// and otherwise 0.
+/// Returns the number of requests that are sent for `message`: 1 if neither `message` nor the LID `to` is `None`, and
+/// otherwise 0.
 fn message_count(to: &Option<Lid>, message: &Option<Message>) -> usize
     ensures { result ≡ message_count to.now message.now }
 {

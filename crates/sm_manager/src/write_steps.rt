@@ -19,9 +19,9 @@ use sm_state::SmState;
 use sweep::Sweep;
 
 impl Manager {
-    /// Begins to write the plan of what is known, over the paths of the last sweep: the LID of each end port, the
+    /// Begins to write the plan of the manager's facts, over the paths of the last sweep: the LID of each end port, the
     /// forwarding blocks of each usable switch and its top, and then the states of ports on wires. Each phase is queued
-    /// as a whole. The next phase follows once each step was answered or timed out.
+    /// as a whole. The next phase follows once each step of the phase was answered or timed out.
     ///
     /// # Errors
     ///
@@ -40,7 +40,8 @@ impl Manager {
         Ok(())
     }
 
-    /// Returns a writing of the plan of what is known. None of its steps is sent yet. Fails as `write_steps` does.
+    /// Returns a writing of the plan of the manager's facts. None of its steps is sent yet. Returns the same errors as
+    /// `write_steps`.
     fn planned(&self) -> Result<Writing, ManagerFault>
         ensures judged { JudgesButFor is_memory result (writing_fault self.now) }
         ensures writing { IfOk result (λ w. w
@@ -85,8 +86,8 @@ impl Manager {
         Ok(sweep)
     }
 
-    /// Ends the step at `index`, which must wait. If it was the last of its phase to wait, queues the next phase.
-    /// Returns `SequenceSpent` or `Memory` if that phase cannot be sent.
+    /// Ends the step at `index`, which must wait. If no other step waits, queues the next phase. Returns
+    /// `SequenceSpent` or `Memory` if that phase cannot be sent.
     pub(crate) fn end_step(&mut self, index: usize, was_done: bool) -> Result<(), ManagerFault>
         requires within { index < length self.old.pending }
         requires step { (p : Pending) → slice_get self.old.pending index ≡ Some p

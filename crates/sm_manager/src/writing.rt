@@ -113,7 +113,8 @@ fn pass(later: &mut VecDeque<Phase>)
     }
 }
 
-/// Queues `steps`, which then wait for their answers. There must be room and numbers for them. Does not allocate.
+/// Queues `steps`, which then wait for their answers. There must be room and numbers for these steps. Does not
+/// allocate.
 fn send_steps(
     counts: bool,
     steps: Vec<Step>,
@@ -136,7 +137,7 @@ fn send_steps(
 }
 
 impl Manager {
-    /// Returns whether a writing was begun, and each step of the last one that sets a LID, a block or a top was
+    /// Returns whether a writing was begun, and each step of the last writing that sets a LID, a block or a top was
     /// answered with status 0.
     pub fn written(&self) -> bool
         ensures { result ≡ is_written self.now }

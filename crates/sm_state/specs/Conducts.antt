@@ -20,6 +20,6 @@ abbrev pub is_live : Conduct → Bool
 is_live Plain = false
 is_live (Live key) = true
 
--- whether the manager `own` hears the manager `other`: its own SM_Key is 0, or both have the same
+-- whether the manager `own` hears the manager `other`: the SM_Key of `own` is 0, or equal to that of `other`
 abbrev pub is_heard : SmInfo → SmInfo → Bool
 is_heard own other = own.sm_key == 0 || other.sm_key == own.sm_key

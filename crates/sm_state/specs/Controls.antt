@@ -18,11 +18,11 @@ modifier_of_control Discover = 5
 abbrev pub controls : List Control
 controls = Handover ∷ Acknowledge ∷ Disable ∷ Standby ∷ Discover ∷ []
 
--- the control with the attribute modifier `modifier`; None if it is reserved
+-- the control with the attribute modifier `modifier`; None if `modifier` is reserved
 abbrev pub control_of_modifier : ℕ → Option Control
 control_of_modifier modifier = find (λ control. modifier == modifier_of_control control) controls
 
--- the control that sends a message
+-- the control as which a message is sent
 abbrev pub control_of_message : Message → Control
 control_of_message message.Handover = Handover
 control_of_message message.Acknowledge = Acknowledge

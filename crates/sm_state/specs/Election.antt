@@ -19,8 +19,8 @@ says state info = info.state == number_of_state state
 
 -- after a sweep ------------------------------------------------------------------------------------
 
--- whether the manager `other` outranks `own`, which hears it: it is a master, or wins and is not inactive; false if it
--- is not heard
+-- whether the manager `other` outranks `own`: `own` hears `other`, which is a master, or is not Not-active and wins
+-- over `own`
 abbrev pub outranks : SmInfo → SmInfo → Bool
 outranks own other = is_heard own other && (says Master other || (not (says NotActive other) && wins other own))
 
@@ -28,17 +28,19 @@ outranks own other = is_heard own other && (says Master other || (not (says NotA
 abbrev pub any_outranks : SmInfo → List SeenManager → Bool
 any_outranks own seen = list_any (λ s. outranks own s.info) seen
 
--- the event for the manager `own` at the end of a sweep that saw the managers `seen`: it is outranked, or not
+-- the event for the manager `own` at the end of a sweep that saw the managers `seen`: `Outranked` if one of them
+-- outranks `own`, else `Unrivalled`
 abbrev pub sweep_verdict : SmInfo → List SeenManager → Event
 sweep_verdict own seen = if any_outranks own seen then Outranked else Unrivalled
 
 -- whom to hand over to -----------------------------------------------------------------------------
 
--- whether the manager `s` may succeed `own`, which hears it: it is standby or master, and wins over `own`
+-- whether the manager `s` may succeed `own`: `own` hears `s`, which is standby or master and wins over `own`
 abbrev pub is_candidate : SmInfo → SeenManager → Bool
 is_candidate own s = is_heard own s.info && ((says Standby s.info || says Master s.info) && wins s.info own)
 
--- the greater of the best manager so far and `s`: the first if they are of equal rank; `s` if there is none so far
+-- the greater of the best manager so far and `s`: the best so far if they are of equal rank; `s` if there is none so
+-- far
 abbrev pub better : Option SeenManager → SeenManager → SeenManager
 better None s = s
 better (Some best) s = if wins s.info best.info then s else best
@@ -47,7 +49,8 @@ better (Some best) s = if wins s.info best.info then s else best
 abbrev pub next_best : Bool → Option SeenManager → SeenManager → Option SeenManager
 next_best passes best s = if passes then Some (better best s) else best
 
--- the greatest of `best` and the managers of a list that pass the test, the first of equals; None if there is none
+-- the greatest of `best` and the managers of a list that pass the test, the first of equals; None if `best` is None and
+-- no manager passes
 abbrev pub best_with : (SeenManager → Bool) → List SeenManager → Option SeenManager → Option SeenManager
 best_with test [] best = best
 best_with test (s ∷ seen) best = best_with test seen (next_best (test s) best s)
@@ -56,11 +59,11 @@ best_with test (s ∷ seen) best = best_with test seen (next_best (test s) best 
 abbrev pub greatest_of : (SeenManager → Bool) → List SeenManager → Option SeenManager
 greatest_of test seen = best_with test seen None
 
--- the greatest of the managers that may succeed `own`, the first of equals; None if there is none
+-- the greatest of the managers that may succeed `own`, the first of equals; None if no manager may
 abbrev pub successor_of : SmInfo → List SeenManager → Option SeenManager
 successor_of own seen = greatest_of (is_candidate own) seen
 
--- `successor` is one of `managers`; it wins over each one before it, and none after it wins over it
+-- `successor` is one of `managers`; `successor` wins over each manager before it, and no manager after it wins over it
 pub record IsFirstGreatest (managers : List SeenManager) (successor : SeenManager) : Type 0 where
   pub before : List SeenManager
   pub after : List SeenManager
@@ -68,12 +71,12 @@ pub record IsFirstGreatest (managers : List SeenManager) (successor : SeenManage
   pub greater : AllByRecursion (λ s. wins successor.info s.info ≡ true) before
   pub unbeaten : AllByRecursion (λ s. wins s.info successor.info ≡ false) after
 
--- the given manager is the first greatest of `managers`; None if there are none
+-- the given manager is the first greatest of `managers`; None only if there are no managers
 abbrev pub IsSuccessorOrNone : List SeenManager → Option SeenManager → Type 0
 IsSuccessorOrNone managers None = managers ≡ []
 IsSuccessorOrNone managers (Some successor) = IsFirstGreatest managers successor
 
--- `successor_of` gives the first greatest of the managers that may succeed `own`; None exactly if there is none
+-- `successor_of` gives the first greatest of the managers that may succeed `own`; None exactly if no manager may
 abbrev pub SuccessorLaw : Type 0
 SuccessorLaw = (own : SmInfo) (seen : List SeenManager)
     → IsSuccessorOrNone (filter (is_candidate own) seen) (successor_of own seen)
@@ -88,16 +91,16 @@ is_heard_master own s = is_heard own s.info && says Master s.info
 abbrev pub is_above : SmInfo → SeenManager → Bool
 is_above own s = outranks own s.info
 
--- the manager that `own` polls: the first master that it hears; if there is none, the greatest of those that outrank
--- it, the first of equals; None if none does
+-- the manager that `own` polls: the first master that `own` hears. If it hears no master, it polls the greatest of
+-- those that outrank it, the first of equals; None if no manager outranks it
 abbrev pub polled_of : SmInfo → List SeenManager → Option SeenManager
 polled_of own seen = option_or (find (is_heard_master own) seen) (greatest_of (is_above own) seen)
 
--- the given manager is one of `seen` and outranks `own`; None if none of them does
+-- the given manager is one of `seen` and outranks `own`; None only if none of `seen` outranks `own`
 abbrev pub IsPolledOrNone : SmInfo → List SeenManager → Option SeenManager → Type 0
 IsPolledOrNone own seen None = any_outranks own seen ≡ false
 IsPolledOrNone own seen (Some polled) = Contains seen polled × (outranks own polled.info ≡ true)
 
--- `polled_of` gives a manager that was seen and outranks `own`; None exactly if none does
+-- `polled_of` gives a manager that was seen and outranks `own`; None exactly if no manager that was seen outranks `own`
 abbrev pub PolledLaw : Type 0
 PolledLaw = (own : SmInfo) (seen : List SeenManager) → IsPolledOrNone own seen (polled_of own seen)

@@ -3,7 +3,7 @@
 use Rattle.std.specs.Prelude.{◌≡◌, ◌⊎◌, Bool, true, false, ◌&&◌, ◌||◌, ◌==◌, nat_lt}
 use Rattle.attr_codec.specs.declared.sm_info.SmInfo.{SmInfo}
 
--- whether the manager `a` wins over `b`: it has the greater priority or, at equal priority, the lesser GUID
+-- whether the manager `a` wins over `b`: `a` has the greater priority or, at equal priority, the lesser GUID
 abbrev pub wins : SmInfo → SmInfo → Bool
 wins a b = nat_lt b.priority a.priority || (a.priority == b.priority && nat_lt a.guid b.guid)
 

@@ -17,8 +17,8 @@ use Rattle.sm_state.specs.Transitions.{status_of, stepped}
 abbrev pub Is : Control → Event → Type 0
 Is which e = (modifier : ℕ) × (e ≡ event.Control modifier) × (control_of_modifier modifier ≡ Some which)
 
--- the event `e` moves a manager in this state, or makes it send a message: the table of states has a row for it, other
--- than that of a late ACKNOWLEDGE
+-- the table of states has a row for the event `e` in this state, other than that of a late ACKNOWLEDGE: `e` moves the
+-- manager, or makes it send a message
 abbrev pub IsNamed : SmState → Event → Type 0
 IsNamed Discovering e = (e ≡ event.Outranked) ⊎ (e ≡ event.Unrivalled)
 IsNamed Standby e =

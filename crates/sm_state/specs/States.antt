@@ -15,7 +15,7 @@ number_of_state Master = 3
 abbrev pub states : List SmState
 states = NotActive ∷ Discovering ∷ Standby ∷ Master ∷ []
 
--- the state with the number `number`; None if it is reserved
+-- the state with the number `number`; None if `number` is reserved
 abbrev pub state_of_number : ℕ → Option SmState
 state_of_number number = find (λ state. number == number_of_state state) states
 

@@ -15,7 +15,7 @@ use Rattle.sm_state.specs.declared.state.SmState.TheVariants.{NotActive, Discove
 use Rattle.sm_state.specs.declared.transition.Transition.{Transition}
 use Rattle.sm_state.specs.Controls.{control_of_modifier}
 
--- the move to `state` that sends `sends`, if that is a message, and is not refused
+-- the move to `state` that is not refused and sends the message `sends`, or nothing if that is None
 abbrev pub to : SmState → Option Message → Transition
 to state sends = record { state = state; message = sends; is_refused = false }
 
@@ -23,13 +23,13 @@ to state sends = record { state = state; message = sends; is_refused = false }
 abbrev pub refused : SmState → Transition
 refused state = record { state = state; message = None; is_refused = true }
 
--- the move of a standby by ACKNOWLEDGE: by the live conduct the state stays, since the answer to its HANDOVER has
--- already made it standby; by the plain conduct it is refused
+-- the move of a standby by ACKNOWLEDGE, in which the state stays. The plain conduct refuses it. The live conduct does
+-- not, since the answer to a HANDOVER may have made the manager standby already
 abbrev pub acknowledged_late : Conduct → Transition
 acknowledged_late Plain = refused Standby
 acknowledged_late (Live key) = to Standby None
 
--- the move of a manager in a state by a control, or by a reserved modifier, which is None
+-- the move of a manager in a state by a control; None stands for a reserved modifier
 abbrev pub after_control : Conduct → SmState → Option Control → Transition
 after_control conduct Standby (Some control.Handover) = to Master (Some message.Acknowledge)
 after_control conduct Standby (Some control.Acknowledge) = acknowledged_late conduct

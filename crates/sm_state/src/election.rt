@@ -11,11 +11,11 @@ use smp_bytes::{Guid, PortNum};
 /// A manager that the last sweep saw.
 #[derive(Clone, Copy, Debug)]
 pub struct SeenManager {
-    /// The GUID of its node.
+    /// The GUID of the manager's node.
     pub guid: Guid,
     /// The port of that node at which the sweep asked for SMInfo.
     pub port: PortNum,
-    /// The SMInfo that it answered.
+    /// The SMInfo that the manager answered with.
     pub info: SmInfo,
 }
 
@@ -36,9 +36,9 @@ fn any_outranks(own: &SmInfo, seen: &[SeenManager]) -> bool
     seen.iter().any(|other| outranks(own, &other.info))
 }
 
-/// Returns the manager to hand over to: the greatest of `seen` that `own` hears, that reports Standby or Master, and
-/// that wins over `own`; the first of equals. Returns `None` if there is none. Takes time linear in the length of
-/// `seen`.
+/// Returns the manager to hand over to: the greatest manager of `seen` that `own` hears, that reports Standby or
+/// Master, and that wins over `own`. Of equals returns the first. Returns `None` if no manager of `seen` is such. Takes
+/// time linear in the length of `seen`.
 pub fn successor(own: &SmInfo, seen: &[SeenManager]) -> Option<SeenManager>
     ensures { result ≡ successor_of own.now seen.now }
 {
@@ -49,15 +49,16 @@ pub fn successor(own: &SmInfo, seen: &[SeenManager]) -> Option<SeenManager>
     best
 }
 
-/// Returns the manager to poll: the first master in `seen` that `own` hears; if there is none, the greatest that
-/// outranks `own`, the first of equals. Returns `None` if there is none. Takes time linear in the length of `seen`.
+/// Returns the manager to poll: the first master in `seen` that `own` hears. If `own` hears no master, returns the
+/// greatest manager in `seen` that outranks `own`, the first of equals. Returns `None` if no manager in `seen` outranks
+/// `own`. Takes time linear in the length of `seen`.
 pub fn polled(own: &SmInfo, seen: &[SeenManager]) -> Option<SeenManager>
     ensures { result ≡ polled_of own.now seen.now }
 {
     first_master(own, seen).or(greatest_above(own, seen))
 }
 
-/// Returns the first master in `seen` that `own` hears, or `None` if there is none.
+/// Returns the first master in `seen` that `own` hears, or `None` if `own` hears no master.
 fn first_master(own: &SmInfo, seen: &[SeenManager]) -> Option<SeenManager>
     ensures { result ≡ find (is_heard_master own.now) seen.now }
 {
@@ -66,7 +67,7 @@ fn first_master(own: &SmInfo, seen: &[SeenManager]) -> Option<SeenManager>
         .find(|other| is_heard_master(own, other))
 }
 
-/// Returns the greatest manager in `seen` that outranks `own`, the first of equals, or `None` if there is none.
+/// Returns the greatest manager in `seen` that outranks `own`, the first of equals, or `None` if none outranks `own`.
 fn greatest_above(own: &SmInfo, seen: &[SeenManager]) -> Option<SeenManager>
     ensures { result ≡ greatest_of (is_above own.now) seen.now }
 {
@@ -88,7 +89,7 @@ fn next_best(passes: bool, best: Option<SeenManager>, other: SeenManager) -> Opt
     }
 }
 
-/// Returns `other` if `best` is `None` or `other` wins over it, and otherwise `best`.
+/// Returns `other` if `best` is `None` or `other` wins over `best`, and otherwise `best`.
 fn better(best: Option<SeenManager>, other: SeenManager) -> SeenManager
     ensures { result ≡ better best other }
 {
@@ -121,7 +122,7 @@ fn is_heard_master(own: &SmInfo, other: &SeenManager) -> bool
 }
 
 /// Returns whether the manager whose SMInfo is `own` hears `other`, and `other` is a master, or wins over `own` and is
-/// not inactive.
+/// not Not-active.
 fn outranks(own: &SmInfo, other: &SmInfo) -> bool
     ensures { result ≡ outranks own.now other.now }
 {
@@ -129,8 +130,8 @@ fn outranks(own: &SmInfo, other: &SmInfo) -> bool
         && (says(SmState::Master, other) || (!says(SmState::NotActive, other) && wins(other, own)))
 }
 
-/// Returns whether the manager whose SMInfo is `own` takes `other` for a manager of its subnet: its own SM_Key is 0, or
-/// the two SM_Keys are equal.
+/// Returns whether the manager whose SMInfo is `own` hears `other`: the SM_Key of `own` is 0, or the two SM_Keys are
+/// equal.
 fn is_heard(own: &SmInfo, other: &SmInfo) -> bool
     ensures { result ≡ is_heard own.now other.now }
 {

@@ -4,29 +4,29 @@ ghost use Rattle.sm_state.specs.Election.{PolledLaw, SuccessorLaw};
 ghost use Rattle.sm_state.specs.StateLaws.{HandoversAreTaken, MastersStay, NothingElseMoves, OthersAreTold};
 ghost use Rattle.sm_state.specs.StateLaws.{StatesAreNumbered};
 
-/// One of two managers wins if their priorities or GUIDs differ. No manager wins over itself. A manager that wins over
-/// another also wins over all that the other wins over.
+/// Of two managers that differ in priority or GUID, one wins over the other. No manager wins over itself. If one
+/// manager wins over a second, and the second over a third, the first wins over the third.
 pub fn wins_is_an_order()
     ensures { WinsIsAnOrder }
 {}
 
-/// An event for which the state has no move does not change the state and sends nothing.
+/// An event for which the table of states has no move from a manager's state does not change the state and sends
+/// nothing.
 pub fn nothing_else_moves()
     ensures { NothingElseMoves }
 {}
 
-/// A master stays master, unless it receives an acknowledgement that another manager is master, or the control to
-/// discover anew.
+/// A master stays master unless it receives ACKNOWLEDGE, and then is Standby, or DISCOVER, and then is Discovering.
 pub fn masters_stay()
     ensures { MastersStay }
 {}
 
-/// A manager sends an acknowledgement only after it received a handover, and is then master.
+/// A manager sends ACKNOWLEDGE only after it received a HANDOVER, and is then master.
 pub fn others_are_told()
     ensures { OthersAreTold }
 {}
 
-/// A manager that answers a handover with status 0 is then master, so no handover with that answer leaves the subnet
+/// A manager that answers a HANDOVER with status 0 is then master, so no HANDOVER with that answer leaves the subnet
 /// without a master.
 pub fn handovers_are_taken()
     ensures { HandoversAreTaken }
@@ -37,8 +37,8 @@ pub fn states_are_numbered()
     ensures { StatesAreNumbered }
 {}
 
-/// The successor of a manager wins over each candidate that was seen before it, and no candidate that was seen after it
-/// wins over it. If there is no successor, there is no candidate.
+/// The successor of a manager wins over each candidate that was seen before the successor, and no candidate that was
+/// seen later wins over the successor. If there is no successor, there is no candidate.
 #[tactic(auto, using(crate::proofs::Successors::successor_law))]
 pub fn successor_is_the_first_of_the_greatest()
     ensures { SuccessorLaw }

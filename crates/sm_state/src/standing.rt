@@ -7,18 +7,19 @@ use crate::{Conduct, Control, Event, SmState, step};
 use attr_codec::{Priority, SmInfo};
 use smp_bytes::Guid;
 
-/// A subnet manager among the managers of its subnet: who it is, and what its state is.
+/// A subnet manager among the managers of its subnet: its identity, its state and its counts.
 #[derive(Clone, Copy, Debug)]
 pub struct Standing {
-    /// The GUID of the port at which it sits.
+    /// The GUID of the port at which the manager sits.
     pub guid: Guid,
     pub priority: Priority,
-    /// How it deals with other managers.
+    /// How the manager deals with other managers.
     pub conduct: Conduct,
     pub state: SmState,
-    /// The number of sweeps that it began and, by the live conduct, of requests for SMInfo that it answered. Saturates.
+    /// The number of sweeps that the manager began. By the live conduct, requests for SMInfo that it answered are
+    /// counted too. Saturates.
     pub act_count: u32,
-    /// The number of polls in a row that were lost since it entered its state. Saturates.
+    /// The number of polls in a row that were lost since the manager entered its state. Saturates.
     pub polls_lost: u32,
 }
 
@@ -36,7 +37,7 @@ impl Standing {
         }
     }
 
-    /// Returns the SMInfo that it answers with.
+    /// Returns the SMInfo that the manager answers with.
     pub fn info(&self) -> SmInfo
         ensures { result ≡ info_of self.now }
     {
@@ -49,8 +50,8 @@ impl Standing {
         }
     }
 
-    /// Returns the SMInfo that it sends with `control`. By the live conduct, an acknowledgement reports Standby, which
-    /// OpenSM expects.
+    /// Returns the SMInfo that the manager sends with `control`. By the live conduct, ACKNOWLEDGE reports Standby,
+    /// which OpenSM expects.
     pub fn info_with(&self, control: Control) -> SmInfo
         ensures { result ≡ info_with control self.now }
     {
@@ -97,7 +98,7 @@ impl Standing {
         }
     }
 
-    /// Moves the state after `event` by the table of states.
+    /// Moves the manager to its state after `event`, by the table of states.
     pub fn move_by(&mut self, event: Event)
         ensures { self.new ≡ moved_by event self.old }
     {
@@ -111,7 +112,7 @@ impl Standing {
         self.polls_lost = 0;
     }
 
-    /// Counts a poll that timed out. If three or more in a row were lost, a standby moves to Discovering.
+    /// Counts a poll that timed out. If three or more polls in a row were lost, a standby moves to Discovering.
     pub fn lose_poll(&mut self)
         ensures { self.new ≡ poll_lost self.old }
     {

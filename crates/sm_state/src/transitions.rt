@@ -48,7 +48,7 @@ pub fn step(conduct: Conduct, state: SmState, event: Event) -> Transition
     }
 }
 
-/// Returns what a manager in `state` does about `control`, which is `None` if the modifier is that of no control.
+/// Returns what a manager in `state` does about `control`, which is `None` if the modifier is reserved.
 fn after_control(conduct: Conduct, state: SmState, control: Option<Control>) -> Transition
     ensures { result ≡ after_control conduct state control }
 {
@@ -67,9 +67,9 @@ fn after_control(conduct: Conduct, state: SmState, control: Option<Control>) -> 
     }
 }
 
-/// Returns what a standby does about an acknowledgement. By the live conduct nothing changes, and the acknowledgement
-/// is not refused, since the answer to its handover has already made it a standby. By the plain conduct the
-/// acknowledgement is refused.
+/// Returns what a standby does about ACKNOWLEDGE. By the live conduct nothing changes, and the control is not refused,
+/// since the answer to the manager's HANDOVER may already have made it a standby. By the plain conduct the control is
+/// refused.
 fn acknowledged_late(conduct: Conduct) -> Transition
     ensures { result ≡ acknowledged_late conduct }
 {

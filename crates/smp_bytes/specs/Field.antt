@@ -13,15 +13,15 @@ pub record Bits : Type 0 where
   pub shift : ℕ
   pub width : ℕ
 
--- the number that `bytes` have in a field, most significant byte first
+-- the number that `bytes` have in `field`, most significant byte first
 abbrev pub number_in : Field → List ℕ → ℕ
 number_in field bytes = big_number field.len (drop field.at bytes)
 
--- the number that `bytes` have in some bits of one byte
+-- the number that `bytes` have in the bits `bits`
 abbrev pub bits_in : Bits → List ℕ → ℕ
 bits_in bits bytes = slice_index bytes bits.at / 2 ^ bits.shift % 2 ^ bits.width
 
--- the bytes of a field of `bytes`
+-- the bytes that `bytes` have in `field`
 abbrev pub bytes_in : Field → List ℕ → List ℕ
 bytes_in field bytes = take field.len (drop field.at bytes)
 
@@ -29,34 +29,34 @@ bytes_in field bytes = take field.len (drop field.at bytes)
 unfoldable pub with_bytes : ℕ → List ℕ → List ℕ → List ℕ
 with_bytes at written bytes = take at bytes ++ (written ++ drop (at + length written) bytes)
 
--- `bytes`, with `number` written into the field
+-- `bytes`, with `number` written into `field`
 abbrev pub with_number : Field → ℕ → List ℕ → List ℕ
 with_number field number bytes = with_bytes field.at (big_bytes field.len number) bytes
 
--- whether one of two fields ends before the other begins
+-- whether the field `a` ends before the field `b` begins, or `b` ends before `a` begins
 abbrev pub are_apart : Field → Field → Bool
 are_apart a b = nat_le (a.at + a.len) b.at || nat_le (b.at + b.len) a.at
 
--- whether a field ends within the first `count` bytes
+-- whether `field` ends within the first `count` bytes
 abbrev pub ends_within : ℕ → Field → Bool
 ends_within count field = nat_le (field.at + field.len) count
 
--- a field, and the number that it is to hold
+-- a field, and the number to be written into it
 pub record Entry : Type 0 where
   pub field : Field
   pub number : ℕ
 
--- `bytes`, with each entry written, one after the other
+-- `bytes`, with the number of each entry written into its field, from the first entry to the last
 abbrev pub with_numbers : List Entry → List ℕ → List ℕ
 with_numbers [] bytes = bytes
 with_numbers (e ∷ entries) bytes = with_numbers entries (with_number e.field e.number bytes)
 
--- `byte` with `number` written into some bits; the bits above and below stay
+-- `byte` with `number` written into its bits `bits`; if `number` fits them, the bits above and below stay
 abbrev pub replaced : Bits → ℕ → ℕ → ℕ
 replaced bits number byte =
     (byte / 2 ^ (bits.shift + bits.width) * 2 ^ bits.width + number) * 2 ^ bits.shift + byte % 2 ^ bits.shift
 
--- `bytes`, with `number` written into some bits of one byte
+-- `bytes`, with `number` written into the bits `bits` of one byte
 abbrev pub with_bits : Bits → ℕ → List ℕ → List ℕ
 with_bits bits number bytes =
     with_number (record { at = bits.at; len = 1 }) (replaced bits number (slice_index bytes bits.at)) bytes

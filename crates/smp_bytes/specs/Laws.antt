@@ -4,70 +4,74 @@ use Rattle.smp_bytes.specs.Field.{Field, Bits, number_in, bits_in, with_number, 
 
 -- whole bytes --------------------------------------------------------------------------
 
--- the field lies within `bytes`
+-- `field` lies within `bytes`
 abbrev pub LiesIn : Field → List ℕ → Type 0
 LiesIn field bytes = field.at + field.len ≤ length bytes
 
--- a number that fits a field within the bytes, and is written into it, is read from it
+-- a number that is written into `field` is read from it, if `field` lies within `bytes` and the number fits `field`
 abbrev pub NumberIsRead : Type 0
 NumberIsRead = (field : Field) (number : ℕ) (bytes : List ℕ) → LiesIn field bytes → number < 256 ^ field.len
     → number_in field (with_number field number bytes) ≡ number
 
--- a write into a field within the bytes leaves the number in a field apart from it
+-- a write into `field` leaves the number in the field `other`, if `field` lies within `bytes` and the two fields are
+-- apart
 abbrev pub FieldApartStays : Type 0
 FieldApartStays =
     (other field : Field) (number : ℕ) (bytes : List ℕ) → LiesIn field bytes → are_apart other field ≡ true
     → number_in other (with_number field number bytes) ≡ number_in other bytes
 
--- `new` is as long as `old`, and has its bytes outside the field
+-- `new` is as long as `old`, and has the bytes of `old` outside `field`
 pub record KeepsBytesOutside (field : Field) (old new : List ℕ) : Type 0 where
   pub count : length new ≡ length old
   pub outside : (offset : ℕ) → (offset < field.at) ⊎ (field.at + field.len ≤ offset) → slice_index new offset
       ≡ slice_index old offset
 
--- a write into a field within the bytes keeps the length and the bytes outside the field
+-- a write into `field` keeps the length of `bytes` and each byte outside `field`, if `field` lies within `bytes`
 abbrev pub BytesOutsideStay : Type 0
 BytesOutsideStay = (field : Field) (number : ℕ) (bytes : List ℕ) → LiesIn field bytes
     → KeepsBytesOutside field bytes (with_number field number bytes)
 
--- bytes below 256 that hold the number in a field within them, and are otherwise as before, are those that
--- `with_number` gives
+-- `new` is `old` with `number` written into `field`, if `new` has `number` there and the bytes of `old` outside
+-- `field`. Two more premises: `field` lies within `old`, and the bytes of `new` are below 256
 abbrev pub WriteIsUnique : Type 0
 WriteIsUnique =
     (field : Field) (number : ℕ) (old new : List ℕ) → LiesIn field old → All (λ byte. byte < 256) new
     → KeepsBytesOutside field old new → number_in field new ≡ number → new ≡ with_number field number old
 
--- of two writes into one field within the bytes, only the later has an effect
+-- of two writes into `field`, only the later has an effect, if `field` lies within `bytes`
 abbrev pub LastWriteStands : Type 0
 LastWriteStands = (field : Field) (number before : ℕ) (bytes : List ℕ) → LiesIn field bytes
     → with_number field number (with_number field before bytes) ≡ with_number field number bytes
 
 -- some bits of a byte ------------------------------------------------------------------
 
--- the bits lie within one byte of `bytes`, which is below 256
+-- `bits` lie within one byte of `bytes`, and this byte is below 256
 pub record AreBitsIn (bits : Bits) (bytes : List ℕ) : Type 0 where
   pub offset : bits.at < length bytes
   pub byte : slice_index bytes bits.at < 256
   pub within : bits.shift + bits.width ≤ 8
 
--- a number that fits some bits of a byte, and is written into them, is read from them
+-- a number that is written into `bits` is read from them, if `bits` lie in `bytes` (`AreBitsIn`) and the number fits
+-- them
 abbrev pub BitsAreRead : Type 0
 BitsAreRead = (bits : Bits) (number : ℕ) (bytes : List ℕ) → AreBitsIn bits bytes → number < 2 ^ bits.width
     → bits_in bits (with_bits bits number bytes) ≡ number
 
--- a write of a number that fits some bits of a byte leaves the number in bits apart from them
+-- a write into `bits` leaves the number in the bits `other`, if these are apart from `bits`. Two more premises: `bits`
+-- lie in `bytes` (`AreBitsIn`), and the number fits them
 abbrev pub BitsApartStay : Type 0
 BitsApartStay = (other bits : Bits) (number : ℕ) (bytes : List ℕ) → AreBitsIn bits bytes → number < 2 ^ bits.width
     → are_bits_apart other bits ≡ true
     → bits_in other (with_bits bits number bytes) ≡ bits_in other bytes
 
--- `new` is as long as `old`, and has its bytes except the one with the bits, which is below 256
+-- `new` is as long as `old`, and has each byte of `old` except the one with `bits`; that byte of `new` is below 256
 pub record KeepsOtherBytes (bits : Bits) (old new : List ℕ) : Type 0 where
   pub count : length new ≡ length old
   pub byte : slice_index new bits.at < 256
   pub others : (offset : ℕ) → offset ≢ bits.at → slice_index new offset ≡ slice_index old offset
 
--- a write of a number that fits some bits of a byte keeps the length and all other bytes
+-- a write into `bits` keeps the length of `bytes` and all other bytes (`KeepsOtherBytes`), if `bits` lie in `bytes`
+-- (`AreBitsIn`) and the number fits them
 abbrev pub OtherBytesStay : Type 0
 OtherBytesStay = (bits : Bits) (number : ℕ) (bytes : List ℕ) → AreBitsIn bits bytes → number < 2 ^ bits.width
     → KeepsOtherBytes bits bytes (with_bits bits number bytes)

@@ -1,4 +1,4 @@
--- A subnet management packet (SMP) is a list of 256 bytes: its fields, and the faults of bytes that are not a packet.
+-- A subnet management packet (SMP), a list of 256 bytes: its fields, and the faults of bytes that are not a packet.
 -- InfiniBand Architecture Specification, Volume 1: management datagram header, and SMP formats, LID routed and directed
 -- route.
 use Rattle.std.specs.Prelude.{ℕ, ◌+◌, ◌%◌, ◌^◌, Bool, ◌&&◌, ◌||◌, not, List, nat_lt, ◌==◌, if◌then◌else◌, Option, Some, None}
@@ -77,11 +77,11 @@ dr_slid = record { at = 32; len = 2 }
 abbrev pub dr_dlid : Field
 dr_dlid = record { at = 34; len = 2 }
 
--- the port by which a directed packet leaves at its step `i`; index 0 is not used
+-- InitialPath at index `i`: the port by which a directed packet leaves at its step `i`; index 0 is not used
 abbrev pub initial_path : ℕ → Field
 initial_path i = record { at = 128 + i; len = 1 }
 
--- the port by which the answer to a directed packet leaves at step `i`
+-- ReturnPath at index `i`: the port by which the answer to a directed packet leaves on its way back over step `i`
 abbrev pub return_path : ℕ → Field
 return_path i = record { at = 192 + i; len = 1 }
 
@@ -95,11 +95,11 @@ is_lid_routed packet = number_in mgmt_class packet == lid_routed_class
 abbrev pub is_directed : List ℕ → Bool
 is_directed packet = number_in mgmt_class packet == directed_class
 
--- whether the R bit is set: `packet` is an answer, or another packet that asks for none
+-- whether the R bit of `packet` is set, as in an answer
 abbrev pub is_response : List ℕ → Bool
 is_response packet = bits_in response_bit packet == 1
 
--- whether the D bit is set: a directed `packet` is on its way back
+-- whether the D bit of `packet` is set, as in a directed packet on its way back
 abbrev pub is_returning : List ℕ → Bool
 is_returning packet = bits_in direction_bit packet == 1
 
@@ -107,7 +107,8 @@ is_returning packet = bits_in direction_bit packet == 1
 abbrev pub status : List ℕ → ℕ
 status packet = if is_directed packet then number_in status_word packet % 2 ^ 15 else number_in status_word packet
 
--- the permissive LID: in DrSLID or DrDLID it says that the packet has no LID-routed part at that end
+-- the permissive LID: in DrSLID it says that a packet has no LID-routed part before its directed route, and in DrDLID
+-- that it has none after
 abbrev pub permissive_lid : ℕ
 permissive_lid = 0xFFFF
 

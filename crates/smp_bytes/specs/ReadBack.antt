@@ -10,8 +10,8 @@ use Rattle.smp_bytes.specs.Requests.{directed, lid_routed, answer_packet, word_w
 abbrev pub reserved_after_attribute_id : Field
 reserved_after_attribute_id = record { at = 18; len = 2 }
 
--- `packet` is 256 bytes without a fault, with the fields that requests of both classes have: as given, with status and
--- M_Key 0
+-- `packet` is 256 bytes without a fault, with the given method, TransactionID, attribute, modifier and payload. Its
+-- versions are 1, and its status, its M_Key and the reserved bytes after AttributeID are 0
 pub record HoldsRequest (packet : List ℕ) (method_number attribute modifier tid : ℕ) (payload : List ℕ) : Type 0 where
   pub count : length packet ≡ 256
   pub parses : fault_of packet ≡ None
@@ -26,8 +26,8 @@ pub record HoldsRequest (packet : List ℕ) (method_number attribute modifier ti
   pub m_key : number_in m_key packet ≡ 0
   pub attribute_data : bytes_in attribute_data packet ≡ payload
 
--- `packet` is directed over `path`, with no LID-routed part: no hop is made, InitialPath is 0 except for the ports of
--- `path`, and ReturnPath is 0
+-- `packet` is directed over `path`, with no LID-routed part. HopPointer is 0, InitialPath is 0 except for the ports of
+-- `path`, and ReturnPath and the reserved bytes after DrDLID are 0
 pub record HoldsPath (packet path : List ℕ) : Type 0 where
   pub class : number_in mgmt_class packet ≡ directed_class
   pub hop_pointer : number_in hop_pointer packet ≡ 0
@@ -47,7 +47,7 @@ pub record HoldsNoPath (packet : List ℕ) : Type 0 where
   pub reserved_before : number_in (record { at = 32; len = 32 }) packet ≡ 0
   pub reserved_behind : number_in (record { at = 128; len = 128 }) packet ≡ 0
 
--- each given number fits its field of a request, and the attribute has 64 bytes
+-- each given number fits its field of a request, and `payload` has 64 bytes
 pub record FitsRequest (method_number attribute modifier tid : ℕ) (payload : List ℕ) : Type 0 where
   pub method : method_number < 2 ^ 8
   pub attribute_id : attribute < 2 ^ 16
@@ -55,7 +55,7 @@ pub record FitsRequest (method_number attribute modifier tid : ℕ) (payload : L
   pub transaction_id : tid < 2 ^ 64
   pub attribute_data : length payload ≡ 64
 
--- if what is given fits, and the path has at most 63 ports, a directed request holds what was given
+-- a directed request holds what it was built from, if that fits (`FitsRequest`) and `path` has at most 63 ports
 abbrev pub DirectedReadsBack : Type 0
 DirectedReadsBack =
     (method_number attribute modifier tid : ℕ) (path payload : List ℕ)
@@ -64,7 +64,7 @@ DirectedReadsBack =
     payload
     × HoldsPath (directed method_number attribute modifier tid path payload) path
 
--- if what is given fits, a LID-routed request holds what was given
+-- a LID-routed request holds what it was built from, if that fits (`FitsRequest`)
 abbrev pub LidRoutedReadsBack : Type 0
 LidRoutedReadsBack =
     (method_number attribute modifier tid : ℕ) (payload : List ℕ)
@@ -73,12 +73,12 @@ LidRoutedReadsBack =
     payload
     × HoldsNoPath (lid_routed method_number attribute modifier tid payload)
 
--- the byte at `offset` is outside the fields of method, status and attribute
+-- the byte at `offset` is outside the method, the status and the 64 bytes of the attribute
 abbrev pub IsKeptInAnswer : ℕ → Type 0
 IsKeptInAnswer offset = (offset < 3) ⊎ (((6 ≤ offset) × (offset < 64)) ⊎ (128 ≤ offset))
 
--- `answer` is a packet of the class of `request`, with the method GetResp, the D bit if it is directed, the given
--- status and attribute, and all else as in `request`
+-- `answer` is a packet of the class of `request`, with the method GetResp, the status `given` and the attribute
+-- `payload`. If `request` is directed, the D bit of `answer` is set. All other bytes are those of `request`
 pub record HoldsAnswer (request answer : List ℕ) (given : ℕ) (payload : List ℕ) : Type 0 where
   pub count : length answer ≡ 256
   pub parses : fault_of answer ≡ None
@@ -90,8 +90,8 @@ pub record HoldsAnswer (request answer : List ℕ) (given : ℕ) (payload : List
   pub attribute_data : bytes_in attribute_data answer ≡ payload
   pub kept : (offset : ℕ) → IsKeptInAnswer offset → slice_index answer offset ≡ slice_index request offset
 
--- if `request` is a packet, the attribute has 64 bytes and the status fits beside the D bit, the answer holds what was
--- given
+-- the answer to the packet `request` holds `given` and `payload` (`HoldsAnswer`), if `payload` has 64 bytes and `given`
+-- fits: it is below 2^16, and below 2^15 if `request` is directed
 abbrev pub AnswerReadsBack : Type 0
 AnswerReadsBack =
     (request : List ℕ) (given : ℕ) (payload : List ℕ) → length request ≡ 256 → fault_of request ≡ None → length payload
@@ -99,13 +99,14 @@ AnswerReadsBack =
     → given < 2 ^ 16 → (is_directed request ≡ true → given < 2 ^ 15)
     → HoldsAnswer request (answer_packet request given payload) given payload
 
--- `new` has the status `given`, the class of `old` and, if that is directed, its direction
+-- `new` has the status `given` and the class of `old` and, if `old` is directed, the D bit of `old`
 pub record HoldsStatus (old new : List ℕ) (given : ℕ) : Type 0 where
   pub class : is_directed new ≡ is_directed old
   pub status : status new ≡ given
   pub returning : is_directed old ≡ true → is_returning new ≡ is_returning old
 
--- if a status fits beside the D bit and is written into a packet, the packet holds it
+-- a packet holds the status `given` that is written into it (`HoldsStatus`), if `packet` is 256 bytes and `given` fits:
+-- it is below 2^16, and below 2^15 if `packet` is directed
 abbrev pub StatusReadsBack : Type 0
 StatusReadsBack =
     (packet : List ℕ) (given : ℕ) → length packet ≡ 256 → All (λ byte. byte < 256) packet

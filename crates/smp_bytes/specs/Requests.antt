@@ -35,7 +35,7 @@ directed method_number attribute modifier tid path payload =
     with_bytes (initial_path 1).at path (with_bytes attribute_data.at payload
     (with_numbers (path_entries (length path)) (request directed_class method_number attribute modifier tid)))
 
--- the status word of the answer to `packet`, which has the D bit set if it is directed
+-- the status word of an answer to `packet` with the status `status`; the D bit is set if `packet` is directed
 abbrev pub answer_status : List ℕ → ℕ → ℕ
 answer_status packet status = if is_directed packet then 2 ^ 15 + status else status
 
@@ -50,7 +50,7 @@ abbrev pub word_with_status : List ℕ → ℕ → ℕ
 word_with_status packet status =
     if is_directed packet then number_in status_word packet / 2 ^ 15 * 2 ^ 15 + status else status
 
--- 1 if the flag is set, else 0
+-- 1 for true, 0 for false
 abbrev pub flag : Bool → ℕ
 flag true = 1
 flag false = 0

@@ -1,4 +1,5 @@
-//! The table of fields: the offset of each field's first byte in a packet (management datagram header; SMP formats).
+//! The table of fields (management datagram header; SMP formats). A field has the offset of its first byte in a packet.
+//! A single bit has its index in its byte, counted from the lowest bit, 0.
 
 pub const BASE_VERSION: usize = 0;
 
@@ -10,10 +11,10 @@ pub const METHOD: usize = 3;
 
 pub const STATUS: usize = 4;
 
-/// The R bit in the byte of the method.
+/// The index of the R bit in the byte of the method.
 pub const RESPONSE_BIT: u32 = 7;
 
-/// The D bit of a directed packet, in the first byte of the status.
+/// The index of the D bit of a directed packet in the first byte of the status.
 pub const DIRECTION_BIT: u32 = 7;
 
 pub const HOP_POINTER: usize = 6;

@@ -20,7 +20,7 @@ impl Model for Generation {
 }
 
 impl Generation {
-    /// Creates a generation from its number. Returns `None` if it is 0.
+    /// Creates a generation from its number. Returns `None` if `number` is 0.
     pub fn new(number: u32) -> Option<Self>
         ensures none { IsNone result ↔ (number ≡ 0) }
         ensures some { IfSome result (λ g. g ≡ number) }

@@ -18,7 +18,7 @@ impl Method {
     pub const GET_RESP: Method = Method(0x81);
 }
 
-/// The outcome of a request. In a directed packet it is at most 0x7FFF.
+/// The status of a packet: in an answer, the outcome of the request. In a directed packet the status is at most 0x7FFF.
 #[derive(Clone, Copy, Debug, PartialEq, Eq)]
 pub struct Status(pub u16);
 
@@ -29,7 +29,7 @@ impl Status {
 
     pub const METHOD_AND_ATTRIBUTE_NOT_SUPPORTED: Status = Status(0x000C);
 
-    /// A field of the attribute or of its modifier is invalid.
+    /// A field of the attribute or of the attribute modifier has an invalid value.
     pub const INVALID_FIELD: Status = Status(0x001C);
 }
 

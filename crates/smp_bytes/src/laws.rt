@@ -9,66 +9,67 @@ ghost use Rattle.smp_bytes.specs.ReadBack.{DirectedReadsBack, LidRoutedReadsBack
 
 use crate::header::{AttributeId, Method, Status};
 
-/// A number that fits a field and is written into it is read from it.
+/// A number that is written into a field is read from it, if the field lies within the bytes and the number fits.
 pub fn written_number_is_read()
     ensures { NumberIsRead }
 {}
 
-/// A field keeps its number if it shares no byte with the field that is written.
+/// A write into a field within the bytes keeps the number of each field that shares no byte with it.
 pub fn field_apart_stays()
     ensures { FieldApartStays }
 {}
 
-/// A write into a field keeps every byte outside the field.
+/// A write into a field within the bytes keeps their count and every byte outside the field.
 pub fn bytes_outside_field_stay()
     ensures { BytesOutsideStay }
 {}
 
-/// Only a write into a field gives bytes that hold the number there and are otherwise as they were.
+/// If a field lies within the bytes, only writing a number into it gives that number there and keeps all other bytes.
 pub fn write_is_unique()
     ensures { WriteIsUnique }
 {}
 
-/// If two numbers are written into a field, one after the other, the last one stays.
+/// Of two writes into a field within the bytes, only the later has an effect.
 pub fn last_write_stands()
     ensures { LastWriteStands }
 {}
 
-/// A number that fits some bits of a byte and is written into them is read from them.
+/// A number that is written into some bits of a byte is read from them, if the number fits them.
 pub fn written_bits_are_read()
     ensures { BitsAreRead }
 {}
 
-/// Bits keep their number if they share no bit with those that are written, even in the same byte.
+/// If a number that fits is written into some bits of a byte, all bits apart from them keep their number.
 pub fn bits_apart_stay()
     ensures { BitsApartStay }
 {}
 
-/// A write into some bits of a byte keeps every other byte.
+/// Writing a number that fits into some bits of a byte keeps every other byte.
 pub fn other_bytes_stay()
     ensures { OtherBytesStay }
 {}
 
-/// A directed request holds the method, attribute, modifier, transaction ID, path and data that were given. HopPointer
-/// is 0, HopCount is the path's length, both LIDs are the permissive LID, and all else except the versions and the
-/// class is 0.
+/// A directed request holds the given method, attribute, modifier, TransactionID, path and data, if each of them fits.
+/// HopPointer is 0, and HopCount is the path's length. DrSLID and DrDLID are the permissive LID. All else except the
+/// versions and the class is 0.
 pub fn directed_request_reads_back()
     ensures { DirectedReadsBack }
 {}
 
-/// A LID-routed request holds the method, attribute, modifier, transaction ID and data that were given, and all else
-/// except the versions and the class is 0.
+/// A LID-routed request holds the given method, attribute, modifier, TransactionID and data, if each of them fits. All
+/// else except the versions and the class is 0.
 pub fn lid_routed_request_reads_back()
     ensures { LidRoutedReadsBack }
 {}
 
-/// An answer holds the status and the data that were given, and is on its way back if it is directed. All else except
-/// the method is as in the request.
+/// An answer to a packet holds the given status and data, if each of them fits. The method is GetResp. If the request
+/// is directed, the D bit of the answer is set. All other bytes are those of the request.
 pub fn answer_reads_back()
     ensures { AnswerReadsBack }
 {}
 
-/// A status that is written is read. The class stays, and so does the direction of a directed packet.
+/// A status that is written into a packet is read from it, if the status fits. The class stays, and so does the D bit
+/// of a directed packet.
 pub fn status_reads_back()
     ensures { StatusReadsBack }
 {}

@@ -18,7 +18,7 @@ impl Model for Lid {
 }
 
 impl Lid {
-    /// The LID 0, which means that a port has none.
+    /// The number 0, which says that a port has no LID.
     pub const NONE: Self = Lid(0);
 
     /// The first number past the unicast LIDs, which end at 0xBFFF (addressing).

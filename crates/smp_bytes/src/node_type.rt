@@ -20,7 +20,7 @@ impl NodeType {
         matches!(self, NodeType::Switch)
     }
 
-    /// Returns `ca`, `switch` or `router`.
+    /// Returns the word for the type: `ca`, `switch` or `router`.
     pub fn word(self) -> &'static str
         ensures { result.now ≡ type_word self }
     {

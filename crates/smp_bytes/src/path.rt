@@ -4,7 +4,8 @@ use crate::port_num::PortNum;
 use arrayvec::ArrayVec;
 use std::marker::Model;
 
-/// The ports by which a directed packet leaves, one after the other. There are at most `MAX`. Contracts see the list.
+/// The path of a directed packet: at most `MAX` ports by which the packet leaves, in order. Contracts see the list of
+/// ports.
 #[derive(Debug, Drop)]
 pub struct Path<const MAX: usize> {
     ports: ArrayVec<u8, MAX>,
@@ -39,7 +40,7 @@ impl<const MAX: usize> Path<MAX> {
         }
     }
 
-    /// Appends `port`. There must be room for another port.
+    /// Appends `port`. The path must have fewer than `MAX` ports.
     pub fn push(&mut self, port: PortNum)
         requires { length self.old < MAX }
         ensures { self.new ≡ self.old ++ port ∷ [] }
@@ -62,14 +63,14 @@ impl<const MAX: usize> Path<MAX> {
         self.ports.is_empty()
     }
 
-    /// Returns whether there is no room for another port.
+    /// Returns whether the path has `MAX` ports.
     pub fn is_full(&self) -> bool
         ensures { IsTrue result ↔ (length self.now ≡ MAX) }
     {
         self.len() == MAX
     }
 
-    /// Returns the port at index `i`, counted from 0, or `None` if there is none.
+    /// Returns the port at index `i`, counted from 0, or `None` if the path has no port there.
     pub fn get(&self, i: usize) -> Option<PortNum>
         ensures { result ≡ slice_get self.now i }
     {

@@ -55,7 +55,7 @@ impl Smp {
     ///
     /// # Errors
     ///
-    /// Returns the first fault, in the order of `SmpFault`.
+    /// Returns the first fault of `bytes`, in the order of `SmpFault`.
     pub fn parse(bytes: &[u8; 256]) -> Result<Smp, SmpFault>
         ensures judged { Judges result (fault_of bytes.now) }
         ensures kept { IfOk result (λ smp. smp ≡ bytes.now) }
@@ -81,7 +81,7 @@ impl Smp {
         u8_at(&self.bytes, field::BASE_VERSION)
     }
 
-    /// Returns the class, by MgmtClass.
+    /// Returns the class of the packet, as MgmtClass says.
     pub fn class(&self) -> SmpClass
         ensures { result ≡ (if is_directed self.now then DirectedRoute else LidRouted) }
     {
@@ -99,21 +99,22 @@ impl Smp {
         u8_at(&self.bytes, field::CLASS_VERSION)
     }
 
-    /// Returns the R bit and the method.
+    /// Returns the method: the R bit and the seven bits below it.
     pub fn method(&self) -> Method
         ensures { result.0 ≡ number_in method self.now }
     {
         Method(u8_at(&self.bytes, field::METHOD))
     }
 
-    /// Returns the R bit.
+    /// Returns whether the R bit is set.
     pub fn is_response(&self) -> bool
         ensures { IsTrue result ↔ IsTrue (is_response self.now) }
     {
         bits_at(&self.bytes, field::METHOD, field::RESPONSE_BIT, 1) == 1
     }
 
-    /// Returns the D bit: whether a directed packet is on its way back.
+    /// Returns whether the D bit is set. A directed packet with this bit is on its way back. In a LID-routed packet
+    /// this bit is the highest of the status.
     pub fn is_returning(&self) -> bool
         ensures { IsTrue result ↔ IsTrue (is_returning self.now) }
     {
@@ -235,7 +236,7 @@ fn fault_of(bytes: &[u8; 256]) -> Option<SmpFault>
     }
 }
 
-/// Returns the first fault of the fields that only the directed class has, or `None` if there is none.
+/// Returns the first fault in the fields that only the directed class has, or `None` if these fields have no fault.
 fn directed_fault_of(bytes: &[u8; 256]) -> Option<SmpFault>
     ensures { result ≡ directed_fault_of bytes.now }
 {

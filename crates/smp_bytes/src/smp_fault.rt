@@ -2,7 +2,7 @@ ghost use Rattle.std.specs.Prelude.{◌≡◌};
 
 use thiserror::Error;
 
-/// Why 256 bytes are not a subnet management packet. The first fault in this order is reported.
+/// Why 256 bytes are not a subnet management packet. If several faults apply, the first in this order is reported.
 #[derive(Clone, Copy, Debug, PartialEq, Eq, Error)]
 pub enum SmpFault {
     /// BaseVersion is not 1.

@@ -62,7 +62,7 @@ pub fn put_u16(bytes: &mut [u8], at: usize, number: u16)
     BigEndian::write_u16(&mut bytes[at..], number);
 }
 
-/// Writes `number`, which must have at most 24 bits, into the three bytes from `at` on.
+/// Writes `number`, which must be less than 2^24, into the three bytes from `at` on.
 pub fn put_u24(bytes: &mut [u8], at: usize, number: u32)
     requires offset { at + 3 ≤ length bytes.old }
     requires fits { number < 2 ^ 24 }
@@ -95,8 +95,8 @@ pub fn put_bytes(bytes: &mut [u8], at: usize, written: &[u8])
     bytes[at..at + written.len()].copy_from_slice(written);
 }
 
-/// Returns the number in `width` bits of the byte at `at`. The lowest of them is bit `shift`. There must be a bit, and
-/// all must lie within this byte.
+/// Returns the number in the `width` bits from bit `shift` up of the byte at offset `at`. `width` must be at least 1,
+/// and `shift + width` at most 8.
 pub fn bits_at(bytes: &[u8], at: usize, shift: u32, width: u32) -> u8
     requires offset { at < length bytes.now }
     requires some { 1 ≤ width }
@@ -109,8 +109,8 @@ pub fn bits_at(bytes: &[u8], at: usize, shift: u32, width: u32) -> u8
     number as u8
 }
 
-/// Writes `number` into `width` bits of the byte at `at`. The lowest of them is bit `shift`. There must be a bit, all
-/// must lie within this byte, and `number` must fit in them. All other bits stay.
+/// Writes `number` into the `width` bits from bit `shift` up of the byte at offset `at`. All other bits stay. `width`
+/// must be at least 1, `shift + width` at most 8, and `number` less than 2^`width`.
 pub fn put_bits(bytes: &mut [u8], at: usize, shift: u32, width: u32, number: u8)
     requires offset { at < length bytes.old }
     requires some { 1 ≤ width }
@@ -124,7 +124,8 @@ pub fn put_bits(bytes: &mut [u8], at: usize, shift: u32, width: u32, number: u8)
     put_u8(bytes, at, replaced);
 }
 
-/// Returns `byte` with `number`, which must fit, in `width` of its bits. The lowest of them is bit `shift`.
+/// Returns `byte` with `number` in the `width` bits from bit `shift` up. `byte` must be less than 256, `shift + width`
+/// at most 8, and `number` less than 2^`width`.
 fn replaced(byte: u32, shift: u32, width: u32, number: u32) -> u8
     requires byte { byte < 256 }
     requires within { shift + width ≤ 8 }

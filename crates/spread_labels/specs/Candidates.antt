@@ -7,14 +7,14 @@ use Rattle.spread_labels.specs.declared.label.Mark.{Mark}
 use Rattle.spread_labels.specs.Labels.{candidates, is_down}
 use Rattle.spread_labels.specs.RoundMarks.{AreMarksAfter}
 
--- whether edge `e` of vertex `s` leads to a vertex of a cost one less, and leads up or to a vertex labeled Down, given
--- the marks of both; false if one has none
+-- whether edge `e` of vertex `s` leads to a vertex of a cost one less, and leads up or to a vertex labeled Down. The
+-- first mark is that of `s`, the second that of the vertex that `e` leads to; false if one of the marks is None
 abbrev pub is_nearer_by : ℕ → Edge → Option Mark → Option Mark → Bool
 is_nearer_by s e (Some m) (Some to) = (suc to.cost == m.cost) && (nat_lt e.to s || is_down to.label)
 is_nearer_by s e _ _ = false
 
 -- whether, by `marks`, edge `e` of vertex `s` leads to a vertex of a cost one less, and leads up or to a vertex labeled
--- Down
+-- Down; false if one of the two vertices has no mark
 abbrev pub is_nearer : ℕ → List (Option Mark) → Edge → Bool
 is_nearer s marks e = is_nearer_by s e (slice_index_or marks s None) (slice_index_or marks e.to None)
 

@@ -9,44 +9,45 @@ use Rattle.spread_labels.specs.Keys.{before_by}
 use Rattle.spread_labels.specs.Orders.{numbers_from}
 use Rattle.spread_labels.specs.Stages.{earliest_of}
 
--- the distances from vertex `s` to each vertex; None where no walk leads
+-- the distances from vertex `s` to each vertex; None for a vertex that no walk leads to
 abbrev pub distances_from : List (List Edge) → ℕ → List (Option ℕ)
 distances_from edges s = map (distance edges s) (numbers_from 0 (length edges))
 
--- keys with these distance classes, all of distance 0
+-- for each of `distance_classes` a key with that distance class and distance 0
 abbrev pub by_distance_class : List ℕ → List VertexKey
 by_distance_class distance_classes = map (λ c. record { distance_class = c; distance = 0 }) distance_classes
 
--- the earliest by `keys` of the vertices that have a distance; None if none has
+-- the earliest, by `keys`, of the vertices that have a distance in `distances`; None if no vertex has one
 abbrev pub first_among : List VertexKey → List (Option ℕ) → Option ℕ
 first_among keys distances =
     earliest_of (before_by keys)
     (filter (λ a. is_some (slice_index_or distances a None)) (numbers_from 0 (length keys)))
 
--- the distance of the earliest by `keys` of the vertices that have a distance; 0 if none has
+-- the distance of the earliest, by `keys`, of the vertices that have a distance in `distances`; 0 if no vertex has one
 abbrev pub from_first : List VertexKey → List (Option ℕ) → ℕ
 from_first keys distances =
     unwrap_or (option_and_then (λ a. slice_index_or distances a None) (first_among keys distances)) 0
 
--- the first vertex, by `keys`, of the component of vertex `s`
+-- the first vertex, by `keys`, of the component of vertex `s`; `s` itself if no vertex with a key has a distance from
+-- `s`
 abbrev pub first_at : List (List Edge) → List VertexKey → ℕ → ℕ
 first_at edges keys s = unwrap_or (first_among keys (distances_from edges s)) s
 
--- each distance in `far` is that of its vertex from the first vertex of its component, and at least the first `count`
--- vertices have one
+-- `far` has for each vertex None, or its distance from the first vertex, by `keys`, of its component; each of the first
+-- `count` vertices has a distance
 pub record AreFar (edges : List (List Edge)) (keys : List VertexKey) (count : ℕ) (far : List (Option ℕ)) : Type 0 where
   pub all : length far ≡ length edges
   pub right : (s d : ℕ) → s < length edges → slice_index_or far s None ≡ Some d
       → from_first keys (distances_from edges s) ≡ d
   pub known : (s : ℕ) → s < count → is_some (slice_index_or far s None) ≡ true
 
--- `new` is `far` with the distance in `found`, if there is one, for each vertex that had none
+-- each index of `new` has the distance in `far` if there is one, else the distance in `found`; None if neither has one
 abbrev pub FillsIn : List (Option ℕ) → List (Option ℕ) → List (Option ℕ) → Type 0
 FillsIn far found new =
     EachIndex new (λ k. slice_index_or new k None ≡ option_or (slice_index_or far k None) (slice_index_or found k None))
 
--- the key of vertex `s`: its distance class, and its distance from the first vertex of its component, which is the one
--- of least distance class, and of those the least
+-- the key of vertex `s`: its distance class, and its distance from the first vertex of its component. The first vertex
+-- is the one of least distance class; of several, the least
 abbrev pub key_of : List (List Edge) → List ℕ → ℕ → VertexKey
 key_of edges distance_classes s =
     record {

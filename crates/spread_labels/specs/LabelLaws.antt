@@ -8,16 +8,16 @@ use Rattle.spread_labels.specs.declared.label.Label.TheVariants.{Up, Down}
 use Rattle.spread_labels.specs.declared.label.Mark.{Mark}
 use Rattle.spread_labels.specs.Labels.{Marks, marks, candidates}
 
--- edge `e` of vertex `s` leads to a vertex of cost `cost` and gives `s` a label: it leads up, or that vertex is labeled
--- Down
+-- edge `e` of vertex `s` leads to a vertex of cost `cost` and gives `s` a label: `e` leads up, or that vertex is
+-- labeled Down
 pub record Gives (edges : List (List Edge)) (marks : Marks) (s : ℕ) (e : Edge) (cost : ℕ) : Type 0 where
   pub edge : Contains (edges_at edges s) e
   pub label : Label
   pub labelled : marks e.to ≡ Some (record { cost = cost; label = label })
   pub up_or_down : (e.to < s) ⊎ (label ≡ Down)
 
--- an edge gives vertex `s` a label from cost `round`, and none from a lesser cost; `label` is Up if such an edge leads
--- up, else Down
+-- an edge gives vertex `s` a label from cost `round`, and no edge gives one from a lesser cost; `label` is Up if one of
+-- the edges that give a label from cost `round` leads up, else Down
 pub record IsGiven (edges : List (List Edge)) (marks : Marks) (s round : ℕ) (label : Label) : Type 0 where
   pub edge : Edge
   pub given : Gives edges marks s edge round
@@ -25,20 +25,21 @@ pub record IsGiven (edges : List (List Edge)) (marks : Marks) (s round : ℕ) (l
   pub when_up : label ≡ Up → edge.to < s
   pub when_down : label ≡ Down → (e : Edge) → Gives edges marks s e round → s ≤ e.to
 
--- `marks` are labels and costs towards vertex `t`: `t` is Down at cost 0; each other vertex with a mark has the label
--- that its edges give, at one more than the least cost that gives one; no edge gives a label to a vertex without a mark
+-- `marks` are labels and costs towards vertex `t`. `t` is Down at cost 0. Each other vertex with a mark has the label
+-- that its edges give, and a cost one more than the least from which an edge gives a label. No edge gives a label to a
+-- vertex without a mark
 pub record AreMarks (edges : List (List Edge)) (t : ℕ) (marks : Marks) : Type 0 where
   pub target : marks t ≡ Some (record { cost = 0; label = Down })
   pub other : (s : ℕ) (m : Mark) → s ≢ t → marks s ≡ Some m → (round : ℕ) × (m.cost ≡ suc round)
       × IsGiven edges marks s round m.label
   pub without : (s : ℕ) → marks s ≡ None → (e : Edge) (cost : ℕ) → Gives edges marks s e cost → ⊥
 
--- the labels and costs from rounds towards a vertex of the graph satisfy `AreMarks`
+-- the marks that rounds give towards a vertex of the graph satisfy `AreMarks`
 abbrev pub LabelledLaw : Type 0
 LabelledLaw = (edges : List (List Edge)) (t : ℕ) → LeadToVertices edges → t < length edges
     → AreMarks edges t (marks edges t)
 
--- any two labels and costs that satisfy `AreMarks` are equal
+-- any two `Marks` that satisfy `AreMarks` towards one vertex are equal at each vertex
 abbrev pub UniqueLaw : Type 0
 UniqueLaw = (edges : List (List Edge)) (t : ℕ) (one other : Marks) → AreMarks edges t one → AreMarks edges t other
     → (s : ℕ) → one s ≡ other s
@@ -58,8 +59,8 @@ pub record IsGrownGraph (edges : List (List Edge)) : Type 0 where
   pub symmetric : IsSymmetric edges
   pub grown : IsGrown edges
 
--- exactly the vertices from which a walk leads to vertex `t` have labels towards it; each cost is the length of a walk,
--- and less than the number of vertices
+-- exactly the vertices from which a walk leads to vertex `t` have labels towards `t`; each cost is the length of a walk
+-- to `t`, and less than the number of vertices
 pub record AreReached (edges : List (List Edge)) (t : ℕ) : Type 0 where
   pub component : (s n : ℕ) → Walk (heads edges) s t n → (m : Mark) × (marks edges t s ≡ Some m)
   pub no_other : (s : ℕ) (m : Mark) → marks edges t s ≡ Some m → Walk (heads edges) s t m.cost
@@ -70,8 +71,8 @@ pub record AreReached (edges : List (List Edge)) (t : ℕ) : Type 0 where
 abbrev pub ReachedLaw : Type 0
 ReachedLaw = (edges : List (List Edge)) (t : ℕ) → IsGrownGraph edges → t < length edges → AreReached edges t
 
--- edge `e` leads from vertex `s`, which has the mark `m`, to a vertex of a cost one less: up, or down to a vertex
--- labeled Down; down to such a vertex if `s` is labeled Down
+-- edge `e` leads from vertex `s`, which has the mark `m`, to a vertex of a cost one less. `e` leads up, or down to a
+-- vertex labeled Down. If `s` is labeled Down, `e` leads down to a vertex labeled Down
 pub record IsStep (edges : List (List Edge)) (t s : ℕ) (m : Mark) (e : Edge) : Type 0 where
   pub edge : Contains (edges_at edges s) e
   pub to : Mark
@@ -80,8 +81,8 @@ pub record IsStep (edges : List (List Edge)) (t s : ℕ) (m : Mark) (e : Edge) :
   pub up_or_down : (e.to < s) ⊎ ((s < e.to) × (to.label ≡ Down))
   pub from_down : m.label ≡ Down → (s < e.to) × (to.label ≡ Down)
 
--- vertex `s`, with the mark `m`, has a candidate unless it is the target; each candidate is a step (`IsStep`); each
--- edge that gives a label from a cost one less is a candidate
+-- vertex `s`, with the mark `m`, has a candidate unless `s` is the target `t`. Each candidate is a step (`IsStep`).
+-- Each edge that gives a label from a cost one less than that of `m` is a candidate
 pub record AreCandidates (edges : List (List Edge)) (t s : ℕ) (m : Mark) : Type 0 where
   pub some : s ≢ t → (e : Edge) × Contains (candidates edges t s) e
   pub steps : (e : Edge) → Contains (candidates edges t s) e → IsStep edges t s m e

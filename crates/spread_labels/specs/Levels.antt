@@ -5,7 +5,7 @@ use Rattle.port_graph.specs.Heads.{edges_at}
 use Rattle.spread_labels.specs.DistanceClasses.{distance_sum}
 use Rattle.spread_labels.specs.Orders.{numbers_from}
 
--- the level of vertex `s`: its distance from the nearest leaf vertex; 0 if none can be reached
+-- the level of vertex `s`: its distance from the nearest leaf vertex; 0 if no leaf vertex can be reached
 abbrev pub level_of : List (List Edge) → List ℕ → ℕ → ℕ
 level_of edges leaves s = unwrap_or (distance_sum edges leaves s).near 0
 
@@ -17,7 +17,7 @@ levels_of edges leaves = map (level_of edges leaves) (numbers_from 0 (length edg
 abbrev pub is_rise : List ℕ → ℕ → Edge → Bool
 is_rise levels s e = nat_lt (slice_index levels s) (slice_index levels e.to)
 
--- how many edges of vertex `s` lead to vertices of higher levels
+-- the number of edges of vertex `s` that lead to vertices of higher levels
 abbrev pub rises_at : List (List Edge) → List ℕ → ℕ → ℕ
 rises_at edges levels s = length (filter (is_rise levels s) (edges_at edges s))
 
@@ -26,7 +26,8 @@ abbrev pub greatest : ℕ → List ℕ → ℕ
 greatest n [] = n
 greatest n (m ∷ ms) = greatest (max n m) ms
 
--- the width of level `h`: the most edges to vertices of higher levels that a vertex of it has, at least 1
+-- the width of level `h`: the greatest number of edges to vertices of higher levels that a vertex of level `h` has, at
+-- least 1
 abbrev pub width_of : List (List Edge) → List ℕ → ℕ → ℕ
 width_of edges levels h =
     greatest 1 (map (rises_at edges levels) (filter (λ s. slice_index levels s == h) (numbers_from 0 (length edges))))

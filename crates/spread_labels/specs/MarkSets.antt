@@ -1,5 +1,5 @@
--- Marks towards many targets at once, as sets. For each vertex: the targets that it has a mark for, and those for which
--- it is Down. For each edge: the targets for which it gave the mark, and so is a candidate.
+-- Marks towards many targets at once, as sets. Each vertex has a set of the targets for which it has a mark, and a set
+-- of those for which it is Down. Each edge has a set of the targets for which it gave the mark, and so is a candidate.
 use Rattle.std.specs.Prelude.{◌≡◌, ◌<◌, ℕ, zero, suc, Bool, false, not, ◌&&◌, ◌||◌, ◌==◌, nat_lt, List, [], ◌∷◌, length, replicate, Option, None, Some, is_some, slice_index, slice_index_or, if◌then◌else◌}
 use Rattle.std.specs.List.{list_any}
 use Rattle.port_graph.specs.declared.edge.Edge.{Edge}
@@ -13,22 +13,23 @@ use Rattle.spread_labels.specs.TargetSets.{EachTarget, has, no_targets}
 abbrev pub set_at : List TargetSet → ℕ → TargetSet
 set_at sets i = slice_index_or sets i no_targets
 
--- the targets for which edge `e` gives vertex `s` a label: if it leads up, those that the other vertex has a mark for;
--- else those for which that is Down
+-- the targets for which edge `e` gives vertex `s` a label: if `e` leads up, those for which the vertex that `e` leads
+-- to has a mark; else those for which that vertex is Down
 abbrev pub giver_set : ℕ → List TargetSet → List TargetSet → Edge → TargetSet
 giver_set s marked downs e = if nat_lt e.to s then set_at marked e.to else set_at downs e.to
 
--- the edge at index `j`
+-- the edge at index `j`; past the end the edge with port 0 to vertex 0
 abbrev pub edge_at : List Edge → ℕ → Edge
 edge_at es j = slice_index_or es j (record { port = 0; to = 0 })
 
--- for each edge of vertex `s`, `row` has the targets of `old`, and those of `new` for which the edge gives a label
+-- for each edge of vertex `s`, `row` has the targets that `old` has for this edge, and those of `new` for which the
+-- edge gives a label
 abbrev pub AreNoted : ℕ → List Edge → List TargetSet → List TargetSet → TargetSet → List TargetSet → List TargetSet
     → Type 0
 AreNoted s es marked downs new old row = EachTarget (λ k. (j : ℕ) → j < length es → has (set_at row j) k
     ≡ (has (set_at old j) k || (has (giver_set s marked downs (edge_at es j)) k && has new k)))
 
--- whether a round gives vertex `s` a mark for target `k`: it has none, and an edge gives it a label
+-- whether a round gives vertex `s` a mark for target `k`: `s` has no mark for `k`, and an edge gives `s` a label
 abbrev pub is_new : ℕ → List Edge → List TargetSet → List TargetSet → ℕ → Bool
 is_new s es marked downs k =
     list_any (λ e. has (giver_set s marked downs e) k) es && not (has (set_at marked s) k)
@@ -51,7 +52,8 @@ no_sets es = replicate (length es) no_targets
 abbrev pub sets_at : List (List TargetSet) → ℕ → List TargetSet
 sets_at rows s = slice_index_or rows s []
 
--- the sets of the first `count` vertices, and of their edges, after one more round
+-- `next_marked` and `next_downs` are the sets of the first `count` vertices after one more round; `next_rows` has the
+-- sets of their edges
 pub record AreSetSteps (edges : List (List Edge)) (marked downs : List TargetSet) (rows : List (List TargetSet))
     (count : ℕ) (next_marked next_downs : List TargetSet) (next_rows : List (List TargetSet)) : Type 0 where
   pub all_marked : length next_marked ≡ count
@@ -70,11 +72,11 @@ abbrev pub gave_by : List (List Edge) → ℕ → ℕ → Edge → Option Mark �
 gave_by edges t s e None = false
 gave_by edges t s e (Some m) = gave_before edges t s e m.cost
 
--- whether edge `e` gave vertex `s` the mark that it has after `round` rounds
+-- whether edge `e` gave vertex `s` the mark that `s` has after `round` rounds; false if `s` has none
 abbrev pub gave : List (List Edge) → ℕ → ℕ → ℕ → Edge → Bool
 gave edges t round s e = gave_by edges t s e (marks_after edges t round s)
 
--- whether a mark is Down; false if there is none
+-- whether a mark is Down; false if there is no mark
 abbrev pub down_of : Option Mark → Bool
 down_of None = false
 down_of (Some m) = is_down m.label
@@ -93,7 +95,7 @@ pub record AreRowsOf (edges : List (List Edge)) (rows : List (List TargetSet)) :
   pub all : length rows ≡ length edges
   pub long : (s : ℕ) → s < length edges → length (sets_at rows s) ≡ length (edges_at edges s)
 
--- the sets are those of the marks towards each of `targets` after `round` rounds
+-- `marked`, `downs` and `rows` are the sets of the marks towards each of `targets` after `round` rounds
 pub record AreSetsAfter (edges : List (List Edge)) (targets : List ℕ) (round : ℕ) (marked downs : List TargetSet)
     (rows : List (List TargetSet)) : Type 0 where
   pub all_marked : length marked ≡ length edges
@@ -101,7 +103,7 @@ pub record AreSetsAfter (edges : List (List Edge)) (targets : List ℕ) (round :
   pub are_rows : AreRowsOf edges rows
   pub each : (k : ℕ) → k < length targets → AreSetsTowards edges (slice_index targets k) k round marked downs rows
 
--- the edges whose sets have target `k`
+-- the edges whose sets in `sets` have target `k`; an edge past the end of `sets` is left out
 abbrev pub picked : ℕ → List TargetSet → List Edge → List Edge
 picked k sets [] = []
 picked k [] (e ∷ es) = []
@@ -113,7 +115,8 @@ pub record AreCandidateSets (edges : List (List Edge)) (targets : List ℕ) (row
   pub each : (k s : ℕ) → k < length targets → s < length edges
       → picked k (sets_at rows s) (edges_at edges s) ≡ candidates edges (slice_index targets k) s
 
--- each of `count` vertices has a set of the indices, below `n`, at which it is in `targets`
+-- `sets` has a set for each of `count` vertices; of the indices less than `n`, the set has those at which the vertex is
+-- in `targets`
 pub record AreAtTargets (count : ℕ) (targets : List ℕ) (n : ℕ) (sets : List TargetSet) : Type 0 where
   pub all : length sets ≡ count
   pub each : (k s : ℕ) → k < n → s < count → has (set_at sets s) k ≡ (s == slice_index targets k)

@@ -1,5 +1,5 @@
--- The grown order: next comes the earliest of the vertices that have an edge to a placed one or, if there is none, the
--- earliest of all that are left.
+-- The grown order. Next comes the earliest of the vertices that have an edge to a placed one; if no vertex has such an
+-- edge, the earliest of all that are left.
 use Rattle.std.specs.Prelude.{◌≡◌, ◌≢◌, true, false, ◌<◌, ℕ, zero, suc, Bool, not}
 use Rattle.std.specs.Prelude.{◌==◌, List, [], ◌∷◌, map, filter, length, Contains, slice_index_or, if◌then◌else◌}
 use Rattle.std.specs.List.{list_any}
@@ -27,17 +27,17 @@ abbrev pub choose : (ℕ → ℕ → Bool) → ℕ → List ℕ → List ℕ →
 choose before x rest [] = earliest before x rest
 choose before x rest (y ∷ ys) = earliest before y ys
 
--- the vertex of `x` and `rest` that comes next after the placed ones: the earliest with an edge to one of these; the
--- earliest of all if none has
+-- the vertex of `x` and `rest` that comes next after `placed`: the earliest of those with an edge to a vertex of
+-- `placed`; if none has such an edge, the earliest of all
 abbrev pub next_placed : List (List Edge) → (ℕ → ℕ → Bool) → List ℕ → ℕ → List ℕ → ℕ
 next_placed edges before placed x rest = choose before x rest (filter (is_beside edges placed) (x ∷ rest))
 
--- the list without the vertex `s`
+-- `xs` without the vertex `s`
 abbrev pub without : ℕ → List ℕ → List ℕ
 without s xs = filter (λ x. not (x == s)) xs
 
--- the first vertices, at most as many as the number given, of the grown order of those that are left, after the placed
--- ones
+-- the grown order of the vertices that are left, after the placed ones; only its first vertices, at most as many as the
+-- number given
 abbrev pub grown_behind : List (List Edge) → (ℕ → ℕ → Bool) → ℕ → List ℕ → List ℕ → List ℕ
 grown_behind edges before zero placed rest = []
 grown_behind edges before (suc n) placed [] = []
@@ -54,7 +54,7 @@ order edges before = grown_behind edges before (length edges) [] (numbers_from 0
 abbrev pub at_position : List ℕ → ℕ → ℕ
 at_position vertices i = slice_index_or vertices i 0
 
--- the position of vertex `s` in a list; the length of the list if it is not there
+-- the position of vertex `s` in a list; the length of the list if `s` is not there
 abbrev pub position_of : List ℕ → ℕ → ℕ
 position_of [] s = 0
 position_of (x ∷ xs) s = if x == s then 0 else suc (position_of xs s)
@@ -63,7 +63,7 @@ position_of (x ∷ xs) s = if x == s then 0 else suc (position_of xs s)
 abbrev pub Beside : List (List Edge) → List ℕ → ℕ → Type 0
 Beside edges placed s = (e : Edge) × Contains (edges_at edges s) e × Contains placed e.to
 
--- `vertices` has each vertex once; and each from which a walk leads to an earlier one has an edge to an earlier one
+-- `vertices` has each vertex once; each vertex from which a walk leads to an earlier one has an edge to an earlier one
 pub record IsGrownOrder (edges : List (List Edge)) (vertices : List ℕ) : Type 0 where
   pub all : (s : ℕ) → s < length edges → Contains vertices s
   pub vertex : (i : ℕ) → i < length vertices → at_position vertices i < length edges
@@ -97,13 +97,14 @@ pub record AreKeys (before : ℕ → ℕ → Bool) : Type 0 where
   pub trans : (a b c : ℕ) → before a b ≡ true → before b c ≡ true → before a c ≡ true
   pub total : (a b : ℕ) → a ≢ b → before a b ≡ false → before b a ≡ true
 
--- vertex `s` may be placed before vertex `y`: if `y` has an edge to a placed vertex, so has `s`, and `y` is not
--- earlier; if `s` has none, `y` is not earlier
+-- vertex `s` may be placed before vertex `y`. If `y` has an edge to a placed vertex, so has `s`, and `y` is not earlier
+-- than `s`. If `s` has no edge to a placed vertex, `y` is not earlier than `s`
 pub record IsEarlier (edges : List (List Edge)) (before : ℕ → ℕ → Bool) (placed : List ℕ) (s y : ℕ) : Type 0 where
   pub front : Beside edges placed y → Beside edges placed s × (before y s ≡ false)
   pub alone : (Beside edges placed s → ⊥) → before y s ≡ false
 
--- each vertex of a list may be placed before each later one, once those before it are placed
+-- each vertex of a list may be placed before each later one, once `placed` and the vertices before it in the list are
+-- placed
 abbrev pub AreEarlier : List (List Edge) → (ℕ → ℕ → Bool) → List ℕ → List ℕ → Type 0
 AreEarlier edges before placed [] = Unit {0}
 AreEarlier edges before placed (s ∷ ss) =

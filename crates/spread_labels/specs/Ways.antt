@@ -23,11 +23,12 @@ abbrev pub Follows : (ℕ → Edge) → ℕ → ℕ → List Edge → Type 0
 Follows pick t s [] = s ≡ t
 Follows pick t s (e ∷ es) = (s ≢ t) × (pick s ≡ e) × Follows pick t e.to es
 
--- the cost of vertex `s` towards vertex `t`; None if it has no label
+-- the cost of vertex `s` towards vertex `t`; None if `s` has no label
 abbrev pub cost : List (List Edge) → ℕ → ℕ → Option ℕ
 cost edges t s = option_map (λ m. m.cost) (marks edges t s)
 
--- from cost `n` on, the costs of the vertices that the edges lead to fall by one each, towards vertex `t`
+-- the costs, towards vertex `t`, of the vertices that the edges lead to fall by one each, and the first is one less
+-- than `n`
 abbrev pub CostsFall : List (List Edge) → ℕ → ℕ → List Edge → Type 0
 CostsFall edges t n [] = Unit {0}
 CostsFall edges t zero (e ∷ es) = ⊥
@@ -56,12 +57,14 @@ abbrev pub PicksCandidates : List (List Edge) → (ℕ → ℕ) → (ℕ → ℕ
 PicksCandidates edges home pick = (lid s : ℕ) (m : Mark) → marks edges (home lid) s ≡ Some m → s ≢ home lid
     → Contains (candidates edges (home lid) s) (pick lid s)
 
--- whichever candidates are picked, they lead from each vertex with a label to the home, over as many edges as its cost
+-- from each vertex with a label, a way by the picked edges leads to the LID's home, over as many edges as the vertex's
+-- cost; any candidates may be picked
 abbrev pub WaysLaw : Type 0
 WaysLaw = (edges : List (List Edge)) (home : ℕ → ℕ) (pick : ℕ → ℕ → Edge) → PicksCandidates edges home pick
     → (lid s : ℕ) (m : Mark) → marks edges (home lid) s ≡ Some m → Way edges (pick lid) (home lid) s m.cost
 
--- the number of the channel from vertex `a` to vertex `b`, if there are `n` vertices: it rises up and then down
+-- the number of the channel from vertex `a` to vertex `b`, if there are `n` vertices: `n` minus `b` if the channel
+-- leads up, else `n` plus `b`
 abbrev pub channel_number : ℕ → ℕ → ℕ → ℕ
 channel_number n a b = if nat_lt b a then n - b else n + b
 
@@ -80,8 +83,8 @@ ChannelsLaw = (edges : List (List Edge)) → LeadToVertices edges → (s u t : �
 abbrev pub Channel : Type 0
 Channel = ℕ × Edge
 
--- a packet that holds the channel `held` may wait for `next`: one is a candidate at the vertex that the other leads to,
--- and both towards one target
+-- a packet that holds the channel `held` may wait for `next`: `held` leads to the vertex of `next`, and `held` and
+-- `next` are candidates towards one target
 pub record MayWait (edges : List (List Edge)) (held next : Channel) : Type 0 where
   pub target : ℕ
   pub holds : Contains (candidates edges target held.0) held.1
@@ -93,7 +96,7 @@ abbrev pub MayWaitInTurn : List (List Edge) → ℕ → Channel → Channel → 
 MayWaitInTurn edges zero a b = a ≡ b
 MayWaitInTurn edges (suc n) a b = (c : Channel) × MayWait edges a c × MayWaitInTurn edges n c b
 
--- in a graph no channels may wait for each other in a circle, over all targets together, so no packets wait in a credit
+-- in a graph no channels may wait for each other in a cycle, over all targets together, so no packets wait in a credit
 -- loop
 abbrev pub NoCycleLaw : Type 0
 NoCycleLaw = (edges : List (List Edge)) → LeadToVertices edges → (n : ℕ) (a : Channel) → MayWaitInTurn edges (suc n) a a

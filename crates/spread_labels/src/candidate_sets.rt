@@ -25,8 +25,8 @@ impl Model for CandidateSets {
 }
 
 impl CandidateSets {
-    /// Finds for each edge the targets among `targets`, by their indices, towards which it is a candidate. There must
-    /// be at most 64 targets. Takes time linear in the number of vertices and edges in each round, for all targets
+    /// Finds, for each edge, the indices in `targets` of the targets towards which the edge is a candidate. `targets`
+    /// must have at most 64 vertices. Each round takes time linear in the number of vertices and edges, for all targets
     /// together. There is one round more than the greatest cost.
     pub fn towards(alloc: Global, edges: &Adjacency, targets: &[usize]) -> Result<Self, AllocError>
         requires lead { LeadToVertices edges.now }
@@ -47,7 +47,8 @@ impl CandidateSets {
     }
 }
 
-/// Returns for each vertex the sets of its edges towards `targets`.
+/// Returns, for each edge of each vertex, the indices in `targets` of the targets towards which the edge is a
+/// candidate. `targets` must have at most 64 vertices.
 fn rows_towards(
     alloc: Global,
     edges: &Adjacency,

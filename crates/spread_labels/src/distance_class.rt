@@ -15,7 +15,7 @@ use std::alloc::{AllocError, Global};
 /// A summary of the distances of a vertex from some other vertices.
 #[derive(Clone, Copy, Debug, PartialEq, Eq)]
 pub(crate) struct DistanceSum {
-    /// The least distance, if there is one.
+    /// The least distance, or `None` if there is no distance.
     pub(crate) near: Option<usize>,
     /// The sum of the distances.
     pub(crate) sum: u128,
@@ -28,14 +28,14 @@ pub(crate) struct DistanceSum {
 pub struct Grades {
     /// The distance class of each vertex. It is the distance from the nearest root if the vertex's component has a
     /// root. Otherwise it is four times the mean distance from the leaf vertices of the component, rounded down, or 0
-    /// if there are none.
+    /// if the component has neither.
     pub distance_classes: Vec<u128>,
     /// The level of each vertex: its distance from the nearest leaf vertex, or 0 if its component has none.
     pub levels: Vec<usize>,
 }
 
-/// Returns the distance classes and levels of vertices, given the leaf vertices and the roots. Takes a breadth-first
-/// search from each of these.
+/// Returns the distance classes and levels of all vertices, given the leaf vertices `leaves` and the roots `roots`.
+/// Takes a breadth-first search from each leaf vertex and each root.
 pub fn grade(
     alloc: Global,
     edges: &Adjacency,
@@ -59,7 +59,8 @@ pub fn grade(
     })
 }
 
-/// Returns the distance class of each vertex, given the sums of its distances from roots and from leaf vertices.
+/// Returns the distance class of each vertex. `roots` and `leaves` have, for each vertex, the sums of its distances
+/// from roots and from leaf vertices.
 fn distance_classes(
     alloc: Global,
     roots: &[DistanceSum],
@@ -77,7 +78,8 @@ fn distance_classes(
     Ok(distance_classes)
 }
 
-/// Returns the distance class of a vertex, given the sums of its distances from roots and from leaf vertices.
+/// Returns the distance class of a vertex. `roots` and `leaves` are the sums of its distances from roots and from leaf
+/// vertices.
 fn distance_class(roots: DistanceSum, leaves: DistanceSum) -> u128
     requires { IsDistanceSum leaves }
     ensures { result ≡ distance_class_by roots leaves }

@@ -10,21 +10,22 @@ use crate::vertex_key::VertexKey;
 use port_graph::{Adjacency, Edge};
 use std::alloc::{AllocError, Global};
 
-/// How far the growth of the order has come at a vertex.
+/// The state of a vertex while the order grows.
 #[derive(Clone, Copy, Debug, PartialEq, Eq)]
 pub(crate) enum Stage {
-    /// It is not placed, and has no edge to a placed vertex.
+    /// The vertex is not placed, and has no edge to a placed vertex.
     Left,
-    /// It is not placed, and has an edge to a placed vertex.
+    /// The vertex is not placed, and has an edge to a placed vertex.
     Beside,
-    /// It is placed.
+    /// The vertex is placed.
     Placed,
 }
 
-/// Returns the vertices in their grown order. The next vertex is the one with the earliest key among those that have an
-/// edge to a placed one. If there is none, it is the one with the earliest key of all that are not placed. Of equal
-/// keys the lesser vertex's is earlier. There must be a key for each vertex, and for each edge an edge back. Takes time
-/// quadratic in the number of vertices, and linear in that of edges.
+/// Returns the vertices in their grown order. The next vertex is the one with the earliest key among the unplaced
+/// vertices that have an edge to a placed vertex. If no unplaced vertex has such an edge, it is the one with the
+/// earliest key among all unplaced vertices. Of equal keys, that of the lesser vertex is earlier. There must be a key
+/// for each vertex. For each edge there must be an edge back. Takes time quadratic in the number of vertices, and
+/// linear in the number of edges.
 pub fn grown_order(
     alloc: Global,
     edges: &Adjacency,
@@ -58,8 +59,8 @@ fn next_vertex(keys: &[VertexKey], stages: &[Stage]) -> Option<usize>
     }
 }
 
-/// Returns the vertex with the earliest key among those at `stage`, or `None` if there is none. Of equal keys the
-/// lesser vertex's is earlier.
+/// Returns the vertex with the earliest key among the vertices at `stage`, or `None` if no vertex is at `stage`. Of
+/// equal keys, that of the lesser vertex is earlier.
 fn earliest(keys: &[VertexKey], stages: &[Stage], stage: Stage) -> Option<usize>
     requires { length stages.now ≡ length keys.now }
     ensures earliest { result ≡ earliest_at (before_by keys.now) stages.now stage (length keys.now) }
@@ -103,7 +104,8 @@ pub fn is_before(keys: &[VertexKey], one: usize, other: usize) -> bool
     one_key.is_less(&other_key) || (!other_key.is_less(&one_key) && one < other)
 }
 
-/// Marks `vertex` as placed, and each vertex that `edges` lead to and that is at `Left` as `Beside`.
+/// Sets the stage of `vertex` to `Placed`. Then, for each vertex that `edges` lead to, changes the stage to `Beside` if
+/// it is `Left`.
 fn add_vertex(edges: &[Edge], vertex: usize, stages: &mut [Stage])
     requires vertex { vertex < length stages.old }
     requires lead { All (λ edge. edge.to < length stages.old) edges.now }

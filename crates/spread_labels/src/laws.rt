@@ -7,12 +7,12 @@ ghost use Rattle.spread_labels.specs.Orders.{OrderLaw, KeysLaw};
 ghost use Rattle.spread_labels.specs.Sides.{SidesLaw};
 ghost use Rattle.spread_labels.specs.EveryPair.{EveryPairLaw};
 
-/// The labels and costs that the rounds give satisfy `AreMarks`.
+/// The labels and costs that rounds give towards a target satisfy `AreMarks`.
 pub fn labelled_law()
     ensures { LabelledLaw }
 {}
 
-/// No other labels and costs satisfy `AreMarks`.
+/// At most one assignment of labels and costs towards a target satisfies `AreMarks`.
 pub fn unique_law()
     ensures { UniqueLaw }
 {}
@@ -24,24 +24,24 @@ pub fn reached_law()
 {}
 
 /// Each vertex with a label, except the target, has a candidate. Each candidate leads to a vertex whose cost is one
-/// less. From a vertex labeled `Down` it leads down, to a vertex labeled `Down`.
+/// less. From a vertex labeled `Down`, each candidate leads down to a vertex labeled `Down`.
 pub fn candidates_law()
     ensures { CandidatesLaw }
 {}
 
-/// The candidates of a vertex are its edges that lead to a vertex of a cost one less and either lead up or lead to a
-/// vertex marked `Down`.
+/// The candidates of a vertex are exactly its edges to vertices of a cost one less that lead up, or that lead to a
+/// vertex labeled `Down`.
 pub fn candidates_are_nearer()
     ensures { CandidatesAreNearer }
 {}
 
-/// From each vertex with a label the candidates lead to the LID's home, whichever are picked for each LID and vertex.
-/// The way goes up and then down, takes as many edges as the cost, and passes no vertex twice.
+/// From each vertex with a label the candidates lead to the LID's home, whichever candidate is picked for each LID and
+/// vertex. The way goes up and then down, takes as many edges as the cost, and passes no vertex twice.
 pub fn ways_law()
     ensures { WaysLaw }
 {}
 
-/// Channel numbers rise along each way that goes up and then down. They depend only on the order.
+/// Channel numbers rise along each way that goes up and then down. The numbers depend only on the order.
 pub fn channels_law()
     ensures { ChannelsLaw }
 {}
@@ -51,30 +51,32 @@ pub fn no_cycle_law()
     ensures { NoCycleLaw }
 {}
 
-/// Whatever the keys, the grown order has each vertex once, and each vertex except the first of its component comes
-/// after a vertex that it has an edge to. The graph numbered by its positions is grown.
+/// If each edge has an edge back, a grown order has each vertex once, and each vertex except the first of its component
+/// comes after a vertex that it has an edge to. This holds whatever the keys. The graph numbered by positions in the
+/// order is grown.
 pub fn order_law()
     ensures { OrderLaw }
 {}
 
-/// Distance class, distance and vertex, in this order, order the vertices strictly, and distinguish any two.
+/// Ordered by distance class, then by distance and then by number, vertices are in a strict total order.
 pub fn keys_tell_apart()
     ensures { KeysTellApart }
 {}
 
-/// The next vertex of the grown order has the earliest key of those that have an edge to a placed one. If there is
-/// none, it has the earliest key of all that are not placed.
+/// The next vertex of the grown order has the earliest key among the unplaced vertices that have an edge to a placed
+/// vertex. If no unplaced vertex has such an edge, the next vertex has the earliest key among all unplaced vertices.
 pub fn keys_law()
     ensures { KeysLaw }
 {}
 
-/// The edges up and the edges down are slopes. A way that climbs and descends on the edges does so on the slopes.
+/// If each edge has an edge back, the edges up and the edges down of a graph are slopes. Edges that climb or descend in
+/// the graph do so on the slopes.
 pub fn sides_law()
     ensures { SidesLaw }
 {}
 
-/// In the grown order each vertex of the component of a LID's home has a way to it, over fewer edges than there are
-/// vertices, whatever the keys and whichever candidates are picked.
+/// If each edge has an edge back, each vertex of the component of a LID's home has a way to the home in the grown
+/// order, whatever the keys and the picked candidates. The way has fewer edges than there are vertices.
 pub fn every_pair_law()
     ensures { EveryPairLaw }
 {}

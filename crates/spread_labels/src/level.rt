@@ -11,7 +11,7 @@ use std::alloc::{AllocError, Global};
 /// The greatest digit weight. No number of a LID exceeds it.
 const GREATEST_WEIGHT: usize = 65536;
 
-/// Returns the least distance in each sum, or 0 if it has none.
+/// Returns the least distance of each of `distance_sums`, or 0 for a sum without distances.
 pub(crate) fn near_or_0(
     alloc: Global,
     distance_sums: &[DistanceSum],
@@ -26,8 +26,8 @@ pub(crate) fn near_or_0(
 }
 
 /// Returns the digit weight of the level of each vertex: the product of the widths of all lesser levels, but at most
-/// 65536. The width of a level is the greatest number of edges to higher vertices that a vertex of it has, but at least
-/// 1. There must be a level for each vertex. Walks all vertices for each level.
+/// 65536. The width of a level is the greatest number of edges from a vertex of the level to vertices of higher levels,
+/// but at least 1. `levels` must have a level for each vertex. Walks all vertices for each level.
 pub fn digit_weights(
     alloc: Global,
     edges: &Adjacency,
@@ -45,7 +45,8 @@ pub fn digit_weights(
     Ok(digit_weights)
 }
 
-/// Returns the digit weight of each level up to the greatest of `levels`.
+/// Returns the digit weight of each level from 0 to the greatest of `levels`. `levels` must have a level for each
+/// vertex.
 fn digit_weights_by_level(
     alloc: Global,
     edges: &Adjacency,
@@ -66,14 +67,14 @@ fn digit_weights_by_level(
     Ok(digit_weights)
 }
 
-/// Returns the digit weight of the next level, given the digit weight and the width of a level. It is at most 65536.
+/// Returns the digit weight of the level above one with `digit_weight` and `width`: their product, but at most 65536.
 fn next_digit_weight(digit_weight: usize, width: usize) -> usize
     ensures { result ≡ min (digit_weight * width) 65536 }
 {
     digit_weight.saturating_mul(width).min(GREATEST_WEIGHT)
 }
 
-/// Returns the greatest number of `levels`, or 0 if it is empty.
+/// Returns the greatest number of `levels`, or 0 if `levels` is empty.
 pub fn greatest_of(levels: &[usize]) -> usize
     ensures { result ≡ greatest 0 levels.now }
 {
@@ -84,8 +85,8 @@ pub fn greatest_of(levels: &[usize]) -> usize
     found
 }
 
-/// Returns the width of `level`: the greatest number of edges to higher vertices that a vertex of it has, but at least
-/// 1.
+/// Returns the width of `level`: the greatest number of edges from a vertex of `level` to vertices of higher levels,
+/// but at least 1.
 fn width(edges: &Adjacency, levels: &[usize], level: usize) -> usize
     requires all { length levels.now ≡ length edges.now }
     requires lead { LeadToVertices edges.now }
@@ -100,7 +101,8 @@ fn width(edges: &Adjacency, levels: &[usize], level: usize) -> usize
     width
 }
 
-/// Returns the number of `edges`, those of `vertex`, that lead to higher vertices.
+/// Returns how many of `edges` lead to vertices of a higher level than that of `vertex`. `edges` are the edges of
+/// `vertex`.
 fn rises(edges: &[Edge], vertex: usize, levels: &[usize]) -> usize
     requires vertex { vertex < length levels.now }
     requires lead { All (λ edge. edge.to < length levels.now) edges.now }

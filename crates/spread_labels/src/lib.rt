@@ -1,5 +1,5 @@
 //! Routes by labels: the cost at which each vertex gets its label, in rounds from the target, and the edges that give
-//! it.
+//! the label.
 #![tactic(auto)]
 
 mod candidate_lists;

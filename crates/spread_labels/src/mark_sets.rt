@@ -10,14 +10,14 @@ use crate::target_set::TargetSet;
 use port_graph::{Adjacency, Edge};
 use std::alloc::{AllocError, Global};
 
-/// For each vertex: the targets that it has a mark for, and those for which the mark is `Down`.
+/// For each vertex, the targets for which it has a mark, and those for which the mark is `Down`.
 #[derive(Drop)]
 pub(crate) struct MarkSets {
     marked: Vec<TargetSet>,
     downs: Vec<TargetSet>,
 }
 
-/// The sets of one vertex: the targets that it has a mark for, and those for which the mark is `Down`.
+/// The sets of one vertex: the targets for which it has a mark, and those for which the mark is `Down`.
 #[derive(Clone, Copy)]
 struct VertexSets {
     marked: TargetSet,
@@ -31,7 +31,7 @@ struct Givers {
     ups: TargetSet,
 }
 
-/// Returns the targets for which `edge` gives `vertex` a mark.
+/// Returns the targets for which `edge` gives `vertex` a mark, by the sets of the vertex that `edge` leads to.
 fn giver_set(edge: &Edge, vertex: usize, marks: &MarkSets) -> TargetSet
     requires marked { edge.now.to < length marks.now.marked.items }
     requires downs { edge.now.to < length marks.now.downs.items }
@@ -44,8 +44,8 @@ fn giver_set(edge: &Edge, vertex: usize, marks: &MarkSets) -> TargetSet
     }
 }
 
-/// Returns the targets for which any of `edges`, those of `vertex`, gives it a mark, and those for which one that leads
-/// up does.
+/// Returns the targets for which one of `edges` gives `vertex` a mark, and the targets for which one that leads up
+/// does. `edges` are the edges of `vertex`.
 fn given_by(edges: &[Edge], vertex: usize, marks: &MarkSets) -> Givers
     requires marked { All (λ edge. edge.to < length marks.now.marked.items) edges.now }
     requires downs { All (λ edge. edge.to < length marks.now.downs.items) edges.now }
@@ -67,7 +67,8 @@ fn given_by(edges: &[Edge], vertex: usize, marks: &MarkSets) -> Givers
     Givers { targets, ups }
 }
 
-/// Adds to the set of each edge in `row` the targets of `new` for which the edge gives `vertex` a mark.
+/// Adds to the set of each edge in `row` the targets of `new` for which the edge gives `vertex` a mark. `row` must have
+/// a set for each of `edges`.
 fn note(row: &mut [TargetSet], edges: &[Edge], vertex: usize, marks: &MarkSets, new: TargetSet)
     requires all { length row.old ≡ length edges.now }
     requires marked { All (λ edge. edge.to < length marks.now.marked.items) edges.now }
@@ -82,8 +83,8 @@ fn note(row: &mut [TargetSet], edges: &[Edge], vertex: usize, marks: &MarkSets, 
     }
 }
 
-/// Returns the sets of `vertex` after one more round. Adds to the set of each edge in `row` the targets for which it
-/// gave the mark in this round.
+/// Returns the sets of `vertex` after one more round. Adds to the set of each edge in `row` the targets for which the
+/// edge gave a mark in this round. `row` must have a set for each of `edges`.
 fn set_step(edges: &[Edge], vertex: usize, marks: &MarkSets, row: &mut [TargetSet]) -> VertexSets
     requires row { length row.old ≡ length edges.now }
     requires in_marked { vertex < length marks.now.marked.items }
@@ -103,7 +104,7 @@ fn set_step(edges: &[Edge], vertex: usize, marks: &MarkSets, row: &mut [TargetSe
 }
 
 /// Returns the sets of all vertices after one more round. Adds to the set of each edge in `rows` the targets for which
-/// it gave the mark in this round.
+/// the edge gave a mark in this round. `rows` must have a row for each vertex, with a set for each of its edges.
 pub(crate) fn after_round(
     alloc: Global,
     edges: &Adjacency,
@@ -128,8 +129,8 @@ pub(crate) fn after_round(
     Ok(MarkSets { marked, downs })
 }
 
-/// Returns the sets of `count` vertices before the first round: each target is marked `Down` for itself. There must be
-/// at most 64 targets.
+/// Returns the sets of `count` vertices before the first round: each target is marked `Down` for itself. `targets` must
+/// have at most 64 vertices, each less than `count`.
 pub(crate) fn at_first(
     alloc: Global,
     count: usize,
@@ -146,7 +147,8 @@ pub(crate) fn at_first(
     })
 }
 
-/// Returns for each of `count` vertices the indices in `targets` at which it is. There must be at most 64 targets.
+/// Returns, for each of `count` vertices, the indices at which `targets` has the vertex. `targets` must have at most 64
+/// vertices, each less than `count`.
 fn at_targets(alloc: Global, count: usize, targets: &[usize]) -> Result<Vec<TargetSet>, AllocError>
     requires few { length targets.now ≤ 64 }
     requires vertices { All (λ target. target < count) targets.now }
@@ -159,7 +161,8 @@ fn at_targets(alloc: Global, count: usize, targets: &[usize]) -> Result<Vec<Targ
     Ok(sets)
 }
 
-/// Returns whether `old` and `new` have the same marked vertices for each target.
+/// Returns whether each vertex has marks for the same targets in `old` and in `new`. The two must have equally many
+/// vertices.
 pub(crate) fn are_same(old: &MarkSets, new: &MarkSets) -> bool
     requires { length old.now.marked.items ≡ length new.now.marked.items }
     ensures { result ≡ true → AreSame old.now.marked.items new.now.marked.items (length old.now.marked.items) }

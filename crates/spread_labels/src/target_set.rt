@@ -2,10 +2,10 @@
 ghost use Rattle.std.specs.Prelude.{◌≡◌, ◌<◌, ◌&&◌, ◌||◌, ◌==◌, true, false, not, MatchOption};
 ghost use Rattle.spread_labels.specs.TargetSets.{EachTarget, has, no_targets};
 
-/// The number of targets in a set.
+/// The greatest number of targets in a set.
 pub const TARGETS: usize = 64;
 
-/// A set of up to 64 targets. Each has one bit.
+/// A set of targets, which are numbers from 0 to 63. Each target has one bit.
 #[derive(Clone, Copy, Debug, PartialEq, Eq)]
 pub struct TargetSet {
     bits: u64,
@@ -91,7 +91,7 @@ impl TargetSet {
         }
     }
 
-    /// Returns the set without `target`, which must be in it.
+    /// Returns the set without `target`, which must be in the set.
     pub(crate) fn but(self, target: usize) -> Self
         requires target { target < 64 }
         requires among { has self target ≡ true }

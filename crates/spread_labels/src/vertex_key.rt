@@ -1,7 +1,7 @@
 ghost use Rattle.std.specs.Prelude.{◌≡◌};
 ghost use Rattle.spread_labels.specs.Keys.{key_less};
 
-/// What vertices are ordered by: first the distance class, and then the distance.
+/// The key by which a vertex is ordered: first its distance class, and then its distance.
 #[derive(Clone, Copy, Debug, PartialEq, Eq)]
 pub struct VertexKey {
     /// The distance class of the vertex.

@@ -10,8 +10,9 @@ use port_graph::{Adjacency, distances};
 use std::alloc::{AllocError, Global};
 
 /// Returns the key of each vertex: its distance class, and its distance from the first vertex of its component. The
-/// first vertex is the one of the least distance class, and the least such vertex. There must be a distance class for
-/// each vertex, and for each edge an edge back. Takes two breadth-first searches for each component.
+/// first vertex is the one of least distance class, and of several such vertices the least. There must be a distance
+/// class for each vertex. For each edge there must be an edge back. Takes two breadth-first searches for each
+/// component.
 pub fn keys(
     alloc: Global,
     edges: &Adjacency,
@@ -34,7 +35,7 @@ pub fn keys(
     Ok(keys)
 }
 
-/// Returns keys that have only the distance class. Their distance is 0.
+/// Returns, for each of `distance_classes`, a key with that distance class and the distance 0.
 fn by_distance_class(alloc: Global, distance_classes: &[u128]) -> Result<Vec<VertexKey>, AllocError>
     ensures { IfOk result (λ keys. keys.items ≡ by_distance_class distance_classes.now) }
 {
@@ -45,7 +46,8 @@ fn by_distance_class(alloc: Global, distance_classes: &[u128]) -> Result<Vec<Ver
     keys.collect(alloc)
 }
 
-/// Returns the distance of each vertex from the first one, by `keys`, of its component.
+/// Returns the distance of each vertex from the first vertex, by `keys`, of its component. For each edge there must be
+/// an edge back.
 fn far(
     alloc: Global,
     edges: &Adjacency,
@@ -66,8 +68,8 @@ fn far(
     Ok(far)
 }
 
-/// Returns the distance of each vertex from the first one, by `keys`, of the component of `vertex`, or `None` for a
-/// vertex of another component.
+/// Returns the distance of each vertex from the first vertex, by `keys`, of the component of `vertex`. Returns `None`
+/// for a vertex of another component.
 fn from_first(
     alloc: Global,
     edges: &Adjacency,
@@ -84,7 +86,8 @@ fn from_first(
     distances(alloc, edges, first)
 }
 
-/// Fills each distance of `far` that is missing with the one in `found`, if there is one. Both must be equally long.
+/// Sets each missing distance of `far` to the distance at its index in `found`, if there is one. `far` and `found` must
+/// be equally long.
 fn fill(far: &mut [Option<usize>], found: &[Option<usize>])
     requires { length far.old ≡ length found.now }
     ensures { FillsIn far.old found.now far.new }
@@ -94,7 +97,8 @@ fn fill(far: &mut [Option<usize>], found: &[Option<usize>])
     }
 }
 
-/// Returns the vertex with the earliest key among those that have a distance, or `None` if there is none.
+/// Returns the vertex with the earliest key among the vertices with a distance in `distances`, or `None` if no vertex
+/// has one.
 fn first(keys: &[VertexKey], distances: &[Option<usize>]) -> Option<usize>
     requires { length distances.now ≡ length keys.now }
     ensures first { result ≡ first_among keys.now distances.now }

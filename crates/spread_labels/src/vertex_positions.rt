@@ -7,8 +7,8 @@ ghost use Rattle.spread_labels.specs.Positions.{ArePositions, StandOnce, to_posi
 use port_graph::{Adjacency, Edge};
 use std::alloc::{AllocError, Global};
 
-/// Returns the position in `vertices` of each of `count` vertices, or 0 if it is not there. `vertices` must list some
-/// of them, each once.
+/// Returns the position in `vertices` of each of `count` vertices, or 0 for a vertex that is not there. `vertices` must
+/// have only vertices less than `count`, each at most once.
 pub fn positions(alloc: Global, vertices: &[usize], count: usize) -> Result<Vec<usize>, AllocError>
     requires { StandOnce count vertices.now }
     ensures { IfOk result (λ positions. ArePositions count vertices.now positions.items) }
@@ -20,8 +20,8 @@ pub fn positions(alloc: Global, vertices: &[usize], count: usize) -> Result<Vec<
     Ok(positions)
 }
 
-/// Returns the position of `vertex` in `vertices`, or the length of `vertices` if it is not there. Takes time linear in
-/// that length.
+/// Returns the position of `vertex` in `vertices`, or the length of `vertices` if `vertex` is not there. Takes time
+/// linear in that length.
 pub fn position_of(vertices: &[usize], vertex: usize) -> usize
     ensures { result ≡ position_of vertices.now vertex }
 {
@@ -33,7 +33,7 @@ pub fn position_of(vertices: &[usize], vertex: usize) -> usize
     vertices.len()
 }
 
-/// Returns the position of each of `vertices`, given in `positions` the position of each vertex.
+/// Returns the position of each of `vertices`. `positions` must have a position for each of these vertices.
 pub fn positions_at(
     alloc: Global,
     positions: &[usize],
@@ -49,7 +49,7 @@ pub fn positions_at(
     Ok(found)
 }
 
-/// Returns the count of each of `vertices`, given in `counts` the count of each vertex.
+/// Returns the count of each of `vertices`. `counts` must have a count for each of these vertices.
 pub fn counts_at(alloc: Global, counts: &[u16], vertices: &[usize]) -> Result<Vec<u16>, AllocError>
     requires { All (λ vertex. vertex < length counts.now) vertices.now }
     ensures { IfOk result (λ found. found.items ≡ map (slice_index counts.now) vertices.now) }
@@ -82,7 +82,8 @@ pub fn by_positions(
     Ok(placed)
 }
 
-/// Returns `edges`, each leading to the position of its vertex.
+/// Returns `edges`, with the vertex that each edge leads to replaced by the position of that vertex. `positions` must
+/// have a position for each of these vertices.
 fn to_positions(alloc: Global, edges: &[Edge], positions: &[usize]) -> Result<Vec<Edge>, AllocError>
     requires { All (λ edge. edge.to < length positions.now) edges.now }
     ensures { IfOk result (λ found. found.items ≡ map (to_position positions.now) edges.now) }

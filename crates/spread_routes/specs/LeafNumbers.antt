@@ -26,11 +26,11 @@ goes_first neighbors a b =
     nat_lt (slice_index neighbors a) (slice_index neighbors b)
     || (slice_index neighbors a == slice_index neighbors b && nat_lt a b)
 
--- the leaf number of vertex `s`: how many of the leaf vertices come before it (`goes_first`), modulo 2^16
+-- the leaf number of vertex `s`: the number of leaf vertices that come before it (`goes_first`), modulo 2^16
 abbrev pub leaf_number : List ℕ → List ℕ → ℕ → ℕ
 leaf_number neighbors leaves s = length (filter (λ leaf. goes_first neighbors leaf s) leaves) % 2 ^ 16
 
--- the leaf number of each switch, by rising GUID, if `adapters` has how many adapters each has
+-- the leaf number of each switch, by rising GUID; `adapters` has the number of adapters of each switch
 abbrev pub leaf_numbers : List SwitchEdges → List ℕ → List ℕ
 leaf_numbers graph adapters =
     map (leaf_number (least_neighbors (by_index graph)) (leaf_vertices adapters)) (numbers_from 0 (length graph))

@@ -1,5 +1,5 @@
--- The spread rule: it labels switches towards a target in an order that grows by keys, and a packet chooses, by a
--- number, among the edges that gave a switch its label.
+-- The spread rule. It labels switches towards a target in an order that grows by keys. A packet chooses, by a number,
+-- among the edges that gave a switch its label.
 use Rattle.std.specs.Prelude.{ℕ, List, map, length, Option, option_map}
 use Rattle.port_graph.specs.declared.edge.Edge.{Edge}
 use Rattle.spread_labels.specs.declared.vertex_key.VertexKey.{VertexKey}
@@ -40,13 +40,13 @@ switch_there graph keys p = at_position (guids_of graph) (at_position (order_by_
 abbrev pub by_positions : List SwitchEdges → List VertexKey → List (List Edge)
 by_positions graph keys = grown (by_index graph) (before_by keys)
 
--- the edge that a packet for `lid` takes at position `p` towards position `q`: that at its number modulo the number of
--- edges; None if there are no edges
+-- the edge that a packet for `lid` takes at position `p` towards position `q`: the one at the index `by.number` modulo
+-- the number of edges; None if there are no edges
 abbrev pub taken : Spreading → ℕ → ℕ → ℕ → List Edge → Option Edge
 taken by lid p q edges = chosen edges (by.number lid p q edges)
 
--- the edge by which a packet for `lid` leaves the switch at position `p` for that at position `q`, one of the
--- candidates; None if there are none
+-- the candidate by which a packet for `lid` leaves the switch at position `p` for the switch at position `q`; None if
+-- there are no candidates
 abbrev pub edge_to : List SwitchEdges → Spreading → ℕ → ℕ → ℕ → Option Edge
 edge_to graph by lid p q = taken by lid p q (candidates (by_positions graph by.keys) q p)
 

@@ -21,8 +21,8 @@ use Rattle.spread_routes.specs.LeafNumbers.{leaf_numbers}
 use Rattle.spread_routes.specs.Rule.{by_index, by_positions, order_by_keys, spread}
 use Rattle.spread_routes.specs.SwitchOrders.{OrderValue, as_named, balanced_as, from_roots, least_loaded, keys_as_named, named_in, switches_by_keys}
 
--- what a spread rule is made from: the graph, the key and the level of each switch, by rising GUID, and the choices for
--- adapters if loads are balanced
+-- what a spread rule is made from: the graph; the key and the level of each switch, by rising GUID; and the choices for
+-- adapters, None unless loads are balanced
 pub record Grading : Type 0 where
   pub graph : List SwitchEdges
   pub keys : List VertexKey
@@ -49,13 +49,13 @@ lid_digit_there by p = lid_digit_at by.graph by.levels (at_position (order_by_ke
 abbrev pub goes_higher : Grading → ℕ → List Edge → Bool
 goes_higher by p edges = list_any (λ e. nat_lt (level_there by p) (level_there by e.to)) edges
 
--- the number of a LID at a switch: divided by the digit weight if `higher`, so if the packet can go to a higher level,
--- else the LID's own; plus the switch's offset
+-- the number of a LID at a switch: `lid`, divided by the digit weight and rounded down if `higher`, plus the switch's
+-- offset. `higher` says whether the packet can go to a higher level
 abbrev pub number_by : LidDigit → Bool → ℕ → ℕ
 number_by lid_digit higher lid = (if higher then lid / lid_digit.digit_weight else lid) + lid_digit.offset
 
--- the number by which a LID chooses at position `p` towards position `q`: that of its choice for an adapter if loads
--- are balanced, else `number`
+-- the number by which a LID chooses at position `p` towards position `q`: by `choice_towards` if loads are balanced,
+-- else `number`
 abbrev pub number_with : Option AdapterChoices → ℕ → ℕ → ℕ → ℕ → ℕ
 number_with None number lid p q = number
 number_with (Some choices) number lid p q = choice_towards choices lid p q
@@ -69,18 +69,18 @@ number_there by lid p q edges =
 abbrev pub spread_at : Grading → Routing
 spread_at by = spread by.graph (record { keys = by.keys; number = number_there by })
 
--- the indices of those of the GUIDs that are switches of the graph
+-- the indices of those of `guids` that are switches of the graph
 abbrev pub indices_of : List SwitchEdges → List ℕ → List ℕ
 indices_of graph guids = filter (λ i. nat_lt i (length graph)) (map (position_of (guids_of graph)) guids)
 
 -- the keys of switches by distance class, from the roots that are in the graph and from the leaf switches; `adapters`
--- has how many adapters each switch has, by rising GUID
+-- has the number of adapters of each switch, by rising GUID
 abbrev pub keys_from_roots : List SwitchEdges → List ℕ → List ℕ → List VertexKey
 keys_from_roots graph adapters roots =
     keys_of (by_index graph) (distance_classes_of (by_index graph) (leaf_vertices adapters) (indices_of graph roots))
 
--- the keys of the order of least trial load, of those tried: from no roots, and by depth; those from no roots if their
--- trial loads are even
+-- the keys from no roots if their trial loads are even; else, of these keys and the keys by depth, the first of least
+-- trial load
 abbrev pub keys_least_loaded : List SwitchEdges → List ℕ → List VertexKey
 keys_least_loaded graph adapters =
     least_loaded_keys (by_index graph) adapters (keys_from_roots graph adapters [])
@@ -92,7 +92,7 @@ keys_by graph adapters (as_named switches) = keys_as_named graph switches
 keys_by graph adapters (balanced_as switches) = keys_as_named graph switches
 keys_by graph adapters least_loaded = keys_least_loaded graph adapters
 
--- how many adapters the switch at each position has, in the order that grows by `keys`
+-- the number of adapters of the switch at each position, in the order that grows by `keys`
 abbrev pub adapters_there : List SwitchEdges → List VertexKey → List ℕ → List ℕ
 adapters_there graph keys adapters = map (slice_index adapters) (order_by_keys graph keys)
 
@@ -117,7 +117,7 @@ choices_by graph keys levels adapters (as_named switches) = None
 choices_by graph keys levels adapters (balanced_as switches) = Some (balanced_by graph keys levels adapters)
 choices_by graph keys levels adapters least_loaded = Some (balanced_by graph keys levels adapters)
 
--- the grading from a graph, how many adapters each switch has, and what the order grows by
+-- the grading from a graph, the number of adapters of each switch, and what the order grows by
 abbrev pub grading_of : List SwitchEdges → List ℕ → OrderValue → Grading
 grading_of graph adapters order =
     let levels = levels_of (by_index graph) (leaf_vertices adapters) in
@@ -128,7 +128,7 @@ grading_of graph adapters order =
       choices = choices_by graph (keys_by graph adapters order) levels adapters order;
     }
 
--- the spread rule from a graph, how many adapters each switch has, and what the order grows by
+-- the spread rule from a graph, the number of adapters of each switch, and what the order grows by
 unfoldable pub spread_by : List SwitchEdges → List ℕ → OrderValue → Routing
 spread_by graph adapters order = spread_at (grading_of graph adapters order)
 
@@ -141,8 +141,7 @@ SpreadByIsRouting = (graph : List SwitchEdges) (adapters : List ℕ) (order : Or
 unfoldable pub switches_in_order : List SwitchEdges → List ℕ → OrderValue → List ℕ
 switches_in_order graph adapters order = switches_by_keys graph (keys_by graph adapters order)
 
--- if a list names the switches in the order of the rule, the order that grows by the list is that order, and packets
--- are routed as before
+-- a list that names the switches in the order of the rule gives that order again, and packets are routed as by the rule
 pub record OrderStands (graph : List SwitchEdges) (adapters : List ℕ) (by : OrderValue) : Type 0 where
   pub order : switches_in_order graph adapters (named_in by (switches_in_order graph adapters by))
       ≡ switches_in_order graph adapters by

@@ -31,19 +31,19 @@ is_balanced (as_named switches) = false
 is_balanced (balanced_as switches) = true
 is_balanced least_loaded = true
 
--- the order that grows by the list `switches`, with loads balanced if they were before
+-- what the order grows by if the list `switches` names it; loads are balanced if they are by the value given
 abbrev pub named_in : OrderValue → List ℕ → OrderValue
 named_in (from_roots roots) switches = as_named switches
 named_in (as_named before) switches = as_named switches
 named_in (balanced_as before) switches = balanced_as switches
 named_in least_loaded switches = balanced_as switches
 
--- the key of switch `g` by a list: how many names come before it; the length of the list if it is not named
+-- the key of switch `g` by a list: the number of names before it; the length of the list if `g` is not named
 abbrev pub key_as_named : List ℕ → ℕ → VertexKey
 key_as_named switches g = record { distance_class = 0; distance = position_of switches g }
 
--- the key of each switch of the graph by a list; of equal keys the one of the lesser GUID is earlier, so switches that
--- are not named come in the order of GUIDs
+-- the key of each switch of the graph, by rising GUID, by a list; of equal keys the one of the lesser GUID is earlier,
+-- so GUIDs decide between switches that are not named
 abbrev pub keys_as_named : List SwitchEdges → List ℕ → List VertexKey
 keys_as_named graph switches = map (key_as_named switches) (guids_of graph)
 

@@ -32,7 +32,7 @@ pub record IsByPositions (by : Grading) (edges : List (List Edge)) (positions : 
   pub lid_digit : (p : ℕ) → p < length edges → slice_index_or lid_digits p no_lid_digit ≡ lid_digit_there by p
 
 -- the candidates of all vertices towards the switches at the indices from `first` up to, but not including, `end`: for
--- each edge, the targets for which it is one
+-- each edge, the targets for which the edge is a candidate
 pub record TowardsValue : Type 0 where
   pub first : ℕ
   pub end : ℕ
@@ -63,7 +63,7 @@ abbrev pub port_chosen : List ℕ → ℕ → Option ℕ
 port_chosen [] choice = None
 port_chosen (port ∷ ports) choice = slice_get (port ∷ ports) (choice % length (port ∷ ports))
 
--- the port at index `choice` modulo the number of ports; there must be one
+-- the port at index `choice` modulo the number of ports; `ports` must not be empty
 abbrev pub port_turn : List ℕ → ℕ → ℕ
 port_turn ports choice = slice_index ports (choice % length ports)
 
@@ -73,16 +73,17 @@ exit_number exits k lid =
     number_with exits.choices (number_by exits.lid_digit (has exits.higher k) lid) lid exits.own
     (slice_index exits.targets k)
 
--- the port by which a LID with the number `lid` leaves towards target `k`; None if there is none
+-- the port by which a packet for a LID with the number `lid` leaves towards target `k`; None if there is no port
 abbrev pub port_by : ExitsValue → ℕ → ℕ → Option ℕ
 port_by exits k lid = port_chosen (slice_index_or exits.ports k []) (exit_number exits k lid)
 
--- `exits` give, for each LID and each target, the port by which the spread rule leaves the switch at index `own`
+-- `exits` give, for each LID and each target, the port by which packets leave the switch at index `own` by the spread
+-- rule
 abbrev pub AreExits : Grading → TowardsValue → ℕ → ExitsValue → Type 0
 AreExits by towards own exits = (k lid : ℕ) → towards.first + k < towards.end → port_by exits k lid
     ≡ (spread_at by).next lid (switch_at by.graph own) (switch_at by.graph (towards.first + k))
 
--- the entries, with `f lid` at each of some LIDs
+-- `entries`, with `f lid` at each LID of a list
 abbrev pub with_entries : (ℕ → ℕ) → List ℕ → List ℕ → List ℕ
 with_entries f entries [] = entries
 with_entries f entries (lid ∷ lids) = with_entries f (slice_set entries lid (f lid)) lids

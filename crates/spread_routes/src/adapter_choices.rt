@@ -27,7 +27,8 @@ pub(crate) struct AdapterChoices {
     adapters: Vec<u16>,
     /// The most adapters at one position.
     most: u16,
-    /// The number of the first adapter at each position, but at most 2^64 - 1.
+    /// The index in `counted` of the first adapter at each position: the number of adapters at earlier positions, but
+    /// at most 2^64 - 1.
     firsts: Vec<usize>,
     /// For each adapter, the number of the candidate that each position takes. `None` if the loads by first choices are
     /// even.
@@ -56,10 +57,10 @@ impl Model for AdapterChoices {
 }
 
 impl AdapterChoices {
-    /// Balances the loads of a graph by positions for the case that each adapter sends a packet to each adapter.
+    /// Balances the loads of `edges`, a graph by positions, if each adapter sends one packet to each adapter.
     /// `weights`, `leaf_numbers` and `adapters` must have the digit weight, the leaf number and the number of adapters
-    /// of each position. Takes as long as `first_loads` and, if its loads are not even, as long as `balanced_choices`
-    /// besides.
+    /// of each position. Takes as long as `first_loads`. If these loads are not even, takes as long as
+    /// `balanced_choices` besides.
     pub(crate) fn of(
         alloc: Global,
         edges: &Adjacency,
@@ -114,8 +115,8 @@ impl AdapterChoices {
         }
     }
 
-    /// Returns the turns of ends among `count` candidates at the position `own`. `count` must not be 0, and less than
-    /// 2^63.
+    /// Returns the turn of the end with the number 0 among `count` candidates at the position `own`, by first choices.
+    /// `count` must be from 1 to 2^63 - 1.
     pub(crate) fn turn(&self, own: usize, count: usize) -> RoundRobin
         requires { (0 < count) × (count < 2 ^ 63) }
         ensures turn { IsTurn result }
@@ -126,7 +127,7 @@ impl AdapterChoices {
         RoundRobin::first(self.weight_at(own), own, count)
     }
 
-    /// Returns the number of the first end at `position`; 0 past the last position.
+    /// Returns the number, for first choices, of the first adapter at `position`. Returns 0 past the last position.
     pub(crate) fn first_number(&self, position: usize) -> usize
         ensures number { result ≡ first_number self.now.leaf_numbers self.now.adapters position }
         ensures small { result < 2 ^ 32 }
@@ -134,8 +135,8 @@ impl AdapterChoices {
         self.leaf_number_at(position) * usize::from(self.most)
     }
 
-    /// Returns the number of the adapter at `position` whose choices a LID with the number `number` takes, but at most
-    /// 2^64 - 1. `position` must exist.
+    /// Returns the index in `counted` of the adapter at `position` whose choices a LID with the number `number` takes,
+    /// but at most 2^64 - 1. `position` must exist.
     fn adapter_of(&self, number: usize, position: usize) -> usize
         requires { position < length self.now.adapters }
         ensures { result ≡ min (adapter_of self.now.adapters number position) (2 ^ 64 - 1) }
@@ -206,8 +207,8 @@ fn sent(alloc: Global, adapters: &[u16]) -> Result<Vec<usize>, AllocError>
     Ok(sent)
 }
 
-/// Returns the positions with adapters as destinations. Each has one end for each of its adapters. The number of its
-/// first end is its leaf number times the most adapters of a position.
+/// Returns the positions with adapters as destinations. Each destination has one end for each of its adapters. The
+/// number of its first end is its leaf number times the most adapters that one position has.
 fn destinations(
     alloc: Global,
     leaf_numbers: &[u16],
@@ -253,7 +254,7 @@ fn counted_if_uneven(
     Ok(Some(choices))
 }
 
-/// Returns the number of the first adapter at each position, but at most 2^64 - 1.
+/// Returns, for each position, the number of adapters at earlier positions, but at most 2^64 - 1.
 fn firsts(alloc: Global, adapters: &[u16]) -> Result<Vec<usize>, AllocError>
     ensures { IfOk result (λ firsts. firsts.items
         ≡ map (λ q. min (first_at adapters.now q) (2 ^ 64 - 1)) (numbers_from 0 (length adapters.now))) }

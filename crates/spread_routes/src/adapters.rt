@@ -21,7 +21,8 @@ pub fn adapters_of(alloc: Global, wires: &Wires, guids: &[Guid]) -> Result<Vec<u
         .collect(alloc)
 }
 
-/// Returns the greatest number in `adapters`, which has the number of adapters at each switch, or 0 if it is empty.
+/// Returns the most adapters that one switch has, or 0 if there are no switches. `adapters` must have the number of
+/// adapters at each switch.
 pub fn most_adapters(adapters: &[u16]) -> u16
     ensures { result ≡ greatest 0 adapters.now }
 {

@@ -24,7 +24,7 @@ pub struct Exits<'s> {
     /// The targets for which one of the candidates leads to a higher switch.
     higher: TargetSet,
     lid_digit: LidDigit,
-    /// The choices for adapters, if loads are balanced.
+    /// The choices for adapters, or `None` if loads are not balanced.
     choices: Option<&'s AdapterChoices>,
     /// The position of the switch.
     own: usize,
@@ -68,8 +68,8 @@ impl<'s> Exits<'s> {
         })
     }
 
-    /// Sets how LIDs choose among the ports: by `choices`, if there are some, at the position `own` towards the
-    /// positions `targets`.
+    /// Sets how LIDs choose among the ports: by `choices`, at the position `own` towards the positions `targets`. If
+    /// `choices` is `None`, LIDs choose by the LID digit.
     pub(crate) fn choose_by(
         &mut self,
         choices: Option<&'s AdapterChoices>,
@@ -89,7 +89,8 @@ impl<'s> Exits<'s> {
     }
 
     /// Sets the exits of a switch: `edges[i]` is a candidate towards each target in `sets[i]`. There must be a set for
-    /// each edge.
+    /// each edge. `higher` must have the targets for which a candidate leads to a higher switch. The digit weight must
+    /// not be 0.
     pub(crate) fn find(
         &mut self,
         lid_digit: LidDigit,
@@ -112,9 +113,9 @@ impl<'s> Exits<'s> {
         self.lists.find(edges, sets)
     }
 
-    /// Writes for each of `lids` the number of the port that it takes towards `target`, or `none` if no way leads
-    /// there. A LID chooses by its number in `numbers`. `target` must be less than 64, and each LID within `entries`
-    /// and `numbers`. Takes time linear in the number of LIDs.
+    /// Writes, in the entry of each of `lids`, the number of the port that the LID takes towards `target`, or `none` if
+    /// no port leads there. A LID chooses by its number in `numbers`. `target` must be less than 64. `entries` and
+    /// `numbers` must be equally long, and each LID must be within them. Takes time linear in the number of LIDs.
     pub fn write(&self, target: usize, lids: &[Lid], numbers: &[u16], none: u8, entries: &mut [u8])
         requires target { target < 64 }
         requires lids { All (λ lid. lid < length entries.old) lids.now }
@@ -152,8 +153,8 @@ impl<'s> Exits<'s> {
     }
 }
 
-/// Writes for each of `lids` the port of `ports` that it takes by its choice at the position `own` towards the position
-/// `target`. The choices must have been made by counted loads, and there must be a port.
+/// Writes, in the entry of each of `lids`, the port of `ports` that the LID takes by its choice at the position `own`
+/// towards the position `target`. The choices must have been made by counted loads, and there must be a port.
 fn write_chosen(
     entries: &mut [u8],
     lids: &[Lid],
@@ -178,8 +179,8 @@ fn write_chosen(
     }
 }
 
-/// Writes for each of `lids` the port of `ports` that it takes by its first choice at the position `own` towards the
-/// position `target`. The choices must not have been made by counted loads, and there must be a port.
+/// Writes, in the entry of each of `lids`, the port of `ports` that the LID takes by its first choice at the position
+/// `own` towards the position `target`. The choices must not have been made by counted loads, and there must be a port.
 fn write_in_turn(
     entries: &mut [u8],
     lids: &[Lid],
@@ -207,7 +208,7 @@ fn write_in_turn(
     }
 }
 
-/// Writes `none` for each of `lids`.
+/// Writes `none` in the entry of each of `lids`.
 fn write_none(entries: &mut [u8], lids: &[Lid], none: u8)
     requires { All (λ lid. lid < length entries.old) lids.now }
     ensures { entries.new ≡ with_entries (λ lid. none) entries.old lids.now }
@@ -217,7 +218,8 @@ fn write_none(entries: &mut [u8], lids: &[Lid], none: u8)
     }
 }
 
-/// Writes for each of `lids` the port of `ports` that it takes by `lid_digit`. There must be a port.
+/// Writes, in the entry of each of `lids`, the port of `ports` that the LID takes by `lid_digit`. `is_higher` says
+/// whether one of the ports leads to a higher switch. There must be a port.
 fn write_ports(
     entries: &mut [u8],
     lids: &[Lid],

@@ -7,9 +7,10 @@ use spread_labels::leaf_vertices;
 use std::alloc::{AllocError, Global};
 use subnet_view::SwitchGraph;
 
-/// Returns the number of each switch among the leaf switches, by rising GUID, modulo 2^16. Leaf switches with a common
-/// least neighbor have consecutive numbers. `adapters` must have the number of adapters at each switch, by rising GUID.
-/// Takes time linear in the number of edges, and for each switch in the number of leaf switches.
+/// Returns the leaf number of each switch, for switches by rising GUID: the number of leaf switches that come before
+/// the switch, modulo 2^16. Leaf switches come in the order of their least neighbors, and then of their GUIDs. So those
+/// with a common least neighbor come one after the other. `adapters` must have the number of adapters at each switch,
+/// by rising GUID. Takes time linear in the number of edges, and for each switch in the number of leaf switches.
 pub fn leaf_numbers(
     alloc: Global,
     graph: &SwitchGraph,
@@ -28,7 +29,7 @@ pub fn leaf_numbers(
     Ok(numbers)
 }
 
-/// Returns the leaf number of the vertex `index`: the number of leaf vertices that come before it, modulo 2^16.
+/// Returns the leaf number of the vertex `index`: the number of leaf vertices that come before the vertex, modulo 2^16.
 fn leaf_number(neighbors: &[usize], leaves: &[usize], index: usize) -> u16
     requires index { index < length neighbors.now }
     requires leaves { All (λ leaf. leaf < length neighbors.now) leaves.now }
@@ -49,8 +50,8 @@ fn count_before(neighbors: &[usize], leaves: &[usize], index: usize) -> usize
         .count()
 }
 
-/// Returns whether vertex `a` comes before vertex `b`: its least neighbor is less, or both have the same one and `a` is
-/// less.
+/// Returns whether vertex `a` comes before vertex `b`: its least neighbor is less, or the least neighbors are equal and
+/// `a` is less.
 fn goes_first(neighbors: &[usize], a: usize, b: usize) -> bool
     requires a { a < length neighbors.now }
     requires b { b < length neighbors.now }
@@ -59,7 +60,7 @@ fn goes_first(neighbors: &[usize], a: usize, b: usize) -> bool
     neighbors[a] < neighbors[b] || neighbors[a] == neighbors[b] && a < b
 }
 
-/// Returns the least neighbor of each vertex, or the number of vertices if it has no neighbor.
+/// Returns the least neighbor of each vertex, or the number of vertices for a vertex without neighbors.
 fn least_neighbors(alloc: Global, edges: &Adjacency) -> Result<Vec<usize>, AllocError>
     ensures { IfOk result (λ found. found.items ≡ least_neighbors edges.now) }
 {

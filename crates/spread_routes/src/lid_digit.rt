@@ -1,4 +1,4 @@
-//! How switches choose among edges by the digits of LIDs.
+//! How switches choose among edges by the digits of LIDs' numbers.
 ghost use Rattle.std.specs.Prelude.{◌≡◌, ◌<◌, All, IfOk, length, map, nat_lt, slice_index_or, if◌then◌else◌};
 ghost use Rattle.std.specs.List.{list_any};
 ghost use Rattle.port_graph.specs.Heads.{LeadToVertices};
@@ -15,20 +15,21 @@ use spread_labels::{TargetSet, digit_weights};
 use std::alloc::{AllocError, Global};
 use subnet_view::SwitchGraph;
 
-/// How a switch chooses among its edges by a digit of the LID.
+/// How a switch chooses among its edges by a digit of the LID's number.
 #[derive(Clone, Copy, Debug, PartialEq, Eq)]
 pub(crate) struct LidDigit {
-    /// The distance of the nearest leaf switch, or 0 if there is none.
+    /// The level of the switch: its distance from the nearest leaf switch, or 0 if no leaf switch can be reached.
     pub(crate) level: usize,
-    /// The weight of a LID's digit at that level.
+    /// The digit weight of that level.
     pub(crate) digit_weight: usize,
     /// The switch's GUID modulo 31.
     pub(crate) offset: u8,
 }
 
 impl LidDigit {
-    /// Returns the turns of LIDs among `count` ports, which must not be 0. `is_higher` says whether one of the ports
-    /// leads to a higher switch.
+    /// Returns the turn of the number 0 among `count` ports, from which to go to the numbers of LIDs. `count` must not
+    /// be 0. `is_higher` says whether one of the ports leads to a higher switch. If none does, the digit of a number is
+    /// the number itself.
     pub(crate) fn turn(&self, is_higher: bool, count: usize) -> RoundRobin
         requires weight { 0 < self.now.digit_weight }
         requires count { 0 < count }
@@ -52,7 +53,8 @@ pub(crate) fn weights_of(alloc: Global, lid_digits: &[LidDigit]) -> Result<Vec<u
         .collect(alloc)
 }
 
-/// Returns the LID digit of the switch at each position of `order`, given the level of each switch in `levels`.
+/// Returns the LID digit of the switch at each position of `order`. `levels` must have the level of each switch, by
+/// rising GUID.
 pub(crate) fn lid_digits(
     alloc: Global,
     graph: &SwitchGraph,

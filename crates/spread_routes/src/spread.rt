@@ -62,13 +62,13 @@ pub struct Spread<'g> {
     keys: Vec<VertexKey>,
     /// The level of each switch, by rising GUID.
     levels: Vec<usize>,
-    /// The position of each switch, by rising GUID.
+    /// The position of each switch in the order, by rising GUID.
     positions: Vec<usize>,
-    /// The edges of the switch at each position. They lead to positions.
+    /// The edges of the switch at each position. Each edge leads to a position.
     edges: Adjacency,
     /// The LID digit of the switch at each position.
     lid_digits: Vec<LidDigit>,
-    /// The choices for adapters, if loads are balanced.
+    /// The choices for adapters, or `None` if loads are not balanced.
     choices: Option<AdapterChoices>,
 }
 
@@ -91,10 +91,11 @@ impl<'g> Model for Spread<'g> {
 }
 
 impl<'g> Spread<'g> {
-    /// Computes the routes. `adapters` must have the number of adapters at each switch, by rising GUID, and `order`
-    /// says what the order of switches grows by. Ignores GUIDs that are not a switch of `graph`. Takes a breadth-first
-    /// search from each leaf switch and each root, and two for each component unless the order is named. Besides, takes
-    /// trials if the order is that of the least trial load, and balances loads if the order asks for it.
+    /// Computes the routes. `adapters` must have the number of adapters at each switch, by rising GUID. `order` says
+    /// what the order of switches grows by. Ignores GUIDs in `order` that are not switches of `graph`. Takes a
+    /// breadth-first search from each leaf switch and each root. Unless `order` names switches, takes two more for each
+    /// component. Also takes trials if the order is that of the least trial load, and balances loads if `order` asks
+    /// for it.
     pub fn of(
         alloc: Global,
         graph: &'g SwitchGraph,
@@ -117,7 +118,8 @@ impl<'g> Spread<'g> {
         }
     }
 
-    /// Balances the loads of the routes, given the leaf number and the number of adapters of each position.
+    /// Balances the loads of the routes. `leaf_numbers` and `adapters` must have the leaf number and the number of
+    /// adapters of each position.
     fn balanced(
         self,
         alloc: Global,
@@ -139,8 +141,8 @@ impl<'g> Spread<'g> {
         })
     }
 
-    /// Computes the routes without balancing loads, given the keys and the levels of the switches, and their indices in
-    /// their order.
+    /// Computes the routes without balancing loads. `keys` and `levels` must have the key and the level of each switch,
+    /// by rising GUID. `vertices` must have the indices of the switches in the order that grows by `keys`.
     fn by_keys(
         alloc: Global,
         graph: &'g SwitchGraph,
@@ -169,9 +171,9 @@ impl<'g> Spread<'g> {
         })
     }
 
-    /// Finds the candidates of all switches towards the 64 switches from index `first` on, or towards as many as there
-    /// are. `first` must exist. Takes time linear in the number of switches and edges in each round, for all these
-    /// targets together. There is one round more than the greatest cost.
+    /// Finds the candidates of all switches towards the 64 switches from index `first` on, or towards all from there on
+    /// if there are fewer. There must be a switch at index `first`. Each round takes time linear in the number of
+    /// switches and edges, for all these targets together. There is one round more than the greatest cost.
     pub fn towards(&self, alloc: Global, first: usize) -> Result<Towards, AllocError>
         requires { first < length self.now.graph }
         ensures are { IfOk result (λ towards. AreTowards self.now towards) }
@@ -183,9 +185,9 @@ impl<'g> Spread<'g> {
         Ok(Towards { first, end, sets })
     }
 
-    /// Finds how packets leave the switch at the index `own`, which must exist, towards each target. `towards` must be
-    /// of these routes. Replaces the contents of `exits`. Takes time linear in the number of edges and candidates of
-    /// the switch.
+    /// Sets `exits` to the ports by which packets leave the switch at index `own` towards each target of `towards`.
+    /// There must be a switch at index `own`. `towards` must be of these routes. Takes time linear in the number of
+    /// edges and candidates of the switch.
     pub fn exits_from<'s>(
         &'s self,
         own: usize,
@@ -207,7 +209,7 @@ impl<'g> Spread<'g> {
     }
 }
 
-/// Returns the part of `list` from index `first` on. It is empty if the list is shorter.
+/// Returns the part of `list` from index `first` on, or an empty list past the end.
 fn behind(list: &[usize], first: usize) -> &[usize]
     ensures { result.now ≡ drop first list.now }
 {

@@ -26,8 +26,8 @@ pub(crate) struct SwitchKeys {
     pub(crate) levels: Vec<usize>,
 }
 
-/// Returns the switches of `graph` in the order of the rule. `adapters` must have the number of adapters at each
-/// switch, by rising GUID. Takes no longer than `Spread::of`.
+/// Returns the switches of `graph` in the order of the rule that spreads by `order`. `adapters` must have the number of
+/// adapters at each switch, by rising GUID. Takes no longer than `Spread::of`.
 pub fn switches_in_order(
     alloc: Global,
     graph: &SwitchGraph,
@@ -43,7 +43,7 @@ pub fn switches_in_order(
     switches_at(alloc, graph.switches(), &vertices)
 }
 
-/// Returns the GUIDs of the switches at `indices`.
+/// Returns those of `guids` at `indices`, in the order of `indices`.
 fn switches_at(alloc: Global, guids: &[Guid], indices: &[usize]) -> Result<Vec<Guid>, AllocError>
     requires { All (λ i. i < length guids.now) indices.now }
     ensures { IfOk result (λ found. found.items ≡ map (at_position guids.now) indices.now) }
@@ -138,8 +138,8 @@ fn least_loaded(
     Ok(SwitchKeys { keys, levels })
 }
 
-/// Returns the keys of the switches of `graph` by the list `switches`, which may name only some. Takes a binary search
-/// among the switches of the graph for each switch of the list.
+/// Returns the keys of the switches of `graph` by the list `switches`, which may name only some of them. Takes a binary
+/// search among the switches of the graph for each switch of the list.
 fn keys_as_named(
     alloc: Global,
     graph: &SwitchGraph,

@@ -4,18 +4,19 @@ ghost use Rattle.spread_routes.specs.SwitchOrders.{is_balanced, order_value_of};
 use smp_bytes::Guid;
 use std::alloc::{AllocError, Global};
 
-/// What the order of the switches grows by.
+/// What the order of the switches grows by, and whether loads are balanced.
 #[derive(Drop)]
 pub enum SwitchOrder {
     /// The distances of the switches from some switches, the roots.
     FromRoots {
-        /// The roots. In a component without one, its most central switch is its root.
+        /// The roots. In a component without a root, mean distances from the leaf switches count instead. GUIDs that
+        /// are not switches are ignored.
         roots: Vec<Guid>,
     },
     /// A list that names switches.
     AsNamed {
-        /// The switches. Switches that are missing come after them, by rising GUID. GUIDs that are not a switch are
-        /// ignored.
+        /// The named switches, earlier keys first. Switches that are not named have later keys, by rising GUID. GUIDs
+        /// that are not switches are ignored.
         switches: Vec<Guid>,
     },
     /// A list that names switches, with loads balanced.

@@ -1,4 +1,4 @@
--- That the plan of a view is whole and gives switches LIDs, as stages of steps require.
+-- The plan of a view is whole and gives switches LIDs, as stages of steps require.
 use Rattle.std.specs.Prelude.{ℕ, Contains}
 use Rattle.fact_store.specs.View.{Facts, cells_of, AreInRange}
 use Rattle.subnet_view.specs.Reading.{Cells, switches}
@@ -15,7 +15,7 @@ PlansAreWhole =
     (rule : RuleValue) (lmc : ℕ) (facts : Facts) → AreInRange facts → ¬ (IsNoRoom lmc (cells_of facts))
     → IsWholePlan (cells_of facts) (held_plan (plan_of rule lmc (cells_of facts)))
 
--- the port 0 of each usable switch is an end port: its GUID is known
+-- port 0 of each usable switch is an end port: its GUID is known
 abbrev pub SwitchesAreEndPorts : Cells → Type 0
 SwitchesAreEndPorts cells =
     (g : ℕ) → Contains (switches cells) g → Contains (end_ports cells) (record { node = g; port = 0 })

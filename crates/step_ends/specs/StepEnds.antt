@@ -60,15 +60,15 @@ pub record IsFreeOfLoops (lmc : ℕ) (rule : RuleValue) (facts : Facts) (held : 
       → cycle ≡ []
   pub right : are_right (cells_of facts) (plan_position rule (cells_of facts)) (stepped lmc rule facts held) ≡ true
 
--- if facts are in range and have room, a step towards their plan from tables that are right by the order of its
--- switches makes no credit loop, and leads to tables that are right by it
+-- if facts are in range and have room, a step towards their plan from tables that are right by the order of the plan's
+-- switches makes no credit loop, and leads to tables that are right by this order
 abbrev pub RightTablesMakeNoLoop : Type 0
 RightTablesMakeNoLoop =
     (rule : RuleValue) (lmc : ℕ) (facts : Facts) (held : HeldPlan) → AreInRange facts
     → ¬ (IsNoRoom lmc (cells_of facts)) → are_right (cells_of facts) (plan_position rule (cells_of facts)) held ≡ true
     → IsFreeOfLoops lmc rule facts held
 
--- equal facts, options and held tables give equal next tables, by the same goal, if there is one
+-- equal facts, options, held tables and plans give equal goals and equal next tables
 abbrev pub StepsHaveOneResult : Type 0
 StepsHaveOneResult =
     (told : Bool) (rule preferred : RuleValue) (facts : Facts) (held plan : HeldPlan)
@@ -89,7 +89,8 @@ ToldStepsMakeNoLoop =
     → IsGoalOf true rule preferred facts held (planned lmc rule facts) (Some goal)
     → IsFreeByTold facts held (next_towards rule facts held (planned lmc rule facts) (Some goal)) goal
 
--- what `next` prints after the given number of steps from the tables of `text`, each step from what was printed before
+-- the text that `next` prints after the given number of steps from the tables of `text`, each step from the text that
+-- was printed before; `text` itself after no step
 abbrev pub printed : ℕ → RuleValue → Facts → List ℕ → ℕ → List ℕ
 printed lmc rule facts text zero = text
 printed lmc rule facts text (suc n) = step_text lmc rule facts (held_of (printed lmc rule facts text n))
@@ -102,8 +103,8 @@ pub record AreEnough (rule : RuleValue) (lmc : ℕ) (facts : Facts) (n : ℕ) : 
   pub two : 2 ≤ most
   pub enough : most + 2 * length (switches (cells_of facts)) + 2 ≤ n
 
--- if facts are in range and have room, the LMC is at most 7, and n steps are enough, step n + 1 prints what step n
--- printed, byte for byte
+-- step n + 1 prints what step n printed, byte for byte, if n steps are enough. The facts must be in range and have
+-- room, and the LMC must be at most 7
 abbrev pub PrintedStepsEnd : Type 0
 PrintedStepsEnd =
     (rule : RuleValue) (lmc : ℕ) (facts : Facts) (text : List ℕ) (n : ℕ) → lmc ≤ 7 → AreInRange facts
@@ -114,8 +115,8 @@ PrintedStepsEnd =
 abbrev pub WaysMeetAtMostAll : Type 0
 WaysMeetAtMostAll = (cells : Cells) (plan : HeldPlan) → MeetAtMost cells plan (length (switches cells))
 
--- if facts are in range and have room, the LMC is at most 7, a LID is given, and no usable switch held a top above the
--- greatest LID, `next` prints after enough steps what `plan` prints
+-- after enough steps `next` prints what `plan` prints, if a LID is given, and no usable switch held a top above the
+-- greatest LID. The facts must be in range and have room, and the LMC must be at most 7
 abbrev pub LastTextIsThePlans : Type 0
 LastTextIsThePlans =
     (rule : RuleValue) (lmc : ℕ) (facts : Facts) (text : List ℕ) (n top : ℕ) → lmc ≤ 7 → AreInRange facts

@@ -32,7 +32,7 @@ are_known lids = list_all (λ lid. not (lid == 0)) lids
 
 -- packets for one LID ----------------------------------------------------------------------------
 
--- packets leave the switch of channel `a` by it, along its edge in `before`, and the next switch by channel `b`, along
+-- packets leave the switch of channel `a` by `a`, along its edge in `before`, and the next switch by channel `b`, along
 -- its edge in `now`
 abbrev pub TakesFrom : List (Option Edge) → List (Option Edge) → ℕ → ℕ → Type 0
 TakesFrom before now a b = TakesAcross before now (a / 256) a b
@@ -47,8 +47,8 @@ abbrev pub IsNoted : List (Option Edge) → List (Option Edge) → ℕ → ℕ �
 IsNoted held next lid a b known new =
     ((known ≡ 0) × TakesHere held next a b × (new ≡ lid)) ⊎ ((new ≡ known) × (known ≡ 0 → ¬ (TakesHere held next a b)))
 
--- `new` is `known`, where `lid` is noted for each channel of `cycle` without a LID, if packets for `lid` hold the
--- channel and wait for the one in `after`
+-- `new` is `known` with `lid` noted for each channel of `cycle` without a LID, if packets for `lid` hold this channel
+-- and wait for the channel at the same index of `after`
 pub record AreNoted (held next : List (Option Edge)) (lid : ℕ) (cycle after known new : List ℕ) : Type 0 where
   pub as_many : length new ≡ length known
   pub each : (i : ℕ) → i < length known

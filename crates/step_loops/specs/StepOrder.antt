@@ -8,12 +8,13 @@ use Rattle.audit_channels.specs.declared.order.ChannelOrder.{ChannelOrder}
 use Rattle.audit_channels.specs.declared.order.ChannelOrder.TheVariants.{Rises, Cycle}
 use Rattle.next_tables.specs.Mixtures.{TakesInStep, WaitsInStep, RiseInStep}
 
--- in `new` channel b follows a exactly if it does in `old`, or packets take a and then b, each by either column
+-- in `new` a channel `b` follows a channel `a` exactly if it does in `old`, or if packets take `a` and then `b`, each
+-- by either column
 pub record IsWithStep (old : List (List ℕ)) (held next : List (Option Edge)) (new : List (List ℕ)) : Type 0 where
   pub as_many : length new ≡ length old
   pub follows : (a b : ℕ) → Follows new a b ↔ (Follows old a b ⊎ TakesInStep held next a b)
 
--- in `waits` channel b follows a if packets take a and then b, each by either column
+-- in `waits` a channel `b` follows a channel `a` if packets take `a` and then `b`, each by either column
 abbrev pub IsAddedInStep : List (Option Edge) → List (Option Edge) → List (List ℕ) → Type 0
 IsAddedInStep held next waits = (a b : ℕ) → TakesInStep held next a b → Follows waits a b
 
@@ -56,7 +57,7 @@ abbrev pub NoneShorter : Cells → HeldPlan → HeldPlan → List ℕ → Type 0
 NoneShorter cells held next channels =
     (cycle : List ℕ) → WaitInCycle cells held next cycle → length channels ≤ length cycle
 
--- a channel order is numbers, or channels than which no credit loop of the step has fewer
+-- a channel order has numbers; or it has channels, and no credit loop of the step has fewer
 abbrev pub IsShortestInStep : Cells → HeldPlan → HeldPlan → ChannelOrder → Type 0
 IsShortestInStep cells held next (Rises numbers) = Unit {0}
 IsShortestInStep cells held next (Cycle channels) = NoneShorter cells held next channels.items

@@ -40,7 +40,7 @@ pub record HasEndPort (part : Part) (f : Fabric) (g p : ℕ) : Type 0 where
   pub end_port : fabric.IsEndPort f port
   pub in_part : part port
 
--- a wire in a port of the part leads from port `p` of a node with the GUID `g` to port `q` of one with the GUID `h`
+-- a wire in a port of the part leads from port `p` of a node with the GUID `g` to port `q` of a node with the GUID `h`
 pub record HasWire (part : Part) (f : Fabric) (g p h q : ℕ) : Type 0 where
   pub from : NodePort
   pub to : NodePort
@@ -56,8 +56,9 @@ pub record TellsEndPort (cells : Cells) (node : fabric.Node) (p : ℕ) : Type 0 
   pub port_guid : port_guid_of cells node.guid p ≡ Some (node.port_guid p)
   pub cap : IsTrue (is_switch node.kind) → cap_of cells node.guid ≡ Some node.cap
 
--- the view describes the part, whose nodes have different GUIDs: it has the part's end ports and their nodes, and
--- exactly the part's wires in the part's ports; elsewhere it may say anything, for instance of nodes that are gone
+-- the view describes the part: it has the part's end ports and their nodes, and in ports of the part it has exactly the
+-- part's wires. The part's nodes have different GUIDs. Elsewhere the view may say anything, for instance of nodes that
+-- are gone
 pub record Covers (part : Part) (cells : Cells) (f : Fabric) : Type 0 where
   pub guids_distinct : (p q : NodePort) (a b : fabric.Node) → IsEndPortIn part f p a → IsEndPortIn part f q b → a.guid
       ≡ b.guid → p.node ≡ q.node
@@ -67,8 +68,8 @@ pub record Covers (part : Part) (cells : Cells) (f : Fabric) : Type 0 where
   pub wires_there : (port : NodePort) (node : fabric.Node) → IsNodeAt f port.node node → part (vertex_of f port)
       → (h q : ℕ) → IsWire cells node.guid port.port h q → HasWire part f node.guid port.port h q
 
--- the view describes the part exactly: the part's nodes have different GUIDs, and the view contains the part's end
--- ports and their nodes, its switches and its wires, and no others
+-- the view describes the part exactly: it has the part's end ports and their nodes, the part's switches and its wires,
+-- and no others. The part's nodes have different GUIDs
 pub record AgreesOn (part : Part) (cells : Cells) (f : Fabric) : Type 0 where
   pub guids_distinct : (p q : NodePort) (a b : fabric.Node) → IsEndPortIn part f p a → IsEndPortIn part f q b → a.guid
       ≡ b.guid → p.node ≡ q.node

@@ -20,7 +20,7 @@ AreLeft next later = MatchOption next (later ≡ []) (λ s. T (is_sorted key_cmp
 abbrev pub KeepsFrom : Key → Cells → Cells → Type 0
 KeepsFrom key old new = (k : Key) → is_before k key ≡ false → find key_cmp k new ≡ find key_cmp k old
 
--- the first of the cells, if there is one, has `key` or a key after it
+-- the first of the cells has `key` or a key after `key`; true if there are no cells
 abbrev pub IsFrom : Key → Cells → Type 0
 IsFrom key [] = Unit {0}
 IsFrom key (s ∷ later) = is_before s.0 key ≡ false

@@ -15,17 +15,18 @@ use Rattle.subnet_view.specs.declared.end_port.EndPort.{EndPort}
 use Rattle.reply_facts.specs.Known.{node_of, port_guid_of}
 use Rattle.subnet_view.specs.Reading.{Cells, is_switch_node, is_port_of}
 
--- whether `p` is the number of an end port of node `g`: 0 if that is known to be a switch, else from 1 to its number of
--- ports
+-- whether `p` is the number of an end port of node `g`: 0 if the node is known to be a switch, else from 1 to the
+-- node's number of ports
 abbrev pub is_end_port_number : Cells → ℕ → ℕ → Bool
 is_end_port_number cells g p = if is_switch_node cells g then p == 0 else is_port_of cells g p
 
--- whether port `p` of node `g` is an end port: its number is that of one (`is_end_port_number`), and its GUID is known
+-- whether port `p` of node `g` is an end port: `p` is the number of one (`is_end_port_number`), and the GUID of the
+-- port is known
 abbrev pub is_end_port : Cells → ℕ → ℕ → Bool
 is_end_port cells g p = is_end_port_number cells g p && is_some (port_guid_of cells g p)
 
--- the end port that a cell gives the GUID of, with this GUID; None if the cell is of no port GUID, the GUID is
--- disputed, or the port is no end port
+-- the end port whose GUID a cell gives, with this GUID; None if the cell is of no port GUID, the GUID is disputed, or
+-- the port is no end port
 abbrev pub guid_and_port : Cells → Key × Cell Value → Option (ℕ × EndPort)
 guid_and_port cells ((PortGuid g p), c) =
     if is_end_port_number cells g p then option_map (λ guid. (guid, record { node = g; port = p }))
@@ -44,7 +45,7 @@ port_cmp a b = slice_cmp nat_cmp (port_numbers a) (port_numbers b)
 abbrev pub comes_before : ℕ × EndPort → ℕ × EndPort → Bool
 comes_before a b = is_lt (port_cmp a b)
 
--- the list with `e` inserted before the first end port that it comes before; at the end if there is none
+-- the list with `e` inserted before the first end port that `e` comes before; at the end if `e` comes before none
 abbrev pub put_in_order : ℕ × EndPort → List (ℕ × EndPort) → List (ℕ × EndPort)
 put_in_order e [] = e ∷ []
 put_in_order e (x ∷ xs) = if comes_before e x then e ∷ x ∷ xs else x ∷ put_in_order e xs
@@ -69,7 +70,7 @@ ports_after cells (Some e) = filter (comes_before e) (guids_and_ports cells)
 
 -- the laws of these definitions: ------------------------------------------------------
 
--- node `g` is known to have this type and this number of ports
+-- node `g` is known to have the type `kind` and `ports` ports
 abbrev pub IsNodeWith : Cells → ℕ → NodeType → ℕ → Type 0
 IsNodeWith cells g kind ports = node_of cells g ≡ Some (kind, ports)
 

@@ -41,7 +41,7 @@ is_usable cells g = is_switch_node cells g && is_some (cap_of cells g)
 abbrev pub is_port_of : Cells → ℕ → ℕ → Bool
 is_port_of cells g p = is_within p (port_count_of cells g)
 
--- the node of a cell that says what a node is, if that is a usable switch; None for other nodes and cells
+-- the node whose type a cell gives, if this node is a usable switch; None for other nodes and for other cells
 abbrev pub usable_guid : Cells → Key × Cell Value → Option ℕ
 usable_guid cells ((Node g), c) = if is_usable cells g then Some g else None
 usable_guid cells (_, c) = None

@@ -8,14 +8,15 @@ use Rattle.subnet_view.specs.Graph.{edges_at}
 use Rattle.subnet_view.specs.GraphLaws.{IsSwitch}
 use Rattle.subnet_view.specs.Components.{in_one_component}
 
--- a rule of routing: `next`, the port by which a packet for a LID leaves one switch for another; `cost`, the number of
--- wires that it takes from there; and `channel`, the number of the channel from a switch to a neighbor
+-- a rule of routing. `next` is the port by which a packet for a LID leaves one switch for another, `cost` the number of
+-- wires from the one to the other, and `channel` the number of the channel from a switch to a neighbor
 pub record Routing : Type 0 where
   pub next : ℕ → ℕ → ℕ → Option ℕ
   pub cost : ℕ → ℕ → Option ℕ
   pub channel : ℕ → ℕ → ℕ
 
--- each of the edges is one of the graph, from where the edge before it leads; the first is one of switch `s`
+-- each of the edges is one of the graph, at the switch that the edge before it leads to; the first edge is one of
+-- switch `s`
 abbrev pub Passes : List SwitchEdges → ℕ → List Edge → Type 0
 Passes graph s [] = Unit {0}
 Passes graph s (e ∷ es) = Contains (edges_at graph s) e × Passes graph e.to es
@@ -35,8 +36,8 @@ abbrev pub numbers_along : (ℕ → ℕ → ℕ) → ℕ → List Edge → List 
 numbers_along number s [] = []
 numbers_along number s (e ∷ es) = number s e.to ∷ numbers_along number e.to es
 
--- `rule` leads a packet for the LID `lid` from switch `s` to switch `t` over `n` edges of the graph; it passes no
--- switch twice, and the numbers of its channels rise
+-- `rule` leads a packet for the LID `lid` from switch `s` to switch `t` over `n` edges of the graph; the packet passes
+-- no switch twice, and the numbers of the channels that it takes rise
 pub record Leads (graph : List SwitchEdges) (rule : Routing) (lid s t n : ℕ) : Type 0 where
   pub edges : List Edge
   pub by_rule : FollowsRule rule lid t s edges
@@ -45,8 +46,8 @@ pub record Leads (graph : List SwitchEdges) (rule : Routing) (lid s t n : ℕ) :
   pub no_switch_twice : AllPairs (λ a b. a ≢ b) (stops s edges)
   pub channels_rise : IsStrictlyIncreasing (numbers_along rule.channel s edges)
 
--- `rule` is a rule of routing on the graph: each switch of a component has a cost to each switch of it; and if a switch
--- has a cost to another, `rule` leads there over as many wires, for each LID
+-- `rule` is a rule of routing on the graph: each switch has a cost to each switch of its component. If a switch has a
+-- cost to a switch, `rule` leads there over as many wires, for each LID
 pub record IsRouting (graph : List SwitchEdges) (rule : Routing) : Type 0 where
   pub reaches : (s t : ℕ) → IsSwitch graph s → IsSwitch graph t → in_one_component graph s t ≡ true → (n : ℕ)
       × (rule.cost s t ≡ Some n)

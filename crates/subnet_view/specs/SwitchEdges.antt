@@ -1,4 +1,4 @@
--- A switch with its edges, its wires to switches.
+-- A switch with its edges, which are its wires to switches.
 use Rattle.std.specs.Prelude.{ℕ, List}
 use Rattle.port_graph.specs.declared.edge.Edge.{Edge}
 

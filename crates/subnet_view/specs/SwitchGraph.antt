@@ -15,7 +15,7 @@ LeadBelow n edges = (e : Edge) → Contains edges e → e.to < n
 abbrev pub IsIndexOf : List ℕ → ℕ → ℕ → Type 0
 IsIndexOf numbers number i = (i < length numbers) × (slice_index numbers i ≡ number)
 
--- `found` is the index of `number` in `numbers`; None if it is not there
+-- `found` is the index of `number` in `numbers`; None if `numbers` do not have it
 abbrev pub IsIndexIn : List ℕ → ℕ → Option ℕ → Type 0
 IsIndexIn numbers number found = MatchOption found (¬ (Contains numbers number)) (IsIndexOf numbers number)
 
@@ -31,7 +31,7 @@ by_guid guids e = record { port = e.port; to = slice_index guids e.to }
 abbrev pub AreEdgesAt : List SwitchEdges → ℕ → List Edge → Type 0
 AreEdgesAt graph i edges = map (by_guid (guids_of graph)) edges ≡ edges_at graph (switch_at graph i)
 
--- the distance from the switch at index `i` to each switch, by rising GUID; None where no walk leads
+-- the distance from the switch at index `i` to each switch, by rising GUID; None for a switch to which no walk leads
 abbrev pub distances_from : List SwitchEdges → ℕ → List (Option ℕ)
 distances_from graph i = map (distance graph (switch_at graph i)) (guids_of graph)
 
@@ -41,11 +41,12 @@ switch_edges [] edges = []
 switch_edges (g ∷ guids) [] = []
 switch_edges (g ∷ guids) (es ∷ edges) = record { guid = g; edges = es } ∷ switch_edges guids edges
 
--- the graph of the switches `guids`, where `edges` has the edges of each, which lead to indices
+-- the graph of the switches `guids`; `edges` has the edges of each switch, which lead to indices
 abbrev pub named : List ℕ → List (List Edge) → List SwitchEdges
 named guids edges = switch_edges guids (map (map (by_guid guids)) edges)
 
--- `edges` has for each switch of `guids` edges that lead to indices of switches, and together they are a graph
+-- `edges` has for each switch of `guids` its edges, which lead to indices of switches; the switches with these edges
+-- are a graph (`IsGraph`)
 pub record IsSwitchGraph (guids : List ℕ) (edges : List (List Edge)) : Type 0 where
   pub as_many : length edges ≡ length guids
   pub to_switches : LeadToVertices edges

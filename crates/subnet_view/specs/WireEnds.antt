@@ -16,21 +16,22 @@ use Rattle.subnet_view.specs.Reading.{Cells, is_up, is_switch_in}
 use Rattle.subnet_view.specs.CellCursor.{KeepsFrom, is_before}
 use Rattle.subnet_view.specs.Wires.{is_at, is_wire_end}
 
--- the far end of the link in port `p` of node `g`; None if it is not known or the port cannot have a wire
+-- the far end of the link in port `p` of node `g`; None if it is not known, or if the port cannot have a wire
 abbrev pub end_link : Cells → ℕ → ℕ → Option (ℕ × ℕ)
 end_link cells g p = if is_wire_end cells g p then link_of cells g p else None
 
--- the port that a cell says the link of, and the link's far end; None if the cell is of no link, the link is disputed,
+-- the port whose link a cell gives, and the far end of this link; None if the cell is of no link, the link is disputed,
 -- or the port cannot have a wire
 abbrev pub wire_end : Cells → Key × Cell Value → Option ((ℕ × ℕ) × (ℕ × ℕ))
 wire_end cells ((Link g p), c) = option_map (λ q. ((g, p), q)) (end_link cells g p)
 wire_end cells (_, c) = None
 
--- all ports that can have a wire and whose links are known, with the far ends of these, by rising GUID and port
+-- all ports that can have a wire and whose links are known, each with the far end of its link, by rising GUID and port
 abbrev pub wire_ends : Cells → List ((ℕ × ℕ) × (ℕ × ℕ))
 wire_ends cells = filter_map (wire_end cells) cells
 
--- whether `near` and `far` are different ports and the link of `far`, which is `back`, leads to `near`
+-- whether `near` and `far` are different ports, and `back`, the far end of the link of `far`, is `near`; false if
+-- `back` is None
 abbrev pub is_pair : ℕ × ℕ → ℕ × ℕ → Option (ℕ × ℕ) → Bool
 is_pair near far back = not (is_at near.0 near.1 far) && option_map_or (is_at near.0 near.1) back false
 
@@ -45,7 +46,7 @@ abbrev pub is_end_read : PortReader → ℕ → ℕ → Bool
 is_end_read r g p = let node = node_of r.nodes g in is_up r.ports g p && is_within p (count_of node)
     && (if is_switch_in node then is_some (cap_of r.caps g) else is_some (port_guid_of r.guids g p))
 
--- the port that a cell says the link of, and the link's far end, by the cells that the reader has not passed; None if
+-- the port whose link a cell gives, and the far end of this link, by the cells that the reader has not passed; None if
 -- the cell is of no link, the link is disputed, or the port cannot have a wire
 abbrev pub end_read : PortReader → Key × Cell Value → Option ((ℕ × ℕ) × (ℕ × ℕ))
 end_read r ((Link g p), c) =
@@ -59,7 +60,7 @@ pub record HasNotPassed (cells : Cells) (r : PortReader) (g p : ℕ) : Type 0 wh
   pub port : find key_cmp (Port g p) r.ports ≡ find key_cmp (Port g p) cells
   pub cap : find key_cmp (Cap g) r.caps ≡ find key_cmp (Cap g) cells
 
--- from `old` to `new` the reader passes nothing that is said of the node and the port of `key` or of later ones
+-- from `old` to `new` the reader passes nothing that is said of a port if the key of its link is `key` or a later one
 abbrev pub PassesNone : Key → PortReader → PortReader → Type 0
 PassesNone key old new = (cells : Cells) (h q : ℕ) → is_before (Link h q) key ≡ false → HasNotPassed cells old h q
     → HasNotPassed cells new h q

@@ -17,18 +17,18 @@ is_wire_end cells g p = is_up cells g p && is_port_of cells g p
 abbrev pub is_at : ℕ → ℕ → ℕ × ℕ → Bool
 is_at g p q = g == q.0 && p == q.1
 
--- whether a wire joins port `p` of node `g` and the port `q`, if the link of the first names `q`: the ports are
--- different, both can have a wire, and the link of `q` names the first
+-- whether a wire joins port `p` of node `g` and the port `q`, which the link of the first port names. They are
+-- different ports, both can have a wire, and the link of `q` names the first port
 abbrev pub is_wire : Cells → ℕ → ℕ → ℕ × ℕ → Bool
 is_wire cells g p q = not (is_at g p q) && is_wire_end cells g p && is_wire_end cells q.0 q.1
     && option_map_or (is_at g p) (link_of cells q.0 q.1) false
 
--- the other end of the wire in port `p` of node `g`; None if it has no wire
+-- the other end of the wire in port `p` of node `g`; None if no wire is in the port
 abbrev pub across : Cells → ℕ → ℕ → Option (ℕ × ℕ)
 across cells g p = option_and_then (λ q. if is_wire cells g p q then Some q else None) (link_of cells g p)
 
--- the switch and its port that the wire in port `p` of node `g` leads to; None if `g` is itself a switch, or no wire
--- leads to a switch
+-- the switch and its port that the wire in port `p` of node `g` leads to; None if `g` is itself a switch, or if no wire
+-- leads from the port to a switch
 abbrev pub attached : Cells → ℕ → ℕ → Option (ℕ × ℕ)
 attached cells g p =
     if is_switch_node cells g then None else option_and_then (λ q. if is_switch_node cells q.0 then Some q else None)
@@ -36,14 +36,14 @@ attached cells g p =
 
 -- the laws of these definitions: ------------------------------------------------------
 
--- port `p` of node `g` can have a wire: `p` is from 1 to the node's number of ports, it is up, and the node is a switch
--- of known table room, or another node and the port's GUID is known
+-- port `p` of node `g` can have a wire: it is up, `p` is from 1 to the node's number of ports, and the node is a switch
+-- of known table room, or another node at which the GUID of the port is known
 abbrev pub CanHaveWire : Cells → ℕ → ℕ → Type 0
 CanHaveWire cells g p = (kind : NodeType) × (ports : ℕ) × IsNodeWith cells g kind ports × (1 ≤ p) × (p ≤ ports)
     × IsTrue (is_up cells g p) × MatchBool (is_switch kind) (IsSome (cap_of cells g)) (IsSome (port_guid_of cells g p))
 
--- a wire joins port `p` of node `g` and port `q` of node `h`: they are different, both can have a wire, and their links
--- name each other
+-- a wire joins port `p` of node `g` and port `q` of node `h`: the ports are different, both can have a wire, and their
+-- links name each other
 pub record IsWire (cells : Cells) (g p h q : ℕ) : Type 0 where
   pub different : ◌≢◌ {A = ℕ × ℕ} (g, p) (h, q)
   pub first : CanHaveWire cells g p

@@ -14,7 +14,7 @@ use std::marker::Model;
 pub(crate) struct CellCursor<'s> {
     /// The first cell that has not been passed.
     next: Option<Sighting>,
-    /// The cells after it.
+    /// The cells after `next`.
     later: Cells<'s>,
 }
 
@@ -84,8 +84,8 @@ impl<'s> CellCursor<'s> {
         matches!(self.known(Key::Port(node, port)), Some(Value::Up(true)))
     }
 
-    /// Returns the known value of `key`, or `None` if there is none. Passes the cells of earlier keys. Only this key
-    /// and later ones can be looked up afterwards.
+    /// Returns the value of `key`, or `None` if it is not known. Passes the cells of earlier keys. Only `key` and later
+    /// keys can be looked up afterwards.
     fn known(&mut self, key: Key) -> Option<Value>
         ensures value { result ≡ known_in self.old key }
         ensures later { KeepsFrom key self.old self.new }

@@ -98,8 +98,9 @@ pub(crate) fn sort_key(end: &(Guid, EndPort)) -> [u64; 3]
     ]
 }
 
-/// Returns the end port of a cell with its port GUID, or `None` if the cell is not the GUID of an end port. `sighting`
-/// must be a cell of `store`. Takes a binary search among the cells if its key is that of a port GUID.
+/// Returns the end port of a cell with its port GUID, or `None` if the cell does not give the GUID of an end port.
+/// `sighting` must be a cell of `store`. Takes a binary search among the cells if the key of `sighting` is that of a
+/// port GUID.
 pub(crate) fn guid_and_port(store: &Store, sighting: &Sighting) -> Option<(Guid, EndPort)>
     requires { cell_for store.now sighting.now.0 ≡ Some sighting.now.1 }
     ensures { result ≡ guid_and_port (cells_of store.now) sighting.now }
@@ -118,7 +119,7 @@ pub(crate) fn guid_and_port(store: &Store, sighting: &Sighting) -> Option<(Guid,
 }
 
 /// Returns whether `port` is port 0 of a switch, or from 1 to the number of ports of another node. Returns `false` if
-/// it is not known what `node` is. Takes a binary search among the cells.
+/// the type of `node` is not known. Takes a binary search among the cells.
 fn is_end_port_number(store: &Store, node: Guid, port: PortNum) -> bool
     ensures { result ≡ is_end_port_number (cells_of store.now) node port }
 {

@@ -1,4 +1,4 @@
-//! The end ports in their order, one after the other, without memory.
+//! The end ports in their order, one after the other, without allocating.
 ghost use Rattle.std.specs.Prelude.{◌≡◌, [], ◌∷◌, Some, MatchOption};
 ghost use Rattle.fact_store.specs.View.{cells_of};
 ghost use Rattle.subnet_view.specs.EndPorts.{comes_before, ports_after};
@@ -8,9 +8,9 @@ use crate::end_port::{EndPort, guid_and_port, sort_key};
 use fact_store::Store;
 use smp_bytes::Guid;
 
-/// Returns the first end port after `last` in the order of `end_ports`, with its port GUID, or the first of all if
-/// `last` is `None`. Returns `None` if there is none. Walks the cells, with a binary search for each port GUID. Does
-/// not allocate.
+/// Returns the first end port after `last` in the order of `end_ports`, with its port GUID. If `last` is `None`,
+/// returns the first end port of all. Returns `None` if no such end port exists. Walks the cells, with a binary search
+/// for each port GUID. Does not allocate.
 pub fn next_end_port(store: &Store, last: Option<(Guid, EndPort)>) -> Option<(Guid, EndPort)>
     ensures { MatchOption result (ports_after (cells_of store.now) last ≡ [])
         (λ end. ports_after (cells_of store.now) last
@@ -25,8 +25,8 @@ pub fn next_end_port(store: &Store, last: Option<(Guid, EndPort)>) -> Option<(Gu
     next
 }
 
-/// Returns `end` if it comes after `last`, if there is one, and before `next`, if there is one. Otherwise returns
-/// `next`.
+/// Returns `end` if it comes after `last` and before `next`. Otherwise returns `next`. A `last` or a `next` that is
+/// `None` sets no bound.
 fn nearer(
     last: &Option<(Guid, EndPort)>,
     next: Option<(Guid, EndPort)>,

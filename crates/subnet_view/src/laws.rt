@@ -14,8 +14,8 @@ pub fn switches_are_listed_by_guid()
     ensures { SwitchesLaw }
 {}
 
-/// An end port is port 0 of a node known to be a switch, or a port from 1 to the number of ports of a node known to be
-/// of another type. Its GUID is known.
+/// An end port is port 0 of a known switch, or a port from 1 to the port count of another known node, with a known
+/// GUID.
 pub fn end_port_is_in_words()
     ensures { EndPortLaw }
 {}
@@ -30,29 +30,29 @@ pub fn wire_is_in_words()
     ensures { WireLaw }
 {}
 
-/// A wire goes both ways.
+/// If a wire leads from one port to another, it also leads back.
 pub fn wires_go_both_ways()
     ensures { WiresGoBothWays }
 {}
 
-/// A port is attached to a port of a usable switch exactly if its node is not known to be a switch and a wire leads
-/// from it to that port.
+/// A port of a node that is not known to be a switch is attached to a port of a usable switch exactly if a wire joins
+/// the two.
 pub fn attachment_is_in_words()
     ensures { AttachedLaw }
 {}
 
-/// Facts give a graph: its switches are in order of rising GUID, each with its edges by rising port, and each edge
-/// leads to a switch that has an edge back.
+/// Facts give a graph: switches by rising GUID, the edges of each by rising port, and each edge leads to a switch with
+/// an edge back.
 pub fn facts_give_a_graph()
     ensures { GraphLaw }
 {}
 
-/// The switches of the graph are the usable ones.
+/// The switches of the graph are exactly the usable switches.
 pub fn switches_are_the_usable_ones()
     ensures { SwitchLaw }
 {}
 
-/// The edges of a switch are the wires from it to usable switches.
+/// The edges of a usable switch are exactly the wires from it to usable switches.
 pub fn edges_are_wires_among_switches()
     ensures { EdgeLaw }
 {}

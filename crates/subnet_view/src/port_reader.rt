@@ -31,9 +31,9 @@ impl<'s> PortReader<'s> {
         }
     }
 
-    /// Returns both ends of the link that `sighting` tells, which are its own port and the far end. Returns `None` if
-    /// `sighting` is not of a link, if it is disputed, or if its own port cannot have a wire. Passes what is known of
-    /// earlier ports.
+    /// Returns the two ends of the link that `sighting` reports: the port of its key, and the far end. Returns `None`
+    /// if `sighting` is not of a link, if the link is disputed, or if the port of the key cannot have a wire. Passes
+    /// what is known of earlier ports.
     pub(crate) fn wire_end(
         &mut self,
         sighting: &Sighting,
@@ -66,7 +66,7 @@ impl<'s> PortReader<'s> {
     }
 }
 
-/// Returns whether `port` is from 1 to the number of ports of its node. Returns `false` if the node is not known.
+/// Returns whether `port` is from 1 to the number of ports of `node`. Returns `false` if `node` is not known.
 fn is_port_of(port: PortNum, node: Option<(NodeType, u8)>) -> bool
     ensures { result ≡ is_within port (count_of node) }
 {

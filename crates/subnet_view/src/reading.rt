@@ -30,14 +30,14 @@ pub(crate) fn is_switch(store: &Store, node: Guid) -> bool
     matches!(store.node(node), Some((NodeType::Switch, _)))
 }
 
-/// Returns whether the value of `sighting` is that its node is a switch.
+/// Returns whether `sighting` says that its node is a switch.
 pub(crate) fn is_switch_said(sighting: &Sighting) -> bool
     ensures { result ≡ is_switch_in (kind_in (value_in (Some sighting.now.1))) }
 {
     matches!(sighting.value(), Some(Value::Kind(NodeType::Switch, _)))
 }
 
-/// Returns the GUID that is the value of `sighting`, or `None` if it has no value or another one.
+/// Returns the GUID that is the value of `sighting`, or `None` if the value is disputed or is no GUID.
 pub(crate) fn guid_said(sighting: &Sighting) -> Option<Guid>
     ensures { result ≡ guid_in (value_in (Some sighting.now.1)) }
 {
@@ -47,8 +47,7 @@ pub(crate) fn guid_said(sighting: &Sighting) -> Option<Guid>
     }
 }
 
-/// Returns the node and the port at the other end of a link that are the value of `sighting`, or `None` if it has no
-/// value or another one.
+/// Returns the far end of a link that is the value of `sighting`, or `None` if the value is disputed or is no far end.
 pub(crate) fn peer_said(sighting: &Sighting) -> Option<(Guid, PortNum)>
     ensures { result ≡ peer_in (value_in (Some sighting.now.1)) }
 {

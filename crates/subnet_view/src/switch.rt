@@ -36,8 +36,9 @@ fn listed_switches(alloc: Global, store: &Store) -> Result<Vec<Guid>, AllocError
     Ok(found)
 }
 
-/// Returns the node that `sighting` is about, or `None` if it is not about a node, or not about a usable switch.
-/// `sighting` must be a cell of `store`. Takes a binary search among the cells if the node is a switch.
+/// Returns the node whose type `sighting` reports, if this node is a usable switch. Returns `None` for any other node,
+/// and if `sighting` is not of a node. `sighting` must be a cell of `store`. Takes a binary search among the cells if
+/// the node is a switch.
 pub fn usable_guid(store: &Store, sighting: &Sighting) -> Option<Guid>
     requires { cell_for store.now sighting.now.0 ≡ Some sighting.now.1 }
     ensures { result ≡ usable_guid (cells_of store.now) sighting.now }
@@ -54,7 +55,7 @@ pub fn usable_guid(store: &Store, sighting: &Sighting) -> Option<Guid>
     }
 }
 
-/// Returns whether the value of `sighting` is that its node is a switch, and the table room of `node` is known.
+/// Returns whether `sighting` says that its node is a switch, and the table room of `node` is known.
 fn is_usable_said(store: &Store, node: Guid, sighting: &Sighting) -> bool
     ensures { result ≡ (is_switch_in (kind_in (value_in (Some sighting.now.1)))
         && is_some (cap_of (cells_of store.now) node)) }

@@ -41,8 +41,9 @@ impl Model for SwitchGraph {
 }
 
 impl SwitchGraph {
-    /// Builds the graph of the view's usable switches and the wires between them. Takes at most two binary searches
-    /// among the ports that can have a wire for each port of a switch, and one among the switches for each wire.
+    /// Builds the graph of the view's usable switches and the wires between them. Walks the cells, with at most two
+    /// binary searches among them for each switch. For each port of a switch takes at most two binary searches among
+    /// the ports that can have a wire. For each wire takes one among the switches.
     pub fn of(alloc: Global, wires: &Wires) -> Result<Self, Refused>
         ensures { IfOk result (λ graph. graph ≡ graph_of (cells_of wires.now)) }
     {
@@ -73,7 +74,7 @@ impl SwitchGraph {
         self.guids
     }
 
-    /// Returns the switch at `index`, or `None` if there is none. Takes constant time.
+    /// Returns the switch at `index`, or `None` if the graph has no such index. Takes constant time.
     pub fn switch(&self, index: usize) -> Option<Guid>
         ensures { result ≡ slice_get (guids_of self.now) index }
     {
@@ -87,8 +88,8 @@ impl SwitchGraph {
         index_of(&self.guids, switch)
     }
 
-    /// Returns the edges of the switch at `index`, which must exist. They lead to indices of switches. Takes constant
-    /// time.
+    /// Returns the edges of the switch at `index`, which must exist. The edges lead to indices of switches. Takes
+    /// constant time.
     pub fn edges(&self, index: usize) -> &[Edge]
         requires { index < length self.now }
         ensures edges { AreEdgesAt self.now index result.now }
@@ -97,7 +98,7 @@ impl SwitchGraph {
         self.edges.at(index)
     }
 
-    /// Returns the edges of all switches, by rising GUID. They lead to indices of switches.
+    /// Returns the edges of each switch, in the order of the switches' GUIDs. The edges lead to indices of switches.
     pub fn adjacency(&self) -> &Adjacency
         ensures edges { AreEdgesByIndex self.now result.now }
         ensures is_graph { IsGraph self.now }
@@ -105,8 +106,8 @@ impl SwitchGraph {
         &self.edges
     }
 
-    /// Returns the distance to each switch from the one at index `from`, which must exist, or `None` if no walk leads
-    /// there. Takes a breadth-first search.
+    /// Returns for each switch, by rising GUID, its distance from the switch at index `from`, which must exist. The
+    /// distance is `None` if no walk leads to the switch. Takes a breadth-first search.
     pub fn distances(&self, alloc: Global, from: usize) -> Result<Vec<Option<usize>>, AllocError>
         requires { from < length self.now }
         ensures { IfOk result (λ found. found.items ≡ distances_from self.now from) }
@@ -114,8 +115,8 @@ impl SwitchGraph {
         port_graph::distances(alloc, &self.edges, from)
     }
 
-    /// Returns the root of the component of each switch, which is the least GUID in it. The switches are by rising
-    /// GUID. Takes a breadth-first search for each component.
+    /// Returns for each switch, by rising GUID, the root of its component, which is the least GUID in the component.
+    /// Takes a breadth-first search for each component.
     pub fn roots(&self, alloc: Global) -> Result<Vec<Option<Guid>>, AllocError>
         ensures { IfOk result (λ roots. roots.items ≡ map (root_of self.now) (guids_of self.now)) }
     {
@@ -159,9 +160,9 @@ fn edges_of(
     Ok(found)
 }
 
-/// Returns the edge of the wire in `port` of `guid`, or `None` if no wire leads from there to a switch. `guids` must be
-/// the usable switches. Takes at most two binary searches among the ports that can have a wire, and one among the
-/// switches if there is a wire.
+/// Returns the edge of the wire in `port` of `guid`, or `None` if no wire leads from `port` to a switch. `guids` must
+/// be the usable switches. Takes at most two binary searches among the ports that can have a wire, and one among the
+/// switches if a wire is in `port`.
 fn edge_at(wires: &Wires, guids: &[Guid], guid: Guid, port: PortNum) -> Option<Edge>
     requires { guids.now ≡ switches (cells_of wires.now) }
     ensures wire { option_map (by_guid guids.now) result ≡ edge_at (cells_of wires.now) guid port }
@@ -172,7 +173,8 @@ fn edge_at(wires: &Wires, guids: &[Guid], guid: Guid, port: PortNum) -> Option<E
     Some(Edge { port, to })
 }
 
-/// Returns the index of `guid` among `guids`, which must rise, or `None` if it is not there. Takes a binary search.
+/// Returns the index of `guid` among `guids`, which must rise, or `None` if `guids` do not contain `guid`. Takes a
+/// binary search.
 fn index_of(guids: &[Guid], guid: Guid) -> Option<usize>
     requires { IsStrictlyIncreasing guids.now }
     ensures { IsIndexIn guids.now guid result }

@@ -6,9 +6,10 @@ use crate::reading::{is_switch, is_up};
 use fact_store::Store;
 use smp_bytes::{Guid, NodeType, PortNum};
 
-/// Returns the node and the port at the other end of the wire in `port` of `node`, or `None` if there is no wire. There
-/// is a wire if the links of two different ports name each other, and both ports are up and either belong to usable
-/// switches or are end ports. Takes at most eight binary searches among the cells.
+/// Returns the node and the port at the other end of the wire in `port` of `node`, or `None` if no wire is in the port.
+/// A wire joins two different ports if their links name each other, and each can have a wire. A port can have a wire if
+/// it is up. It must also be a port from 1 on of a usable switch, or an end port of another node. Takes at most eight
+/// binary searches among the cells.
 pub fn wire(store: &Store, node: Guid, port: PortNum) -> Option<(Guid, PortNum)>
     ensures { result ≡ across (cells_of store.now) node port }
 {
@@ -20,9 +21,9 @@ pub fn wire(store: &Store, node: Guid, port: PortNum) -> Option<(Guid, PortNum)>
     }
 }
 
-/// Returns the switch and its port that the wire in `port` of `node` leads to. Returns `None` if there is no wire, if
-/// it does not lead to a switch, or if `node` is known to be a switch. Takes at most ten binary searches among the
-/// cells.
+/// Returns the switch and its port that the wire in `port` of `node` leads to. Returns `None` if no wire is in the
+/// port, if the wire does not lead to a switch, or if `node` is known to be a switch. Takes at most ten binary searches
+/// among the cells.
 pub fn attached(store: &Store, node: Guid, port: PortNum) -> Option<(Guid, PortNum)>
     ensures { result ≡ attached (cells_of store.now) node port }
 {
@@ -37,7 +38,7 @@ pub fn attached(store: &Store, node: Guid, port: PortNum) -> Option<(Guid, PortN
     }
 }
 
-/// Returns whether there is a wire between the ports `near` and `far`, if the link of `near` names `far`.
+/// Returns whether a wire joins the ports `near` and `far`, given that the link of `near` names `far`.
 fn is_wire(store: &Store, near: (Guid, PortNum), far: (Guid, PortNum)) -> bool
     ensures { result ≡ is_wire (cells_of store.now) near.0 near.1 far }
 {

@@ -92,8 +92,7 @@ impl<'s> Wires<'s> {
     }
 }
 
-/// Returns whether `far`, to which the link of `near` leads, is another port, and its own link, `back`, leads to
-/// `near`.
+/// Returns whether `near` and `far` are different ports, and `back`, the far end of the link of `far`, is `near`.
 fn is_pair(near: (Guid, PortNum), far: (Guid, PortNum), back: Option<(Guid, PortNum)>) -> bool
     ensures { result ≡ is_pair near far back }
 {

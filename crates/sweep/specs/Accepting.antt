@@ -1,4 +1,4 @@
--- When a reply is accepted, and what of it is then at hand.
+-- When a sweep accepts a reply, and what of the reply is then at hand.
 use Rattle.std.specs.Prelude.{◌≡◌, ℕ, ◌+◌, ◌^◌, ◌≤◌, List, length, slice_get, Some, Ok}
 use Rattle.sweep.specs.declared.on_reply.Accepted.{Accepted}
 use Rattle.sweep.specs.declared.request.Request.{Request}
@@ -6,8 +6,8 @@ use Rattle.sweep.specs.Sweep.{Sweep}
 use Rattle.sweep.specs.Finding.{finding, questions, IsWithinReach}
 use Rattle.sweep.specs.Replies.{judged, request_of, sightings_by}
 
--- the sweep `s` accepts the reply `packet`, and `accepted` has the index, question and context of the request that it
--- belongs to, the finding, the answer, and the answer's facts
+-- the sweep `s` accepts the reply `packet`. `accepted` has the index, the question and the context of the request that
+-- the reply belongs to, the finding, the answer, and the answer's facts
 pub record IsAccepted (s : Sweep) (packet : List ℕ) (accepted : Accepted) : Type 0 where
   pub request : Request
   pub waits : slice_get s.outstanding accepted.index ≡ Some request

@@ -28,8 +28,8 @@ use Rattle.sweep.specs.Sweep.{Sweep, Asking, asking, first_vertex, vertex_at, ve
 
 -- by NodeInfo ---------------------------------------------------------------------------------
 
--- the vertex that NodeInfo over `path` tells of, a node of this type and port count: a switch by port 0, another node
--- by the port that was reached
+-- the vertex that NodeInfo over `path` reports, of a node of the type `kind` with `ports` ports: port 0 of a switch, or
+-- the port of another node that was reached
 abbrev pub vertex_of : List ℕ → NodeInfo → NodeType → ℕ → Vertex
 vertex_of path info kind ports =
     record {
@@ -41,14 +41,14 @@ vertex_of path info kind ports =
       path = path;
     }
 
--- what NodeInfo over `path` brings up about a node that is new to the sweep: a vertex; nothing if its type is reserved,
--- which is None here
+-- what NodeInfo over `path` brings up about a node that is new to the sweep: a vertex; nothing if the node's type is
+-- None, which stands for a reserved one
 abbrev pub found_anew : List ℕ → NodeInfo → Option NodeType → Finding
 found_anew path info None = Nothing
 found_anew path info (Some kind) = NewVertex (vertex_of path info kind info.num_ports)
 
--- what NodeInfo over `path` brings up about a node whose first vertex is `first`: a vertex for another port of a node
--- that is no switch, with the type and port count of `first`; else nothing
+-- what NodeInfo over `path` brings up about a node whose first vertex is `first`: nothing if the node is a switch, or
+-- has a vertex for the port that was reached; else a vertex for that port, with the type and port count of `first`
 abbrev pub found_again : Sweep → List ℕ → NodeInfo → Vertex → Finding
 found_again s path info first =
     if is_switch first.kind || is_some (vertex_at s.reached info.node_guid info.local_port_num) then Nothing
@@ -65,27 +65,29 @@ node_found s path info = node_found_of s path info (first_vertex s.reached info.
 
 -- by PortInfo -----------------------------------------------------------------------------------
 
--- whether the path is empty, so that of the manager's own node
+-- whether the path is empty, and so leads to the manager's own node
 abbrev pub is_start : List ℕ → Bool
 is_start [] = true
 is_start (port ∷ path) = false
 
--- whether node `guid` is known to be a switch, and `port` is neither 0 nor the port by which the sweep first reached it
+-- whether node `guid` is known to be a switch, and `port` is neither 0 nor the port by which the sweep first reached
+-- the node
 abbrev pub is_way_on : Sweep → ℕ → ℕ → Bool
 is_way_on s guid port =
     option_map_or (λ first. is_switch first.kind
     && (not (port == 0) && not (port == first.arrival))) (first_vertex s.reached guid) false
 
--- whether the sweep goes on by `port` of node `guid`, if that is up: it is the port by which the sweep goes out, or a
--- way on from a switch
+-- whether the sweep goes on by `port` of node `guid`, if the port is up: `path` is empty and `port` is the one that the
+-- sweep starts from, or `port` is a way on from a switch
 abbrev pub goes_by : Sweep → List ℕ → ℕ → ℕ → Bool
 goes_by s path guid port = (is_start path && port == s.origin) || is_way_on s guid port
 
--- whether the port is up by its PortInfo `info`, and the sweep goes on by it
+-- whether the port is up by its PortInfo `info`, and the sweep goes on by the port if it is up (`goes_by`)
 abbrev pub leads_on : Sweep → List ℕ → ℕ → ℕ → List ℕ → Bool
 leads_on s path guid port info = is_up_state (bits_in port_state info) && goes_by s path guid port
 
--- whether the sweep goes on through a port: `Leads` if so, `TooFar` if the path has 63 ports already, `Stays` if not
+-- whether the sweep goes on through a port: `Stays` if not; else `Leads` if the path has fewer than 63 ports, and
+-- `TooFar` if it has 63 already
 abbrev pub onward : Sweep → List ℕ → ℕ → ℕ → List ℕ → Onward
 onward s path guid port info =
     if not (leads_on s path guid port info) then Stays
@@ -100,8 +102,8 @@ has_manager info = bits_in is_sm_bit info == 1
 abbrev pub is_of_adapter : Sweep → ℕ → Bool
 is_of_adapter s guid = option_map_or (λ first. not (is_switch first.kind)) (first_vertex s.reached guid) false
 
--- whether the manager at a port of node `guid` is asked for SMInfo: PortInfo reports one, the node is no switch, and
--- the path is not empty
+-- whether the manager at a port of node `guid` is asked for SMInfo: PortInfo reports a manager, the node is known to be
+-- no switch, and the path is not empty
 abbrev pub asks_manager : Sweep → List ℕ → ℕ → List ℕ → Bool
 asks_manager s path guid info = has_manager info && (not (is_start path) && is_of_adapter s guid)
 
@@ -156,21 +158,22 @@ vertex_questions v =
     ∷ port_questions 0 (v.ports + 1) v.path (About v.guid)
     else record { question = ask.Port v.port; path = v.path; context = About v.guid } ∷ []
 
--- the question for SMInfo of the manager at a port, over `path`; none if it is not asked
+-- the question for SMInfo of the manager at a port, over `path`; none if the manager is not asked
 abbrev pub manager_questions : List ℕ → PortFinding → List Asking
 manager_questions path found =
     if found.asks_manager
     then record { question = ask.Manager found.guid found.port; path = path; context = About found.guid } ∷ []
     else []
 
--- the question for the node behind a port, over `path` with the port appended; none if the sweep does not go on there
+-- the question for the node behind a port, over `path` with the port appended; none if the sweep does not go on through
+-- the port
 abbrev pub onward_questions : List ℕ → ℕ → ℕ → Onward → List Asking
 onward_questions path guid port Stays = []
 onward_questions path guid port Leads =
     record { question = ask.Node; path = path ++ port ∷ []; context = Via guid port } ∷ []
 onward_questions path guid port TooFar = []
 
--- the questions that follow from PortInfo: for the manager at the port, and then for the node behind it
+-- the questions that follow from PortInfo of a port: for the manager at the port, and then for the node behind the port
 abbrev pub port_found_questions : List ℕ → PortFinding → List Asking
 port_found_questions path found =
     manager_questions path found ++ onward_questions path found.guid found.port found.onward
@@ -183,20 +186,20 @@ questions path (Port found) = port_found_questions path found
 
 -- what the sweep has then ----------------------------------------------------------------------------
 
--- the vertices, with that of the finding placed in order if it is one
+-- the vertices, with the finding placed in order if it is a new vertex
 abbrev pub with_vertex : Finding → List Vertex → List Vertex
 with_vertex Nothing reached = reached
 with_vertex (NewVertex v) reached = placed vertex_key v reached
 with_vertex (Port found) reached = reached
 
--- the states, with that of a port placed in order, unless it is reserved, which is None here, or the port has one
--- already
+-- the states, with the state of a port placed in order; unchanged if the state is None, which stands for a reserved
+-- one, or if the port has a state already
 abbrev pub with_state_of : ℕ → ℕ → Option PortState → List SeenState → List SeenState
 with_state_of guid port None states = states
 with_state_of guid port (Some state) states =
     placed state_key (record { guid = guid; port = port; state = state }) states
 
--- the states, with that of the finding placed in order if it is of a port
+-- the states, with the state that the finding has placed in order, if the finding is about a port
 abbrev pub with_state : Finding → List SeenState → List SeenState
 with_state Nothing states = states
 with_state (NewVertex v) states = states
@@ -208,7 +211,7 @@ one_too_far Stays = 0
 one_too_far Leads = 0
 one_too_far TooFar = 1
 
--- how many ports lead too far by a finding: 0 or 1
+-- the number of ports that lead too far by a finding: 0 or 1
 abbrev pub too_far_by : Finding → ℕ
 too_far_by Nothing = 0
 too_far_by (NewVertex v) = 0

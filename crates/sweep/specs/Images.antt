@@ -9,8 +9,8 @@ use Rattle.sweep.specs.declared.request.Question.TheVariants as ask
 use Rattle.sweep.specs.declared.request.Request.{Request}
 use Rattle.sweep.specs.Order.{AreInOrder, found_at, placed}
 
--- whether images are kept; those of PortInfo by port, and those of SwitchInfo by port 0 of switches, in the order of
--- GUIDs and ports
+-- whether images are kept; the images of PortInfo, by port, and the images of SwitchInfo, by port 0 of switches, each
+-- list in the order of GUIDs and ports
 pub record Images : Type 0 where
   pub keeps : Bool
   pub ports : List SeenImage
@@ -20,17 +20,18 @@ pub record Images : Type 0 where
 abbrev pub image_key : SeenImage → ℕ × ℕ
 image_key i = (i.guid, i.port)
 
--- no images yet; whether they are kept is `keeps`
+-- no images yet; `keeps` says whether images are kept
 abbrev pub no_images : Bool → Images
 no_images keeps = record { keeps = keeps; ports = []; switches = [] }
 
--- the bytes of the image of a GUID and a port; None if there is none
+-- the bytes of the image of a GUID and a port; None if there is no such image
 abbrev pub image_at : List SeenImage → ℕ → ℕ → Option (List ℕ)
 image_at images guid port = option_map (λ i. i.bytes) (found_at image_key guid port images)
 
 -- what a reply adds ---------------------------------------------------------------------------
 
--- `images` with `image` placed in order, unless one has its GUID and port; unchanged if images are not kept
+-- `images` with `image` placed in order; unchanged if `images` has one with this GUID and port already, or if images
+-- are not kept
 abbrev pub with_image : Bool → SeenImage → List SeenImage → List SeenImage
 with_image true image images = placed image_key image images
 with_image false image images = images
@@ -70,7 +71,7 @@ pub record ImageTable : Type 0 where
 abbrev pub HasImageRoom : ImageTable → Type 0
 HasImageRoom table = table.kept.keeps ≡ true → (1 ≤ table.port_room) × (1 ≤ table.switch_room)
 
--- the images are in the order of GUIDs and ports, each of these at most once
+-- the images are in the order of GUIDs and ports, at most one for each GUID and port
 pub record AreImages (images : Images) : Type 0 where
   pub ports : AreInOrder image_key images.ports
   pub switches : AreInOrder image_key images.switches

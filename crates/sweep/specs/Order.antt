@@ -1,4 +1,4 @@
--- Lists in the order of GUIDs and ports, and where an item is or would be inserted.
+-- Lists in the order of GUIDs and ports, and the index at which an item is or would be inserted.
 use Rattle.std.specs.Prelude.{◌≡◌, ℕ, Bool, true, false, ◌&&◌, ◌||◌, List, [], ◌∷◌, find, nat_lt, slice_get, ◌==◌, if◌then◌else◌, Option}
 use Rattle.std.specs.Option.{option_map_or}
 use Rattle.request_table.specs.Order.{AreOrdered, IsIndex}
@@ -17,7 +17,8 @@ is_before a b = nat_lt a.0 b.0 || (a.0 == b.0 && nat_lt a.1 b.1)
 abbrev pub AreInOrder : {T : Type 0} → (T → ℕ × ℕ) → List T → Type 0
 AreInOrder key items = AreOrdered (λ a b. is_before (key a) (key b) ≡ true) items
 
--- the items with `x` inserted in order; unchanged if one with its GUID and port is there
+-- the items, which are in order, with `x` inserted in order; unchanged if an item with the GUID and port of `x` is
+-- there
 abbrev pub placed : {T : Type 0} → (T → ℕ × ℕ) → T → List T → List T
 placed key x [] = x ∷ []
 placed key x (y ∷ ys) =
@@ -29,10 +30,11 @@ placed key x (y ∷ ys) =
 abbrev pub has_key : {T : Type 0} → (T → ℕ × ℕ) → ℕ → ℕ → T → Bool
 has_key key guid port x = (key x).0 == guid && (key x).1 == port
 
--- the item with this GUID and port; None if there is none
+-- the item with this GUID and port; None if no item has them
 abbrev pub found_at : {T : Type 0} → (T → ℕ × ℕ) → ℕ → ℕ → List T → Option T
 found_at key guid port items = find (has_key key guid port) items
 
--- `index` is that of the item with the GUID and port `at`; if there is none, the one at which it would be inserted
+-- `index` is that of the item with the GUID and port `at`; if there is no such item, the index at which it would be
+-- inserted
 abbrev pub IsIndexFor : {T : Type 0} → (T → ℕ × ℕ) → ℕ × ℕ → List T → ℕ → Type 0
 IsIndexFor key at items index = IsIndex (λ x. is_before (key x) at) items index

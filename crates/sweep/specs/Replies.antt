@@ -31,7 +31,7 @@ belongs generation packet r =
     answers packet (transaction_of generation r.number) (attribute_asked r.question) (modifier_asked r.question)
     (Some r.path)
 
--- the waiting request that the reply `packet` belongs to; None if there is none
+-- the waiting request that the reply `packet` belongs to; None if it belongs to none
 abbrev pub request_of : Sweep → List ℕ → Option Request
 request_of s packet = find (belongs s.generation packet) s.outstanding
 
@@ -41,15 +41,15 @@ request_of s packet = find (belongs s.generation packet) s.outstanding
 abbrev pub report_for : Sweep → Request → List ℕ → Report
 report_for s r packet = record { generation = s.generation; context = r.context; bytes = packet }
 
--- the fault of a reply to a question; the data of SMInfo are not judged, since a manager may say anything of itself;
--- None if it has none
+-- the fault of a reply to a question; None if the reply has no fault. The data of SMInfo are not judged, since a
+-- manager may say anything of itself
 abbrev pub fault_by : Question → Report → Option ReportFault
 fault_by ask.Node report = report_fault report
 fault_by ask.Switch report = report_fault report
 fault_by (ask.Port port) report = report_fault report
 fault_by (ask.Manager guid port) report = packet_fault report.bytes
 
--- the fault of the reply `packet` to the request `r`; None if it has none
+-- the fault of the reply `packet` to the request `r`; None if the reply has no fault
 abbrev pub fault_for : Sweep → Request → List ℕ → Option ReportFault
 fault_for s r packet = fault_by r.question (report_for s r packet)
 
@@ -64,7 +64,7 @@ answer_by (ask.Manager guid port) report = Seen guid port (sm_info_in (payload_o
 abbrev pub answer_for : Sweep → Request → List ℕ → Answer
 answer_for s r packet = answer_by r.question (report_for s r packet)
 
--- whether a request that follows from the reply needs a number over 32 bits
+-- whether a request that follows from the reply needs a number of more than 32 bits
 abbrev pub is_spent : Sweep → Request → List ℕ → Bool
 is_spent s r packet = nat_lt (2 ^ 32) (s.next + length (questions r.path (finding s r packet)))
 
@@ -73,7 +73,7 @@ abbrev pub judged_by : Sweep → Request → List ℕ → Option ReportFault →
 judged_by s r packet (Some why) = Err (Bad why)
 judged_by s r packet None = if is_spent s r packet then Err SequenceSpent else Ok (answer_for s r packet)
 
--- the answer in the reply, or why the sweep refuses it; `NotOutstanding` if it belongs to no request
+-- the answer in the reply, or why the sweep refuses it; `NotOutstanding` if the reply belongs to no waiting request
 abbrev pub judged_for : Sweep → List ℕ → Option Request → Result Answer SweepFault
 judged_for s packet None = Err NotOutstanding
 judged_for s packet (Some r) = judged_by s r packet (fault_for s r packet)
@@ -94,8 +94,8 @@ sightings_by (Seen guid port info) = []
 
 -- what the sweep has then -----------------------------------------------------------------------
 
--- the sweep once the request of a reply has ended, the image is kept, the finding added, and its questions queued;
--- unchanged if there is no such request
+-- the sweep once the given request was answered: the request no longer waits, the reply's image is added if images are
+-- kept, the finding is added, and its questions are queued; unchanged if there is no request
 abbrev pub after_reply_to : Sweep → List ℕ → Option Request → Sweep
 after_reply_to s packet None = s
 after_reply_to s packet (Some r) =

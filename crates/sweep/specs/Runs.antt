@@ -1,4 +1,4 @@
--- Runs of a sweep: requests go out, replies arrive, and requests time out, in any order.
+-- Runs of a sweep: requests are sent, replies arrive, and requests time out, in any order.
 use Rattle.std.specs.Prelude.{◌≡◌, ℕ, ◌+◌, ◌<◌, Bool, false, List, [], ◌∷◌, ◌++◌, length, None, Result, Ok, Err}
 use Rattle.sweep.specs.declared.answer.Answer.{Answer}
 use Rattle.sweep.specs.declared.answer.Answer.TheVariants.{Facts, Seen}
@@ -8,7 +8,7 @@ use Rattle.request_table.specs.Order.{AreOrdered}
 use Rattle.sweep.specs.Replies.{judged, after_reply}
 use Rattle.sweep.specs.Sweep.{Sweep, after_next_request, managers_asked, port_image, started, switch_image, after_timeout}
 
--- what happens to a sweep: its next request goes out; bytes arrive; or a TransactionID times out
+-- what happens to a sweep: its next request is sent; bytes arrive; or a TransactionID times out
 pub data Event : Type 0 where
   Sends : Event
   Hears : List ℕ → Event
@@ -30,18 +30,18 @@ abbrev pub first_number : List Request → List ℕ
 first_number [] = []
 first_number (r ∷ queued) = r.number ∷ []
 
--- the number of the request that goes out by the event; none if none does
+-- the number of the request that is sent by the event; none if no request is sent
 abbrev pub number_sent : Sweep → Event → List ℕ
 number_sent s Sends = first_number s.queued
 number_sent s (Hears packet) = []
 number_sent s (TimesOut transaction) = []
 
--- the numbers of the requests that go out by the events, in turn
+-- the numbers of the requests that are sent by the events, in turn
 abbrev pub numbers_sent : Sweep → List Event → List ℕ
 numbers_sent s [] = []
 numbers_sent s (e ∷ events) = number_sent s e ++ numbers_sent (step s e) events
 
--- whatever happens to a sweep, the numbers of the requests that go out rise, so none is used twice
+-- whatever happens to a sweep, the numbers of the requests that are sent rise, so no number is used twice
 abbrev pub NumbersRise : Type 0
 NumbersRise = (origin generation first : ℕ) (keeps : Bool) (events : List Event)
     → AreOrdered (λ a b. a < b) (numbers_sent (started origin generation first keeps) events)
@@ -57,7 +57,7 @@ reply_taken s Sends = 0
 reply_taken s (Hears packet) = taken_by (judged s packet)
 reply_taken s (TimesOut transaction) = 0
 
--- how many replies are accepted over the events
+-- the number of replies that are accepted over the events
 abbrev pub replies_taken : Sweep → List Event → ℕ
 replies_taken s [] = 0
 replies_taken s (e ∷ events) = reply_taken s e + replies_taken (step s e) events
@@ -67,7 +67,7 @@ abbrev pub after : Sweep → List Event → Sweep
 after s [] = s
 after s (e ∷ events) = after (step s e) events
 
--- how many requests have not been answered: they timed out, wait, or are still queued
+-- the number of requests that have not been answered: those that timed out, wait, or are still queued
 abbrev pub unended : Sweep → ℕ
 unended s = s.unanswered + (length s.outstanding + length s.queued)
 
@@ -82,7 +82,7 @@ EachCounts =
 
 -- managers that are asked ----------------------------------------------------------------------
 
--- how many of the requests are for SMInfo
+-- the number of the requests that are for SMInfo
 abbrev pub managers_in : List Request → ℕ
 managers_in [] = 0
 managers_in (r ∷ requests) = managers_asked r.question + managers_in requests
@@ -92,35 +92,35 @@ abbrev pub manager_in_first : List Request → ℕ
 manager_in_first [] = 0
 manager_in_first (r ∷ queued) = managers_asked r.question
 
--- how many requests for SMInfo go out by the event: 0 or 1
+-- the number of requests for SMInfo that are sent by the event: 0 or 1
 abbrev pub manager_sent : Sweep → Event → ℕ
 manager_sent s Sends = manager_in_first s.queued
 manager_sent s (Hears packet) = 0
 manager_sent s (TimesOut transaction) = 0
 
--- how many requests for SMInfo go out over the events
+-- the number of requests for SMInfo that are sent over the events
 abbrev pub managers_sent : Sweep → List Event → ℕ
 managers_sent s [] = 0
 managers_sent s (e ∷ events) = manager_sent s e + managers_sent (step s e) events
 
--- 1 if a reply is accepted and answers for SMInfo, else 0
+-- 1 if a reply is accepted and answers a request for SMInfo, else 0
 abbrev pub manager_told : Result Answer SweepFault → ℕ
 manager_told (Ok (Facts report)) = 0
 manager_told (Ok (Seen guid port info)) = 1
 manager_told (Err fault) = 0
 
--- 1 if the event is a reply that is accepted and answers for SMInfo, else 0
+-- 1 if the event is a reply that is accepted and answers a request for SMInfo, else 0
 abbrev pub manager_heard : Sweep → Event → ℕ
 manager_heard s Sends = 0
 manager_heard s (Hears packet) = manager_told (judged s packet)
 manager_heard s (TimesOut transaction) = 0
 
--- how many replies that answer for SMInfo are accepted over the events
+-- the number of replies to requests for SMInfo that are accepted over the events
 abbrev pub managers_heard : Sweep → List Event → ℕ
 managers_heard s [] = 0
 managers_heard s (e ∷ events) = manager_heard s e + managers_heard (step s e) events
 
--- whatever happens to a sweep, as many requests for SMInfo went out as were answered, wait, or timed out
+-- whatever happens to a sweep, as many requests for SMInfo were sent as were answered, wait, or timed out
 abbrev pub EachManagerCounts : Type 0
 EachManagerCounts =
     (origin generation first : ℕ) (keeps : Bool) (events : List Event) →

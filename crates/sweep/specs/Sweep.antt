@@ -17,10 +17,10 @@ use Rattle.request_table.specs.Numbers as numbers
 use Rattle.sweep.specs.Images.{Images, image_at, no_images}
 use Rattle.sweep.specs.Order.{AreInOrder, found_at}
 
--- the port by which the sweep goes out, and its generation; the number of its next request; the requests that are
--- queued and those that wait, both by rising number; the vertices that were reached and the states of ports that were
--- seen, in the order of GUIDs and ports; the images; how many requests timed out, and how many of these were for
--- SMInfo; and how many ports lead too far
+-- the port that the sweep starts from, and its generation; the number of its next request; the requests that are queued
+-- and those that wait, each list by rising number; the vertices that were reached and the states of ports that were
+-- seen, in the order of GUIDs and ports; the images; the number of requests that timed out, and of those among them
+-- that were for SMInfo; and the number of ports that lead too far
 pub record Sweep : Type 0 where
   pub origin : ℕ
   pub generation : ℕ
@@ -113,13 +113,13 @@ started origin generation first keeps = asking (empty_sweep origin generation fi
 
 -- sending and waiting ----------------------------------------------------------------------
 
--- a sweep once its next request went out, and the request's packet; None if nothing was queued
+-- a sweep once its next request was sent, and the request's packet; None if nothing was queued
 pub record Sent : Type 0 where
   pub sweep : Sweep
   pub packet : Option (List ℕ)
 
--- the sweep once the first of the given queue went out and waits, and its packet; unchanged and None if the queue is
--- empty
+-- the sweep once the first request of the given queue was sent and waits, and its packet; unchanged and None if the
+-- queue is empty
 abbrev pub after_next_request_of : Sweep → List Request → Sent
 after_next_request_of s [] = record { sweep = s; packet = None }
 after_next_request_of s (r ∷ queued) =
@@ -129,7 +129,7 @@ after_next_request_of s (r ∷ queued) =
           Some (packet_of s.generation r);
     }
 
--- the sweep once its next request went out and waits, and the request's packet; unchanged and None if nothing is queued
+-- the sweep once its next request was sent and waits, and the request's packet; unchanged and None if nothing is queued
 abbrev pub after_next_request : Sweep → Sent
 after_next_request s = after_next_request_of s s.queued
 
@@ -137,7 +137,7 @@ after_next_request s = after_next_request_of s s.queued
 abbrev pub without_number : ℕ → List Request → List Request
 without_number number requests = numbers.without_number (λ r. r.number) number requests
 
--- the one of the requests with the TransactionID `transaction`; None if there is none
+-- the first of the requests with the TransactionID `transaction`; None if no request has it
 abbrev pub request_with : ℕ → ℕ → List Request → Option Request
 request_with generation transaction requests = find (λ r. transaction_of generation r.number == transaction) requests
 
@@ -156,12 +156,12 @@ after_timeout_of s (Some r) =
       silent_managers = s.silent_managers + managers_asked r.question;
     }
 
--- the sweep once the request with the TransactionID `transaction` timed out: it no longer waits and counts as
--- unanswered and, if it was for SMInfo, its manager as silent; unchanged if no such request waits
+-- the sweep once the request with the TransactionID `transaction` timed out. The request no longer waits and counts as
+-- unanswered; if it was for SMInfo, its manager counts as silent. Unchanged if no such request waits
 abbrev pub after_timeout : Sweep → ℕ → Sweep
 after_timeout s transaction = after_timeout_of s (request_with s.generation transaction s.outstanding)
 
--- the TransactionID of the waiting request at index `i`; None if fewer wait
+-- the TransactionID of the waiting request at index `i`; None if no more than `i` requests wait
 abbrev pub outstanding_at : Sweep → ℕ → Option ℕ
 outstanding_at s i = option_map (λ r. transaction_of s.generation r.number) (slice_get s.outstanding i)
 
@@ -184,24 +184,25 @@ vertex_key r = (r.guid, r.port)
 abbrev pub state_key : SeenState → ℕ × ℕ
 state_key p = (p.guid, p.port)
 
--- the first vertex of node `guid`, which says what the node is; None if it was not reached
+-- the first vertex of node `guid`, which says what the node is; None if the node was not reached
 abbrev pub first_vertex : List Vertex → ℕ → Option Vertex
 first_vertex reached guid = find (λ r. r.guid == guid) reached
 
--- the vertex of node `guid` with the port `port`; None if it was not reached
+-- the vertex of node `guid` with the port `port`; None if the vertex was not reached
 abbrev pub vertex_at : List Vertex → ℕ → ℕ → Option Vertex
 vertex_at reached guid port = found_at vertex_key guid port reached
 
--- the state of port `port` of node `guid`; None if none is there
+-- the state of port `port` of node `guid`; None if `states` has none for the port
 abbrev pub state_at : List SeenState → ℕ → ℕ → Option PortState
 state_at states guid port = option_map (λ p. p.state) (found_at state_key guid port states)
 
--- the path that first reached the vertex of node `guid` with the port `port`, which is 0 for a switch; None if it was
--- not reached
+-- the path that first reached the vertex of node `guid` with the port `port`, which is 0 for a switch; None if the
+-- vertex was not reached
 abbrev pub path_to : Sweep → ℕ → ℕ → Option (List ℕ)
 path_to s guid port = option_map (λ r. r.path) (vertex_at s.reached guid port)
 
--- the state of port `port` of node `guid` in the first reply with one that is not reserved; None if there was none
+-- the state of port `port` of node `guid` in the first reply with a state that is not reserved; None if there was no
+-- such reply
 abbrev pub seen_state : Sweep → ℕ → ℕ → Option PortState
 seen_state s guid port = state_at s.states guid port
 
@@ -219,10 +220,10 @@ switch_image s guid = image_at s.images.switches guid 0
 abbrev pub AreRising : ℕ → List Request → ℕ → Type 0
 AreRising least requests next = numbers.AreRising (λ r. r.number) least requests next
 
--- what holds of each sweep: the numbers of the waiting requests, followed by those of the queue, rise and are below
--- `next`, which is at most 2^32; vertices and states are in order; requests that timed out, ports that lead too far,
--- and requests that wait or are queued are together at most `next`; silent managers are at most the requests that timed
--- out
+-- what is true of each sweep. The numbers of the waiting requests, followed by those of the queue, rise and are below
+-- `next`, which is at most 2^32. Vertices and states are in order. Requests that timed out, ports that lead too far,
+-- and requests that wait or are queued are together at most `next`. There are at most as many silent managers as
+-- requests that timed out
 pub record IsSweep (s : Sweep) : Type 0 where
   pub rising : AreRising 0 (s.outstanding ++ s.queued) s.next
   pub next : s.next ≤ 2 ^ 32

@@ -11,7 +11,8 @@ pub record SweepRequests : Type 0 where
   pub queued : List Request
   pub room : ℕ
 
--- from `old` to `new` the questions `asked` were queued, and there is memory for at most as many fewer requests
+-- `new` is `old` with the questions `asked` queued; there is memory for at most as many fewer requests as there are
+-- questions
 pub record HasAsked (asked : List Asking) (old new : SweepRequests) : Type 0 where
   pub next : new.next ≡ old.next + length asked
   pub outstanding : new.outstanding ≡ old.outstanding

@@ -41,8 +41,8 @@ impl Model for Discovered {
     } };
 }
 
-/// Returns the index of the vertex with `guid` and `port`, or where it would be inserted. `vertices` must be in order.
-/// Takes a binary search.
+/// Returns the index of the vertex with `guid` and `port`, or the index at which that vertex would be inserted.
+/// `vertices` must be in order. Takes a binary search.
 fn vertex_index(vertices: &[Vertex], guid: Guid, port: PortNum) -> usize
     requires { AreInOrder vertex_key vertices.now }
     ensures { IsIndexFor vertex_key (guid, port) vertices.now result }
@@ -155,7 +155,7 @@ impl Discovered {
         first_of(&self.vertices, guid)
     }
 
-    /// Returns the vertex with `guid` and `port`, or `None` if it was not reached. Takes a binary search.
+    /// Returns the vertex with `guid` and `port`, or `None` if the vertex was not reached. Takes a binary search.
     pub(crate) fn vertex(&self, guid: Guid, port: PortNum) -> Option<&Vertex>
         requires { AreInOrder vertex_key self.now.reached }
         ensures { option_copied result ≡ vertex_at self.now.reached guid port }
@@ -163,7 +163,8 @@ impl Discovered {
         vertex_at(&self.vertices, guid, port)
     }
 
-    /// Returns the state of the port, or `None` if none was seen. Takes a binary search.
+    /// Returns the state of `port` of the node `guid`, or `None` if no state of the port was seen. Takes a binary
+    /// search.
     pub(crate) fn state(&self, guid: Guid, port: PortNum) -> Option<PortState>
         requires { AreInOrder state_key self.now.states }
         ensures { result ≡ state_at self.now.states guid port }
@@ -171,8 +172,8 @@ impl Discovered {
         state_of(item_at(&self.seen, guid, port))
     }
 
-    /// Adds the vertex or the state of `finding`, unless it is there already, and counts a port that leads too far.
-    /// There must be room for a vertex and a state. Does not allocate.
+    /// Adds the vertex or the state of `finding`, unless there is one for its GUID and port already. Counts the port if
+    /// it leads too far. There must be room for a vertex and a state. Does not allocate.
     pub(crate) fn put(&mut self, finding: Finding)
         requires reached { AreInOrder vertex_key self.old.reached }
         requires states { AreInOrder state_key self.old.states }

@@ -10,7 +10,7 @@ use attr_codec::{Attribute, NodeInfo, PortInfo, PortState};
 use fact_store::{Context, is_up};
 use smp_bytes::{Guid, NodeType, Path, PortNum, Smp};
 
-/// What a reply adds.
+/// What a reply adds to a sweep.
 #[derive(Debug, Drop)]
 pub(crate) enum Finding {
     /// Nothing new.
@@ -36,7 +36,7 @@ pub(crate) struct PortFinding {
 /// Whether a sweep goes on by a port.
 #[derive(Clone, Copy, Debug, PartialEq, Eq)]
 pub(crate) enum Onward {
-    /// The port is not up, or the sweep does not go on by it.
+    /// The port is not up, or the sweep does not go on by the port.
     Stays,
     /// The sweep asks the node at the far end of the port's wire.
     Leads,
@@ -87,7 +87,7 @@ impl Vertex {
 }
 
 impl Sweep {
-    /// Returns what `smp`, a reply to `request`, adds.
+    /// Returns what `smp`, a reply to `request`, adds to the sweep.
     pub(crate) fn finding(&self, request: &Request, smp: &Smp) -> Finding
         ensures { result ≡ finding self.now request.now smp.now }
     {
@@ -128,8 +128,8 @@ impl Sweep {
         Finding::NewVertex(vertex_of(path, info, first.kind, first.ports))
     }
 
-    /// Returns what PortInfo of the port adds: its state, whether to ask the manager that sits there, and whether the
-    /// sweep goes on by it.
+    /// Returns what the PortInfo `info` of a port adds: its state, whether to ask the manager that sits there, and
+    /// whether the sweep goes on by the port.
     fn port_found(&self, path: &Path<63>, guid: Guid, port: PortNum, info: &PortInfo) -> Finding
         ensures { result ≡ port_found_of self.now path.now guid port info.now }
     {
@@ -142,8 +142,8 @@ impl Sweep {
         })
     }
 
-    /// Returns whether to ask the manager at a port: `info` reports one, the node `guid` is an adapter, and `path` is
-    /// not empty.
+    /// Returns whether to ask the manager at a port: `info` reports a manager, the node `guid` is an adapter, and
+    /// `path` is not empty.
     fn asks_manager(&self, path: &Path<63>, guid: Guid, info: &PortInfo) -> bool
         ensures { result ≡ asks_manager self.now path.now guid info.now }
     {
@@ -172,15 +172,16 @@ impl Sweep {
         }
     }
 
-    /// Returns whether `info` says that the port is up, and the sweep goes on by it.
+    /// Returns whether `info` says that `port` is up, and the sweep goes on by `port`.
     fn leads_on(&self, path: &Path<63>, guid: Guid, port: PortNum, info: &PortInfo) -> bool
         ensures { result ≡ leads_on self.now path.now guid port info.now }
     {
         is_up(info) && self.goes_by(path, guid, port)
     }
 
-    /// Returns whether the sweep goes on by `port`: `path` is empty and the sweep goes out by `port`, or the node
-    /// `guid` is a switch and `port` is neither 0 nor the port at which its first request arrived.
+    /// Returns whether the sweep goes on by `port`: `path` is empty and the sweep leaves the manager's own node by
+    /// `port`, or the node `guid` is a switch and `port` is neither 0 nor the port at which a request first reached the
+    /// node.
     fn goes_by(&self, path: &Path<63>, guid: Guid, port: PortNum) -> bool
         ensures { result ≡ goes_by self.now path.now guid port }
     {
@@ -201,7 +202,7 @@ fn has_manager(info: &PortInfo) -> bool
     info.is_sm()
 }
 
-/// Builds the vertex of a node that answered: a switch with port 0, an adapter with the port at which the request
+/// Returns the vertex of a node that answered: a switch with port 0, an adapter with the port at which the request
 /// arrived.
 fn vertex_of(path: &Path<63>, info: &NodeInfo, kind: NodeType, ports: u8) -> Vertex
     ensures { result ≡ vertex_of path.now info.now kind ports }

@@ -29,8 +29,8 @@ impl OfPort for SeenImage {
     }
 }
 
-/// The PortInfo of ports and the SwitchInfo of switches that a sweep keeps. It keeps none unless it was asked to.
-/// Contracts see them, and the numbers of further images of each kind for which there is memory.
+/// The PortInfo of ports and the SwitchInfo of switches that a sweep keeps. The sweep keeps none unless it was asked
+/// to. Contracts see these images, and the numbers of further images of each kind for which there is memory.
 #[derive(Drop)]
 pub(crate) struct Images {
     keeps: bool,
@@ -79,9 +79,10 @@ impl Images {
         Ok(())
     }
 
-    /// Adds `bytes`, the attribute in a reply, if images are kept, the attribute is PortInfo or SwitchInfo, `context`
-    /// names the node, and there is no image of that port or switch yet. If images are kept, there must be room for one
-    /// of each kind. Does not allocate.
+    /// Adds `bytes`, the attribute in a reply to `question`, as the image of a port or a switch. Does nothing if images
+    /// are not kept, if `question` is for neither PortInfo nor SwitchInfo, if `context` is not `About` a node, or if
+    /// there is an image of that port or switch already. If images are kept, there must be room for one more of each
+    /// kind. Does not allocate.
     pub(crate) fn put(&mut self, question: Question, context: &Context, bytes: &[u8; 64])
         requires { HasImageRoom self.old }
         ensures { self.new.kept
@@ -113,14 +114,14 @@ impl Images {
         }
     }
 
-    /// Returns the PortInfo of the port, or `None` if none is kept. Takes a binary search.
+    /// Returns the PortInfo of `port` of the node `guid`, or `None` if it is not kept. Takes a binary search.
     pub(crate) fn of_port(&self, guid: Guid, port: PortNum) -> Option<SeenImage>
         ensures { result ≡ found_at image_key guid port self.now.kept.ports }
     {
         item_at(&self.ports, guid, port)
     }
 
-    /// Returns the SwitchInfo of the switch `guid`, or `None` if none is kept. Takes a binary search.
+    /// Returns the SwitchInfo of the switch `guid`, or `None` if it is not kept. Takes a binary search.
     pub(crate) fn of_switch(&self, guid: Guid) -> Option<SeenImage>
         ensures { result ≡ found_at image_key guid 0 self.now.kept.switches }
     {
@@ -128,8 +129,8 @@ impl Images {
     }
 }
 
-/// Inserts `image` in order, if `keeps` and its port has none yet. `images` must be in order and, if `keeps`, have
-/// room.
+/// Inserts `image` in order if `keeps`, unless its port has an image already. `images` must be in order and, if
+/// `keeps`, have room.
 fn put_image(keeps: bool, images: &mut PageList<SeenImage>, image: SeenImage)
     requires order { AreInOrder image_key images.old.items }
     requires room { keeps ≡ true → 1 ≤ images.old.room }

@@ -1,7 +1,8 @@
 //! What holds of every run of a sweep.
 ghost use Rattle.sweep.specs.Runs.{EachCounts, EachManagerCounts, NoImageUnasked, NumbersRise};
 
-/// The numbers of the requests that a sweep sends rise, whatever it receives and in whatever order: none is used twice.
+/// The numbers of the requests that a sweep sends rise, whatever the sweep receives and in whatever order, so no number
+/// is used twice.
 pub fn numbers_rise()
     ensures { NumbersRise }
 {}
@@ -12,8 +13,8 @@ pub fn each_request_counts()
     ensures { EachCounts }
 {}
 
-/// As many requests for SMInfo went out as were answered, wait, or count as silent managers. In a sweep that is done,
-/// as many managers as were asked have answered or count as silent.
+/// A sweep has sent as many requests for SMInfo as were answered, wait, or count as silent managers. In a sweep that is
+/// done, as many managers as were asked have answered or count as silent.
 #[tactic(auto, using(crate::proofs::Managers::each_manager_counts))]
 pub fn each_manager_counts()
     ensures { EachManagerCounts }

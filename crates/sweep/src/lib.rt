@@ -1,5 +1,5 @@
-//! Discovery of a subnet as a state machine: the caller asks it what to send, and passes it what comes back. It does no
-//! input or output.
+//! Discovery of a subnet as a state machine: the caller asks what to send, and passes in what comes back. The state
+//! machine does no input or output itself.
 #![tactic(auto)]
 
 mod answer;

@@ -21,7 +21,7 @@ use fact_store::{Context, Report, ReportFault, Sighting, Store, answer_fault, si
 use smp_bytes::Smp;
 
 /// An accepted reply: the index of its request among the waiting requests, the request's question and context, the
-/// answer, its facts, and what it adds.
+/// answer, its facts, and what the reply adds.
 #[derive(Drop)]
 pub(crate) struct Accepted {
     pub(crate) index: usize,
@@ -43,14 +43,15 @@ impl Sweep {
         }
     }
 
-    /// Takes the reply to a request that waits, and queues the requests that follow from it. For a new switch these are
-    /// SwitchInfo and PortInfo of each of its ports, and for a new adapter port its PortInfo. For a port, they are
-    /// first the manager that sits there, and then the node at the far end.
+    /// Takes the reply to a request that waits, and queues the requests that follow from the reply. For a new switch
+    /// these ask for SwitchInfo and for PortInfo of each of its ports. For a new adapter port the request asks for its
+    /// PortInfo. After PortInfo of a port, a request asks the manager there for SMInfo, if that manager is to be asked.
+    /// Then a request asks the node at the far end for NodeInfo, if the sweep goes on there.
     ///
     /// # Errors
     ///
     /// Returns the first of these that applies: `Bad` if the bytes are not a packet; `NotOutstanding` if no request
-    /// waits for them; `Bad` if facts cannot be read from the reply or, if it is SMInfo, it is not an answer with
+    /// waits for them; `Bad` if facts cannot be read from the reply, or if a reply with SMInfo is not an answer with
     /// status 0; `SequenceSpent` if no number is left for a request that follows; `Memory`.
     pub fn on_reply(&mut self, bytes: &[u8; 256]) -> Result<Answer, SweepFault>
         ensures judged { JudgesButFor is_memory result (result_err (judged self.old bytes.now)) }
@@ -103,7 +104,7 @@ impl Sweep {
         Ok(accepted.answer)
     }
 
-    /// Returns the request that `smp` answers with what the reply adds, or the first reason to refuse the reply.
+    /// Returns the reply `smp` as accepted, with its request and what it adds, or the first reason to refuse the reply.
     fn accept(&self, smp: &Smp) -> Result<Accepted, SweepFault>
         ensures ok { IfOk result (λ accepted. IsAccepted self.now smp.now accepted) }
         ensures err { IfErr result (λ fault. judged self.now smp.now ≡ Err fault) }
@@ -136,7 +137,8 @@ impl Sweep {
         })
     }
 
-    /// Returns the facts in the reply to `request`, or its first fault. SMInfo has no facts, whatever it says.
+    /// Returns the facts in `smp`, the reply to `request`, or the first fault of the reply. SMInfo has no facts,
+    /// whatever it says.
     fn sightings_by(
         &self,
         request: &Request,

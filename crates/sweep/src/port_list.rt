@@ -21,8 +21,8 @@ pub(crate) fn is_before(a: (Guid, PortNum), b: (Guid, PortNum)) -> bool
     a.0 < b.0 || a.0 == b.0 && a.1 < b.1
 }
 
-/// Returns the index of the item with `guid` and `port`, or where it would be inserted. `items` must be in order. Takes
-/// a binary search.
+/// Returns the index of the item with `guid` and `port`, or the index at which that item would be inserted. `items`
+/// must be in order. Takes a binary search.
 fn index_for<T: OfPort>(items: &PageList<T>, guid: Guid, port: PortNum) -> usize
     requires { AreInOrder T.key items.now.items }
     ensures { IsIndexFor T.key (guid, port) items.now.items result }
@@ -68,8 +68,8 @@ pub(crate) fn item_at<T: OfPort>(items: &PageList<T>, guid: Guid, port: PortNum)
     }
 }
 
-/// Inserts `item` in order, unless its port has one already. `items` must be in order and have room. Moves at most a
-/// page.
+/// Inserts `item` in order, unless its port has an item already. `items` must be in order and have room. Moves at most
+/// a page.
 pub(crate) fn put<T: OfPort>(items: &mut PageList<T>, item: T)
     requires order { AreInOrder T.key items.old.items }
     requires room { 0 < items.old.room }

@@ -20,7 +20,7 @@ pub enum Question {
     Manager(Guid, PortNum),
 }
 
-/// A Get that a sweep makes over a directed route.
+/// A Get that a sweep sends over a directed route.
 #[derive(Debug, Drop)]
 pub struct Request {
     /// The sequence number, the low half of the TransactionID.
@@ -47,7 +47,8 @@ pub(crate) fn transaction_of(generation: Generation, number: u32) -> u64
     u64::from(generation.number()) * 0x1_0000_0000 + u64::from(number)
 }
 
-/// Returns how far `transaction` is above the least TransactionID of `generation`, or 0 if it is below that.
+/// Returns how far `transaction` is above the least TransactionID of `generation`, or 0 if `transaction` is below that
+/// one.
 pub(crate) fn sequence_of(generation: Generation, transaction: u64) -> u64
     ensures { result ≡ transaction - generation * 2 ^ 32 }
 {
@@ -105,7 +106,7 @@ impl Request {
     }
 
     /// Returns whether `smp` has the TransactionID, attribute, modifier and path of the request in a sweep of
-    /// `generation`. Its method and status are not looked at.
+    /// `generation`. The method and the status of `smp` are not looked at.
     pub(crate) fn is_answered_by(&self, generation: Generation, smp: &Smp) -> bool
         ensures { result ≡ belongs generation smp.now self.now }
     {

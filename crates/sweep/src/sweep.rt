@@ -19,7 +19,7 @@ use std::marker::Model;
 /// discovery).
 #[derive(Drop)]
 pub struct Sweep {
-    /// The port of the manager's own node by which the sweep goes out.
+    /// The port by which the sweep leaves the manager's own node.
     pub(crate) origin: PortNum,
     pub(crate) generation: Generation,
     pub(crate) requests: SweepRequests,
@@ -67,9 +67,9 @@ impl Model for Sweep {
 }
 
 impl Sweep {
-    /// Starts a sweep that goes out by the port `origin` of its own node. Its first request asks what that node is, and
-    /// has the number `first_sequence`. If `keeps`, it keeps the PortInfo of ports and the SwitchInfo of switches as
-    /// they are read.
+    /// Starts a sweep that leaves the manager's own node by the port `origin`. The first request asks what that node
+    /// is, and has the number `first_sequence`. If `keeps`, the sweep keeps the first PortInfo of each port and the
+    /// first SwitchInfo of each switch that it reads.
     pub fn start(
         alloc: Global,
         origin: PortNum,
@@ -94,8 +94,8 @@ impl Sweep {
         })
     }
 
-    /// Takes the next request from the queue, first in, first out, and returns its packet. Returns `None` if the queue
-    /// is empty. The request then waits for its reply. Takes constant time.
+    /// Takes the next request from the queue, first in, first out, and returns its packet. The request then waits for
+    /// its reply. Returns `None` if the queue is empty. Takes constant time.
     pub fn next_request(&mut self) -> Option<Smp>
         ensures packet { result ≡ (after_next_request self.old).packet }
         ensures sweep { self.new ≡ (after_next_request self.old).sweep }
@@ -106,8 +106,8 @@ impl Sweep {
         Some(packet)
     }
 
-    /// Ends the waiting request with the TransactionID `transaction`, and counts it as unanswered. Returns
-    /// `NotOutstanding` if no such request waits.
+    /// Ends the waiting request with the TransactionID `transaction`, and counts it as unanswered. If the request was
+    /// for SMInfo, also counts a silent manager. Returns `NotOutstanding` if no such request waits.
     pub fn on_timeout(&mut self, transaction: u64) -> Result<(), SweepFault>
         ensures judged { Judges result (timeout_fault self.old transaction) }
         ensures ok { OnOk result (self.new ≡ after_timeout self.old transaction) }
@@ -136,7 +136,8 @@ impl Sweep {
         self.generation
     }
 
-    /// Returns the TransactionID of the waiting request at index `i`, in rising order, or `None` if fewer wait.
+    /// Returns the TransactionID of the waiting request at index `i`, by rising number, or `None` if no more than `i`
+    /// requests wait.
     pub fn outstanding(&self, i: usize) -> Option<u64>
         ensures { result ≡ outstanding_at self.now i }
     {
@@ -151,7 +152,7 @@ impl Sweep {
         self.unanswered
     }
 
-    /// Returns the number of requests for SMInfo that timed out. Each went to a port that reports a manager.
+    /// Returns the number of requests for SMInfo that timed out. Each was sent to a port that reports a manager.
     pub fn silent_managers(&self) -> u64
         ensures count { result ≡ self.now.silent_managers }
         ensures within { result ≤ self.now.unanswered }
@@ -159,7 +160,7 @@ impl Sweep {
         self.silent_managers
     }
 
-    /// Returns the number of ports by which the sweep did not go on because the path to them already has 63 hops.
+    /// Returns the number of ports by which the sweep did not go on because the path to the port already has 63 hops.
     pub fn too_far(&self) -> u64
         ensures { result ≡ self.now.too_far }
     {
@@ -174,8 +175,8 @@ impl Sweep {
         self.found.vertices()
     }
 
-    /// Returns the path that first reached a switch (port 0) or an adapter's port, or `None` if it was not reached.
-    /// Takes a binary search among the vertices.
+    /// Returns the path that first reached the vertex of the node `guid` with the port `port`, which is 0 for a switch.
+    /// Returns `None` if the vertex was not reached. Takes a binary search among the vertices.
     pub fn path_to(&self, guid: Guid, port: PortNum) -> Option<&Path<63>>
         ensures { option_copied result ≡ path_to self.now guid port }
     {
@@ -183,15 +184,16 @@ impl Sweep {
         Some(&vertex.path)
     }
 
-    /// Returns the state of a port in its first reply with a state that is not reserved, or `None` if there was none.
-    /// Takes a binary search among the states.
+    /// Returns the state of a port in the first reply about the port with a state that is not reserved. Returns `None`
+    /// if there was no such reply. Takes a binary search among the states.
     pub fn seen_state(&self, guid: Guid, port: PortNum) -> Option<PortState>
         ensures { result ≡ seen_state self.now guid port }
     {
         self.found.state(guid, port)
     }
 
-    /// Returns the PortInfo in the first reply about the port, or `None` if none is kept. Takes a binary search.
+    /// Returns the PortInfo in the first reply about a port, or `None` if the port's PortInfo is not kept. Takes a
+    /// binary search.
     pub fn port_image(&self, guid: Guid, port: PortNum) -> Option<PortInfo>
         ensures { result ≡ port_image self.now guid port }
     {
@@ -199,8 +201,8 @@ impl Sweep {
         Some(PortInfo::decode(&image.bytes))
     }
 
-    /// Returns the SwitchInfo in the first reply of the switch `guid`, or `None` if none is kept. Takes a binary
-    /// search.
+    /// Returns the SwitchInfo in the first reply of the switch `guid`, or `None` if the switch's SwitchInfo is not
+    /// kept. Takes a binary search.
     pub fn switch_image(&self, guid: Guid) -> Option<SwitchInfo>
         ensures { result ≡ switch_image self.now guid }
     {

@@ -20,8 +20,8 @@ use smp_bytes::{Generation, Guid, Path, PortNum, Smp};
 use std::alloc::{AllocError, Global};
 use std::marker::Model;
 
-/// The maximum number of requests that follow from a reply: one for the table of a switch, one for its port 0, and one
-/// for each of its other ports, of which it has at most 254.
+/// The maximum number of requests that follow from a reply. A new switch is asked for SwitchInfo, for PortInfo of port
+/// 0, and for PortInfo of each other port, of at most 254.
 pub const REQUESTS_PER_REPLY: usize = 256;
 
 /// The requests of a sweep. Contracts see the requests that wait for a reply, the requests to be sent, the number of
@@ -51,7 +51,7 @@ impl Model for SweepRequests {
 }
 
 impl SweepRequests {
-    /// Creates an empty table, whose first number is `first`. Does not allocate.
+    /// Creates an empty table. The first request will have the number `first`. Does not allocate.
     pub(crate) fn new(alloc: Global, first: u32) -> Self
         ensures next { result.next ≡ first }
         ensures outstanding { result.outstanding ≡ [] }
@@ -106,7 +106,7 @@ impl SweepRequests {
         self.sent += 1;
     }
 
-    /// Returns the waiting request at `index`, by rising numbers, or `None` if fewer wait.
+    /// Returns the waiting request at `index`, by rising number, or `None` if no more than `index` requests wait.
     pub(crate) fn get(&self, index: usize) -> Option<&Request>
         ensures { option_copied result ≡ slice_get self.now.outstanding index }
     {
@@ -128,8 +128,8 @@ impl SweepRequests {
         self.table.count_below(sequence_of(generation, transaction))
     }
 
-    /// Returns the index of the waiting request with the TransactionID `transaction`, or `None` if there is none. Takes
-    /// a binary search.
+    /// Returns the index of the waiting request with the TransactionID `transaction`, or `None` if no such request
+    /// waits. Takes a binary search.
     pub(crate) fn index_of(&self, generation: Generation, transaction: u64) -> Option<usize>
         ensures { IsIndexFor (request_with generation transaction self.now.outstanding)
             self.now.outstanding result }
@@ -143,7 +143,8 @@ impl SweepRequests {
         }
     }
 
-    /// Returns the index of the waiting request that `smp` answers, or `None` if there is none. Takes a binary search.
+    /// Returns the index of the waiting request that `smp` answers, or `None` if no such request waits. Takes a binary
+    /// search.
     pub(crate) fn index_for(&self, generation: Generation, smp: &Smp) -> Option<usize>
         ensures { IsIndexFor (find (belongs generation smp.now) self.now.outstanding)
             self.now.outstanding result }
@@ -171,7 +172,8 @@ impl SweepRequests {
         self.table.end(index)
     }
 
-    /// Appends a request to the queue under the next number. There must be room and a number for it. Does not allocate.
+    /// Appends a request to the queue under the next number. There must be room and a number for the request. Does not
+    /// allocate.
     pub(crate) fn ask(&mut self, question: Question, path: Path<63>, context: Context)
         requires room { 0 < self.old.room }
         requires number { self.old.next < 2 ^ 32 }
@@ -188,7 +190,7 @@ impl SweepRequests {
     }
 
     /// Queues the questions for PortInfo of all ports of the switch `vertex`, from port 0 on. There must be room and
-    /// numbers for them.
+    /// numbers for these questions.
     fn ask_ports(&mut self, vertex: &Vertex)
         requires room { vertex.now.ports + 1 ≤ self.old.room }
         requires number { self.old.next + (vertex.now.ports + 1) ≤ 2 ^ 32 }
@@ -207,7 +209,7 @@ impl SweepRequests {
         }
     }
 
-    /// Queues the questions for the new vertex `vertex`. There must be room and numbers for them.
+    /// Queues the questions for the new vertex `vertex`. There must be room and numbers for these questions.
     fn ask_vertex(&mut self, vertex: &Vertex)
         requires room { length (vertex_questions vertex.now) ≤ self.old.room }
         requires number { self.old.next + length (vertex_questions vertex.now) ≤ 2 ^ 32 }
@@ -223,8 +225,8 @@ impl SweepRequests {
         }
     }
 
-    /// Queues the question for SMInfo of the manager at a port over `path`, the path to the port, if `found` says that
-    /// it is to be asked. There must be room and a number for it.
+    /// Queues the question for SMInfo of the manager at a port, if `found` says that the manager is to be asked. `path`
+    /// must be the path to the port. There must be room and a number for the question.
     fn ask_manager(&mut self, path: &Path<63>, found: &PortFinding)
         requires room { length (manager_questions path.now found.now) ≤ self.old.room }
         requires number { self.old.next + length (manager_questions path.now found.now) ≤ 2 ^ 32 }
@@ -252,7 +254,8 @@ impl SweepRequests {
         self.ask(Question::Node, path, Context::Via(guid, port));
     }
 
-    /// Queues the questions that follow from the reply about a port. There must be room and numbers for them.
+    /// Queues the questions that follow from the reply about a port. There must be room and numbers for these
+    /// questions.
     fn ask_of_port(&mut self, path: Path<63>, found: &PortFinding)
         requires reach { IsPathWithinReach path found.now.onward }
         requires room { length (port_found_questions path found.now) ≤ self.old.room }
@@ -267,7 +270,7 @@ impl SweepRequests {
     }
 
     /// Removes the waiting request at `index`, and queues the questions that follow from `finding`. There must be room
-    /// and numbers for them. Does not allocate.
+    /// and numbers for these questions. Does not allocate.
     pub(crate) fn take(&mut self, index: usize, finding: &Finding)
         requires { CanTake self.old index finding.now }
         ensures { HasTaken index finding.now self.old self.new }

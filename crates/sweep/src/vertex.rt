@@ -12,9 +12,9 @@ pub struct Vertex {
     pub port: PortNum,
     /// The type of the node, as its first reply reported.
     pub kind: NodeType,
-    /// The number of ports, as the first reply reported.
+    /// The number of ports of the node, as its first reply reported.
     pub ports: u8,
-    /// The port of the node at which the request arrived.
+    /// The port of the node at which the request that reached the vertex arrived.
     pub arrival: PortNum,
     /// The path of the request that reached the vertex.
     pub path: Path<63>,

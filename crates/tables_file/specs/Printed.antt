@@ -1,4 +1,4 @@
--- That a plan's text is read back as the tables that the plan holds.
+-- A plan's text is read back as the tables that the plan holds.
 use Rattle.std.specs.Prelude.{◌≡◌, ℕ, ◌≤◌, None}
 use Rattle.fact_store.specs.View.{Facts, cells_of, AreInRange}
 use Rattle.lid_assign.specs.Lids.{IsNoRoom}
@@ -17,8 +17,8 @@ IsRead plan = (first_fault (plan_text plan) ≡ None) × (held_of (plan_text pla
 abbrev pub PrintedPlansAreRead : Type 0
 PrintedPlansAreRead = (plan : PlanValue) → IsPlanInRange plan → IsRead plan
 
--- if facts are in range and have room for the LIDs, the text of their plan, by each rule and under each LMC, has no
--- fault, and says what the plan holds
+-- the text of the plan of facts has no fault, and says what the plan holds, by each rule and under each LMC up to 7, if
+-- the facts are in range and have room for the LIDs
 abbrev pub PlansAreRead : Type 0
 PlansAreRead =
     (rule : RuleValue) (lmc : ℕ) (facts : Facts) → lmc ≤ 7 → AreInRange facts → ¬ (IsNoRoom lmc (cells_of facts))

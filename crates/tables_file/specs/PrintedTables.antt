@@ -1,4 +1,4 @@
--- That a text of tables is read back as these tables, also if switches have tops of their own.
+-- A text of tables is read back as these tables, even if switches have tops of their own.
 use Rattle.std.specs.Prelude.{◌≡◌, ◌≤◌, ℕ, List, map, None}
 use Rattle.std.specs.List.{AllByRecursion}
 use Rattle.lft_blocks.specs.Plan.{PlanValue, SwitchTable}

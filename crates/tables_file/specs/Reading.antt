@@ -19,7 +19,7 @@ use Rattle.tables_file.specs.TextLine.{line_of}
 abbrev pub start : LastLines
 start = record { lid = None; switch = None; block = 0 }
 
--- the state after a line that says an item, from the state before it; the order of later lines is checked by it
+-- the state after a line that says an item, from the state before the line; later lines are checked against it
 abbrev pub last_lines_after : LastLines → HeldItem → LastLines
 last_lines_after last_lines Nothing = last_lines
 last_lines_after last_lines (Lid range) = record last_lines { lid = Some range.first }
@@ -45,14 +45,14 @@ lid_behind number last range =
     else if is_behind last range.first then Ok (Lid range)
     else fault_at number wrong.Port
 
--- the LIDs of an end port, if they come after `last`, the first LID of the `lid` line before, or there is no such line
--- (None)
+-- the LIDs of an end port, if they come after `last`, the first LID of the `lid` line before, or if there is no such
+-- line (None); otherwise the fault of the line
 abbrev pub lid_after : ℕ → Option HeldLid → LidRange → Result HeldItem TablesLineFault
 lid_after number None range = Ok (Lid range)
 lid_after number (Some last) range = lid_behind number last range
 
--- the LIDs of an end port, if the greatest of them is at most 0xBFFF and they come after the `lid` line before, if
--- there is one
+-- the LIDs of an end port, if the greatest of them is at most 0xBFFF, and they come after the `lid` line before, if one
+-- is there; otherwise the fault of the line
 abbrev pub lid_in_room : ℕ → Option HeldLid → LidRange → Result HeldItem TablesLineFault
 lid_in_room number last range =
     if nat_lt 0xC000 (range.first.lid + 2 ^ range.lmc) then fault_at number wrong.Lid else lid_after number last range
@@ -69,7 +69,8 @@ lid_with number last (Some lid) node (Some port) (Some lmc) =
           lmc;
     })
 
--- a switch, if its GUID is greater than that of the switch before, or there is none before (None)
+-- a switch, if its GUID is greater than that of the switch before, or no switch is before it (None); otherwise the
+-- fault of the line
 abbrev pub switch_after : ℕ → Option ℕ → HeldSwitch → Result HeldItem TablesLineFault
 switch_after number None switch = Ok (Switch switch)
 switch_after number (Some last) switch =
@@ -80,23 +81,25 @@ abbrev pub switch_with : ℕ → Option ℕ → ℕ → Option ℕ → Result He
 switch_with number last guid None = fault_at number wrong.Lid
 switch_with number last guid (Some top) = switch_after number last (record { guid = guid; top = top })
 
--- a block, if its number is in range (not None) and at least `next`
+-- a block, if its number is in range (not None) and at least `next`; otherwise the fault of the line
 abbrev pub block_after : ℕ → ℕ → Option ℕ → List ℕ → Result HeldItem TablesLineFault
 block_after number next None entries = fault_at number wrong.Block
 block_after number next (Some block) entries =
     if nat_lt block next then fault_at number wrong.Block else Ok (Block block entries)
 
--- a block, if there is a switch line before it and its number is in range and at least `next`
+-- a block, if a switch line is before it, and its number is in range and at least `next`; otherwise the fault of the
+-- line
 abbrev pub block_below : ℕ → Option ℕ → ℕ → Option ℕ → List ℕ → Result HeldItem TablesLineFault
 block_below number None next block entries = fault_at number wrong.Syntax
 block_below number (Some switch) next block entries = block_after number next block entries
 
--- a block, by the number and the entries on its line, if it may follow the lines before
+-- a block, by the number and the entries on its line, if it may follow the lines before; otherwise the fault of the
+-- line
 abbrev pub block_with : ℕ → LastLines → Option ℕ → List ℕ → Result HeldItem TablesLineFault
 block_with number last_lines block entries = block_below number last_lines.switch last_lines.block block entries
 
--- what the line `number` says, after the lines before it; a fault if the grammar has no such line (None) or it may not
--- follow
+-- the item that the line `number` says, after the lines before it; a fault if the grammar has no such line (None), or
+-- if the line may not follow them
 abbrev pub item_of : ℕ → LastLines → Option TextLine → Result HeldItem TablesLineFault
 item_of number last_lines None = fault_at number wrong.Syntax
 item_of number last_lines (Some line.Empty) = Ok Nothing
@@ -109,29 +112,29 @@ abbrev pub then_or : {T : Type 0} → Result HeldItem TablesLineFault → (HeldI
 then_or (Ok item) next last = next item
 then_or (Err fault) next last = last fault
 
--- the first fault of the lines; the first line has the number `number`
+-- the first fault of the lines, None if they have none; the first line has the number `number`
 abbrev pub first_fault_from : ℕ → LastLines → List (List ℕ) → Option TablesLineFault
 first_fault_from number last_lines [] = None
 first_fault_from number last_lines (l ∷ later) =
     then_or (item_of number last_lines (line_of l)) (λ item. first_fault_from (number
     + 1) (last_lines_after last_lines item) later) Some
 
--- what each line before the first fault says, in order
+-- the items that the lines before the first fault say, in order
 abbrev pub items_from : ℕ → LastLines → List (List ℕ) → List HeldItem
 items_from number last_lines [] = []
 items_from number last_lines (l ∷ later) =
     then_or (item_of number last_lines (line_of l)) (λ item. item
     ∷ items_from (number + 1) (last_lines_after last_lines item) later) (λ fault. [])
 
--- what is held after lines that say `items`, if `held` is held before them
+-- the tables held after lines that say `items`, if `held` is held before them
 abbrev pub held_by : HeldPlan → List HeldItem → HeldPlan
 held_by held [] = held
 held_by held (item ∷ items) = held_by (held_with held item) items
 
--- the first fault of a text
+-- the first fault of a text; None if it has none
 unfoldable pub first_fault : List ℕ → Option TablesLineFault
 first_fault text = first_fault_from 1 start (lines text)
 
--- what a text says up to its first fault
+-- the tables that a text gives up to its first fault
 unfoldable pub held_of : List ℕ → HeldPlan
 held_of text = held_by nothing_held (items_from 1 start (lines text))

@@ -19,7 +19,8 @@ both _ = None
 abbrev pub lmc_in : List ℕ × List ℕ → Option (Option ℕ)
 lmc_in x = if bytes_eq x.0 (codes "lmc") then small_of 7 x.1 else None
 
--- reads the part of a `lid` line after the port, which is `lmc N` or missing; the LMC is 0 if it is missing
+-- reads the part of a `lid` line after the port, which is `lmc N` or missing; the LMC is 0 if the part is missing, and
+-- the result is None for other words
 abbrev pub lmc_line : List (List ℕ) → Option (Option ℕ)
 lmc_line [] = Some (Some 0)
 lmc_line (word ∷ rest) = option_and_then lmc_in (both (word ∷ rest))
@@ -35,7 +36,7 @@ lid_line (lid ∷ []) = None
 lid_line (lid ∷ port ∷ rest) =
     option_and_then (λ n. option_and_then (lid_of_port n rest) (port_of port)) (count_of 0xBFFF lid)
 
--- reads the part of a `switch` line after `guid`, which is `top` and a number; None if it is not, or if `guid` is no
+-- reads the part of a `switch` line after `guid`, which is `top` and a number; None for other words, or if `guid` is no
 -- GUID
 abbrev pub top_line : List ℕ → List ℕ × List ℕ → Option SwitchLine
 top_line guid x =
@@ -63,6 +64,6 @@ line_in (word ∷ rest) =
     else if bytes_eq word (codes "block") then option_map Block (block_line rest)
     else None
 
--- what a line says; None if the grammar has no such line
+-- the line that the bytes `line` spell; None if the grammar has no such line
 unfoldable pub line_of : List ℕ → Option TextLine
 line_of line = line_in (words line)

@@ -5,15 +5,15 @@ use Rattle.hex.specs.Hex.{decode_sized}
 use Rattle.text_words.specs.Number.{number_of, guid_of}
 use Rattle.text_words.specs.Quoted.{until}
 
--- n if it is at most `most`, otherwise None
+-- `n` if it is at most `most`, otherwise None
 abbrev pub at_most : ℕ → ℕ → Option ℕ
 at_most most n = if nat_le n most then Some n else None
 
--- reads a decimal number; None if the word is none, and the inner value is None if the number is above `most`
+-- reads a decimal number; None if the word is no such number, and the inner value is None if the number is above `most`
 abbrev pub small_of : ℕ → List ℕ → Option (Option ℕ)
 small_of most word = option_map (at_most most) (number_of 10 word)
 
--- reads a GUID of up to sixteen hex digits, without `0x` in front; None if the word is none
+-- reads a GUID of up to sixteen hex digits, without `0x` in front; None for another word
 abbrev pub bare_guid_of : List ℕ → Option ℕ
 bare_guid_of word = guid_of (codes "0x" ++ word)
 

@@ -3,13 +3,13 @@ use text_words::{LineError, LineFault, LinesFault};
 /// What is wrong with a line of a text of tables.
 #[derive(Clone, Copy, Debug, PartialEq, Eq)]
 pub enum TablesTextError {
-    /// The grammar has no such line, or it is a block above all switches.
+    /// The grammar has no such line, or the line is a block above all switches.
     Syntax,
-    /// The LID is outside 1 to 49,151, the last LID of the end port or the top is above 49,151, or the LID is less than
-    /// on the `lid` line before.
+    /// The LID is not from 1 to 49,151, or is less than on the `lid` line before; or the last LID of the end port, or
+    /// the top, is above 49,151.
     Lid,
-    /// The port is above 254, or the LID is that of the `lid` line before and the end port does not come after that
-    /// line's.
+    /// The port is above 254; or the LID is that of the `lid` line before, and the end port does not come after the end
+    /// port of that line.
     Port,
     /// The LMC is above 7.
     Lmc,

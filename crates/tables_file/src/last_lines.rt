@@ -12,7 +12,7 @@ use subnet_view::EndPort;
 /// The first number above all LIDs of end ports.
 const LID_END: u32 = Lid::UNICAST_END as u32;
 
-/// What is kept of the lines so far, to check the order of later ones.
+/// What is kept of the lines so far, to check the order of later lines.
 #[derive(Clone, Copy)]
 pub(crate) struct LastLines {
     /// The first LID of the last `lid` line, with its end port, or `None` if there was no such line.
@@ -35,7 +35,7 @@ impl LastLines {
         }
     }
 
-    /// Returns what `line` says, after the lines so far, or its fault. Its number is `number`.
+    /// Returns what `line`, whose number is `number`, says after the lines so far, or the line's fault.
     pub(crate) fn item(&self, number: usize, line: &[u8]) -> Result<HeldItem, TablesLineFault>
         ensures { result ≡ item_of number self.now (line_of line.now) }
     {
@@ -48,8 +48,8 @@ impl LastLines {
         }
     }
 
-    /// Returns what the `block` line with the number `number` says. Returns `Syntax` if there is no switch above it,
-    /// and `Block` if the block's number is above 767 or too small.
+    /// Returns what the `block` line with the number `number` says. Returns `Syntax` if no switch is above the line.
+    /// Otherwise returns `Block` if the block's number is above 767, or less than the least that may follow.
     fn block(&self, number: usize, line: BlockLine) -> Result<HeldItem, TablesLineFault>
         ensures { result ≡ block_with number self.now line.number line.entries }
     {
@@ -95,8 +95,8 @@ fn wrong(line: usize, wrong: TablesTextError) -> Result<HeldItem, TablesLineFaul
     Err(TablesLineFault { line, wrong })
 }
 
-/// Returns what the `lid` line with the number `number` says, or its fault. `last` is the first LID of the `lid` line
-/// before, if there is one.
+/// Returns what the `lid` line with the number `number` says, or the line's fault. `last` is the first LID of the `lid`
+/// line before, or `None` if there was no such line.
 fn lid(number: usize, last: Option<HeldLid>, line: LidLine) -> Result<HeldItem, TablesLineFault>
     ensures { result ≡ lid_with number last line.lid line.node line.port line.lmc }
 {
@@ -120,8 +120,8 @@ fn lid(number: usize, last: Option<HeldLid>, line: LidLine) -> Result<HeldItem, 
     lid_after(number, last, HeldRange { first, lmc })
 }
 
-/// Returns `range`, the LIDs of the `lid` line with the number `number`, if they come after `last`, the first LID of
-/// the `lid` line before, or if there is no such line. Otherwise returns the line's fault.
+/// Returns `range`, the LIDs of the `lid` line with the number `number`, if it comes after `last`, the first LID of the
+/// `lid` line before, or if `last` is `None`. Otherwise returns the line's fault.
 fn lid_after(
     number: usize,
     last: Option<HeldLid>,
@@ -135,8 +135,8 @@ fn lid_after(
     }
 }
 
-/// Returns `range`, the LIDs of the `lid` line with the number `number`, if they come after `last`. Returns `Lid` if
-/// the first LID is less, and otherwise `Port`.
+/// Returns `range`, the LIDs of the `lid` line with the number `number`, if it comes after `last`. Otherwise returns
+/// `Lid` if the first LID of `range` is less than that of `last`, and else `Port`.
 fn lid_behind(number: usize, last: HeldLid, range: HeldRange) -> Result<HeldItem, TablesLineFault>
     ensures { result ≡ lid_behind number last range }
 {
@@ -150,8 +150,8 @@ fn lid_behind(number: usize, last: HeldLid, range: HeldRange) -> Result<HeldItem
     }
 }
 
-/// Returns whether the LID or the node of `held` is greater than that of `last` or, on the same node, its port is. If
-/// its LID is not less, this is whether `held` comes after `last`.
+/// Returns whether the LID or the node of `held` is greater than that of `last`, or the nodes are equal and the port of
+/// `held` is greater. If the LID of `held` is not less, this says whether `held` comes after `last`.
 fn is_behind(last: HeldLid, held: HeldLid) -> bool
     ensures { result ≡ is_behind last held }
 {
@@ -161,8 +161,8 @@ fn is_behind(last: HeldLid, held: HeldLid) -> bool
         || (is_same_node && last.port.port < held.port.port)
 }
 
-/// Returns what the `switch` line with the number `number` says. Returns `Lid` if the top is above 49,151, and
-/// otherwise `Switch` if the GUID is not greater than `last`, that of the switch before, if there is one.
+/// Returns what the `switch` line with the number `number` says. Returns `Lid` if the top is above 49,151. Otherwise
+/// returns `Switch` if the GUID is not greater than `last`, the GUID of the switch before, if there is one.
 fn switch(number: usize, last: Option<Guid>, line: SwitchLine) -> Result<HeldItem, TablesLineFault>
     ensures { result ≡ switch_with number last line.guid line.top }
 {

@@ -10,7 +10,7 @@ use text_words::{count, is_word, split_word};
 /// The greatest LID of an end port.
 const MAX_LID: u16 = Lid::UNICAST_END - 1;
 
-/// What a line of a text of tables says.
+/// What a line of a text of tables says: nothing, a LID, a switch or a block.
 #[derive(Clone, Copy)]
 pub(crate) enum TextLine {
     Empty,
@@ -22,12 +22,12 @@ pub(crate) enum TextLine {
 /// A LID and the end port that holds it, as a line gives them. A number is `None` if it is out of range.
 #[derive(Clone, Copy)]
 pub(crate) struct LidLine {
-    /// From 1 to 49,151.
+    /// The LID, from 1 to 49,151.
     pub(crate) lid: Option<u16>,
     pub(crate) node: Guid,
-    /// Up to 254.
+    /// The port, up to 254.
     pub(crate) port: Option<PortNum>,
-    /// Up to 7; 0 if the line has none.
+    /// The LMC, up to 7; 0 if the line has no LMC.
     pub(crate) lmc: Option<Lmc>,
 }
 
@@ -35,14 +35,14 @@ pub(crate) struct LidLine {
 #[derive(Clone, Copy)]
 pub(crate) struct SwitchLine {
     pub(crate) guid: Guid,
-    /// Up to 49,151; `None` if it is greater.
+    /// The top, up to 49,151; `None` if it is greater.
     pub(crate) top: Option<u16>,
 }
 
 /// A block of a switch, as a line gives it.
 #[derive(Clone, Copy)]
 pub(crate) struct BlockLine {
-    /// Up to 767; `None` if it is greater.
+    /// The number of the block, up to 767; `None` if it is greater.
     pub(crate) number: Option<u16>,
     pub(crate) entries: [u8; 64],
 }
@@ -66,7 +66,7 @@ pub(crate) fn read_line(line: &[u8]) -> Option<TextLine>
     }
 }
 
-/// Returns the two words of `line`, or `None` if it has more or fewer.
+/// Returns the two words of `line`, or `None` if `line` has more words, or fewer.
 fn two_words(line: &[u8]) -> Option<(&[u8], &[u8])>
     ensures { option_map (λ x. (x.0.now, x.1.now)) result ≡ both (words line.now) }
 {

@@ -10,9 +10,9 @@ use held_tables::Held;
 use std::alloc::Global;
 use text_words::{LinesFault, split_line};
 
-/// Reads a text of tables, as of a plan. It has a line for each end port, by rising first LID, and the line may give
-/// the port's LMC. For each switch, by rising GUID, it has a line for the switch and lines for its blocks, by rising
-/// number. Lines end with LF or CR LF, empty lines are skipped, and `#` begins a comment:
+/// Parses a text of tables, such as a plan's. The text has a line for each end port, by rising first LID, which may
+/// give the port's LMC. For each switch, by rising GUID, the text has a line for the switch and lines for its blocks,
+/// by rising number. Lines end with LF or CR LF, empty lines are skipped, and `#` begins a comment:
 ///
 /// ```text
 /// lid 1 0000000000000010/0
@@ -25,7 +25,7 @@ use text_words::{LinesFault, split_line};
 ///
 /// # Errors
 ///
-/// Returns the first fault of the lines. Returns `Memory` only if they have none.
+/// Returns the first fault of the lines. Returns `Memory` if memory runs out, unless a line has a fault.
 pub fn parse(alloc: Global, text: &[u8]) -> Result<Held, TablesTextFault>
     ensures judged { JudgesButFor is_memory result (option_map LinesFault.Line (first_fault text.now)) }
     ensures held { IfOk result (λ held. held ≡ held_of text.now) }
@@ -40,7 +40,7 @@ pub fn parse(alloc: Global, text: &[u8]) -> Result<Held, TablesTextFault>
     }
 }
 
-/// Reads the lines of a text, or returns the first fault. Returns `Memory` if memory runs out before that.
+/// Parses the lines of `text`. Returns the first fault, or `Memory` if memory runs out before that fault.
 #[tactic(auto, using(crate::proofs::Folds::reading))]
 fn read_lines(alloc: Global, text: &[u8]) -> Result<Held, TablesTextFault>
     ensures { IsReadAs text.now result }
@@ -59,7 +59,7 @@ fn read_lines(alloc: Global, text: &[u8]) -> Result<Held, TablesTextFault>
     Ok(held)
 }
 
-/// Returns the first fault of a text, or `None` if it has none. Does not allocate.
+/// Returns the first fault of `text`, or `None` if `text` has no fault. Does not allocate.
 #[tactic(auto, using(crate::proofs::Folds::judging))]
 fn first_fault(text: &[u8]) -> Option<TablesLineFault>
     ensures { result ≡ first_fault text.now }

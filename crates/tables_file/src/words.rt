@@ -7,8 +7,8 @@ use attr_codec::Lmc;
 use smp_bytes::{Guid, PortNum};
 use text_words::number;
 
-/// Parses decimal digits as a number. The inner value is `None` if the number is above `most`. Returns `None` if `word`
-/// is no number.
+/// Parses a number in decimal. The inner value is `None` if the number is above `most`. Returns `None` if `word` is no
+/// decimal number.
 pub(crate) fn small(word: &[u8], most: u16) -> Option<Option<u16>>
     ensures { result ≡ small_of most word.now }
 {
@@ -20,7 +20,7 @@ pub(crate) fn small(word: &[u8], most: u16) -> Option<Option<u16>>
     })
 }
 
-/// Parses a GUID of 1 to 16 hex digits. Returns `None` if `word` is no such GUID.
+/// Parses a GUID of 1 to 16 hex digits. Returns `None` unless `word` is 1 to 16 hex digits.
 #[tactic(auto, using(crate::proofs::BareGuids::bare_guid_is, crate::proofs::BareGuids::long_is_none))]
 pub(crate) fn bare_guid(word: &[u8]) -> Option<Guid>
     ensures { result ≡ bare_guid_of word.now }
@@ -31,8 +31,8 @@ pub(crate) fn bare_guid(word: &[u8]) -> Option<Guid>
     Some(Guid::new(number(word, 16)?))
 }
 
-/// Parses a node's GUID and a port of it, as in `0000000000000100/1`. The port is `None` if it is above 254. Returns
-/// `None` if `word` is not of this form.
+/// Parses a node's GUID and the number of one of its ports, as in `0000000000000100/1`. The port is `None` if its
+/// number is above 254. Returns `None` if `word` is not of this form.
 pub(crate) fn node_port(word: &[u8]) -> Option<(Guid, Option<PortNum>)>
     ensures { result ≡ port_of word.now }
 {
@@ -64,7 +64,7 @@ pub(crate) fn lmc_of(number: Option<u16>) -> Option<Lmc>
     }
 }
 
-/// Returns the part of `word` before its first slash and the part after it, or `None` if it has no slash.
+/// Returns the part of `word` before its first slash and the part after it, or `None` if `word` has no slash.
 #[tactic(auto, using(text_words::proofs::Splits::until_at, text_words::proofs::Splits::until_none))]
 fn before_slash(word: &[u8]) -> Option<(&[u8], &[u8])>
     ensures { option_map (λ x. (x.0.now, x.1.now)) result ≡ until 47 word.now }
@@ -73,7 +73,7 @@ fn before_slash(word: &[u8]) -> Option<(&[u8], &[u8])>
     Some((&word[..len], &word[len + 1..]))
 }
 
-/// Returns the index of the first slash in `word`, or `None` if there is none.
+/// Returns the index of the first slash in `word`, or `None` if `word` has no slash.
 fn slash(word: &[u8]) -> Option<usize>
     ensures { result ≡ position (λ b. b == 47) word.now }
 {

@@ -1,4 +1,4 @@
--- After a cut: which facts a floor forgets, which LIDs stay, and what a manager brings up that takes over the rest.
+-- After a cut: which facts a floor forgets, which LIDs stay, and what holds once a manager has taken over the rest.
 use Rattle.std.specs.Prelude.{◌≡◌, ◌<◌, ℕ, true, max, List, [], Contains, Some}
 use Rattle.fabric_model.specs.declared.cable.NodePort.{NodePort}
 use Rattle.fabric_model.specs.Fabric as fabric
@@ -27,8 +27,8 @@ use Rattle.takeover_laws.specs.Takeover.{SweepsAlone, planning_at, plan_by_it}
 abbrev pub FloorsForget : Type 0
 FloorsForget = (facts : Facts) (floor : ℕ) → 1 < floor → newest_held facts < floor → cells_of (raised facts floor) ≡ []
 
--- once a manager is told to raise its floor to one above 1 and above each generation that it holds, it has no facts,
--- and the generation of its next sweep is the greater of its old floor and this one
+-- a manager that is called to raise its floor to `floor` then has no facts, and the generation of its next sweep is the
+-- greater of its old floor and `floor`, if `floor` is above 1 and above each generation that the manager holds
 abbrev pub RaisedManagersKnowNothing : Type 0
 RaisedManagersKnowNothing = (w : Managing) (floor : ℕ) → 1 < floor → newest_held w.manager.store < floor
     → (cells_of (after_manager_event w (Raise floor)).manager.store ≡ [])
@@ -36,8 +36,8 @@ RaisedManagersKnowNothing = (w : Managing) (floor : ℕ) → 1 < floor → newes
 
 -- LIDs ---------------------------------------------------------------------------------------------------
 
--- `y` is what is left of `x`: its end ports are end ports of `x` and claim the LIDs that they have in the plan of `x`,
--- and it has room for all LIDs of that plan
+-- `y` is what is left of `x`. Its end ports are end ports of `x` and claim the LIDs that they have in the plan of `x`.
+-- It has room for all LIDs of that plan
 pub record IsRestOf (lmc : ℕ) (x y : Cells) : Type 0 where
   pub had : (e : EndPort) → Contains (end_ports y) e → Contains (end_ports x) e
   pub claimed : (e : EndPort) (lid : ℕ) → Contains (end_ports y) e → lid_of (lids lmc x) e ≡ Some lid
@@ -54,8 +54,8 @@ LidsOutlast = (lmc : ℕ) (x y : Facts) → ¬ (IsNoRoom lmc (cells_of x)) → �
 
 -- a takeover of the rest ---------------------------------------------------------------------------------
 
--- the manager sweeps alone; earlier facts with room contain each end port that is joined to its seat, and this has the
--- LID and the LMC of their plan; they may contain others, which are gone
+-- the manager sweeps alone. The facts `held` have room, and have each end port that is joined to the manager's seat;
+-- each of these end ports has the LID and the LMC of their plan. The facts may have other end ports, which are gone
 pub record TakesRest (held : Facts) (w : Managing) (before between after : List ManagerEvent) : Type 0 where
   pub sweeps : SweepsAlone w before between after
   pub has_room : ¬ (IsNoRoom (planning_at w before between).lmc (cells_of held))

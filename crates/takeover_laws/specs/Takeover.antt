@@ -38,8 +38,8 @@ planning_at w before between = (at_writing w before between).manager.planning
 abbrev pub plan_by_it : Planning → Facts → PlanValue
 plan_by_it planning facts = plan_of planning.rule planning.lmc (cells_of facts)
 
--- A manager without facts sweeps, and is about to write the plan of what it learned from this sweep alone, which has
--- every answer; until then no port gets another LID.
+-- a manager without facts sweeps, and the sweep has every answer. Until the writing it learns only from this sweep;
+-- then it begins to write the plan of its facts. Until the writing no port gets another LID
 pub record SweepsAlone (w : Managing) (before between after : List ManagerEvent) : Type 0 where
   -- no packet is on its way at the start; a sweep begins, and later a writing
   pub run : IsWritingRun w before between after
@@ -59,15 +59,15 @@ pub record SweepsAlone (w : Managing) (before between after : List ManagerEvent)
 -- that part holds their plan, by the manager's rule and LMC
 pub record TakesOver (held : Facts) (w : Managing) (before between after : List ManagerEvent) : Type 0 where
   pub sweeps : SweepsAlone w before between after
-  -- the facts `held` describe exactly the part that is joined to the seat, and the part holds their plan by the
-  -- manager's rule and LMC
+  -- the facts `held` have room, and describe exactly the part that is joined to the seat; the part holds their plan by
+  -- the manager's rule and LMC
   pub has_room : ¬ (IsNoRoom (planning_at w before between).lmc (cells_of held))
   pub agrees : AgreesOn (IsJoinedTo (fabric_of w.scene.fabric) w.seat) (cells_of held) (fabric_of w.scene.fabric)
   pub holds : HoldsPlan (IsJoinedTo (fabric_of w.scene.fabric) w.seat) (plan_by_it (planning_at w before between) held)
       (fabric_of w.scene.fabric)
 
--- the plan that the manager is about to write is that of the facts `held`, with these LIDs and blocks; pings arrived at
--- first, and arrive once it has written
+-- the plan that the manager is about to write is that of the facts `held`, with the same LIDs and blocks. Pings arrived
+-- before the run, and they arrive at its end if the plan counts as written
 pub record ChangesNothing (held : Facts) (w : Managing) (before between after : List ManagerEvent) : Type 0 where
   pub same_plan : plan_at (at_writing w before between) ≡ plan_by_it (planning_at w before between) held
   pub arrived : EachPingArrives (planning_at w before between).rule (cells_of held)
@@ -129,16 +129,16 @@ pub record IsInUseThroughout (held : Facts) (w : Managing) (before between after
   pub while_writing : InUseAlong (planning_at w before between).rule held
       (plan_by_it (planning_at w before between) held) w.seat after (at_first_steps w before between)
 
--- if each Set until the writing carries the held plan (`TakesOverQuietly`), it stays in use at each moment of the
--- takeover
+-- if each Set until the writing carries the values of the held plan (`TakesOverQuietly`), this plan stays in use at
+-- each moment of the takeover
 abbrev pub PingsArriveThroughout : Type 0
 PingsArriveThroughout =
     (held : Facts) (w : Managing) (before between after : List ManagerEvent)
     → TakesOverQuietly held w before between after
     → IsInUseThroughout held w before between after
 
--- an example: a new manager that takes over a subnet, where each Set until its writing carries the held plan, while
--- another manager is there and does not answer
+-- an example: a new manager takes over a subnet. Each Set until its writing carries the values of the held plan, and
+-- another manager is there that does not answer
 pub record SomeManagerTakesOver : Type 0 where
   pub managing : Managing
   pub port_guid : ℕ

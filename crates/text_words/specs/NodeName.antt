@@ -6,7 +6,7 @@ use Rattle.std.specs.List.{list_all}
 abbrev pub is_name_byte : ℕ → Bool
 is_name_byte b = nat_le 0x20 b && nat_le b 0x7E && not (b == 34)
 
--- whether `name` has 1 to 64 characters, all of which names may contain
+-- whether `name` has 1 to 64 characters, each of which a name may contain (`is_name_byte`)
 abbrev pub is_name : List ℕ → Bool
 is_name name = nat_le 1 (length name) && nat_le (length name) 64 && list_all is_name_byte name
 

@@ -5,11 +5,11 @@ use Rattle.std.specs.List.{list_all}
 use Rattle.std.specs.Str.{bytes_eq}
 use Rattle.std.specs.Str.Parse.{digits_value}
 
--- the value of the digit `b` in `base`; None if the byte is no digit
+-- the value of the digit `b` in `base`; None if `b` is no digit of `base`
 abbrev pub digit_of : ℕ → ℕ → Option ℕ
 digit_of base b = if is_digit b base then Some (digit_value b) else None
 
--- the number that `word` spells in `base`; None if the word is empty or has a byte that is no digit
+-- the number that `word` spells in `base`; None if `word` is empty or has a byte that is no digit of `base`
 abbrev pub number_of : ℕ → List ℕ → Option ℕ
 number_of base word =
     if nat_le 1 (length word) && list_all (λ b. is_digit b base) word then Some (digits_value base word) else None
@@ -18,11 +18,12 @@ number_of base word =
 abbrev pub up_to : ℕ → ℕ → Option ℕ
 up_to most n = if nat_le 1 n && nat_le n most then Some n else None
 
--- the number that `word` spells in decimal: None if it spells none, and an inner None if it is not from 1 to `most`
+-- the number that `word` spells in decimal; None if `word` spells none, and an inner None if the number is not from 1
+-- to `most`
 abbrev pub count_of : ℕ → List ℕ → Option (Option ℕ)
 count_of most word = option_map (up_to most) (number_of 10 word)
 
--- the GUID that `word` spells: `0x` and one to sixteen hex digits; None if it is anything else
+-- the GUID that `word` spells as `0x` and one to sixteen hex digits; None if `word` is anything else
 abbrev pub guid_of : List ℕ → Option ℕ
 guid_of word = if bytes_eq (take 2 word) (codes "0x")
     && nat_le (length word) 18 then number_of 16 (drop 2 word) else None

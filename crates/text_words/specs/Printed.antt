@@ -1,7 +1,7 @@
 -- Words, lines and texts as they are printed.
 use Rattle.std.specs.Prelude.{ℕ, List, [], ◌∷◌, ◌++◌, decimal}
 
--- the words of a line as text, with one blank between two
+-- the text of a line: its words, with one blank between each word and the next
 abbrev pub line_text : List (List ℕ) → List ℕ
 line_text [] = []
 line_text (word ∷ []) = word

@@ -6,13 +6,13 @@ abbrev pub begins_with : ℕ → List ℕ → Bool
 begins_with b [] = false
 begins_with b (c ∷ bytes) = c == b
 
--- the lines, with the byte `b` put before the first line
+-- the lines, with the byte `b` put before the first line; if there are no lines, one line with `b` alone
 abbrev pub onto_first : ℕ → List (List ℕ) → List (List ℕ)
 onto_first b [] = (b ∷ []) ∷ []
 onto_first b (line ∷ later) = (b ∷ line) ∷ later
 
--- the lines of a text: each ends with a line feed, and a carriage return before it belongs to the line end; the last
--- line may end with the text
+-- the lines of a text: each ends with a line feed, or with a carriage return and a line feed; the last line may end
+-- with the text
 abbrev pub lines : List ℕ → List (List ℕ)
 lines [] = []
 lines (b ∷ bytes) = if b == 10 then []
@@ -26,16 +26,17 @@ is_blank b = b == 32 || b == 9
 abbrev pub onto_word : ℕ → List ℕ × List (List ℕ) → List ℕ × List (List ℕ)
 onto_word b parts = (b ∷ parts.0, parts.1)
 
--- the first word and the later ones; an empty first word does not count
+-- the first word, unless it is empty, and the later words
 abbrev pub words_in : List ℕ × List (List ℕ) → List (List ℕ)
 words_in ([], later) = later
 words_in (b ∷ word, later) = (b ∷ word) ∷ later
 
--- whether a word ends before the byte `b`: a blank, a tab or a `#` outside quotes
+-- whether a word ends before the byte `b`: `b` is a blank, a tab or a `#`, and is outside quotes
 abbrev pub is_behind_word : Bool → ℕ → Bool
 is_behind_word quoted b = not quoted && (b == 35 || is_blank b)
 
--- whether a place is within quotes after the byte `b`, given whether it was before it; a double quote opens or closes
+-- whether quotes are open after the byte `b`; `quoted` says whether they are open before `b`. A double quote opens or
+-- closes them
 abbrev pub is_quoted_after : Bool → ℕ → Bool
 is_quoted_after quoted b = if b == 34 then not quoted else quoted
 

@@ -10,7 +10,8 @@ use arrayvec::ArrayString;
 use std::cmp::Ordering;
 use std::marker::Model;
 
-/// The name of a node: 1 to 64 printable ASCII characters, blanks included, without quotes.
+/// The name of a node: 1 to 64 printable ASCII characters, which may be blanks but not double quotes. Contracts see the
+/// bytes.
 #[derive(Debug, Drop)]
 pub struct NodeName {
     text: ArrayString<64>,
@@ -28,7 +29,7 @@ impl Model for NodeName {
 }
 
 impl NodeName {
-    /// Creates a name with the bytes `name`. Returns `None` if they are not a name.
+    /// Creates a name with the bytes `name`. Returns `None` if `name` is not a name.
     pub fn new(name: &[u8]) -> Option<Self>
         ensures { result ≡ name_in name.now }
     {

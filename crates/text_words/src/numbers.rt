@@ -3,8 +3,8 @@ ghost use Rattle.text_words.specs.Number.{digit_of, number_of, count_of, guid_of
 
 use smp_bytes::Guid;
 
-/// Parses a word of digits in a base from 2 to 36, or returns `None` if the word is anything else. A number over
-/// `u64::MAX` gives `u64::MAX`. Takes time linear in the number of digits.
+/// Parses a word of digits in `base`. Returns `None` if the word is empty or has a byte that is no such digit. A number
+/// over `u64::MAX` gives `u64::MAX`. `base` must be from 2 to 36. Takes time linear in the number of digits.
 pub fn number(word: &[u8], base: u32) -> Option<u64>
     requires { 2 ≤ base × base ≤ 36 }
     ensures { result ≡ option_map (min (2 ^ 64 - 1)) (number_of base word.now) }
@@ -27,7 +27,7 @@ fn digit(byte: u8, base: u32) -> Option<u32>
     char::from(byte).to_digit(base)
 }
 
-/// Returns `number` with `digit` appended in `base`, or `u64::MAX` if that is greater.
+/// Returns `number * base + digit`, or `u64::MAX` if the sum is greater. `base` must not be 0.
 fn with_digit(number: u64, base: u32, digit: u32) -> u64
     requires { 1 ≤ base }
     ensures { result ≡ min (2 ^ 64 - 1) (number * base + digit) }
@@ -38,7 +38,7 @@ fn with_digit(number: u64, base: u32, digit: u32) -> u64
 }
 
 /// Parses a word of decimal digits as a number from 1 to `most`. Returns `None` if the word is no number, and
-/// `Some(None)` if the number is out of range.
+/// `Some(None)` if the number is 0 or over `most`.
 pub fn count(word: &[u8], most: u16) -> Option<Option<u16>>
     ensures { result ≡ count_of most word.now }
 {
@@ -48,7 +48,7 @@ pub fn count(word: &[u8], most: u16) -> Option<Option<u16>>
 }
 
 /// Parses a word of decimal digits as a port from 1 to 254. Returns `None` if the word is no number, and `Some(None)`
-/// if the number is out of range.
+/// if the number is 0 or over 254.
 pub fn port_number(word: &[u8]) -> Option<Option<u8>>
     ensures { result ≡ count_of 254 word.now }
 {

@@ -5,7 +5,8 @@ use crate::name::NodeName;
 use crate::numbers::port_number;
 use crate::text::place_of;
 
-/// Parses a name in quotes, `"name"`. Returns `None` if the word is anything else. Takes time linear in its length.
+/// Parses a name in double quotes, `"name"`. Returns `None` if the word is anything else. Takes time linear in the
+/// word's length.
 pub fn quoted_name(word: &[u8]) -> Option<NodeName>
     ensures { result ≡ quoted_name word.now }
 {
@@ -16,8 +17,8 @@ pub fn quoted_name(word: &[u8]) -> Option<NodeName>
     NodeName::new(name)
 }
 
-/// Parses a port in brackets, `[port]`. Returns `None` if the word is anything else, and `Some(None)` if the port is
-/// not from 1 to 254. Takes time linear in its length.
+/// Parses a port in brackets, `[port]`. Returns `None` if the word is not a number in brackets, and `Some(None)` if the
+/// number is not from 1 to 254. Takes time linear in the word's length.
 pub fn bracketed_port(word: &[u8]) -> Option<Option<u8>>
     ensures { result ≡ bracketed_port word.now }
 {
@@ -28,8 +29,8 @@ pub fn bracketed_port(word: &[u8]) -> Option<Option<u8>>
     port_number(port)
 }
 
-/// Parses a name in quotes, directly followed by a port in brackets, `"name"[port]`. Returns `None` if the word is
-/// anything else. The port is `None` if it is not from 1 to 254. Takes time linear in the word's length.
+/// Parses a name in double quotes, directly followed by a port in brackets, `"name"[port]`. Returns `None` if the word
+/// is anything else. The port is `None` if it is not from 1 to 254. Takes time linear in the word's length.
 pub fn named_port(word: &[u8]) -> Option<(NodeName, Option<u8>)>
     ensures { result ≡ named_port word.now }
 {
@@ -39,8 +40,8 @@ pub fn named_port(word: &[u8]) -> Option<(NodeName, Option<u8>)>
 }
 
 /// Splits a word that begins with the byte `first`. Returns the bytes between `first` and the next `close`, and the
-/// bytes after this `close`. Returns `None` if the word does not begin with `first` or has no such `close`. Takes time
-/// linear in its length.
+/// bytes after this `close`. Returns `None` if the word does not begin with `first` or no `close` follows. Takes time
+/// linear in the word's length.
 pub fn enclosed(word: &[u8], first: u8, close: u8) -> Option<(&[u8], &[u8])>
     ensures { option_map (λ x. (x.0.now, x.1.now)) result ≡ enclosed first close word.now }
 {

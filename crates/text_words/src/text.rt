@@ -4,7 +4,8 @@ ghost use Rattle.std.specs.Str.{bytes_eq};
 ghost use Rattle.text_words.specs.Text.{lines, words, is_blank, parts, is_behind_word, is_quoted_after};
 ghost use Rattle.text_words.specs.Text.{without_return};
 
-/// Returns the first line of `text` without its line end, and the text after it. Returns `None` if `text` is empty.
+/// Returns the first line of `text` without its line end, and the text after the line end. Returns `None` if `text` is
+/// empty.
 #[tactic(auto, using(crate::proofs::Splits::lines_at, crate::proofs::Splits::lines_none))]
 pub fn split_line(text: &[u8]) -> Option<(&[u8], &[u8])>
     ensures line { MatchOption result (lines text.now ≡ [])
@@ -31,8 +32,8 @@ fn without_return(line: &[u8]) -> &[u8]
     if *last == b'\r' { rest } else { line }
 }
 
-/// Returns the first word of `line` and what follows it, or `None` if there is no word. A `#` outside quotes ends the
-/// line.
+/// Returns the first word of `line` and the bytes after it, or `None` if `line` has no word. A `#` outside quotes ends
+/// the line.
 pub fn split_word(line: &[u8]) -> Option<(&[u8], &[u8])>
     ensures { MatchOption result (words line.now ≡ [])
         (λ x. words line.now ≡ x.0.now ∷ words x.1.now) }
@@ -45,14 +46,15 @@ pub fn split_word(line: &[u8]) -> Option<(&[u8], &[u8])>
     }
 }
 
-/// Returns the index of the first byte of `line` that does not separate words, or `None` if there is none.
+/// Returns the index of the first byte of `line` that is neither a blank nor a tab, or `None` if `line` has no such
+/// byte.
 fn word_start(line: &[u8]) -> Option<usize>
     ensures { result ≡ position (λ b. not (is_blank b)) line.now }
 {
     line.iter().position(|byte| !is_blank(*byte))
 }
 
-/// Returns the length of the word that `line` begins with.
+/// Returns the length of the word that `line` begins with, or 0 if `line` begins with no word.
 fn word_len(line: &[u8]) -> usize
     ensures within { result ≤ length line.now }
     ensures word { (parts false line.now).0 ≡ take result line.now }
@@ -75,7 +77,8 @@ fn is_behind_word(is_quoted: bool, byte: u8) -> bool
     !is_quoted && (byte == b'#' || is_blank(byte))
 }
 
-/// Returns whether a word is within quotes after `byte`. `is_quoted` says whether it is before `byte`.
+/// Returns whether a word is within quotes after `byte`. `is_quoted` says whether the word is within quotes before
+/// `byte`.
 fn is_quoted_after(is_quoted: bool, byte: u8) -> bool
     ensures { result ≡ is_quoted_after is_quoted byte }
 {
@@ -89,14 +92,14 @@ pub fn is_word(word: &[u8], wanted: &str) -> bool
     word == wanted.as_bytes()
 }
 
-/// Returns the index of the first `byte` in `bytes`, or `None` if there is none.
+/// Returns the index of the first `byte` in `bytes`, or `None` if `bytes` do not contain `byte`.
 pub(crate) fn place_of(bytes: &[u8], byte: u8) -> Option<usize>
     ensures { result ≡ position (λ b. b == byte) bytes.now }
 {
     bytes.iter().position(|b| *b == byte)
 }
 
-/// Returns whether `byte` separates words, which a blank and a tab do.
+/// Returns whether `byte` is a blank or a tab, which separate words.
 fn is_blank(byte: u8) -> bool
     ensures { result ≡ is_blank byte }
 {

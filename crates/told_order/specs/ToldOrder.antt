@@ -9,8 +9,8 @@ use Rattle.told_order.specs.Turns.{IsTurn}
 abbrev pub is_left : List Bool → ℕ → Bool
 is_left left i = slice_index_or left i false
 
--- switch `j` may be the last of the switches left: by `tables`, no packet comes to it from one of them and leaves it
--- for one of them
+-- switch `j` may be the last of the switches left: by `tables`, no packet comes to `j` from a switch that is left and
+-- leaves `j` for a switch that is left
 abbrev pub MayBeLast : Cells → HeldPlan → List Bool → ℕ → Type 0
 MayBeLast cells tables left j =
     (i k : ℕ) → is_left left i ≡ true → is_left left k ≡ true → IsTurn cells tables i j k → ⊥
@@ -21,7 +21,8 @@ NoneFrom cells tables preferred left index =
     (k y : ℕ) → index < k + 1 → slice_get preferred k ≡ Some y → is_left left y ≡ true
     → MayBeLast cells tables left y → ⊥
 
--- switch `x` is left and may be the last of those left, and no switch after it in `preferred` is left and may be
+-- switch `x` is left and may be the last of those left; no switch after it in `preferred` both is left and may be the
+-- last
 pub record IsLast (cells : Cells) (tables : HeldPlan) (preferred : List ℕ) (left : List Bool) (x : ℕ) : Type 0 where
   pub is_left : is_left left x ≡ true
   pub may_be : MayBeLast cells tables left x
@@ -30,7 +31,7 @@ pub record IsLast (cells : Cells) (tables : HeldPlan) (preferred : List ℕ) (le
   pub none_behind : NoneFrom cells tables preferred left (index + 1)
 
 -- switches are taken in the order of the list, each as the last of those left then; `end` has the switches that are
--- left in the end
+-- left at the end
 abbrev pub AreTaken : Cells → HeldPlan → List ℕ → List Bool → List ℕ → List Bool → Type 0
 AreTaken cells tables preferred left [] end = left ≡ end
 AreTaken cells tables preferred left (x ∷ taken) end =

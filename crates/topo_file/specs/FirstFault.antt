@@ -16,8 +16,8 @@ abbrev pub fault_of : {T : Type 0} → Result T TopoFault → Option TopoFault
 fault_of (Ok value) = None
 fault_of (Err fault) = Some fault
 
--- the first fault of a text's lines, except for faults of its links: a peer or a port that does not exist, or a port
--- with two links
+-- the first fault of the lines of `text`; None if they have none. Three faults of links do not count: a peer that does
+-- not exist, a port that does not exist, and a port with two links
 unfoldable pub first_line_fault : List ℕ → Option TopoFault
 first_line_fault text = fault_of (nodes_of_lines (lines text))
 
@@ -43,13 +43,13 @@ with_name number names (Some line.Empty) = Ok names
 with_name number names (Some (line.Node node)) = node_of number node >>= λ n. with_new_name number names n.name
 with_name number names (Some (line.Link link)) = below_node number names
 
--- `names` with the names in the lines, or the first fault; the first line has the number `number`
+-- `names` with the names in the lines appended, or the first fault; the first line has the number `number`
 abbrev pub with_names : ℕ → List (Option (List ℕ)) → List (List ℕ) → Result (List (Option (List ℕ))) TopoFault
 with_names number names [] = Ok names
 with_names number names (line ∷ later) =
     with_name number names (line_of line) >>= λ now. with_names (number + 1) now later
 
--- a call that is to come to a value or a fault left that value, `new`, or returned that fault
+-- the outcome of a call that should give a value or a fault: it left that value as `new`, or returned that fault
 abbrev pub Leaves : {T : Type 0} → Result T TopoFault → Result (Unit {0}) TopoFault → T → Type 0
 Leaves (Ok now) (Ok u) new = new ≡ now
 Leaves (Err fault) (Err answered) new = answered ≡ fault

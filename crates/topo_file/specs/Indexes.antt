@@ -10,7 +10,7 @@ use Rattle.topo_file.specs.declared.node.Node.{Node}
 use Rattle.fabric_model.specs.Cables.{other_end}
 use Rattle.topo_file.specs.Topology.{id_of}
 
--- there are at most 1,024 nodes, and the index `ids` has their ids by name, and no others
+-- `nodes` has at most 1,024 nodes, and the index `ids` has the id of each node by its name, and no other names
 pub record HasIds (nodes : List Node) (ids : BTreeMap (List ℕ) ℕ) : Type 0 where
   pub few : length nodes ≤ 1024
   pub found : (name : List ℕ) → get (slice_cmp nat_cmp) ids name ≡ id_of nodes name
@@ -19,6 +19,6 @@ pub record HasIds (nodes : List Node) (ids : BTreeMap (List ℕ) ℕ) : Type 0 w
 abbrev pub port_cmp : ℕ × ℕ → ℕ × ℕ → Ordering
 port_cmp a b = ordering_then (nat_cmp a.0 b.0) (nat_cmp a.1 b.1)
 
--- the index `across` has the other end of each port's link, and no others
+-- the index `across` has, for each port with a link of `links`, the other end of that link, and no other ports
 abbrev pub HasEnds : List Cable → BTreeMap (ℕ × ℕ) NodePort → Type 0
 HasEnds links across = (p : NodePort) → get port_cmp across (p.node, p.port) ≡ other_end links p

@@ -17,7 +17,7 @@ node_words node =
     ∷ codes "guid" ∷ (codes "0x" ++ guid_text node.guid)
     ∷ (if is_switch node.kind then codes "cap" ∷ decimal node.cap ∷ [] else [])
 
--- the name of the node `id`, empty if there is none
+-- the name of the node `id`; empty if there is no such node
 abbrev pub name_at : List Node → ℕ → List ℕ
 name_at nodes id = option_map_or (λ node. node.name) (slice_get nodes id) []
 
@@ -29,7 +29,7 @@ link_words nodes link = bracketed_text link.one.port ∷ named_text (name_at nod
 abbrev pub links_at : List Cable → ℕ → List Cable
 links_at links id = filter (λ link. link.one.node == id) links
 
--- the lines of the nodes from the node `id` on, each with its links below it
+-- the lines of the given nodes, whose ids begin at `id`, each with its links in `t` below it
 abbrev pub lines_from : Layout → ℕ → List Node → List (List (List ℕ))
 lines_from t id [] = []
 lines_from t id (node ∷ later) =

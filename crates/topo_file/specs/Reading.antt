@@ -29,12 +29,12 @@ pub record Lines : Type 0 where
   pub nodes : List Node
   pub links : List LinkAt
 
--- the node is no switch, and the GUID of its last port, of so many `ports`, does not fit 64 bits
+-- `node` is no switch, and the GUID of its last port, `node.guid` plus `ports`, does not fit 64 bits
 abbrev pub is_beyond : NodeLine → ℕ → Bool
 is_beyond node ports = if is_switch node.kind then false else nat_le (2 ^ 64) (node.guid + ports)
 
--- the node in the line `number`, with the port count and the table's size, or the line's fault; None stands for a
--- number out of range
+-- the node of the node line `node`, with this port count and table size, or the fault of the line `number`: one of
+-- these numbers is out of range (None), or the GUID of the last port is
 abbrev pub node_with : ℕ → NodeLine → Option ℕ → Option ℕ → Result Node TopoFault
 node_with number node (Some ports) (Some cap) =
     if is_beyond node ports then Err (GuidRange number)
@@ -52,12 +52,13 @@ with_node number nodes node =
     if is_some (id_of nodes node.name) then Err (Name number)
     else (if nat_lt (length nodes) 1024 then Ok (nodes ++ node ∷ []) else Err (TooManyNodes number))
 
--- the links with the link of line `number` appended, below the last of so many nodes; a fault if there is no node
+-- `links` with `link` of the line `number` appended, as a link of the last node so far; a fault if there is no node.
+-- The second argument is the number of nodes so far
 abbrev pub with_link_line : ℕ → ℕ → List LinkAt → LinkLine → Result (List LinkAt) TopoFault
 with_link_line number zero links link = Err (Syntax number)
 with_link_line number (suc last) links link = Ok (links ++ record { line = number; node = last; link = link } ∷ [])
 
--- `before`, the lines so far, with what the line `number` adds, or its fault
+-- `before`, the lines so far, with what the line `number` adds, or that line's fault
 abbrev pub with_line : ℕ → Lines → Option TopologyLine → Result Lines TopoFault
 with_line number before None = Err (Syntax number)
 with_line number before (Some line.Empty) = Ok before
@@ -72,7 +73,8 @@ with_lines number before [] = Ok before
 with_lines number before (line ∷ later) =
     with_line number before (line_of line) >>= λ now. with_lines (number + 1) now later
 
--- the port of the node `id` with the number `port`; None if there is no number, or the node does not have the port
+-- the port of the node `id` with the number `port`; None if there is no number, no such node, or the number is over its
+-- port count
 abbrev pub port_at : List Node → ℕ → Option ℕ → Option NodePort
 port_at nodes id port =
     option_and_then (λ p. option_and_then (λ node. if nat_le p node.ports then Some (record {

@@ -17,8 +17,8 @@ pub record IsLinkLine (link : LinkLine) : Type 0 where
   pub port : (p : ℕ) → link.port ≡ Some p → 1 ≤ p
   pub peer_port : (p : ℕ) → link.peer_port ≡ Some p → 1 ≤ p
 
--- the nodes read so far are nodes that a topology may have, and the ports of the links are at least 1, unless they are
--- out of range
+-- the nodes read so far are nodes that a topology may have. The ports of the links are at least 1, unless they are out
+-- of range (None)
 pub record IsDraft (told : Lines) : Type 0 where
   pub nodes : AreNodes told.nodes
   pub links : AllByRecursion (λ at. IsLinkLine at.link) told.links

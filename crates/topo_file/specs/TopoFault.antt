@@ -3,21 +3,21 @@ use Rattle.std.specs.Prelude.{◌≡◌, ℕ, List, Option, None, Some, Result, 
 use Rattle.topo_file.specs.declared.fault.TopoFault.{TopoFault}
 use Rattle.topo_file.specs.declared.fault.TopoFault.TheVariants.{Syntax, Name, Ports, Peer, Port, Linked, GuidRange, TooManyNodes, Memory}
 
--- a call is refused for a fault: that in `told`, or lack of memory
+-- a call is refused for the given fault: lack of memory, or else the fault in `told`
 abbrev pub IsRefused : {T : Type 0} → TopoFault → Result T TopoFault → Type 0
 IsRefused Memory told = Unit {0}
 IsRefused fault told = told ≡ Err fault
 
--- the result is `told`, a value as `seen` shows it or the first fault, unless memory ran out
+-- the result of a call is a value that `seen` shows as the one in `told`, or the fault in `told`, or lack of memory
 abbrev pub ReadsAs : {S T : Type 0} → (S → T) → Result S TopoFault → Result T TopoFault → Type 0
 ReadsAs seen (Ok value) told = told ≡ Ok (seen value)
 ReadsAs seen (Err fault) told = IsRefused fault told
 
--- the result of a call is `told`, a value or the first fault, unless memory ran out
+-- the result of a call is `told`, a value or the first fault, or it is lack of memory
 abbrev pub Reads : {T : Type 0} → Result T TopoFault → Result T TopoFault → Type 0
 Reads result told = ReadsAs (λ value. value) result told
 
--- what is written about the fault, without its line
+-- the word that is written for the fault
 abbrev pub fault_word : TopoFault → List ℕ
 fault_word (Syntax line) = codes "syntax"
 fault_word (Name line) = codes "name"

@@ -11,12 +11,12 @@ use Rattle.fabric_model.specs.declared.cable.NodePort.{NodePort}
 use Rattle.topo_file.specs.declared.node.Node.{Node}
 use Rattle.text_words.specs.NodeName.{is_name}
 
--- nodes, and the links between their ports
+-- a topology: its nodes, whose ids are their indices, and the links between their ports
 pub record Layout : Type 0 where
   pub nodes : List Node
   pub links : List Cable
 
--- the id of the first node with the name `name`, its index; None if there is none
+-- the id, which is the index, of the first node with the name `name`; None if no node has this name
 abbrev pub id_of : List Node → List ℕ → Option ℕ
 id_of [] name = None
 id_of (node ∷ nodes) name = if bytes_eq node.name name then Some 0 else option_map suc (id_of nodes name)
@@ -34,8 +34,8 @@ is_switch_with guid node = is_switch node.kind && (node.guid == guid)
 abbrev pub has_switch : List Node → ℕ → Bool
 has_switch nodes guid = list_any (is_switch_with guid) nodes
 
--- a forwarding table of `cap` entries, and the GUIDs of `ports` ports from `guid` on, fit the type of the node; nothing
--- fits a router
+-- `cap` and `guid` fit the type of a node with `ports` ports: a switch has a table of 1 to 49,152 entries; a channel
+-- adapter has none, and the GUID of its last port, `guid` plus `ports`, has 64 bits; nothing fits a router
 abbrev pub IsOfKind : NodeType → ℕ → ℕ → ℕ → Type 0
 IsOfKind Switch ports guid cap = (1 ≤ cap) × (cap ≤ 0xC000)
 IsOfKind ChannelAdapter ports guid cap = (cap ≡ 0) × (guid + ports < 2 ^ 64)

@@ -18,7 +18,7 @@ kind_of word =
     || bytes_eq word (codes "Ca") then Some ChannelAdapter else None)
 
 -- the size of a node's table, by the words after its GUID: 0 for an adapter; for a switch 1024, or the number after
--- `cap`; None for other words, and the inner value is None if the number is out of range
+-- `cap`; None for other words and for a router. The inner value is None if the number is out of range
 abbrev pub cap_of : NodeType → List (List ℕ) → Option (Option ℕ)
 cap_of Switch [] = Some (Some 1024)
 cap_of Switch (word ∷ cap ∷ []) = if bytes_eq word (codes "cap") then count_of 0xC000 cap else None
@@ -27,7 +27,8 @@ cap_of ChannelAdapter [] = Some (Some 0)
 cap_of ChannelAdapter _ = None
 cap_of Router _ = None
 
--- a node: its port count, its name, 'guid', its GUID, and the size of a switch's table; None if the words say no node
+-- a node of the type `kind`, from the words after its type: its port count, its name, 'guid', its GUID, and the size of
+-- a switch's table; None if the words say no node
 abbrev pub node_line : NodeType → List (List ℕ) → Option NodeLine
 node_line kind (ports ∷ name ∷ word ∷ guid ∷ rest) =
     if bytes_eq word (codes "guid") then

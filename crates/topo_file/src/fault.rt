@@ -4,20 +4,20 @@ use std::alloc::{AllocError, AllocFailed};
 use std::error::Error;
 use std::fmt;
 
-/// Why a text is not a topology. First the lines are checked in order, and then the links. Lines count from 1.
+/// Why a text is not a topology. All lines are checked in order, and then all links. Lines are counted from 1.
 #[derive(Clone, Copy, Debug, PartialEq, Eq)]
 pub enum TopoFault {
     /// The line is not in the grammar, or is a link above all nodes.
     Syntax { line: usize },
-    /// A node above has this name.
+    /// A node of an earlier line has this node's name.
     Name { line: usize },
     /// A port count is not from 1 to 254, or a forwarding table's size is not from 1 to 49,152.
     Ports { line: usize },
-    /// A link names a node that does not exist.
+    /// A link names a peer that is no node of the text.
     Peer { line: usize },
-    /// A link's port is 0 or above its node's port count.
+    /// A port of a link is 0 or above its node's port count.
     Port { line: usize },
-    /// One of a link's ports has another link.
+    /// A port of a link has another link.
     Linked { line: usize },
     /// The GUID of an adapter's last port does not fit 64 bits.
     GuidRange { line: usize },
@@ -47,7 +47,7 @@ impl TopoFault {
         }
     }
 
-    /// Returns the number of the faulty line, from 1, or `None` for lack of memory.
+    /// Returns the number of the faulty line, counted from 1, or `None` if the fault is `Memory`.
     pub fn line(self) -> Option<usize>
         ensures { result ≡ fault_line self }
     {

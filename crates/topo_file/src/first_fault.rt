@@ -14,8 +14,8 @@ use text_words::{NodeName, split_line};
 /// The names of the nodes so far. No slot is `None`.
 type Names = ArrayVec<Option<NodeName>, MAX_NODES>;
 
-/// Returns the first fault of a text's lines, or `None` if there is none. Faults of links that need the nodes do not
-/// count (`Peer`, `Port`, `Linked`). Takes time linear in the number of nodes for each node.
+/// Returns the first fault of a line of `text`, or `None` if no line has a fault. Faults that need all nodes are left
+/// out: a link's `Peer`, `Port` and `Linked`. For each node, takes time linear in the number of nodes above it.
 pub(crate) fn first_line_fault(text: &[u8]) -> Option<TopoFault>
     ensures { result ≡ first_line_fault text.now }
 {
@@ -32,8 +32,8 @@ pub(crate) fn first_line_fault(text: &[u8]) -> Option<TopoFault>
     None
 }
 
-/// Checks the line `number`, given the `names` of the nodes above, and adds the name of a node. Returns the line's
-/// fault if it has one.
+/// Checks `line`, whose number is `number`, given `names`, the names of the nodes above. Returns the line's fault if it
+/// has one. Otherwise appends the name of a node in `line` to `names`.
 fn judge_line(names: &mut Names, number: usize, line: &[u8]) -> Result<(), TopoFault>
     ensures { Leaves (with_name number names.old.items (line_of line.now)) result names.new.items }
 {
@@ -50,8 +50,8 @@ fn judge_line(names: &mut Names, number: usize, line: &[u8]) -> Result<(), TopoF
     }
 }
 
-/// Checks the name of the node of line `line`, given the `names` of the nodes above, and adds it. Returns `Name` if it
-/// is taken, and `TooManyNodes` if there are 1,024 names already.
+/// Checks the name of `node`, of the line `line`, and appends it to `names`, the names of the nodes above. Returns
+/// `Name` if the name is taken. Otherwise returns `TooManyNodes` if there are 1,024 names already.
 fn judge_node(names: &mut Names, line: usize, node: Node) -> Result<(), TopoFault>
     ensures { Leaves (with_new_name line names.old.items node.name) result names.new.items }
 {

@@ -8,7 +8,7 @@ use text_words::{
     split_word,
 };
 
-/// What a line says.
+/// What a line of a topology says: nothing, a node or a link.
 #[derive(Drop)]
 pub(crate) enum TopologyLine {
     Empty,
@@ -20,15 +20,17 @@ pub(crate) enum TopologyLine {
 #[derive(Drop)]
 pub(crate) struct NodeLine {
     pub(crate) kind: NodeType,
-    /// The port count, from 1 to 254.
+    /// The port count, 1 to 254; `None` if the line has another number.
     pub(crate) ports: Option<u8>,
     pub(crate) name: NodeName,
     pub(crate) guid: Guid,
-    /// The size of the forwarding table: from 1 to 49,152 for a switch, and 0 for an adapter.
+    /// The size of the forwarding table: 1 to 49,152 for a switch, 0 for an adapter; `None` if the line has another
+    /// number.
     pub(crate) cap: Option<u16>,
 }
 
-/// A link as its line gives it, below one of its nodes. A port is `None` if it is not from 1 to 254.
+/// A link as its line gives it: a port of the node above, and the peer's name and port. A port is `None` if it is not
+/// from 1 to 254.
 #[derive(Drop)]
 pub(crate) struct LinkLine {
     pub(crate) port: Option<u8>,
@@ -50,7 +52,7 @@ pub(crate) fn read_line(line: &[u8]) -> Option<TopologyLine>
     }
 }
 
-/// Returns the type of node that `word` names, or `None` if it names none.
+/// Returns the type of node that `word` names, or `None` if `word` names no type.
 fn kind(word: &[u8]) -> Option<NodeType>
     ensures { result ≡ kind_of word.now }
 {
@@ -84,9 +86,9 @@ fn node_line(kind: NodeType, line: &[u8]) -> Option<NodeLine>
     })
 }
 
-/// Parses the size of a node's forwarding table from the rest of its line. If the line gives none, a switch has 1024,
-/// and an adapter 0. The inner value is `None` if the number is out of range. Returns `None` if the grammar has no such
-/// line.
+/// Parses `line`, the rest of a node's line, as the size of the node's forwarding table. Without a size in the line, a
+/// switch has 1024, and an adapter 0. The inner value is `None` if the number is out of range. Returns `None` if the
+/// grammar has no such line.
 fn cap(kind: NodeType, line: &[u8]) -> Option<Option<u16>>
     ensures { result ≡ cap_of kind (words line.now) }
 {
@@ -99,8 +101,8 @@ fn cap(kind: NodeType, line: &[u8]) -> Option<Option<u16>>
     }
 }
 
-/// Parses the size of a switch's forwarding table from the word `cap` and what follows it. The inner value is `None` if
-/// the number is out of range. Returns `None` if the grammar has no such line.
+/// Parses the size of a switch's forwarding table: `word` must be `cap`, and `line` the number. The inner value is
+/// `None` if the number is out of range. Returns `None` if the grammar has no such line.
 fn given_cap(word: &[u8], line: &[u8]) -> Option<Option<u16>>
     ensures { result ≡ cap_of NodeType.Switch (word.now ∷ words line.now) }
 {
@@ -115,7 +117,8 @@ fn given_cap(word: &[u8], line: &[u8]) -> Option<Option<u16>>
     }
 }
 
-/// Parses a link from the first word of its line and what follows it. Returns `None` if the grammar has no such line.
+/// Parses a link from `port`, the first word of its line, and `line`, the rest. Returns `None` if the grammar has no
+/// such line.
 fn link_line(port: &[u8], line: &[u8]) -> Option<LinkLine>
     ensures { result ≡ link_line (port.now ∷ words line.now) }
 {

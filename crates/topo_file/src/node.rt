@@ -6,10 +6,10 @@ use text_words::NodeName;
 pub struct Node {
     pub name: NodeName,
     pub kind: NodeType,
-    /// The number of ports, 1 to 254, without a switch's management port.
+    /// The port count, 1 to 254, which leaves out a switch's port 0.
     pub ports: u8,
     /// The GUID of a switch's port 0. For an adapter, port `p` has this GUID plus `p`.
     pub guid: Guid,
-    /// The size of a switch's linear forwarding table, 1 to 49,152; 0 for an adapter, which has none.
+    /// The size of a switch's linear forwarding table, 1 to 49,152; 0 for an adapter, which has no table.
     pub cap: u16,
 }

@@ -48,8 +48,8 @@ impl Topology {
         self.nodes.len()
     }
 
-    /// Returns the node with the id `node`, or `None` if there is none. Ids count from 0, in the order of the nodes'
-    /// lines. Takes constant time.
+    /// Returns the node with the id `node`, or `None` if no node has this id. Ids count from 0, in the order of the
+    /// nodes' lines. Takes constant time.
     pub fn node(&self, node: NodeId) -> Option<&Node>
         ensures node { option_copied result ≡ slice_get self.now.nodes node }
         ensures is_node { IfSome result (λ node. IsNode node.now) }
@@ -64,8 +64,8 @@ impl Topology {
         self.links.as_slice()
     }
 
-    /// Returns the id of the node with the name `name`, or `None` if there is none. Takes time logarithmic in the
-    /// number of nodes.
+    /// Returns the id of the node with the name `name`, or `None` if no node has this name. Takes time logarithmic in
+    /// the number of nodes.
     pub fn find(&self, name: &str) -> Option<NodeId>
         ensures id { result ≡ id_of self.now.nodes name.now }
         ensures found { IsFound self.now.nodes name.now result }
@@ -91,8 +91,8 @@ impl Topology {
     }
 }
 
-/// Parses the text of a topology. A line ends with LF or CR LF, and the last one may end with the text. A line is empty,
-/// a node, or a link of the node above it. `#` outside quotes begins a comment:
+/// Parses the text of a topology. A line ends with LF or CR LF, and the last one may end with the text. A line is
+/// empty, a node, or a link of the node above the line. `#` outside quotes begins a comment:
 ///
 /// ```text
 /// Switch 4 "S1" guid 0x10 cap 1024
@@ -105,8 +105,9 @@ impl Topology {
 ///
 /// # Errors
 ///
-/// Returns the first fault of a line or, if no line has one, of a link (`Peer`, `Port`, `Linked`). If memory runs out,
-/// the lines are checked again without it. Returns `Memory` only if no line has a fault; a link may have one.
+/// Returns the first fault of a line. If no line has a fault, returns the first fault of a link (`Peer`, `Port`,
+/// `Linked`). If memory runs out, the lines are checked again without memory from the allocator. So after `Memory` no
+/// line has a fault, but a link may have one.
 pub fn parse(alloc: Global, text: &str) -> Result<Topology, TopoFault>
     ensures reads { Reads result (topology_of text.now) }
     ensures memory { result ≡ Err TopoFault.Memory → first_line_fault text.now ≡ None }
@@ -121,7 +122,7 @@ pub fn parse(alloc: Global, text: &str) -> Result<Topology, TopoFault>
     }
 }
 
-/// Parses the lines of a text into nodes and links, or returns the first fault of a line.
+/// Parses the lines of `text` into nodes and links. Returns the first fault of a line, and `Memory` if memory runs out.
 fn read_lines(alloc: Global, text: &[u8]) -> Result<Draft, TopoFault>
     ensures { Reads result (nodes_of_lines (lines text.now)) }
 {
@@ -136,8 +137,8 @@ fn read_lines(alloc: Global, text: &[u8]) -> Result<Draft, TopoFault>
     Ok(draft)
 }
 
-/// Builds the topology of the lines, or returns the first fault of a link. The nodes must be such as a topology may
-/// have, and the links' ports at least 1, if they are in range.
+/// Builds the topology of `draft`. Returns the first fault of a link, and `Memory` if memory runs out. The nodes must
+/// be nodes that a topology may have. Each port of a link must be at least 1, unless it is out of range (`None`).
 fn finish(alloc: Global, draft: Draft) -> Result<Topology, TopoFault>
     requires { IsDraft draft }
     ensures { Reads result (topology_in draft) }
@@ -155,7 +156,7 @@ fn finish(alloc: Global, draft: Draft) -> Result<Topology, TopoFault>
     })
 }
 
-/// Returns whether no two of `nodes` have the same GUID.
+/// Returns whether no two of `nodes` have the same GUID. Returns an error if memory runs out.
 fn guids_distinct(alloc: Global, nodes: &[Node]) -> Result<bool, AllocError>
     ensures { IfOk result (λ distinct. IsTrue distinct ↔ GuidsDiffer nodes.now) }
 {

@@ -10,7 +10,7 @@ use Rattle.depth_orders.specs.DepthOrders.{order_by_depth, turned}
 use Rattle.balanced_choices.specs.BalancedChoices.{are_even}
 use Rattle.trial_loads.specs.TrialLoads.{trial_load, trial_loads}
 
--- the key of vertex `s` by its position in `vertices`; by the length of the list if it is not there
+-- the key of vertex `s` by its position in `vertices`; by the length of `vertices` if `s` is not there
 abbrev pub key_in : List ℕ → ℕ → VertexKey
 key_in vertices s = record { distance_class = 0; distance = position_of vertices s }
 
@@ -18,7 +18,7 @@ key_in vertices s = record { distance_class = 0; distance = position_of vertices
 abbrev pub keys_in : List ℕ → ℕ → List VertexKey
 keys_in vertices n = map (key_in vertices) (numbers_from 0 n)
 
--- the keys by the order by depth from `root`, in which `keys` decide between equals, in this direction
+-- the keys by positions in the order by depth from `root`; between equals `keys` decide, in the direction given
 abbrev pub keys_by_depth : List (List Edge) → List VertexKey → Direction → ℕ → List VertexKey
 keys_by_depth edges keys direction root =
     keys_in (order_by_depth edges (turned direction (before_by keys)) root) (length edges)

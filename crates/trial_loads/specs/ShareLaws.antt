@@ -4,14 +4,14 @@ use Rattle.port_graph.specs.declared.edge.Edge.{Edge}
 use Rattle.spread_labels.specs.Labels.{candidates}
 use Rattle.trial_loads.specs.TrialLoads.{in_turn, share}
 
--- if vertices share in the order of the list, each does so when all has reached it: no candidate of itself or of a
--- later vertex leads to it
+-- if vertices share in the order of the list, each shares once all packets have reached it: no candidate of the vertex
+-- or of a later one leads to the vertex
 abbrev pub ShareWhenAllHasCome : (ℕ → List Edge) → List ℕ → Type 0
 ShareWhenAllHasCome towards [] = Unit {0}
 ShareWhenAllHasCome towards (s ∷ ss) =
     ((r : ℕ) (e : Edge) → Contains (s ∷ ss) r → Contains (towards r) e → e.to ≢ s) × ShareWhenAllHasCome towards ss
 
--- each of `n` vertices shares once in `turns`, when all has reached it
+-- each of `n` vertices shares once in `turns`, when all packets have reached it
 pub record AreTurns (towards : ℕ → List Edge) (n : ℕ) (turns : List ℕ) : Type 0 where
   pub all : (s : ℕ) → s < n → Contains turns s
   pub once : length turns ≡ n

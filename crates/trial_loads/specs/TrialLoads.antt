@@ -15,14 +15,14 @@ use Rattle.spread_labels.specs.Orders.{by_position, numbers_from, order}
 use Rattle.spread_labels.specs.TargetSets.{EachTarget, has}
 use Rattle.balanced_choices.specs.Loads.{channel_by}
 
--- the numbers, with `more` added at each of some indices, each at most 2^64 - 1
+-- `numbers`, with `more` added at each index of a list; each sum stops at 2^64 - 1
 abbrev pub with_more : ℕ → List ℕ → List ℕ → List ℕ
 with_more more numbers [] = numbers
 with_more more numbers (i ∷ is) =
     with_more more (slice_set numbers i (min (slice_index numbers i + more) (2 ^ 64 - 1))) is
 
--- packets on their way to a target: how many each vertex has had so far, and how many each channel carries, with those
--- to earlier targets
+-- packets on their way to a target: how many each vertex has had so far, and how many each channel carries, including
+-- packets to earlier targets
 pub record Packets : Type 0 where
   pub had : List ℕ
   pub carried : List ℕ
@@ -31,7 +31,7 @@ pub record Packets : Type 0 where
 abbrev pub share : ℕ → List Edge → ℕ
 share n es = n / length es
 
--- the packets once vertex `s` has shared those that it had over its candidates `es`
+-- the packets once vertex `s` has shared the packets that it had evenly over its candidates `es`
 abbrev pub with_shares : ℕ → List Edge → Packets → Packets
 with_shares s es packets = record {
   had = with_more (share (slice_index packets.had s) es) packets.had (map (λ e. e.to) es);
@@ -43,7 +43,7 @@ abbrev pub shared : (ℕ → List Edge) → List ℕ → Packets → Packets
 shared towards [] packets = packets
 shared towards (s ∷ ss) packets = shared towards ss (with_shares s (towards s) packets)
 
--- the numbers below `n`, falling
+-- the numbers less than `n`, falling
 abbrev pub last_first : ℕ → List ℕ
 last_first zero = []
 last_first (suc n) = n ∷ last_first n
@@ -52,18 +52,19 @@ last_first (suc n) = n ∷ last_first n
 abbrev pub goes_up : (ℕ → List Edge) → ℕ → Bool
 goes_up towards s = leads_up s (towards s)
 
--- the order in which n vertices share, each once everything has reached it: those that go up, from the last to the
--- first, and then the others, from the first to the last
+-- the order in which `n` vertices share: those with a candidate that leads up, from the last to the first, and then the
+-- others, from the first to the last. If `towards` has the candidates towards a target, each vertex shares once all
+-- packets have reached it
 abbrev pub in_turn : (ℕ → List Edge) → ℕ → List ℕ
 in_turn towards n =
     filter (goes_up towards) (last_first n) ++ filter (λ s. not (goes_up towards s)) (numbers_from 0 n)
 
--- how many packets each vertex starts with towards a target with `to` adapters: 65,536 from each of its adapters to
--- each of those
+-- the number of packets that each vertex starts with towards a target with `to` adapters: 65,536 from each adapter of
+-- the vertex to each adapter of the target
 abbrev pub first_had : ℕ → List ℕ → List ℕ
 first_had to adapters = map (λ from. 65536 * from * to) adapters
 
--- the loads of channels of `n` vertices, with the packets that start as in `had` and go to one target added
+-- the loads `carried` of channels, with the packets to one target added; vertex `s` of `n` starts with `had[s]` packets
 abbrev pub carried_to : (ℕ → List Edge) → ℕ → List ℕ → List ℕ → List ℕ
 carried_to towards n had carried = (shared towards (in_turn towards n) (record { had = had; carried = carried })).carried
 

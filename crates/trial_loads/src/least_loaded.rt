@@ -24,8 +24,8 @@ struct Trial {
 
 /// Returns `keys` if the trial loads of the order that grows by them are even. Otherwise returns the keys of the order
 /// with the least trial load: `keys` themselves, or the keys by an order by depth from one of the first eight vertices,
-/// forwards or backwards. Of equal trial loads the first counts. There must be a key for each vertex, for each edge an
-/// edge back, and in `adapters` the number of adapters at each vertex. Takes at most 17 trials.
+/// forwards or backwards. Of equal trial loads the first counts. There must be a key for each vertex. For each edge
+/// there must be an edge back. `adapters` must have the number of adapters at each vertex. Takes at most 17 trials.
 pub fn least_loaded_keys(
     alloc: Global,
     edges: &Adjacency,
@@ -52,8 +52,8 @@ pub fn least_loaded_keys(
     Ok(best.keys)
 }
 
-/// Tries the orders by depth in `direction`. Returns the trial of the least load of `first` and these, or the first
-/// such one.
+/// Tries the orders by depth in `direction` from each of the first eight vertices, or from all if there are fewer.
+/// Returns the trial of least load among `first` and these trials, the first of equals.
 fn try_by_depth(
     alloc: Global,
     edges: &Adjacency,
@@ -105,8 +105,8 @@ fn lesser(best: Trial, other: Trial) -> Trial
     if other.load < best.load { other } else { best }
 }
 
-/// Returns the keys of the vertices by the order by depth from `root`, in which `keys` and `direction` decide between
-/// equals.
+/// Returns the keys of the vertices by the order by depth from `root`. In this order, `keys` and `direction` decide
+/// between equals.
 fn keys_by_depth(
     alloc: Global,
     edges: &Adjacency,
@@ -123,8 +123,8 @@ fn keys_by_depth(
     keys_in(alloc, &vertices, edges.len())
 }
 
-/// Returns the key of each of `count` vertices: the number of vertices before it in `vertices`, or the length of
-/// `vertices` if it is not there.
+/// Returns the key of each of `count` vertices: its position in `vertices`, or the length of `vertices` for a vertex
+/// that is not there.
 fn keys_in(alloc: Global, vertices: &[usize], count: usize) -> Result<Vec<VertexKey>, AllocError>
     ensures { IfOk result (λ keys. keys.items ≡ keys_in vertices.now count) }
 {

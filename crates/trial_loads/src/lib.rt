@@ -1,4 +1,4 @@
-//! How evenly orders of vertices spread packets over the channels of a graph, and the order that spreads them best.
+//! The trial loads of channels in an order of vertices, and the order of least trial load among those that are tried.
 #![tactic(auto)]
 
 pub mod laws;

@@ -16,8 +16,8 @@ use std::alloc::{AllocError, Global};
 /// The number of packets from each adapter to each adapter.
 const PACKETS: usize = 65_536;
 
-/// Adds to `loads` what each channel carries of the packets from all adapters to those at each target. There must be at
-/// most 64 targets. No load rises above 2^64 - 1.
+/// Adds to the load of each channel the packets that the channel carries from all adapters to the adapters of each of
+/// `targets`. There must be at most 64 targets. Loads stop at 2^64 - 1.
 pub(crate) fn add_packets_between(
     alloc: Global,
     graph: &Adjacency,
@@ -42,7 +42,8 @@ pub(crate) fn add_packets_between(
     Ok(())
 }
 
-/// Adds to `loads` what each channel carries of the packets in `had` on their way to target `k`.
+/// Adds to the load of each channel the packets that the channel carries to target `k`. At first `had` must have the
+/// number of packets that each position starts with. The packets that reach a position are added to its number.
 fn add_packets_to(
     graph: &Adjacency,
     sets: &CandidateSets,
@@ -64,8 +65,8 @@ fn add_packets_to(
     share_down(graph, sets, ups, k, had, loads);
 }
 
-/// Sets the number of packets that each position starts with towards a target with `to` adapters: `PACKETS` from each
-/// of its adapters to each of them.
+/// Sets in `had` the number of packets that each position starts with towards a target with `to` adapters: `PACKETS`
+/// from each adapter of the position to each adapter of the target.
 fn start(adapters: &[u16], to: u16, had: &mut [usize])
     requires { length adapters.now ≡ length had.old }
     ensures { had.new ≡ first_had to adapters.now }
@@ -75,7 +76,8 @@ fn start(adapters: &[u16], to: u16, had: &mut [usize])
     }
 }
 
-/// Shares the packets of the positions that go up towards target `k`, from the last position to the first.
+/// Shares the packets of each position with a candidate that leads up towards target `k`, from the last position to the
+/// first.
 fn share_up(
     graph: &Adjacency,
     sets: &CandidateSets,
@@ -103,7 +105,8 @@ fn share_up(
     }
 }
 
-/// Shares the packets of the positions that do not go up towards target `k`, from the first to the last.
+/// Shares the packets of each position without a candidate that leads up towards target `k`, from the first position to
+/// the last.
 fn share_down(
     graph: &Adjacency,
     sets: &CandidateSets,
@@ -132,7 +135,7 @@ fn share_down(
 }
 
 /// Shares the packets of `position` evenly over its candidates towards target `k`: those of `edges` whose set has the
-/// target. The rest of the division is dropped.
+/// target. The rest of the division is dropped. Without a candidate, nothing is shared.
 fn share(
     edges: &[Edge],
     sets: &[TargetSet],

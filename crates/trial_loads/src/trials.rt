@@ -12,7 +12,7 @@ use spread_labels::{
 };
 use std::alloc::{AllocError, Global};
 
-/// Returns the greatest number of packets that a channel carries in the order that grows by `keys`. Takes as long as
+/// Returns the trial load of the order that grows by `keys`: the load of the busiest channel. Takes as long as
 /// `trial_loads`.
 pub(crate) fn trial_load(
     alloc: Global,
@@ -31,9 +31,10 @@ pub(crate) fn trial_load(
 }
 
 /// Returns the number of packets that each channel carries in the order that grows by `keys`. Each adapter sends 65,536
-/// packets to each adapter. Each vertex on the way shares its packets evenly over its candidates. `adapters` must have
-/// the number of adapters at each vertex. Grows the order, finds candidates for 64 vertices with adapters at a time,
-/// and takes time linear in the number of vertices and edges for each such vertex.
+/// packets to each adapter. Each vertex on the way shares its packets evenly over its candidates. Loads stop at 2^64 -
+/// 1. There must be a key for each vertex. For each edge there must be an edge back. `adapters` must have the number of
+/// adapters at each vertex. Grows the order once, and finds the candidates towards 64 vertices with adapters at a time.
+/// For each of these vertices, takes time linear in the number of vertices and edges to share packets.
 pub(crate) fn trial_loads(
     alloc: Global,
     edges: &Adjacency,

@@ -1,4 +1,4 @@
--- How far an order agrees with the order that grows by a plan, and what the orders that grow from it agree on.
+-- How far positions agree with the order that grows by a plan, and how far orders that grow from these positions do.
 use Rattle.std.specs.Prelude.{◌<◌, ℕ, suc, List, Contains, length}
 use Rattle.std.specs.Prelude.{◌≡◌}
 use Rattle.port_graph.specs.declared.edge.Edge.{Edge}
@@ -14,22 +14,22 @@ pub record AreVertices (n : ℕ) (vertices : List ℕ) : Type 0 where
   pub vertex : (i : ℕ) → i < length vertices → number_at vertices i < n
   pub once : (i j : ℕ) → i < length vertices → j < i → number_at vertices j ≡ number_at vertices i → ⊥
 
--- by their positions the first `k` of `vertices` come in the order of the list, and before all its other vertices
+-- by `position`, the first `k` of `vertices` come in the order of the list, and before all other vertices of the list
 abbrev pub AgreesUpTo : List ℕ → (ℕ → ℕ) → ℕ → Type 0
 AgreesUpTo vertices position k =
     (i j : ℕ) → i < k → i < j → j < length vertices
     → position (number_at vertices i) < position (number_at vertices j)
 
--- if the positions `told` agree with the order that grows by `plan` up to its first `k` vertices (`AgreesUpTo`), so
--- does the order that grows by `told`
+-- the order that grows by `told` agrees with the order that grows by `plan` up to its first `k` vertices
+-- (`AgreesUpTo`), if the positions `told` do
 abbrev pub AgreementStays : Type 0
 AgreementStays =
     (edges : List (List Edge)) → LeadToVertices edges → (plan told : List ℕ) (k : ℕ)
     → AgreesUpTo (grown_by edges plan) (number_at told) k
     → AgreesUpTo (grown_by edges plan) (number_at (positions_in (grown_by edges told) (length edges))) k
 
--- if the positions `told` agree with the order that grows by `plan` up to its first `k` vertices (`AgreesUpTo`), the
--- order that grows by `plan` over the tree of `told` agrees with it up to one more
+-- the order that grows by `plan` over the tree of `told` agrees with the order that grows by `plan` up to its first `k`
+-- + 1 vertices (`AgreesUpTo`), if the positions `told` agree up to the first `k`
 abbrev pub AgreementGrows : Type 0
 AgreementGrows =
     (edges : List (List Edge)) → LeadToVertices edges → (plan told : List ℕ) (k : ℕ)
@@ -42,8 +42,8 @@ GrowsAgain =
     (edges : List (List Edge)) → LeadToVertices edges → (positions : List ℕ)
     → grown_by edges (positions_in (grown_by edges positions) (length edges)) ≡ grown_by edges positions
 
--- different vertices have different positions; and if a walk leads from a vertex to an earlier one, an edge leads from
--- it to an earlier one
+-- different vertices have different positions; each vertex from which a walk leads to an earlier vertex has an edge to
+-- an earlier vertex
 pub record CouldGrow (edges : List (List Edge)) (position : ℕ → ℕ) : Type 0 where
   pub apart : (a b : ℕ) → a < length edges → b < length edges → position a ≡ position b → a ≡ b
   pub earlier : (a b k : ℕ) → a < length edges → b < length edges → Walk (heads edges) a b k → position b < position a

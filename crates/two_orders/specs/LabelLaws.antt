@@ -10,7 +10,7 @@ use Rattle.two_orders.specs.Labels.{both_down, label_at, labels_from, leads_on}
 use Rattle.two_orders.specs.Trees.{is_earlier, tree}
 use Rattle.two_orders.specs.TwoOrders.{TwoOrders, two_orders}
 
--- vertex `i` has a label, and an edge from it to vertex `j` leads on by that label
+-- vertex `i` has a label, and an edge from `i` to vertex `j` leads on by that label
 pub record GoesOn (orders : TwoOrders) (labels : List (Option Sides)) (i j : ℕ) : Type 0 where
   pub label : Sides
   pub has : label_at labels i ≡ Some label
@@ -40,7 +40,7 @@ grown_twice edges told plan =
     two_orders (positions_in (grown_by edges told) (length edges))
     (grown_by (tree edges (positions_in (grown_by edges told) (length edges))) plan) (length edges)
 
--- at first only targets have a label, which is down by both orders
+-- each label of `firsts` is down by both orders; the vertices that have one are the targets
 pub record AreTargets (edges : List (List Edge)) (firsts : List (Option Sides)) : Type 0 where
   pub as_many : length firsts ≡ length edges
   pub down : (i : ℕ) (label : Sides) → label_at firsts i ≡ Some label → label ≡ both_down

@@ -16,17 +16,18 @@ is_side positions up i j = if up then is_earlier positions j i else is_earlier p
 abbrev pub leads : TwoOrders → Sides → ℕ → ℕ → Bool
 leads orders sides i j = is_side orders.first sides.first_up i j && is_side orders.second sides.second_up i j
 
--- whether a walk that came by an edge to `before` may go on by an edge to `after`: it may go up by an order only if it
--- came up by that order
+-- whether a walk may go on by an edge that leads as `after` says, if its last edge led as `before` says: it may go up
+-- by an order only if that edge led up by this order
 abbrev pub may_follow : Sides → Sides → Bool
 may_follow before after = (not after.first_up || before.first_up) && (not after.second_up || before.second_up)
 
--- whether a walk that came by an edge to `before` may go on from a vertex with the given label; false if that has none
+-- whether a walk whose last edge led as `before` says may go on from a vertex with the given label; false if the vertex
+-- has no label
 abbrev pub goes_on : Sides → Option Sides → Bool
 goes_on before None = false
 goes_on before (Some after) = may_follow before after
 
--- the label of vertex `i`; None if it has none
+-- the label of vertex `i`; None if `i` has no label or is past the end
 abbrev pub label_at : List (Option Sides) → ℕ → Option Sides
 label_at labels i = slice_index_or labels i None
 
@@ -40,19 +41,19 @@ is_open None = false
 is_open (Some None) = true
 is_open (Some (Some label)) = false
 
--- whether vertex `i` has no label, and one of its edges leads on to these sides
+-- whether vertex `i` has no label, and one of its edges leads on by the label `sides`
 abbrev pub gets_label : List (List Edge) → TwoOrders → Sides → List (Option Sides) → ℕ → Bool
 gets_label edges orders sides labels i =
     is_open (slice_get labels i) && list_any (λ e. leads_on orders labels sides i e.to) (edges_at edges i)
 
--- the labels once vertex `i` has the label `sides`, if it had none and one of its edges leads on to these sides; else
+-- the labels once vertex `i` has the label `sides`, if it had none and one of its edges leads on by `sides`; else
 -- unchanged
 abbrev pub labelled : List (List Edge) → TwoOrders → Sides → List (Option Sides) → ℕ → List (Option Sides)
 labelled edges orders sides labels i =
     if gets_label edges orders sides labels i then slice_set labels i (Some sides) else labels
 
 -- the labels once each vertex of a list, one after the other, has the label `sides`, if it had none and one of its
--- edges leads on to these sides
+-- edges leads on by `sides`
 abbrev pub all_labelled : List (List Edge) → TwoOrders → Sides → List (Option Sides) → List ℕ → List (Option Sides)
 all_labelled edges orders sides labels [] = labels
 all_labelled edges orders sides labels (i ∷ vertices) =
@@ -74,8 +75,8 @@ second_goes_up = record { first_up = false; second_up = true }
 abbrev pub both_up : Sides
 both_up = record { first_up = true; second_up = true }
 
--- the labels of all vertices from the given first ones: next come vertices from which walks begin down by both orders,
--- then down by the second alone, then down by the first alone, then up by both
+-- the labels of vertices, from the first labels `labels`, in four rounds: down by both orders; up by the first alone;
+-- up by the second alone; up by both
 unfoldable pub labels_from : List (List Edge) → TwoOrders → List (Option Sides) → List (Option Sides)
 labels_from edges orders labels =
     all_labelled edges orders both_up

@@ -18,8 +18,8 @@ earliest_beside edges positions v = earliest (is_earlier positions) v (heads edg
 abbrev pub all_earliest : List (List Edge) → List ℕ → List ℕ
 all_earliest edges positions = map (earliest_beside edges positions) (range_with_len 0 (length edges))
 
--- whether edge `e` of vertex `v` is in the tree: it leads to the earliest of `v` and its neighbors, or `v` is the
--- earliest of the other end and its neighbors
+-- whether edge `e` of vertex `v` is in the tree: `e` leads to the earliest of `v` and its neighbors, or to a vertex
+-- that has `v` as the earliest of itself and its neighbors
 abbrev pub is_in_tree : List ℕ → ℕ → Edge → Bool
 is_in_tree earliests v e = (number_at earliests v == e.to) || (number_at earliests e.to == v)
 
@@ -31,7 +31,7 @@ tree_edges edges earliests v = filter (is_in_tree earliests v) (edges_at edges v
 abbrev pub tree_by : List (List Edge) → List ℕ → List (List Edge)
 tree_by edges earliests = map (tree_edges edges earliests) (range_with_len 0 (length edges))
 
--- the tree of an order: of each vertex, the edges between it and its earliest neighbor, and between it and vertices
--- whose earliest neighbor it is
+-- the tree of the order with these positions: the edges that join each vertex to the earliest of itself and its
+-- neighbors, listed at both vertices
 unfoldable pub tree : List (List Edge) → List ℕ → List (List Edge)
 tree edges positions = tree_by edges (all_earliest edges positions)

@@ -1,4 +1,4 @@
--- Two orders of vertices, by their positions in each.
+-- Two orders of vertices, with the positions of the vertices in each order.
 use Rattle.std.specs.Prelude.{ℕ, List, reverse}
 use Rattle.two_orders.specs.Growth.{positions_in}
 

@@ -9,8 +9,8 @@ use port_graph::Adjacency;
 use spread_labels::{VertexKey, grown_order};
 use std::alloc::{AllocError, Global};
 
-/// Returns the vertices in the order that grows by `positions`. There must be a position for each vertex, and for each
-/// edge an edge back. Takes time quadratic in the number of vertices, and linear in that of edges.
+/// Returns the vertices in the order that grows by `positions`. There must be a position for each vertex. For each edge
+/// there must be an edge back. Takes time quadratic in the number of vertices, and linear in the number of edges.
 pub fn grown_by(
     alloc: Global,
     edges: &Adjacency,
@@ -59,7 +59,7 @@ pub fn positions_in(
         .collect(alloc)
 }
 
-/// Returns the position of `vertex` in `vertices`, or the length of `vertices` if it is not there.
+/// Returns the position of `vertex` in `vertices`, or the length of `vertices` if `vertex` is not there.
 fn position_of(vertices: &[usize], vertex: usize) -> usize
     ensures { result ≡ position_of vertices.now vertex }
 {

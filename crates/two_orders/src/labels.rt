@@ -23,10 +23,9 @@ const BOTH_DOWN: Sides = Sides {
     second_up: false,
 };
 
-/// Gives labels to vertices from which walks go up and then down, by both orders, to a vertex that has a label. Labels
-/// in turn those from which walks go down by both orders, those from which they go down by the second, those from which
-/// they go down by the first, and others. Looks at most four times at each vertex that the second order lists, and at
-/// its edges.
+/// Gives labels to vertices without one, in four rounds: down by both orders, up by the first alone, up by the second
+/// alone, and up by both. In a round, a vertex gets the label if one of its edges leads on by the label. Looks at most
+/// four times at each vertex that the second order lists, and at its edges.
 pub fn label_all(labels: &mut Vec<Option<Sides>>, edges: &Adjacency, orders: &Orders)
     ensures { labels.new.items ≡ labels_from edges.now orders.now labels.old.items }
 {
@@ -48,8 +47,8 @@ pub fn label_all(labels: &mut Vec<Option<Sides>>, edges: &Adjacency, orders: &Or
     label_each(labels, edges, orders, to_sides(true, true), orders.rising());
 }
 
-/// Returns the sides of an edge. It leads up by the first order if `first_up` and by the second if `second_up`, and
-/// down otherwise.
+/// Returns the sides of an edge that leads up by the first order if `first_up`, and up by the second order if
+/// `second_up`. If a flag is false, the edge leads down by that order.
 fn to_sides(first_up: bool, second_up: bool) -> Sides
     ensures { result ≡ record { first_up = first_up; second_up = second_up } }
 {
@@ -59,7 +58,8 @@ fn to_sides(first_up: bool, second_up: bool) -> Sides
     }
 }
 
-/// Gives each of `vertices` in turn the label `sides`, if it has none and one of its edges leads on to `sides`.
+/// Gives each of `vertices` in turn the label `sides`, if the vertex has no label and one of its edges leads on by
+/// `sides`.
 fn label_each(
     labels: &mut Vec<Option<Sides>>,
     edges: &Adjacency,
@@ -74,7 +74,7 @@ fn label_each(
     }
 }
 
-/// Gives `vertex` the label `sides`, if it has none and one of its edges leads on to `sides`.
+/// Gives `vertex` the label `sides`, if `vertex` has no label and one of its edges leads on by `sides`.
 fn label(
     labels: &mut Vec<Option<Sides>>,
     edges: &Adjacency,
@@ -89,7 +89,7 @@ fn label(
     }
 }
 
-/// Returns whether `vertex` has no label and one of its edges leads on to `sides`.
+/// Returns whether `vertex` exists, has no label, and has an edge that leads on by `sides`.
 fn gets_label(
     labels: &[Option<Sides>],
     edges: &Adjacency,
@@ -102,7 +102,7 @@ fn gets_label(
     is_open(labels, vertex) && some_leads_on(edges.at(vertex), orders, labels, sides, vertex)
 }
 
-/// Returns whether one of `edges`, those of `vertex`, leads on to `sides`.
+/// Returns whether one of `edges`, which are those of `vertex`, leads on by `sides`.
 fn some_leads_on(
     edges: &[Edge],
     orders: &Orders,
@@ -124,7 +124,8 @@ fn is_open(labels: &[Option<Sides>], index: usize) -> bool
     matches!(labels.get(index), Some(None))
 }
 
-/// Returns whether an edge from `from` to `to` leads to `sides`, and a walk may go on from `to`.
+/// Returns whether an edge from `from` to `to` leads up or down as `sides` says, and a walk that takes the edge may go
+/// on by the label of `to`.
 pub fn leads_on(
     orders: &Orders,
     labels: &[Option<Sides>],
@@ -138,7 +139,7 @@ pub fn leads_on(
     goes_on(sides, label_at(labels, to)) && leads(orders, sides, from, to)
 }
 
-/// Returns whether an edge from `from` to `to` leads to `sides` by the two orders.
+/// Returns whether an edge from `from` to `to` leads up or down by each of the two orders as `sides` says.
 fn leads(orders: &Orders, sides: Sides, from: usize, to: usize) -> bool
     ensures { result ≡ leads orders.now sides from to }
 {
@@ -157,8 +158,8 @@ fn is_side(positions: &[usize], up: bool, from: usize, to: usize) -> bool
     }
 }
 
-/// Returns whether a walk that came by an edge to `before` may go on from a vertex with the label `label`. Without a
-/// label it may not.
+/// Returns whether a walk whose last edge led as `before` says may go on from a vertex with the label `label`. Returns
+/// false if `label` is `None`.
 fn goes_on(before: Sides, label: Option<Sides>) -> bool
     ensures { result ≡ goes_on before label }
 {
@@ -168,15 +169,15 @@ fn goes_on(before: Sides, label: Option<Sides>) -> bool
     }
 }
 
-/// Returns whether a walk that came by an edge to `before` may leave by an edge to `after`: it leads up by an order
-/// only if the walk came up by that order.
+/// Returns whether a walk whose last edge led as `before` says may go on by an edge that leads as `after` says. The
+/// walk may go up by an order only if the last edge led up by that order.
 fn may_follow(before: Sides, after: Sides) -> bool
     ensures { result ≡ may_follow before after }
 {
     (!after.first_up || before.first_up) && (!after.second_up || before.second_up)
 }
 
-/// Returns the label of the vertex at `index`, or `None` if it has none or does not exist.
+/// Returns the label of the vertex at `index`, or `None` if the vertex has no label or does not exist.
 pub fn label_at(labels: &[Option<Sides>], index: usize) -> Option<Sides>
     ensures { result ≡ label_at labels.now index }
 {

@@ -6,7 +6,8 @@ use crate::growth::positions_in;
 use std::alloc::{AllocError, Global};
 use std::marker::Model;
 
-/// Two orders of vertices, with the positions in both and the vertices of the second.
+/// Two orders of vertices: the position of each vertex in the first and in the second, and the vertices of the second
+/// in order.
 #[derive(Drop)]
 pub struct Orders {
     /// The position of each vertex in the first order.
@@ -82,7 +83,7 @@ impl Orders {
         &self.falling
     }
 
-    /// Returns the position of each vertex in the first order, and frees the second.
+    /// Returns the position of each vertex in the first order, and drops the second order.
     pub fn into_first(self) -> Vec<usize>
         ensures { result.items ≡ self.first }
     {

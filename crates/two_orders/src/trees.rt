@@ -7,8 +7,8 @@ ghost use Rattle.two_orders.specs.Trees.{tree, tree_by, tree_edges};
 use port_graph::{Adjacency, Edge};
 use std::alloc::{AllocError, Global};
 
-/// Returns the edges between each vertex and its earliest neighbor by `positions`. A vertex without an earlier neighbor
-/// adds no edge. Takes time linear in the number of vertices and edges.
+/// Returns the edges between each vertex and the earliest, by `positions`, of itself and its neighbors. Takes time
+/// linear in the number of vertices and edges.
 pub fn tree(alloc: Global, edges: &Adjacency, positions: &[usize]) -> Result<Adjacency, AllocError>
     ensures { IfOk result (λ found. found ≡ tree edges.now positions.now) }
 {
@@ -16,8 +16,8 @@ pub fn tree(alloc: Global, edges: &Adjacency, positions: &[usize]) -> Result<Adj
     tree_by(alloc, edges, &earliest)
 }
 
-/// Returns the edges of each vertex that are in the tree. `earliest` must have for each vertex the earliest among
-/// itself and its neighbors.
+/// Returns the edges of each vertex that are in the tree. `earliest` must have, for each vertex, the earliest among the
+/// vertex and its neighbors.
 fn tree_by(alloc: Global, edges: &Adjacency, earliest: &[usize]) -> Result<Adjacency, AllocError>
     ensures { IfOk result (λ found. found ≡ tree_by edges.now earliest.now) }
 {
@@ -29,7 +29,7 @@ fn tree_by(alloc: Global, edges: &Adjacency, earliest: &[usize]) -> Result<Adjac
     Ok(found)
 }
 
-/// Returns for each vertex the earliest among itself and its neighbors.
+/// Returns, for each vertex, the earliest among the vertex and its neighbors by `positions`.
 fn all_earliest(
     alloc: Global,
     edges: &Adjacency,
@@ -42,7 +42,7 @@ fn all_earliest(
         .collect(alloc)
 }
 
-/// Returns the earliest among `vertex` and its neighbors.
+/// Returns the earliest among `vertex` and its neighbors by `positions`.
 fn earliest_beside(edges: &Adjacency, positions: &[usize], vertex: usize) -> usize
     ensures { result ≡ earliest_beside edges.now positions.now vertex }
 {
@@ -53,7 +53,7 @@ fn earliest_beside(edges: &Adjacency, positions: &[usize], vertex: usize) -> usi
     found
 }
 
-/// Returns `other` if it is earlier than `found`, otherwise `found`.
+/// Returns `other` if `other` is earlier than `found`, and otherwise `found`.
 fn earlier(positions: &[usize], found: usize, other: usize) -> usize
     ensures { result ≡ if is_earlier positions.now other found then other else found }
 {
@@ -88,14 +88,14 @@ fn tree_edges(
         .collect(alloc)
 }
 
-/// Returns whether `edge`, one of `vertex`, is in the tree.
+/// Returns whether `edge`, an edge of `vertex`, is in the tree.
 fn is_in_tree(earliest: &[usize], vertex: usize, edge: &Edge) -> bool
     ensures { result ≡ is_in_tree earliest.now vertex edge.now }
 {
     number_at(earliest, vertex) == edge.to || number_at(earliest, edge.to) == vertex
 }
 
-/// Returns the number at `index`, or 0 if there is none.
+/// Returns the number at `index`, or 0 past the end.
 fn number_at(numbers: &[usize], index: usize) -> usize
     ensures { result ≡ number_at numbers.now index }
 {

@@ -3,22 +3,23 @@ use Rattle.std.specs.Prelude.{◌≡◌, ◌<◌, ℕ, Bool, true, List, map, Ea
 use Rattle.std.specs.List.{enumerate_from}
 use Rattle.std.specs.Option.{option_or}
 
--- whether index `a` has a lesser rank than index `b`, or an equal rank and is less; a missing rank counts as 0
+-- whether index `a` has a lesser rank than index `b`, or an equal rank and `a` is less than `b`; a missing rank counts
+-- as 0
 abbrev pub goes_before : List (Option ℕ) → ℕ → ℕ → Bool
 goes_before ranks a b = let ra = unwrap_or (slice_index_or ranks a None) 0 in let rb =
     unwrap_or (slice_index_or ranks b None) 0 in nat_lt ra rb || (ra == rb && nat_lt a b)
 
--- each index, in order, after its rank; a missing rank counts as 0
+-- for each index of `ranks`, in order, the pair of its rank and the index; a missing rank counts as 0
 abbrev pub ranked : List (Option ℕ) → List (ℕ × ℕ)
 ranked ranks = map (λ x. (unwrap_or x.1 0, x.0)) (enumerate_from 0 ranks)
 
--- `new` is `ranks` with the distance, if there is one, for each index without a rank
+-- each index of `new` has the value in `ranks` if there is one, else the value in `distances`; None if neither has one
 abbrev pub FillsIn : List (Option ℕ) → List (Option ℕ) → List (Option ℕ) → Type 0
 FillsIn ranks distances new =
     EachIndex new (λ k. slice_index_or new k None
     ≡ option_or (slice_index_or ranks k None) (slice_index_or distances k None))
 
--- `order` has each index of `ranks` once, by rank and then by index
+-- `order` has each index of `ranks` once, by rank and then by index; a missing rank counts as 0
 pub record IsOrder (ranks : List (Option ℕ)) (order : List ℕ) : Type 0 where
   pub all : length order ≡ length ranks
   pub each : (i : ℕ) → i < length ranks → Contains order i

@@ -8,25 +8,27 @@ use Rattle.subnet_view.specs.Graph.{guids_of}
 use Rattle.subnet_view.specs.GraphLaws.{IsGraph}
 use Rattle.updown_routes.specs.Ranks.{slopes_of}
 
--- the next port of each switch towards switch `t`, by rising GUID; None where there is none
+-- the next port of each switch, by rising GUID, towards switch `t`; None for a switch without one
 abbrev pub ports_to : List SwitchEdges → ℕ → List (Option ℕ)
 ports_to graph t = map (λ s. next_port (slopes_of graph) s t) (guids_of graph)
 
--- for each switch as a target, the next port of each switch towards it, both by rising GUID
+-- for each switch as a target, by rising GUID, the next ports towards it (`ports_to`)
 abbrev pub ports_of : List SwitchEdges → List (List (Option ℕ))
 ports_of graph = map (ports_to graph) (guids_of graph)
 
--- the next port from the switch at index `i` towards the switch at index `j`; None if there is none, or no such switch
+-- the next port from the switch at index `i` towards the switch at index `j`, by rising GUID; None if there is no next
+-- port, or no switch at one of the indices
 abbrev pub next_port_at : List SwitchEdges → ℕ → ℕ → Option ℕ
 next_port_at graph i j =
     option_and_then (λ t. option_and_then (λ s. next_port (slopes_of graph) s t) (slice_get (guids_of graph) i))
     (slice_get (guids_of graph) j)
 
--- for each of the vertices `positions` as a target, the next port of each of them towards it
+-- for each vertex of `positions` as a target, the next port of each vertex of `positions` towards that target; None for
+-- a vertex without one
 abbrev pub port_rows : List (List Edge) → List (List Edge) → List ℕ → List (List (Option ℕ))
 port_rows ups downs positions = map (λ t. map (λ s. next_port (indexed ups downs) s t) positions) positions
 
--- `graph` is a graph, and `towards` has for each target the next ports of its switches
+-- `graph` is a graph, and `towards` has, for each of its switches as a target, the next ports of all its switches
 pub record IsRouted (graph : List SwitchEdges) (towards : List (List (Option ℕ))) : Type 0 where
   pub is_graph : IsGraph graph
   pub are_ports : towards ≡ ports_of graph

@@ -11,7 +11,7 @@ use Rattle.updown_routes.specs.Ranks.{slopes_of}
 abbrev pub switch_at_position : List SwitchEdges → List ℕ → ℕ → ℕ
 switch_at_position graph order p = switch_at graph (slice_index order p)
 
--- the edge `e`, which leads to a position, as an edge to the GUID of the switch there
+-- the edge `e`, which leads to a position, as an edge to the GUID of the switch at that position
 abbrev pub by_position : List SwitchEdges → List ℕ → Edge → Edge
 by_position graph order e = record { port = e.port; to = switch_at_position graph order e.to }
 
@@ -19,15 +19,16 @@ by_position graph order e = record { port = e.port; to = switch_at_position grap
 abbrev pub at_position : List ℕ → Edge → Edge
 at_position positions e = record { port = e.port; to = slice_index positions e.to }
 
--- the edges to positions less than `p`
+-- those of `edges` that lead to positions less than `p`
 abbrev pub ups_from : ℕ → List Edge → List Edge
 ups_from p edges = filter (λ e. nat_lt e.to p) edges
 
--- the edges to positions greater than `p`
+-- those of `edges` that lead to positions greater than `p`
 abbrev pub downs_from : ℕ → List Edge → List Edge
 downs_from p edges = filter (λ e. nat_lt p e.to) edges
 
--- `ups` and `downs`, which lead to positions, are the edges up and down of the switch at position `p`
+-- `ups` and `downs` are the edges up and down of the switch at position `p`, as edges to positions; each edge of `ups`
+-- leads to a position less than `p`, and each edge of `downs` to a position of `order`
 pub record IsAtPosition (graph : List SwitchEdges) (order : List ℕ) (p : ℕ) (ups downs : List Edge) : Type 0 where
   pub up : ups_at (slopes_of graph) (switch_at_position graph order p) ≡ map (by_position graph order) ups
   pub down : downs_at (slopes_of graph) (switch_at_position graph order p) ≡ map (by_position graph order) downs

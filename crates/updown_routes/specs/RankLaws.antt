@@ -8,12 +8,13 @@ use Rattle.subnet_view.specs.Graph.{edges_at, neighbors}
 use Rattle.subnet_view.specs.GraphLaws.{IsGraph, IsSwitch}
 use Rattle.updown_routes.specs.Ranks.{rank_of, is_before, slopes_of}
 
--- `root` is the root of the component of switch `a`: a walk from `a` leads to it, and none to a lesser GUID
+-- `root` is the root of the component of switch `a`: a walk from `a` leads to `root`, and no walk from `a` leads to a
+-- lesser GUID
 pub record IsRoot (graph : List SwitchEdges) (a root : ℕ) : Type 0 where
   pub reached : (n : ℕ) × Walk (neighbors graph) a root n
   pub least : (b n : ℕ) → Walk (neighbors graph) a b n → root ≤ b
 
--- `n` is the rank of switch `a`: the length of a shortest walk to it from its root
+-- `n` is the rank of switch `a`: the length of a shortest walk to `a` from the root of its component
 abbrev pub HasRank : List SwitchEdges → ℕ → ℕ → Type 0
 HasRank graph a n = (root : ℕ) × IsRoot graph a root × IsShortest (neighbors graph) root a n
 
@@ -28,13 +29,13 @@ abbrev pub RankLaw : Type 0
 RankLaw = (graph : List SwitchEdges) → IsGraph graph → (a : ℕ) → IsSwitch graph a
     → MatchOption (rank_of graph a) ⊥ (HasRank graph a)
 
--- for switches of a graph, `is_before` answers true exactly if `IsBefore` holds
+-- for switches of a graph, `is_before` is true exactly if `IsBefore` holds
 abbrev pub BeforeLaw : Type 0
 BeforeLaw = (graph : List SwitchEdges) → IsGraph graph → (a b : ℕ) → IsSwitch graph a → IsSwitch graph b
     → IsTrue (is_before graph a b) ↔ IsBefore graph a b
 
--- an edge of a switch of a graph leads up exactly if its end is before the switch, and down exactly if its end is after
--- it (`IsBefore`)
+-- in a graph, the edges up of a switch are exactly its edges to switches before it, and its edges down are exactly its
+-- edges to switches after it (`IsBefore`)
 abbrev pub SlopeLaw : Type 0
 SlopeLaw = (graph : List SwitchEdges) → IsGraph graph → (a : ℕ) (e : Edge) → IsSwitch graph a
     → (Contains (ups_at (slopes_of graph) a) e ↔ (Contains (edges_at graph a) e × IsBefore graph e.to a))

@@ -6,7 +6,8 @@ use Rattle.subnet_view.specs.Graph.{guids_of}
 use Rattle.subnet_view.specs.GraphLaws.{IsGraph}
 use Rattle.subnet_view.specs.Components.{distance, root_of}
 
--- the rank of switch `a`: the fewest wires to it from the root of its component; None if it is no switch of the graph
+-- the rank of switch `a`: the length of a shortest walk from the root of its component to `a`; None if `a` is no switch
+-- of the graph
 abbrev pub rank_of : List SwitchEdges → ℕ → Option ℕ
 rank_of graph a = option_and_then (λ root. distance graph root a) (root_of graph a)
 
@@ -15,7 +16,7 @@ abbrev pub is_before : List SwitchEdges → ℕ → ℕ → Bool
 is_before graph a b = let ra = unwrap_or (rank_of graph a) 0 in let rb =
     unwrap_or (rank_of graph b) 0 in nat_lt ra rb || (ra == rb && nat_lt a b)
 
--- a switch with its edges up, to switches before it, and its edges down, to switches after it
+-- switch `c` with its edges up, to switches before it, and its edges down, to switches after it
 abbrev pub slope_of : List SwitchEdges → SwitchEdges → Slope
 slope_of graph c = record {
   guid = c.guid;

@@ -18,7 +18,7 @@ use subnet_view::{SwitchGraph, Wires};
 #[derive(Drop)]
 pub struct Graph {
     graph: SwitchGraph,
-    /// The rank of each switch, by rising GUID.
+    /// The rank of each switch, by rising GUID. Each switch has one.
     ranks: Vec<Option<usize>>,
 }
 
@@ -35,9 +35,9 @@ impl Model for Graph {
 }
 
 impl Graph {
-    /// Builds the graph of the view's usable switches and the wires between them. Takes at most two binary searches
-    /// among the ports that can have a wire for each port of a switch, one among the switches for each wire, and a
-    /// breadth-first search for each component.
+    /// Builds the graph of the usable switches that the view of `wires` has, and of the wires between them. For each
+    /// port of a switch, takes at most two binary searches among the ports that can have a wire. For each wire, takes a
+    /// binary search among the switches. For each component, takes a breadth-first search.
     pub fn of(alloc: Global, wires: &Wires) -> Result<Self, Refused>
         ensures { IfOk result (λ graph. graph ≡ graph_of (cells_of wires.now)) }
     {
@@ -68,22 +68,22 @@ impl Graph {
         self.graph.into_switches()
     }
 
-    /// Returns the switch at `index`, by rising GUID from 0 on, or `None` if there is none. Takes constant time.
+    /// Returns the switch at `index` among the switches by rising GUID, or `None` past the end. Takes constant time.
     pub fn switch(&self, index: usize) -> Option<Guid>
         ensures { result ≡ slice_get (guids_of self.now) index }
     {
         self.graph.switch(index)
     }
 
-    /// Returns the index of `switch`, or `None` if the graph lacks it. Takes a binary search among the switches.
+    /// Returns the index of `switch`, or `None` if the graph lacks `switch`. Takes a binary search among the switches.
     pub fn index_of(&self, switch: Guid) -> Option<usize>
         ensures { IsIndexIn (guids_of self.now) switch result }
     {
         self.graph.index_of(switch)
     }
 
-    /// Returns the rank of `switch`, which is the fewest wires from the root of its component to it, or `None` if the
-    /// graph lacks it. Takes a binary search among the switches.
+    /// Returns the rank of `switch`: the length of a shortest walk from the root of its component to `switch`. Returns
+    /// `None` if the graph lacks `switch`. Takes a binary search among the switches.
     pub fn rank(&self, switch: Guid) -> Option<usize>
         ensures { result ≡ rank_of self.now switch }
     {
@@ -91,15 +91,15 @@ impl Graph {
         self.ranks[index]
     }
 
-    /// Returns, for each switch by rising GUID, the root of its component: the least GUID in it. Takes a breadth-first
-    /// search for each component.
+    /// Returns, for each switch by rising GUID, the root of its component: the switch of least GUID there. Each switch
+    /// has one. Takes a breadth-first search for each component.
     pub fn roots(&self, alloc: Global) -> Result<Vec<Option<Guid>>, AllocError>
         ensures { IfOk result (λ roots. roots.items ≡ map (root_of self.now) (guids_of self.now)) }
     {
         self.graph.roots(alloc)
     }
 
-    /// Returns the ranks of the switches, by rising GUID.
+    /// Returns the rank of each switch, by rising GUID. Each switch has one.
     pub(crate) fn ranks(&self) -> &[Option<usize>]
         ensures ranks { result.now ≡ map (rank_of self.now) (guids_of self.now) }
         ensures is_graph { IsGraph self.now }
@@ -107,7 +107,8 @@ impl Graph {
         &self.ranks
     }
 
-    /// Returns the edges of the switch at `index`, which must exist. Their ends are indices. Takes constant time.
+    /// Returns the edges of the switch at `index`. There must be a switch at `index`. The edges lead to indices of
+    /// switches. Takes constant time.
     pub fn edges(&self, index: usize) -> &[Edge]
         requires { index < length self.now }
         ensures edges { AreEdgesAt self.now index result.now }

@@ -1,4 +1,4 @@
-//! Routes that go up towards the root of a component until the target is downhill, and then down.
+//! Routes that go up until a walk down leads to the target, and then down.
 #![tactic(auto)]
 
 mod graph;

@@ -4,7 +4,7 @@ ghost use Rattle.updown_routes.specs.Order.{ranked, IsOrder, ArePositions};
 
 use std::alloc::{AllocError, Global};
 
-/// Returns the indices of switches by rank, and then by index. A missing rank counts as 0.
+/// Returns the indices of `ranks`, by rank and then by index. A missing rank counts as 0.
 pub(crate) fn order(alloc: Global, ranks: &[Option<usize>]) -> Result<Vec<usize>, AllocError>
     ensures { IfOk result (λ order. IsOrder ranks.now order.items) }
 {
@@ -20,7 +20,7 @@ fn indices(alloc: Global, ranked: &[(usize, usize)]) -> Result<Vec<usize>, Alloc
     ranked.iter().map(|(_, index)| *index).collect(alloc)
 }
 
-/// Returns, for each index in order, a pair of its rank and the index. A missing rank counts as 0.
+/// Returns, for each index of `ranks` in order, the pair of its rank and the index. A missing rank counts as 0.
 fn ranked(alloc: Global, ranks: &[Option<usize>]) -> Result<Vec<(usize, usize)>, AllocError>
     ensures { IfOk result (λ pairs. pairs.items ≡ ranked ranks.now) }
 {
@@ -31,7 +31,7 @@ fn ranked(alloc: Global, ranks: &[Option<usize>]) -> Result<Vec<(usize, usize)>,
         .collect(alloc)
 }
 
-/// Returns the position of each index in `order`, which must have each index once.
+/// Returns the position of each index in `order`. `order` must have each index less than its length once.
 pub(crate) fn positions(alloc: Global, order: &[usize]) -> Result<Vec<usize>, AllocError>
     requires { NamesEachOnce (length order.now) order.now }
     ensures { IfOk result (λ positions. ArePositions order.now positions.items) }

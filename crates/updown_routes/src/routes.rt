@@ -17,7 +17,8 @@ use std::marker::Model;
 #[derive(Drop)]
 pub struct Routes<'g> {
     graph: &'g Graph,
-    /// For each target, by rising GUID, the next port of each switch, by rising GUID.
+    /// For each target, by rising GUID, the next port of each switch, by rising GUID. `None` for the target itself, and
+    /// for a switch of another component.
     towards: Vec<Vec<Option<PortNum>>>,
 }
 
@@ -45,9 +46,9 @@ impl<'g> Routes<'g> {
         Ok(Routes { graph, towards })
     }
 
-    /// Returns the port by which a packet leaves `switch` for `target`: down if a walk down leads there, otherwise up.
-    /// Returns `None` at the target, between components, and if either is not a switch of the graph. Takes two binary
-    /// searches among the switches.
+    /// Returns the port by which a packet leaves `switch` for `target`. The port leads down if a walk down leads to
+    /// `target`, and otherwise up. Returns `None` if `switch` is `target`, if the two are in different components, or
+    /// if the graph lacks one of the two. Takes two binary searches among the switches.
     pub fn next_port(&self, switch: Guid, target: Guid) -> Option<PortNum>
         ensures { result ≡ next_port (slopes_of self.now) switch target }
     {
@@ -56,8 +57,8 @@ impl<'g> Routes<'g> {
         self.next_port_at(switch, target)
     }
 
-    /// Returns the next port of the switch at index `switch` towards that at index `target`, or `None` if there is
-    /// none. Takes constant time.
+    /// Returns the next port of the switch at index `switch` towards the switch at index `target`. Returns `None` if
+    /// there is no next port, or no switch at one of the indices. Takes constant time.
     pub fn next_port_at(&self, switch: usize, target: usize) -> Option<PortNum>
         ensures { result ≡ next_port_at self.now switch target }
     {
@@ -66,7 +67,8 @@ impl<'g> Routes<'g> {
     }
 }
 
-/// Returns, for each target, the next port of each switch. `positions` must have the position of each switch.
+/// Returns, for each of `positions` as a target, the next port of each of `positions`, or `None` for a position without
+/// one. Each of `positions` must be less than the number of vertices of `slopes`.
 fn towards(
     alloc: Global,
     slopes: &UpDownEdges,

@@ -8,7 +8,7 @@ use crate::graph::Graph;
 use port_graph::{Adjacency, Edge};
 use std::alloc::{AllocError, Global};
 
-/// The wires up and down of the switch at each position of an order. Their ends are positions.
+/// The wires up and the wires down of the switch at each position of an order. Each wire leads to a position.
 #[derive(Drop)]
 pub(crate) struct UpDownEdges {
     /// The wires up, to lesser positions.
@@ -19,7 +19,7 @@ pub(crate) struct UpDownEdges {
 
 impl UpDownEdges {
     /// Finds the wires up and down of each switch. `order` must have the indices by rank and then by GUID, and
-    /// `positions` the position of each index in it.
+    /// `positions` the position of each index in `order`.
     pub(crate) fn of(
         alloc: Global,
         graph: &Graph,
@@ -41,7 +41,8 @@ impl UpDownEdges {
     }
 }
 
-/// Returns `edges` with the index of each edge's end replaced by its position.
+/// Returns `edges`, with the index that each edge leads to replaced by the position of that index. `positions` must
+/// have a position for each of these indices.
 fn to_positions(alloc: Global, edges: &[Edge], positions: &[usize]) -> Result<Vec<Edge>, AllocError>
     requires { All (λ edge. edge.to < length positions.now) edges.now }
     ensures { IfOk result (λ found. found.items ≡ map (at_position positions.now) edges.now) }

@@ -6,8 +6,9 @@ use crate::path::Path;
 use crate::smp::Smp;
 
 impl Smp {
-    /// Returns whether the packet has the TransactionID `transaction`, `attribute` and `modifier`, and is directed over
-    /// `path` or, if `path` is `None`, LID routed. Ignores the method and the status.
+    /// Returns whether the packet has the TransactionID `transaction`, the AttributeID `attribute`, the
+    /// AttributeModifier `modifier` and the path `path`. If `path` is `None`, the packet must be LID routed. Ignores
+    /// the method and the status.
     pub fn answers(
         &self,
         transaction: u64,

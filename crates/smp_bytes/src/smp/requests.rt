@@ -66,7 +66,7 @@ impl Smp {
     }
 }
 
-/// Returns the bytes of a request of either class: the fields that both have, and 0 elsewhere.
+/// Returns the bytes of a request of class `class`: the fields that both classes have, and 0 elsewhere.
 fn request(
     class: u8,
     method: Method,

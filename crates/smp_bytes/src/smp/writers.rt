@@ -12,15 +12,14 @@ use crate::smp::Smp;
 use crate::wire::{put_bits, put_u8, put_u16, put_u64, u16_at};
 
 impl Smp {
-    /// Writes the R bit and the method.
+    /// Writes `to` as the R bit and the method.
     pub fn set_method(&mut self, to: Method)
         ensures { self.new ≡ with_number method to.0 self.old }
     {
         put_u8(&mut self.bytes, field::METHOD, to.0);
     }
 
-    /// Writes the status. The D bit of a directed packet stays, and `status` must be less than 2^15 if the packet is
-    /// directed.
+    /// Writes the status. If the packet is directed, its D bit stays, and `status` must be less than 2^15.
     pub fn set_status(&mut self, status: Status)
         requires { is_directed self.old ≡ true → status.0 < 2 ^ 15 }
         ensures { self.new ≡ with_number status_word (word_with_status self.old status.0) self.old }
@@ -48,7 +47,7 @@ impl Smp {
         );
     }
 
-    /// Writes the transaction ID.
+    /// Writes TransactionID.
     pub fn set_transaction_id(&mut self, to: u64)
         ensures { self.new ≡ with_number transaction_id to self.old }
     {
