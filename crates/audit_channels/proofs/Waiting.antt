@@ -13,7 +13,6 @@ use Rattle.audit_channels.proofs.Columns.{within}
 use Rattle.subnet_view.specs.Reading.{Cells, switches}
 use Rattle.held_tables.specs.Held.{HeldPlan}
 use Rattle.packet_walks.specs.Edges.{edges_of, greatest_top}
-use Rattle.held_tables.specs.Blocks.{AreBlocks}
 use Rattle.packet_walks.proofs.Tops.{none_above}
 use Rattle.audit_channels.specs.Waiting.{WaitsFor, AreWaits, IsAdded}
 
@@ -31,8 +30,7 @@ pub record TakesBy (count : ℕ) (cells : Cells) (held : HeldPlan) (channel next
   takes : TakesInTurn (edges_of cells held lid) switch channel next
 
 -- those of these LIDs
-pub record SoFar (count : ℕ) (cells : Cells) (held : HeldPlan) (number : ℕ) (rows : List (List ℕ)) (waits : List (List ℕ)) : Type 0 where
-  pub blocks : AreBlocks held number rows
+pub record SoFar (count : ℕ) (cells : Cells) (held : HeldPlan) (waits : List (List ℕ)) : Type 0 where
   pub as_many : length waits ≡ 256 * length (switches cells)
   pub follows : (a b : ℕ) → Follows waits a b ↔ TakesBy count cells held a b
 
@@ -42,12 +40,11 @@ blank zero i = refl
 blank (suc n) zero = refl
 blank (suc n) (suc i) = blank n i
 
-pub none_so_far : (cells : Cells) (held : HeldPlan) (number : ℕ) (rows : List (List ℕ)) (n : ℕ) (waits : List (List ℕ)) → AreBlocks held number rows
-    → waits ≡ replicate n [] → n ≡ 256 * length (switches cells) → SoFar 0 cells held number rows waits
-none_so_far cells held number rows n waits blocks e all =
-    subst (SoFar 0 cells held number rows) (sym e)
+pub none_so_far : (cells : Cells) (held : HeldPlan) (n : ℕ) (waits : List (List ℕ))
+    → waits ≡ replicate n [] → n ≡ 256 * length (switches cells) → SoFar 0 cells held waits
+none_so_far cells held n waits e all =
+    subst (SoFar 0 cells held) (sym e)
     (record {
-      blocks = blocks;
       as_many = length-replicate n [] ∙ all;
       follows = λ a b. (
         λ f. absurd (contains_none b (subst (λ (xs : List ℕ). Contains xs b) (blank n a) f)),
@@ -63,11 +60,9 @@ mapped f (x ∷ xs) = ap suc (mapped f xs)
 pub column_long : (cells : Cells) (held : HeldPlan) (lid : ℕ) → length (edges_of cells held lid) ≡ length (switches cells)
 column_long cells held lid = mapped _ (switches cells)
 
-pub more : (cells : Cells) (held : HeldPlan) (before number count lid : ℕ) (old rows : List (List ℕ)) (waits new : List (List ℕ))
-    (column : List (Option Edge)) → SoFar count cells held before old waits → AreBlocks held number rows → lid ≡ count + 1
-    → column ≡ edges_of cells held lid → IsWithColumn waits column new → SoFar (count + 1) cells held number rows new
-more cells held before number count lid old rows waits new column h blocks lid_is column_is with_it = record {
-  blocks = blocks;
+pub more : (cells : Cells) (held : HeldPlan) (count lid : ℕ) (waits new : List (List ℕ)) (column : List (Option Edge)) → SoFar count cells held waits
+    → lid ≡ count + 1 → column ≡ edges_of cells held lid → IsWithColumn waits column new → SoFar (count + 1) cells held new
+more cells held count lid waits new column h lid_is column_is with_it = record {
   as_many = with_it.as_many ∙ h.as_many;
   follows = λ a b. ((λ f. there a b ((with_it.follows a b).0 f)), (λ t. (with_it.follows a b).1 (back a b t)));
 }
@@ -122,9 +117,9 @@ same_columns (x ∷ column) (y ∷ other) e h =
     λ i. first i ∷ rest i
 
 -- above the greatest top nothing follows
-pub all : (cells : Cells) (held : HeldPlan) (number count : ℕ) (rows : List (List ℕ)) (waits : List (List ℕ)) → SoFar count cells held number rows waits
+pub all : (cells : Cells) (held : HeldPlan) (count : ℕ) (waits : List (List ℕ)) → SoFar count cells held waits
     → greatest_top cells held ≤ count → AreWaits cells held waits
-all cells held number count rows waits h past = record {
+all cells held count waits h past = record {
   as_many = h.as_many;
   follows = λ a b. ((λ f. there a b ((h.follows a b).0 f)), (λ w. (h.follows a b).1 (back a b w)));
 }

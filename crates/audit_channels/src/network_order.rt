@@ -12,7 +12,7 @@ use std::alloc::{AllocError, Global};
 /// A channel is a wire between usable switches, taken one way. Its number is 256 times the index of the switch that it
 /// leaves, plus the port there.
 ///
-/// Takes what `order_channels` takes, and what `Network::blocks` takes for each 64 LIDs up to the greatest top of a
+/// Takes what `order_channels` takes, and what `LidCursor::go_to` takes for each 64 LIDs up to the greatest top of a
 /// usable switch. For each of these LIDs, it also takes time linear in the number of switches. If some switch forwards
 /// packets for the LID otherwise than for the LID before, this includes the channels that follow each switch's channel.
 #[tactic(auto, using(crate::proofs::Orders::order_is, crate::proofs::Orders::shortest_is))]

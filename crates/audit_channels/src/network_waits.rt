@@ -4,7 +4,7 @@ ghost use Rattle.audit_channels.specs.Columns.{IsWithColumn};
 ghost use Rattle.audit_channels.specs.Waiting.{AreWaits, IsAdded};
 
 use crate::{Waits, add_column, is_same_column};
-use packet_walks::Network;
+use packet_walks::{LidCursor, Network};
 use port_graph::Edge;
 use smp_bytes::Lid;
 use std::alloc::{AllocError, Global};
@@ -16,13 +16,12 @@ pub fn channel_waits(alloc: Global, network: &Network) -> Result<Waits, AllocErr
 {
     let count = network.switch_count().checked_mul(256).ok_or(AllocError)?;
     let mut waits = Waits::new(alloc, count)?;
-    let mut blocks = network.blocks(alloc, 0)?;
+    let mut cursor = LidCursor::of(alloc, network)?;
     let mut before = Vec::new(alloc);
     // No switch forwards packets above the greatest top.
     for below in 0..network.greatest_top().number() {
-        let lid = Lid::new(below + 1);
-        blocks = network.blocks_for(alloc, blocks, lid)?;
-        let column = network.edges(alloc, &blocks, lid)?;
+        cursor.go_to(alloc, Lid::new(below + 1))?;
+        let column = cursor.edges(alloc)?;
         add_after(&mut waits, &before, &column)?;
         before = column;
     }

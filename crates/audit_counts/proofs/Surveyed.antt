@@ -14,7 +14,6 @@ use Rattle.held_tables.specs.declared.held.HeldLid.{HeldLid}
 use Rattle.held_tables.specs.Held.{HeldPlan}
 use Rattle.packet_walks.specs.declared.packet_end.End.{End}
 use Rattle.packet_walks.specs.declared.packet_end.End.TheVariants.{Taken}
-use Rattle.held_tables.specs.Blocks.{AreBlocks}
 use Rattle.packet_walks.specs.HopsByTables.{AreBrought, LineArrives, end_for, is_at}
 use Rattle.held_tables.specs.Tables.{is_owner, lines_of}
 use Rattle.packet_walks.proofs.Arrivals.{all_there}
@@ -175,14 +174,12 @@ module _ (cells : Cells) (held : HeldPlan) (line : HeldLid) where
 -- line by line --------------------------------------------------------------------------
 
 -- those of the first lines
-pub record AreSurveyed (most : ℕ) (cells : Cells) (held : HeldPlan) (lines : List HeldLid) (number : ℕ) (rows : List (List ℕ)) (n : ℕ) (tally : PacketTally) : Type 0 where
-  pub blocks : AreBlocks held number rows
+pub record AreSurveyed (most : ℕ) (cells : Cells) (held : HeldPlan) (lines : List HeldLid) (n : ℕ) (tally : PacketTally) : Type 0 where
   pub counted : IsTally most (flat_map (packets_for cells held) (take n lines)) tally
 
 module _ (most : ℕ) (cells : Cells) (held : HeldPlan) (lines : List HeldLid) where
-  pub none_surveyed : (number : ℕ) (rows : List (List ℕ)) (tally : PacketTally) → AreBlocks held number rows → IsTally most [] tally
-      → AreSurveyed most cells held lines number rows 0 tally
-  none_surveyed number rows tally b h = record { blocks = b; counted = h }
+  pub none_surveyed : (tally : PacketTally) → IsTally most [] tally → AreSurveyed most cells held lines 0 tally
+  none_surveyed tally h = record { counted = h }
 
   lines_more : (n : ℕ) (line : HeldLid) → n < length lines → line ≡ get_or lines n line
       → flat_map (packets_for cells held) (take (n + 1) lines) ≡ flat_map (packets_for cells held) (take n lines) ++ packets_for cells held line
@@ -191,23 +188,21 @@ module _ (most : ℕ) (cells : Cells) (held : HeldPlan) (lines : List HeldLid) w
       ∙ flat_map-append (packets_for cells held) (take n lines) (line ∷ [])
       ∙ ap (λ ps. flat_map (packets_for cells held) (take n lines) ++ ps) (append-nil (packets_for cells held line))
 
-  pub line_surveyed : (before number : ℕ) (old rows : List (List ℕ)) (n : ℕ) (line : HeldLid) (tally new : PacketTally)
-      → AreSurveyed most cells held lines before old n tally → AreBlocks held number rows → n < length lines → line ≡ get_or lines n line
+  pub line_surveyed : (n : ℕ) (line : HeldLid) (tally new : PacketTally)
+      → AreSurveyed most cells held lines n tally → n < length lines → line ≡ get_or lines n line
       → is_owner (end_ports cells) line.port ≡ true
       → ((packets : List SentPacket) → IsTally most packets tally → IsTally most (packets ++ sent_to cells held line) new)
-      → AreSurveyed most cells held lines number rows (n + 1) new
-  line_surveyed before number old rows n line tally new h b less is there add = record {
-    blocks = b;
+      → AreSurveyed most cells held lines (n + 1) new
+  line_surveyed n line tally new h less is there add = record {
     counted =
         let more = lines_more n line less is ∙ ap (λ t. flat_map (packets_for cells held) (take n lines) ++ cond t (sent_to cells held line) []) there in
         subst (λ (ps : List SentPacket). IsTally most ps new) (sym more) (add (flat_map (packets_for cells held) (take n lines)) h.counted);
   }
 
-  pub line_passed : (before number : ℕ) (old rows : List (List ℕ)) (n : ℕ) (line : HeldLid) (tally : PacketTally)
-      → AreSurveyed most cells held lines before old n tally → AreBlocks held number rows → n < length lines → line ≡ get_or lines n line
-      → is_owner (end_ports cells) line.port ≡ false → AreSurveyed most cells held lines number rows (n + 1) tally
-  line_passed before number old rows n line tally h b less is there = record {
-    blocks = b;
+  pub line_passed : (n : ℕ) (line : HeldLid) (tally : PacketTally)
+      → AreSurveyed most cells held lines n tally → n < length lines → line ≡ get_or lines n line
+      → is_owner (end_ports cells) line.port ≡ false → AreSurveyed most cells held lines (n + 1) tally
+  line_passed n line tally h less is there = record {
     counted =
         let more =
         lines_more n line less is ∙ ap (λ t. flat_map (packets_for cells held) (take n lines) ++ cond t (sent_to cells held line) []) there
@@ -215,7 +210,7 @@ module _ (most : ℕ) (cells : Cells) (held : HeldPlan) (lines : List HeldLid) w
         subst (λ (ps : List SentPacket). IsTally most ps tally) (sym more) h.counted;
   }
 
-  pub all_surveyed : (number : ℕ) (rows : List (List ℕ)) (n : ℕ) (tally : PacketTally) → AreSurveyed most cells held lines number rows n tally
+  pub all_surveyed : (n : ℕ) (tally : PacketTally) → AreSurveyed most cells held lines n tally
       → lines ≡ lines_of held → length lines ≤ n → IsTally most (packets_of cells held) tally
-  all_surveyed number rows n tally h are past =
+  all_surveyed n tally h are past =
       subst (λ (ls : List HeldLid). IsTally most (flat_map (packets_for cells held) ls) tally) (take_all n lines past ∙ are) h.counted

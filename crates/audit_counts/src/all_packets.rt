@@ -1,9 +1,7 @@
 //! The counts of the packets for all held LIDs.
-ghost use Rattle.std.specs.Prelude.{◌≡◌, ◌/◌, ◌++◌, ℕ, [], true, Contains, IfOk, List, OnOk, count_by, map};
+ghost use Rattle.std.specs.Prelude.{◌≡◌, ◌++◌, ℕ, [], true, Contains, IfOk, List, OnOk, count_by, map};
 ghost use Rattle.fact_store.specs.View.{cells_of};
 ghost use Rattle.subnet_view.specs.EndPorts.{end_ports};
-ghost use Rattle.packet_walks.specs.Deliveries.{AreDeliveries};
-ghost use Rattle.held_tables.specs.Blocks.{AreBlocks};
 ghost use Rattle.audit_ways.specs.Ways.{AllComeTo, AreTold};
 ghost use Rattle.audit_counts.specs.declared.sent_packet.SentPacket.{SentPacket as Sent};
 ghost use Rattle.audit_counts.specs.Packets.{packets_of, sent_to};
@@ -14,7 +12,7 @@ use crate::packet_tally::PacketTally;
 use crate::sent_packet::SentPacket;
 use crate::site::{Census, Site, census_of, index_of, joined_adapters, joined_count, site_in};
 use held_tables::HeldLid;
-use packet_walks::{Blocks, Deliveries, Network};
+use packet_walks::{LidCursor, Network};
 use std::alloc::{AllocError, Global};
 
 /// The counts of packets, and the lines whose packets are all delivered.
@@ -26,9 +24,8 @@ pub struct PacketSurvey {
 }
 
 /// Counts the packets that end ports send to the LIDs of their components. Keeps the first `most` of each kind that do
-/// not arrive. `sites` must be those of the end ports, in order. Takes what `Network::blocks` and `Network::deliveries`
-/// take for each 64 LIDs. If the deliveries do not show that all packets for a LID arrive, that LID also costs what
-/// `Network::ends` takes.
+/// not arrive. `sites` must be those of the end ports, in order. Takes what `LidCursor::go_to` takes for each LID. If
+/// the deliveries do not show that all packets for a LID arrive, that LID also costs what `LidCursor::ends` takes.
 pub fn survey(
     alloc: Global,
     most: usize,
@@ -67,24 +64,12 @@ fn add_lines(
 {
     let mut index = 0;
     let census = census_of(sites);
-    let mut blocks = network.blocks(alloc, 0)?;
-    let mut deliveries = network.deliveries(alloc, &blocks)?;
+    let mut cursor = LidCursor::with_deliveries(alloc, network)?;
     for line in network.lids() {
-        blocks = network.blocks_for(alloc, blocks, line.lid)?;
-        deliveries = network.deliveries_for(alloc, deliveries, &blocks)?;
+        cursor.go_to(alloc, line.lid)?;
         index = index_of(sites, index, &line.port);
         let all = match site_in(sites, index) {
-            Some(owner) => add_packets(
-                alloc,
-                tally,
-                network,
-                &blocks,
-                &deliveries,
-                sites,
-                census,
-                line,
-                &owner,
-            )?,
+            Some(owner) => add_packets(alloc, tally, &cursor, sites, census, line, &owner)?,
             None => false,
         };
         told.push(all)?;
@@ -93,34 +78,30 @@ fn add_lines(
 }
 
 /// Adds the packets for the LID of `line` to `tally`. Returns true only if all of them are delivered at its port.
-/// `owner` must be the site of that port, and among `sites`.
+/// `cursor` must be at the LID. `owner` must be the site of that port, and among `sites`.
 fn add_packets(
     alloc: Global,
     tally: &mut PacketTally,
-    network: &Network,
-    blocks: &Blocks,
-    deliveries: &Deliveries,
+    cursor: &LidCursor,
     sites: &[Site],
     census: Census,
     line: &HeldLid,
     owner: &Site,
 ) -> Result<bool, AllocError>
-    requires held { AreBlocks network.now.held blocks.now.number blocks.now.rows.items }
-    requires number { blocks.now.number ≡ line.now.lid / 64 }
-    requires deliveries { AreDeliveries (cells_of network.now.facts) network.now.held deliveries.now }
-    requires sites { sites.now ≡ map (site_of (cells_of network.now.facts)) (end_ports (cells_of network.now.facts)) }
+    requires lid { cursor.now.lid ≡ line.now.lid }
+    requires sites { sites.now ≡ map (site_of (cells_of cursor.now.seen.facts)) (end_ports (cells_of cursor.now.seen.facts)) }
     requires census { IsCensus sites.now census }
     requires listed { Contains sites.now owner.now }
-    requires owner { owner.now ≡ site_of (cells_of network.now.facts) line.now.port }
+    requires owner { owner.now ≡ site_of (cells_of cursor.now.seen.facts) line.now.port }
     ensures counted { OnOk result ((most : ℕ) (packets : List Sent) → IsTally most packets tally.old
-        → IsTally most (packets ++ sent_to (cells_of network.now.facts) network.now.held line.now) tally.new) }
-    ensures told { IfOk result (λ all. all ≡ true → AllComeTo (cells_of network.now.facts) network.now.held line.now) }
+        → IsTally most (packets ++ sent_to (cells_of cursor.now.seen.facts) cursor.now.seen.held line.now) tally.new) }
+    ensures told { IfOk result (λ all. all ≡ true → AllComeTo (cells_of cursor.now.seen.facts) cursor.now.seen.held line.now) }
 {
-    if network.all_arrive(deliveries, line) {
+    if cursor.all_arrive(line) {
         add_arrived(tally, sites, census, owner)?;
         return Ok(true);
     }
-    let ends = network.ends(alloc, blocks, line)?;
+    let ends = cursor.ends(alloc, line.port)?;
     match ends.first_elsewhere() {
         None => {
             add_arrived(tally, sites, census, owner)?;

@@ -12,11 +12,12 @@ ghost use Rattle.audit_counts.specs.Sites.{are_one_component, first_root, is_one
 ghost use Rattle.audit_counts.specs.Sites.{site_of, switch_of};
 
 use audit_ways::is_adapter;
-use fact_store::{Refused, Store};
+use fact_store::Refused;
+use held_tables::Subnet;
 use packet_walks::is_same_end;
 use smp_bytes::{Guid, PortNum};
 use std::alloc::{AllocError, Global};
-use subnet_view::{EndPort, SwitchGraph, Wires, end_ports, is_usable};
+use subnet_view::{EndPort, SwitchGraph, Wires, is_usable};
 
 /// Where an end port lies.
 #[derive(Clone, Copy, Debug, PartialEq, Eq)]
@@ -150,34 +151,14 @@ pub fn are_adapters(port: &EndPort, other: &EndPort) -> bool
     is_adapter(port) && is_adapter(other)
 }
 
-/// Returns the sites of the view's end ports, in order.
-pub fn sites(alloc: Global, store: &Store) -> Result<Vec<Site>, Refused>
+/// Returns the sites of the end ports of `subnet`, in order.
+pub fn sites(alloc: Global, subnet: &Subnet) -> Result<Vec<Site>, Refused>
     ensures { IfOk result (λ sites. sites.items
-        ≡ map (site_of (cells_of store.now)) (end_ports (cells_of store.now))) }
+        ≡ map (site_of (cells_of subnet.now)) (end_ports (cells_of subnet.now))) }
 {
-    let wires = Wires::of(alloc, store)?;
-    sites_by_wires(alloc, &wires)
-}
-
-/// Returns the sites of the view's end ports, in order, from the view's wires.
-fn sites_by_wires(alloc: Global, wires: &Wires) -> Result<Vec<Site>, Refused>
-    ensures { IfOk result (λ sites. sites.items
-        ≡ map (site_of (cells_of wires.now)) (end_ports (cells_of wires.now))) }
-{
-    let graph = SwitchGraph::of(alloc, wires)?;
-    sites_by_graph(alloc, wires, &graph)
-}
-
-/// Returns the sites of the view's end ports, in order, from the view's wires and the graph of its switches. `graph`
-/// must be the graph of these wires.
-fn sites_by_graph(alloc: Global, wires: &Wires, graph: &SwitchGraph) -> Result<Vec<Site>, Refused>
-    requires { graph.now ≡ graph_of (cells_of wires.now) }
-    ensures { IfOk result (λ sites. sites.items
-        ≡ map (site_of (cells_of wires.now)) (end_ports (cells_of wires.now))) }
-{
+    let graph = SwitchGraph::of(alloc, subnet.wires())?;
     let roots = graph.roots(alloc)?;
-    let ports = end_ports(alloc, wires.store())?;
-    Ok(sites_of(alloc, wires, graph, &roots, &ports)?)
+    Ok(sites_of(alloc, subnet.wires(), &graph, &roots, subnet.end_ports())?)
 }
 
 /// Returns the sites of `ports`, in order. `graph` must be the graph of `wires`, and `roots` must be the roots of its

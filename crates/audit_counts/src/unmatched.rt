@@ -7,12 +7,12 @@ ghost use Rattle.audit_counts.specs.Unmatched.{unusable};
 
 use crate::first_few::FirstFew;
 use fact_gaps::{unjoined_ports, unusable_nodes};
-use fact_store::{Refused, Store};
+use fact_store::Store;
 use held_tables::{Held, HeldLid};
 use packet_walks::{Network, is_same_end};
 use smp_bytes::Guid;
 use std::alloc::{AllocError, Global};
-use subnet_view::{EndPort, end_ports, is_end_port, is_usable, switches};
+use subnet_view::{EndPort, Wires, is_end_port, is_usable};
 
 /// Differences between tables and facts, and gaps in the facts.
 #[derive(Drop)]
@@ -35,13 +35,13 @@ pub struct Unmatched {
 
 impl Unmatched {
     /// Compares tables and facts, and keeps the first `most` of each kind.
-    pub fn of(alloc: Global, most: usize, network: &Network) -> Result<Self, Refused>
+    pub fn of(alloc: Global, most: usize, network: &Network) -> Result<Self, AllocError>
         ensures { IfOk result (IsUnmatched most (cells_of network.now.facts) network.now.held) }
     {
         let (unowned, twice) = unowned_and_twice(alloc, most, network)?;
         let (unknown, tableless) = unknown_and_tableless(alloc, most, network)?;
-        let lidless = lidless_of(alloc, most, network)?;
-        let (unusable, unjoined) = unusable_and_unjoined(alloc, most, network.store())?;
+        let lidless = lidless(alloc, most, network.held(), network.subnet().end_ports())?;
+        let (unusable, unjoined) = unusable_and_unjoined(alloc, most, network.subnet().wires())?;
         Ok(Unmatched {
             unowned,
             twice,
@@ -64,7 +64,7 @@ fn unowned_and_twice(
     ensures unowned { IfOk result (λ both. both.0 ≡ unowned most (cells_of network.now.facts) network.now.held) }
     ensures twice { IfOk result (λ both. both.1 ≡ twice most network.now.held) }
 {
-    let unowned = unowned(alloc, most, network.lids(), network.store())?;
+    let unowned = unowned(alloc, most, network.lids(), network.subnet().store())?;
     let twice = twice(alloc, most, network)?;
     Ok((unowned, twice))
 }
@@ -75,12 +75,12 @@ fn unknown_and_tableless(
     alloc: Global,
     most: usize,
     network: &Network,
-) -> Result<(FirstFew<Guid>, FirstFew<Guid>), Refused>
+) -> Result<(FirstFew<Guid>, FirstFew<Guid>), AllocError>
     ensures unknown { IfOk result (λ both. both.0 ≡ unknown most (cells_of network.now.facts) network.now.held) }
     ensures tableless { IfOk result (λ both. both.1 ≡ tableless most (cells_of network.now.facts) network.now.held) }
 {
-    let unknown = unknown(alloc, most, network.held(), network.store())?;
-    let tableless = tableless_of(alloc, most, network)?;
+    let unknown = unknown(alloc, most, network.held(), network.subnet().store())?;
+    let tableless = tableless(alloc, most, network.held(), network.subnet().switches())?;
     Ok((unknown, tableless))
 }
 
@@ -89,13 +89,13 @@ fn unknown_and_tableless(
 fn unusable_and_unjoined(
     alloc: Global,
     most: usize,
-    store: &Store,
-) -> Result<(FirstFew<Guid>, FirstFew<EndPort>), Refused>
-    ensures unusable { IfOk result (λ both. both.0 ≡ unusable most (cells_of store.now)) }
-    ensures unjoined { IfOk result (λ both. both.1 ≡ unjoined most (cells_of store.now)) }
+    wires: &Wires,
+) -> Result<(FirstFew<Guid>, FirstFew<EndPort>), AllocError>
+    ensures unusable { IfOk result (λ both. both.0 ≡ unusable most (cells_of wires.now)) }
+    ensures unjoined { IfOk result (λ both. both.1 ≡ unjoined most (cells_of wires.now)) }
 {
-    let unusable = unusable_of(alloc, most, store)?;
-    let unjoined = unjoined_of(alloc, most, store)?;
+    let unusable = unusable_of(alloc, most, wires.store())?;
+    let unjoined = unjoined_of(alloc, most, wires)?;
     Ok((unusable, unjoined))
 }
 
@@ -108,27 +108,11 @@ fn unusable_of(alloc: Global, most: usize, store: &Store) -> Result<FirstFew<Gui
 }
 
 /// Returns the ports that the facts name without saying where they lead.
-fn unjoined_of(alloc: Global, most: usize, store: &Store) -> Result<FirstFew<EndPort>, Refused>
-    ensures { IfOk result (λ few. few ≡ unjoined most (cells_of store.now)) }
+fn unjoined_of(alloc: Global, most: usize, wires: &Wires) -> Result<FirstFew<EndPort>, AllocError>
+    ensures { IfOk result (λ few. few ≡ unjoined most (cells_of wires.now)) }
 {
-    let ports = unjoined_ports(alloc, store)?;
-    Ok(FirstFew::of(alloc, most, &ports)?)
-}
-
-/// Returns the usable switches without tables.
-fn tableless_of(alloc: Global, most: usize, network: &Network) -> Result<FirstFew<Guid>, Refused>
-    ensures { IfOk result (λ few. few ≡ tableless most (cells_of network.now.facts) network.now.held) }
-{
-    let guids = switches(alloc, network.store())?;
-    Ok(tableless(alloc, most, network.held(), &guids)?)
-}
-
-/// Returns the end ports of the facts that hold no LID.
-fn lidless_of(alloc: Global, most: usize, network: &Network) -> Result<FirstFew<EndPort>, Refused>
-    ensures { IfOk result (λ few. few ≡ lidless most (cells_of network.now.facts) network.now.held) }
-{
-    let ports = end_ports(alloc, network.store())?;
-    Ok(lidless(alloc, most, network.held(), &ports)?)
+    let ports = unjoined_ports(alloc, wires)?;
+    FirstFew::of(alloc, most, &ports)
 }
 
 /// Returns those of `lines` whose ports are not end ports of the facts.

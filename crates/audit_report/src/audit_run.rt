@@ -9,7 +9,7 @@ ghost use Rattle.audit_report.specs.RunAudit.{HasAudited, IsAnswerFault, IsAudit
 use crate::{Audit, write_audit};
 use byte_io::{Sink, Source};
 use fact_store::Store;
-use held_tables::Held;
+use held_tables::{Held, Subnet};
 use sm_cli::{Fault, read_tables_and_files};
 use smp_bytes::Generation;
 use std::alloc::Global;
@@ -74,7 +74,10 @@ fn answer<W: Sink>(
     ensures refused { IfErr result (IsAnswerFault (W.has_failed sink.new)) }
     ensures nothing_written { OnErr result ((result ≡ Err Fault.Write) ⊎ (sink.new ≡ sink.old)) }
 {
-    match Audit::of(alloc, most_told(asked.all), store, held) {
+    let Ok(subnet) = Subnet::of(alloc, store) else {
+        return Err(Fault::Memory);
+    };
+    match Audit::of(alloc, most_told(asked.all), &subnet, held) {
         Ok(audit) => tell(sink, asked.max_load, &audit),
         Err(_) => Err(Fault::Memory),
     }

@@ -13,8 +13,8 @@ ghost use Rattle.audit_report.specs.Passing.{IsSound, IsWholeFor, Passes, Passes
 use audit_channels::{ChannelOrder, channel_order};
 use audit_counts::{PacketSurvey, PacketTally, Unmatched, disputed, sites, survey};
 use audit_ways::{Figures, WayFigures, figures_of_ways_told};
-use fact_store::{Refused, Store};
-use held_tables::Held;
+use fact_store::Refused;
+use held_tables::{Held, Subnet};
 use packet_walks::Network;
 use std::alloc::{AllocError, Global};
 use std::marker::Model;
@@ -60,21 +60,26 @@ impl<'a> Model for Audit<'a> {
 }
 
 impl<'a> Audit<'a> {
-    /// Audits the tables `held` in the subnet of `store`. Follows the packets for each held LID from every end port of
+    /// Audits the tables `held` in `subnet`. Follows the packets for each held LID from every end port of
     /// its owner's component. Counts the wires and channels that packets between adapter ports take, and looks for a
     /// shortest credit loop. Keeps the first `most` lines of each kind.
     ///
     /// Costs what `Network::deliveries` takes for each 64 LIDs, and twice what `Network::edges` takes for each LID. If
     /// the deliveries do not show that all packets for a LID arrive, that LID also costs what `Network::ends` takes,
     /// and costs this twice if not all are delivered at its port.
-    pub fn of(alloc: Global, most: usize, store: &'a Store, held: &'a Held) -> Result<Self, Refused>
+    pub fn of(
+        alloc: Global,
+        most: usize,
+        subnet: &'a Subnet<'a>,
+        held: &'a Held,
+    ) -> Result<Self, Refused>
         ensures most { IfOk result (λ audit. audit.most ≡ most) }
-        ensures facts { IfOk result (λ audit. audit.facts ≡ store.now) }
+        ensures facts { IfOk result (λ audit. audit.facts ≡ subnet.now) }
         ensures held { IfOk result (λ audit. audit.held ≡ held.now) }
-        ensures cycle { IfOk result (λ audit. IsCycle (cells_of store.now) held.now audit.cycle) }
-        ensures shortest { IfOk result (λ audit. NoneShorter (cells_of store.now) held.now audit.cycle) }
+        ensures cycle { IfOk result (λ audit. IsCycle (cells_of subnet.now) held.now audit.cycle) }
+        ensures shortest { IfOk result (λ audit. NoneShorter (cells_of subnet.now) held.now audit.cycle) }
     {
-        let network = Network::of(alloc, store, held)?;
+        let network = Network::of(alloc, subnet, held)?;
         let findings = findings_of(alloc, most, &network)?;
         Ok(Audit {
             most,
@@ -192,7 +197,7 @@ fn findings_of(alloc: Global, most: usize, network: &Network) -> Result<Findings
 {
     let (tally, ways) = packets_and_ways(alloc, most, network)?;
     let (unmatched, cycle) = unmatched_and_cycle(alloc, most, network)?;
-    let disputed = disputed(network.store());
+    let disputed = disputed(network.subnet().store());
     Ok(Findings {
         tally,
         unmatched,
@@ -223,7 +228,7 @@ fn survey_of(alloc: Global, most: usize, network: &Network) -> Result<PacketSurv
         IsTally most (packets_of (cells_of network.now.facts) network.now.held) survey.tally) }
     ensures told { IfOk result (λ survey. AreTold (cells_of network.now.facts) network.now.held survey.told.items) }
 {
-    let sites = sites(alloc, network.store())?;
+    let sites = sites(alloc, network.subnet())?;
     Ok(survey(alloc, most, network, &sites)?)
 }
 

@@ -8,15 +8,13 @@ use Rattle.subnet_view.specs.Reading.{Cells, switches}
 use Rattle.held_tables.specs.declared.held.HeldLid.{HeldLid}
 use Rattle.held_tables.specs.Held.{HeldPlan}
 use Rattle.held_tables.specs.Tables.{lines_of}
-use Rattle.held_tables.specs.Blocks.{AreBlocks}
 use Rattle.audit_ways.specs.declared.way_tally.WayTally.{WayTally}
 use Rattle.audit_ways.specs.WayTally.{IsCounted, IsCountedMore}
 use Rattle.audit_ways.specs.Ways.{Way, is_target, ways_for, ways_of, ways_to}
 use Rattle.audit_ways.proofs.Counted.{counted_as}
 
 -- those for the first lines
-pub record AreSurveyed (cells : Cells) (held : HeldPlan) (lines : List HeldLid) (number : ℕ) (rows : List (List ℕ)) (n : ℕ) (tally : WayTally) : Type 0 where
-  pub blocks : AreBlocks held number rows
+pub record AreSurveyed (cells : Cells) (held : HeldPlan) (lines : List HeldLid) (n : ℕ) (tally : WayTally) : Type 0 where
   pub counted : IsCounted (256 * length (switches cells)) (λ f. sum_by f (flat_map (ways_for cells held) (take n lines))) tally
 
 module _ (cells : Cells) (held : HeldPlan) (lines : List HeldLid) where
@@ -26,11 +24,8 @@ module _ (cells : Cells) (held : HeldPlan) (lines : List HeldLid) where
   abbrev first : ℕ → List Way
   first n = flat_map (ways_for cells held) (take n lines)
 
-  pub none_surveyed : (number : ℕ) (rows : List (List ℕ)) (count : ℕ) (tally : WayTally) → AreBlocks held number rows → IsCounted count (λ _. 0) tally → count
-      ≡ channels
-      → AreSurveyed cells held lines number rows 0 tally
-  none_surveyed number rows count tally b h e = record {
-    blocks = b;
+  pub none_surveyed : (count : ℕ) (tally : WayTally) → IsCounted count (λ _. 0) tally → count ≡ channels → AreSurveyed cells held lines 0 tally
+  none_surveyed count tally h e = record {
     counted = subst (λ (k : ℕ). IsCounted k (λ f. sum_by f (first 0)) tally) e (counted_as count (λ _. 0) (λ f. sum_by f (first 0)) tally (λ f. refl) h);
   }
 
@@ -39,12 +34,9 @@ module _ (cells : Cells) (held : HeldPlan) (lines : List HeldLid) where
       ap (flat_map (ways_for cells held)) (take_more lines n line h ∙ ap (λ x. take n lines ++ x ∷ []) (sym is))
       ∙ flat_map-append (ways_for cells held) (take n lines) (line ∷ []) ∙ ap (λ ps. first n ++ ps) (append-nil (ways_for cells held line))
 
-  pub line_surveyed : (before number : ℕ) (old rows : List (List ℕ)) (n : ℕ) (line : HeldLid) (tally new : WayTally)
-      → AreSurveyed cells held lines before old n tally
-      → AreBlocks held number rows → n < length lines → line ≡ get_or lines n line → is_target cells line.port ≡ true
-      → IsCountedMore channels tally (λ f. sum_by f (ways_to cells held line)) new → AreSurveyed cells held lines number rows (n + 1) new
-  line_surveyed before number old rows n line tally new h b less is there add = record {
-    blocks = b;
+  pub line_surveyed : (n : ℕ) (line : HeldLid) (tally new : WayTally) → AreSurveyed cells held lines n tally → n < length lines → line ≡ get_or lines n line → is_target cells line.port ≡ true
+      → IsCountedMore channels tally (λ f. sum_by f (ways_to cells held line)) new → AreSurveyed cells held lines (n + 1) new
+  line_surveyed n line tally new h less is there add = record {
     counted =
         let more = lines_more n line less is ∙ ap (λ t. first n ++ cond t (ways_to cells held line) []) there in
         counted_as channels (λ f. sum_by f (first n) + sum_by f (ways_to cells held line)) (λ f. sum_by f (first (n + 1))) new
@@ -52,18 +44,16 @@ module _ (cells : Cells) (held : HeldPlan) (lines : List HeldLid) where
         (add (λ f. sum_by f (first n)) h.counted);
   }
 
-  pub line_passed : (before number : ℕ) (old rows : List (List ℕ)) (n : ℕ) (line : HeldLid) (tally : WayTally) → AreSurveyed cells held lines before old n tally
-      → AreBlocks held number rows → n < length lines → line ≡ get_or lines n line → is_target cells line.port ≡ false
-      → AreSurveyed cells held lines number rows (n + 1) tally
-  line_passed before number old rows n line tally h b less is there = record {
-    blocks = b;
+  pub line_passed : (n : ℕ) (line : HeldLid) (tally : WayTally) → AreSurveyed cells held lines n tally → n < length lines → line ≡ get_or lines n line → is_target cells line.port ≡ false
+      → AreSurveyed cells held lines (n + 1) tally
+  line_passed n line tally h less is there = record {
     counted =
         let more = lines_more n line less is ∙ ap (λ t. first n ++ cond t (ways_to cells held line) []) there ∙ append-nil (first n) in
         counted_as channels (λ f. sum_by f (first n)) (λ f. sum_by f (first (n + 1))) tally (λ f. sym (ap (sum_by f) more)) h.counted;
   }
 
-  pub all_surveyed : (number : ℕ) (rows : List (List ℕ)) (n : ℕ) (tally : WayTally) → AreSurveyed cells held lines number rows n tally
+  pub all_surveyed : (n : ℕ) (tally : WayTally) → AreSurveyed cells held lines n tally
       → lines ≡ lines_of held → length lines ≤ n → IsCounted channels (λ f. sum_by f (ways_of cells held)) tally
-  all_surveyed number rows n tally h are past =
+  all_surveyed n tally h are past =
       counted_as channels (λ f. sum_by f (first n)) (λ f. sum_by f (ways_of cells held)) tally
       (λ f. ap (λ ls. sum_by f (flat_map (ways_for cells held) ls)) (take_all n lines past ∙ are)) h.counted

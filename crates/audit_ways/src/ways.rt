@@ -5,7 +5,6 @@ ghost use Rattle.fact_store.specs.View.{cells_of};
 ghost use Rattle.subnet_view.specs.EndPorts.{end_ports};
 ghost use Rattle.subnet_view.specs.Reading.{switches};
 ghost use Rattle.held_tables.specs.Switches.{far_of};
-ghost use Rattle.held_tables.specs.Blocks.{AreBlocks};
 ghost use Rattle.audit_ways.specs.Figures.{IsTotal};
 ghost use Rattle.audit_ways.specs.Groups.{AreGrouped, adapters};
 ghost use Rattle.audit_ways.specs.WayTally.{IsCounted, IsCountedMore};
@@ -17,7 +16,7 @@ use crate::roster::{roster, target_among};
 use crate::sender_groups::{Groups, group_packets, senders};
 use crate::way_tally::WayTally;
 use held_tables::HeldLid;
-use packet_walks::{Blocks, Far, Network};
+use packet_walks::{Far, LidCursor, Network};
 use std::alloc::{AllocError, Global};
 
 /// Figures of the delivered packets that adapter ports send to each other's LIDs.
@@ -32,8 +31,7 @@ pub struct WayFigures {
 
 /// Computes how many wires packets between adapter ports take, and how evenly they load the channels.
 ///
-/// Costs what `Network::ends` and `Network::edges` take for each LID, and what `Network::blocks` takes for each 64
-/// LIDs. Each LID also costs a walk from each switch at which packets for it begin. Returns an error if memory is
+/// Costs what `LidCursor::go_to`, `LidCursor::ends` and `LidCursor::edges` take for each LID. Each LID also costs a walk from each switch at which packets for it begin. Returns an error if memory is
 /// refused or a number does not fit in 64 bits.
 pub fn figures_of_ways(alloc: Global, network: &Network) -> Result<WayFigures, AllocError>
     ensures { IfOk result (IsToldOfWays (cells_of network.now.facts) network.now.held) }
@@ -43,7 +41,7 @@ pub fn figures_of_ways(alloc: Global, network: &Network) -> Result<WayFigures, A
 
 /// Computes the figures as `figures_of_ways` does, with less work for lines whose packets are known to arrive. If
 /// `told` is true at the index of a line, all packets for its LID must be delivered at its port. Such a line does not
-/// cost what `Network::ends` takes.
+/// cost what `LidCursor::ends` takes.
 pub fn figures_of_ways_told(
     alloc: Global,
     network: &Network,
@@ -70,20 +68,12 @@ fn tally_of(alloc: Global, network: &Network, told: &[bool]) -> Result<WayTally,
     let mut tally = WayTally::new(alloc, channels)?;
     let roster = roster(alloc, network)?;
     let mut senders = senders(alloc, network)?;
-    let mut blocks = network.blocks(alloc, 0)?;
+    let mut cursor = LidCursor::of(alloc, network)?;
     for (index, line) in network.lids().iter().enumerate() {
-        blocks = network.blocks_for(alloc, blocks, line.lid)?;
         if let Some(far) = target_among(&roster, &line.port) {
-            add_ways(
-                alloc,
-                &mut tally,
-                &mut senders,
-                network,
-                &blocks,
-                line,
-                &far,
-                is_told(told, index),
-            )?;
+            cursor.go_to(alloc, line.lid)?;
+            let told = is_told(told, index);
+            add_ways(alloc, &mut tally, &mut senders, &cursor, line, &far, told)?;
         }
     }
     Ok(tally)
@@ -97,32 +87,30 @@ fn is_told(told: &[bool], index: usize) -> bool
 }
 
 /// Adds the routes of the delivered packets for the LID of `line`, whose port must be an adapter port of the facts.
-/// `far` must be where the wire in that port leads. `senders` must have a packet from each adapter port; it is changed
+/// `cursor` must be at that LID. `far` must be where the wire in that port leads. `senders` must have a packet from each adapter port; it is changed
 /// and then restored. If `told` is true, all packets for the LID must be delivered at the port.
 fn add_ways(
     alloc: Global,
     tally: &mut WayTally,
     senders: &mut Groups,
-    network: &Network,
-    blocks: &Blocks,
+    cursor: &LidCursor,
     line: &HeldLid,
     far: &Far,
     told: bool,
 ) -> Result<(), AllocError>
-    requires held { AreBlocks network.now.held blocks.now.number blocks.now.rows.items }
-    requires number { blocks.now.number ≡ line.now.lid / 64 }
-    requires channels { length tally.old.loads.items ≡ 256 * length (switches (cells_of network.now.facts)) }
-    requires senders { AreGrouped (cells_of network.now.facts) (adapters (cells_of network.now.facts)) senders.old }
-    requires target { is_target (cells_of network.now.facts) line.now.port ≡ true }
-    requires far { far.now ≡ far_of (cells_of network.now.facts) line.now.port.node line.now.port.port }
-    requires told { told ≡ true → AllComeTo (cells_of network.now.facts) network.now.held line.now }
-    ensures ways { OnOk result (IsCountedMore (256 * length (switches (cells_of network.now.facts))) tally.old
-        (λ number. sum_by number (ways_to (cells_of network.now.facts) network.now.held line.now)) tally.new) }
+    requires lid { cursor.now.lid ≡ line.now.lid }
+    requires channels { length tally.old.loads.items ≡ 256 * length (switches (cells_of cursor.now.seen.facts)) }
+    requires senders { AreGrouped (cells_of cursor.now.seen.facts) (adapters (cells_of cursor.now.seen.facts)) senders.old }
+    requires target { is_target (cells_of cursor.now.seen.facts) line.now.port ≡ true }
+    requires far { far.now ≡ far_of (cells_of cursor.now.seen.facts) line.now.port.node line.now.port.port }
+    requires told { told ≡ true → AllComeTo (cells_of cursor.now.seen.facts) cursor.now.seen.held line.now }
+    ensures ways { OnOk result (IsCountedMore (256 * length (switches (cells_of cursor.now.seen.facts))) tally.old
+        (λ number. sum_by number (ways_to (cells_of cursor.now.seen.facts) cursor.now.seen.held line.now)) tally.new) }
     ensures senders { OnOk result
-        (AreGrouped (cells_of network.now.facts) (adapters (cells_of network.now.facts)) senders.new) }
+        (AreGrouped (cells_of cursor.now.seen.facts) (adapters (cells_of cursor.now.seen.facts)) senders.new) }
 {
-    let edges = network.edges(alloc, blocks, line.lid)?;
-    match some_of_all(alloc, network, blocks, line, told)? {
+    let edges = cursor.edges(alloc)?;
+    match some_of_all(alloc, cursor, line, told)? {
         Some(groups) => return tally.add(&edges, &groups.weights, groups.direct),
         None => {}
     }
@@ -132,29 +120,27 @@ fn add_ways(
 }
 
 /// Returns the delivered packets for the LID of `line` from other adapter ports, or `None` if all packets for it are
-/// delivered. If `told` is true, they must be.
+/// delivered. If `told` is true, they must be. `cursor` must be at that LID.
 fn some_of_all(
     alloc: Global,
-    network: &Network,
-    blocks: &Blocks,
+    cursor: &LidCursor,
     line: &HeldLid,
     told: bool,
 ) -> Result<Option<Groups>, AllocError>
-    requires held { AreBlocks network.now.held blocks.now.number blocks.now.rows.items }
-    requires number { blocks.now.number ≡ line.now.lid / 64 }
-    requires told { told ≡ true → AllComeTo (cells_of network.now.facts) network.now.held line.now }
+    requires lid { cursor.now.lid ≡ line.now.lid }
+    requires told { told ≡ true → AllComeTo (cells_of cursor.now.seen.facts) cursor.now.seen.held line.now }
     ensures { IfOk result (λ groups. MatchOption groups
-        (AllComeTo (cells_of network.now.facts) network.now.held line.now)
-        (AreGrouped (cells_of network.now.facts) (filter
-        (reaches (cells_of network.now.facts) network.now.held line.now) (end_ports (cells_of network.now.facts))))) }
+        (AllComeTo (cells_of cursor.now.seen.facts) cursor.now.seen.held line.now)
+        (AreGrouped (cells_of cursor.now.seen.facts) (filter
+        (reaches (cells_of cursor.now.seen.facts) cursor.now.seen.held line.now) (end_ports (cells_of cursor.now.seen.facts))))) }
 {
     if told {
         return Ok(None);
     }
-    let ends = network.ends(alloc, blocks, line)?;
+    let ends = cursor.ends(alloc, line.port)?;
     match ends.first_elsewhere() {
         None => Ok(None),
-        Some(_) => Ok(Some(group_packets(alloc, network, line, &ends)?)),
+        Some(_) => Ok(Some(group_packets(alloc, cursor.network(), line, &ends)?)),
     }
 }
 

@@ -1,27 +1,15 @@
 -- The entries of all usable switches for a LID.
-use Rattle.std.proofs.Common.{◌≡◌, ◌∙◌, ℕ, List, [], ◌∷◌, Option, length, sym, ap}
+use Rattle.std.proofs.Common.{◌≡◌, ◌∙◌, ℕ, List, [], ◌∷◌, length, sym, ap}
 use Rattle.std.specs.Prelude.{map, replicate}
-use Rattle.std.specs.List.{range_with_len}
 use Rattle.port_graph.specs.declared.edge.Edge.{Edge}
 use Rattle.subnet_view.specs.declared.end_port.EndPort.{EndPort}
 use Rattle.subnet_view.specs.Reading.{Cells, switches}
 use Rattle.held_tables.specs.Held.{HeldPlan}
-use Rattle.held_tables.specs.Blocks.{AreBlocks}
 use Rattle.held_tables.specs.Tables.{owners_of}
 use Rattle.packet_walks.specs.declared.next_hop.SwitchStep.{SwitchStep}
 use Rattle.packet_walks.specs.HopsByTables.{switch_step}
-use Rattle.two_orders.specs.declared.labels.Sides.{Sides}
-use Rattle.two_orders.specs.Labels.{labels_from}
 use Rattle.two_orders.specs.TwoOrders.{TwoOrders}
 use Rattle.between_orders.specs.TablesBetween.{column_between, column_for, entries_towards}
-
--- the columns so far
-pub record SoFar (cells : Cells) (edges : List (List Edge)) (orders : TwoOrders) (held plan : HeldPlan) (count held_number plan_number : ℕ)
-    (held_rows plan_rows columns : List (List ℕ)) (firsts labels : List (Option Sides)) : Type 0 where
-  pub held_blocks : AreBlocks held held_number held_rows
-  pub plan_blocks : AreBlocks plan plan_number plan_rows
-  pub labels_are : labels ≡ labels_from edges orders firsts
-  pub columns_are : columns ≡ map (column_between cells edges orders held plan) (range_with_len 0 count)
 
 module _ (cells : Cells) (edges : List (List Edge)) (orders : TwoOrders) (held plan : HeldPlan) (lid : ℕ) where
   abbrev column_by : List EndPort → List ℕ

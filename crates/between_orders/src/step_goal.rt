@@ -7,11 +7,11 @@ ghost use Rattle.between_orders.specs.Between.{IsGoal, goal_of};
 
 use crate::orders::orders;
 use crate::tables_between::tables_between;
-use fact_store::{Refused, Store};
+use fact_store::Refused;
 use held_tables::Held;
 use packet_walks::Network;
 use std::alloc::{AllocError, Global};
-use subnet_view::{SwitchGraph, Wires};
+use subnet_view::SwitchGraph;
 
 /// The goal of a step from tables that imply an order.
 #[derive(Drop)]
@@ -25,25 +25,22 @@ pub struct StepGoal {
 /// Returns the goal of a step from the tables of `held` towards the tables of `plan`: tables that lead packets up and
 /// then down both by the order that the held tables imply and by the next one on the way to the plan's order. Returns
 /// `None` if the held tables imply no order. If they imply several, takes the one nearest to the order that grows by
-/// `preferred`. Both tables must have the facts of `store`. `positions` must have the position of each usable switch in
+/// `preferred`. Both tables must have the same facts. `positions` must have the position of each usable switch in
 /// the plan's order, by rising GUID, and `preferred` that in the preferred order.
 pub fn between(
     alloc: Global,
-    store: &Store,
     held: &Network,
     plan: &Network,
     positions: &[usize],
     preferred: &[usize],
 ) -> Result<Option<StepGoal>, Refused>
-    requires held { held.now.facts ≡ store.now }
-    requires plan { plan.now.facts ≡ store.now }
-    requires positions { length positions.now ≡ length (switches (cells_of store.now)) }
-    requires preferred { length preferred.now ≡ length (switches (cells_of store.now)) }
-    ensures { IfOk result (λ found. IsGoal (cells_of store.now) held.now.held plan.now.held positions.now preferred.now
+    requires facts { plan.now.facts ≡ held.now.facts }
+    requires positions { length positions.now ≡ length (switches (cells_of held.now.facts)) }
+    requires preferred { length preferred.now ≡ length (switches (cells_of held.now.facts)) }
+    ensures { IfOk result (λ found. IsGoal (cells_of held.now.facts) held.now.held plan.now.held positions.now preferred.now
         (option_map goal_of found)) }
 {
-    let wires = Wires::of(alloc, store)?;
-    let graph = SwitchGraph::of(alloc, &wires)?;
+    let graph = SwitchGraph::of(alloc, held.subnet().wires())?;
     let edges = graph.adjacency();
     let Some(orders) = orders(alloc, edges, held, positions, preferred)? else {
         return Ok(None);

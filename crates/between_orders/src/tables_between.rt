@@ -1,9 +1,8 @@
 //! Tables between two orders.
-ghost use Rattle.std.specs.Prelude.{◌≡◌, ◌≤◌, ◌*◌, ◌/◌, IfOk, OnOk, map};
+ghost use Rattle.std.specs.Prelude.{◌≡◌, ◌≤◌, ◌*◌, IfOk, OnOk, map};
 ghost use Rattle.std.specs.List.{enumerate_from, find, range_with_len, zip};
 ghost use Rattle.fact_store.specs.View.{cells_of};
 ghost use Rattle.port_graph.specs.Heads.{edges_at};
-ghost use Rattle.held_tables.specs.Blocks.{AreBlocks};
 ghost use Rattle.between_orders.specs.TablesBetween.{arrives, column_between, entries_towards, entry_between, entry_to};
 ghost use Rattle.between_orders.specs.TablesBetween.{first_label, fits, port_of, tables_between};
 ghost use Rattle.two_orders.specs.Labels.{labels_from, leads_on};
@@ -11,7 +10,7 @@ ghost use Rattle.two_orders.specs.Labels.{labels_from, leads_on};
 use crate::label_cache::Labelled;
 use held_tables::Held;
 use next_tables::{first_owner, most_blocks, no_entries, tables_with};
-use packet_walks::{Blocks, Network, NextHop, SwitchStep, is_at};
+use packet_walks::{LidCursor, Network, NextHop, SwitchStep, is_at};
 use port_graph::{Adjacency, Edge};
 use smp_bytes::{Lid, NO_ENTRY};
 use std::alloc::{AllocError, Global};
@@ -55,59 +54,43 @@ fn columns(
 {
     let mut columns = Vec::with_capacity(alloc, 64 * count)?;
     let mut labelled = Labelled::none(alloc, edges, orders);
-    let mut held_blocks = held.blocks(alloc, 0)?;
-    let mut plan_blocks = plan.blocks(alloc, 0)?;
+    let mut held_at = LidCursor::of(alloc, held)?;
+    let mut plan_at = LidCursor::of(alloc, plan)?;
     for number in 0..64 * count {
         let lid = Lid::new(number as u16);
-        held_blocks = held.blocks_for(alloc, held_blocks, lid)?;
-        plan_blocks = plan.blocks_for(alloc, plan_blocks, lid)?;
-        let column = column(
-            alloc,
-            edges,
-            orders,
-            &mut labelled,
-            held,
-            plan,
-            &held_blocks,
-            &plan_blocks,
-            lid,
-        )?;
+        held_at.go_to(alloc, lid)?;
+        plan_at.go_to(alloc, lid)?;
+        let column = column(alloc, edges, orders, &mut labelled, &held_at, &plan_at)?;
         columns.push(column)?;
     }
     Ok(columns)
 }
 
-/// Returns the entries of all usable switches for `lid`. `held` and `plan` must have the same facts, and `held_blocks`
-/// and `plan_blocks` must be those with `lid`. `labelled` has the labels of an earlier LID. If `lid` has an owner in
-/// the plan, they are replaced by the labels of `lid`.
+/// Returns the entries of all usable switches for the LID of both cursors. `held` and `plan` must be at one LID, and have
+/// the same facts. `labelled` has the labels of an earlier LID. If the LID has an owner in the plan, they are replaced
+/// by its labels.
 fn column(
     alloc: Global,
     edges: &Adjacency,
     orders: &Orders,
     labelled: &mut Labelled,
-    held: &Network,
-    plan: &Network,
-    held_blocks: &Blocks,
-    plan_blocks: &Blocks,
-    lid: Lid,
+    held: &LidCursor,
+    plan: &LidCursor,
 ) -> Result<Vec<u8>, AllocError>
-    requires facts { plan.now.facts ≡ held.now.facts }
-    requires held { AreBlocks held.now.held held_blocks.now.number held_blocks.now.rows.items }
-    requires held_number { held_blocks.now.number ≡ lid / 64 }
-    requires plan { AreBlocks plan.now.held plan_blocks.now.number plan_blocks.now.rows.items }
-    requires plan_number { plan_blocks.now.number ≡ lid / 64 }
+    requires facts { plan.now.seen.facts ≡ held.now.seen.facts }
+    requires lid { plan.now.lid ≡ held.now.lid }
     requires labels { labelled.old.labels.items ≡ labels_from edges.now orders.now labelled.old.firsts.items }
-    ensures column { IfOk result (λ column. column.items
-        ≡ column_between (cells_of held.now.facts) edges.now orders.now held.now.held plan.now.held lid) }
+    ensures column { IfOk result (λ column. column.items ≡ column_between (cells_of held.now.seen.facts) edges.now
+        orders.now held.now.seen.held plan.now.seen.held held.now.lid) }
     ensures labels { OnOk result (labelled.new.labels.items
         ≡ labels_from edges.now orders.now labelled.new.firsts.items) }
 {
-    let owners = plan.owners(alloc, lid)?;
+    let owners = plan.owners(alloc)?;
     let Some(port) = first_owner(&owners) else {
-        return no_entries(alloc, held.switch_count());
+        return no_entries(alloc, held.network().switch_count());
     };
-    let held_steps = held.switch_steps(alloc, held_blocks, lid)?;
-    let plan_steps = plan.switch_steps(alloc, plan_blocks, lid)?;
+    let held_steps = held.switch_steps(alloc)?;
+    let plan_steps = plan.switch_steps(alloc)?;
     entries_towards(
         alloc,
         &port,

@@ -9,7 +9,7 @@ ghost use Rattle.fact_gaps.specs.Named.{far_port, kept, link_key, own_port};
 
 use crate::in_order::order_ports;
 use crate::nodes::far_port;
-use fact_store::{Key, Refused, Sighting, Store, Value};
+use fact_store::{Key, Sighting, Store, Value};
 use smp_bytes::{Guid, NodeType, PortNum};
 use std::alloc::{AllocError, Global};
 use subnet_view::{EndPort, Wires, is_end_port};
@@ -17,15 +17,8 @@ use subnet_view::{EndPort, Wires, is_end_port};
 /// Returns the unjoined ports that facts name, each once, by node and port. A cell names the port of its key, the
 /// management port if it says that its node is a switch, and the far end if it is a link's. A port other than port 0 is
 /// unjoined if it is not known to be down and has no wire. Port 0 is unjoined if it is not the end port of a switch.
-pub fn unjoined_ports(alloc: Global, store: &Store) -> Result<Vec<EndPort>, Refused>
-    ensures { IfOk result (λ ports. ports.items ≡ unjoined_ports (cells_of store.now)) }
-{
-    let wires = Wires::of(alloc, store)?;
-    Ok(unjoined_by(alloc, &wires)?)
-}
-
-/// Returns the unjoined ports that the facts in `wires` name, each once, by node and port.
-fn unjoined_by(alloc: Global, wires: &Wires) -> Result<Vec<EndPort>, AllocError>
+/// `wires` are those of the facts.
+pub fn unjoined_ports(alloc: Global, wires: &Wires) -> Result<Vec<EndPort>, AllocError>
     ensures { IfOk result (λ ports. ports.items ≡ unjoined_ports (cells_of wires.now)) }
 {
     let known = known_ports(alloc, wires)?;

@@ -8,3 +8,4 @@ pub mod HeldItem
 pub mod PlanTables
 pub mod PlanRanges
 pub mod Switches
+pub mod Subnet

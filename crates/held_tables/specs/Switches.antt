@@ -11,6 +11,7 @@ use Rattle.held_tables.specs.declared.audited_switch.AuditedSwitch.{AuditedSwitc
 use Rattle.held_tables.specs.declared.far_end.Far.{Far}
 use Rattle.held_tables.specs.declared.far_end.Far.TheVariants.{Nothing, Switch, Port}
 use Rattle.held_tables.specs.declared.senders.Sender.{Sender}
+use Rattle.held_tables.specs.declared.wired_switch.WiredSwitch.{WiredSwitch}
 
 -- the index of `guid` in `guids`; None if it is not there
 abbrev pub index_in : List ℕ → ℕ → Option ℕ
@@ -72,13 +73,20 @@ is_among count (Some index) = nat_lt index count
 abbrev pub all_begin : ℕ → List (Option ℕ) → Bool
 all_begin count firsts = list_all (is_among count) firsts
 
--- usable switch `g`, with the wires in its ports, its index among the held switches, its top and its number of ports
-abbrev pub node_of : Cells → HeldPlan → ℕ → AuditedSwitch
-node_of cells held g = record {
-  guid = g;
-  row = row_of cells g;
-  index = index_of held g;
-  top = top_of held g;
-  ports =
-      port_count_of cells g;
+-- the usable switch `g`, with where the wires in its ports lead, and its number of ports
+abbrev pub wired_of : Cells → ℕ → WiredSwitch
+wired_of cells g = record { guid = g; row = row_of cells g; ports = port_count_of cells g }
+
+-- `switch` with its index among the switches of `held`, and its top there
+abbrev pub node_by : HeldPlan → WiredSwitch → AuditedSwitch
+node_by held switch = record {
+  guid = switch.guid;
+  row = switch.row;
+  index = index_of held switch.guid;
+  top = top_of held switch.guid;
+  ports = switch.ports;
 }
+
+-- the usable switch `g`, with where its wires lead, its number of ports, and its index and its top in `held`
+abbrev pub node_of : Cells → HeldPlan → ℕ → AuditedSwitch
+node_of cells held g = node_by held (wired_of cells g)

@@ -1,14 +1,12 @@
 ghost use Rattle.std.specs.Prelude.{◌≡◌, IfOk, map};
-ghost use Rattle.fact_store.specs.View.{cells_of};
-ghost use Rattle.subnet_view.specs.Reading.{switches};
-ghost use Rattle.held_tables.specs.Switches.{node_of};
+ghost use Rattle.held_tables.specs.Switches.{node_by};
 ghost use Rattle.held_tables.specs.Tables.{index_of, top_at};
 
-use crate::far_ends::{FarEnds, row_of};
+use crate::far_ends::FarEnds;
 use crate::held::Held;
+use crate::wired_switch::WiredSwitch;
 use smp_bytes::{Guid, Lid};
 use std::alloc::{AllocError, Global};
-use subnet_view::{Wires, port_count};
 
 /// A usable switch, with where its wires lead and what the held tables say of it.
 #[derive(Drop)]
@@ -25,46 +23,34 @@ pub struct AuditedSwitch {
     pub ports: u8,
 }
 
-/// Returns the switches `guids`, with where their wires lead and what `held` says of them. `guids` must be the usable
-/// switches of the view, by rising GUID.
-pub fn nodes(
+/// Returns `switches` with what `held` says of them, in their order.
+pub(crate) fn nodes(
     alloc: Global,
-    wires: &Wires,
-    guids: &[Guid],
+    switches: &[WiredSwitch],
     held: &Held,
 ) -> Result<Vec<AuditedSwitch>, AllocError>
-    requires { guids.now ≡ switches (cells_of wires.now) }
-    ensures { IfOk result (λ nodes. nodes.items ≡ map (node_of (cells_of wires.now) held.now) guids.now) }
+    ensures { IfOk result (λ nodes. nodes.items ≡ map (node_by held.now) switches.now) }
 {
-    let mut nodes = Vec::with_capacity(alloc, guids.len())?;
-    for guid in guids {
-        nodes.push(node_at(alloc, wires, guids, held, *guid)?)?;
+    let mut nodes = Vec::with_capacity(alloc, switches.len())?;
+    for switch in switches {
+        nodes.push(node_at(alloc, switch, held)?)?;
     }
     Ok(nodes)
 }
 
-/// Returns the switch `guid`, with where its wires lead and what `held` says of it. `guids` must be the usable switches
-/// of the view, by rising GUID.
-fn node_at(
-    alloc: Global,
-    wires: &Wires,
-    guids: &[Guid],
-    held: &Held,
-    guid: Guid,
-) -> Result<AuditedSwitch, AllocError>
-    requires { guids.now ≡ switches (cells_of wires.now) }
-    ensures { IfOk result (λ node. node ≡ node_of (cells_of wires.now) held.now guid) }
+/// Returns `switch` with what `held` says of it.
+fn node_at(alloc: Global, switch: &WiredSwitch, held: &Held) -> Result<AuditedSwitch, AllocError>
+    ensures { IfOk result (λ node. node ≡ node_by held.now switch.now) }
 {
-    let row = row_of(alloc, wires, guids, guid)?;
-    let index = index_of(held, guid);
+    let row = switch.row.copied(alloc)?;
+    let index = index_of(held, switch.guid);
     let top = top_at(held, index);
-    let ports = port_count(wires.store(), guid);
     Ok(AuditedSwitch {
-        guid,
+        guid: switch.guid,
         row,
         index,
         top,
-        ports,
+        ports: switch.ports,
     })
 }
 

@@ -42,6 +42,14 @@ impl FarEnds {
     {
         switch_at(&self.fars, port)
     }
+
+    /// Returns a copy.
+    pub(crate) fn copied(&self, alloc: Global) -> Result<Self, AllocError>
+        ensures { IfOk result (λ copy. copy ≡ self.now) }
+    {
+        let fars = Vec::from_slice(alloc, &self.fars)?;
+        Ok(FarEnds { fars })
+    }
 }
 
 /// Returns the item of `fars` at `port`, or `Nothing` if there is no such item.

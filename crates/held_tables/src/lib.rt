@@ -13,8 +13,10 @@ mod lines;
 mod owners;
 mod plan_tables;
 mod senders;
+mod subnet;
+mod wired_switch;
 
-pub use audited_switch::{AuditedSwitch, index_of, nodes, top_at};
+pub use audited_switch::{AuditedSwitch, index_of, top_at};
 pub use blocks::{block_chains, block_rows};
 pub use chains::Chains;
 pub use far_end::Far;
@@ -25,4 +27,6 @@ pub use lines::lines_of;
 pub use owners::{
     Owner, is_same_end, is_sole_owner, is_told_twice, lid_owners, owners_of, sole_owner,
 };
-pub use senders::{Sender, all_begin, firsts, sources};
+pub use senders::Sender;
+pub use subnet::Subnet;
+pub use wired_switch::WiredSwitch;

@@ -20,7 +20,7 @@ pub struct Sender {
 }
 
 /// Returns `ports` as senders. `guids` must be the usable switches, by rising GUID.
-pub fn sources(
+pub(crate) fn sources(
     alloc: Global,
     wires: &Wires,
     guids: &[Guid],
@@ -43,7 +43,7 @@ pub fn sources(
 }
 
 /// Returns, for each of `sources`, the index of the first switch that its packets reach, or `None` if they reach none.
-pub fn firsts(alloc: Global, sources: &[Sender]) -> Result<Vec<Option<usize>>, AllocError>
+pub(crate) fn firsts(alloc: Global, sources: &[Sender]) -> Result<Vec<Option<usize>>, AllocError>
     ensures { IfOk result (λ firsts. firsts.items ≡ map first_switch sources.now) }
 {
     sources
@@ -63,7 +63,7 @@ fn first_switch(source: &Sender) -> Option<usize>
 }
 
 /// Returns whether each of `firsts` is the index of one of `count` switches.
-pub fn all_begin(count: usize, firsts: &[Option<usize>]) -> bool
+pub(crate) fn all_begin(count: usize, firsts: &[Option<usize>]) -> bool
     ensures { result ≡ all_begin count firsts.now }
 {
     firsts.iter().all(|first| is_among(count, *first))

@@ -7,82 +7,72 @@ ghost use Rattle.subnet_view.specs.Reading.{switches};
 ghost use Rattle.lane_channels.specs.Stops.{far_port, far_port_by, first_stop, stop_at, stop_by, stop_from};
 ghost use Rattle.held_tables.specs.Switches.{first_switch, switch_over};
 
-use held_tables::{Far, Sender};
+use held_tables::{Far, Sender, Subnet};
 use packet_walks::Network;
 use smp_bytes::{Guid, PortNum};
 use std::alloc::{AllocError, Global};
-use subnet_view::Wires;
 
 /// Returns, for each port of each usable switch, the port at the far end of its wire, or 0 if it has none. Port p of
-/// the switch at index i is at 256 * i + p. `wires` must be those of the facts of `network`.
-pub(crate) fn far_ports(
-    alloc: Global,
-    network: &Network,
-    wires: &Wires,
-) -> Result<Vec<PortNum>, AllocError>
-    requires wires { cells_of wires.now ≡ cells_of network.now.facts }
-    requires room { 256 * length (switches (cells_of network.now.facts)) < 2 ^ 64 }
+/// the switch at index i is at 256 * i + p.
+pub(crate) fn far_ports(alloc: Global, network: &Network) -> Result<Vec<PortNum>, AllocError>
+    requires { 256 * length (switches (cells_of network.now.facts)) < 2 ^ 64 }
     ensures { IfOk result (λ ports. ports.items ≡ map (far_port_by (cells_of network.now.facts))
         (range_with_len 0 (256 * length (switches (cells_of network.now.facts))))) }
 {
     let count = 256 * network.switch_count();
     let mut ports = Vec::with_capacity(alloc, count)?;
     for number in 0..count {
-        ports.push(far_port_by(network, wires, number))?;
+        ports.push(far_port_by(network, number))?;
     }
     Ok(ports)
 }
 
 /// Returns the port at the far end of the wire in a port of a usable switch, or 0 if there is none. `number` is 256
-/// times the switch's index, plus the port. `wires` must be those of the facts of `network`.
-fn far_port_by(network: &Network, wires: &Wires, number: usize) -> PortNum
-    requires { cells_of wires.now ≡ cells_of network.now.facts }
+/// times the switch's index, plus the port.
+fn far_port_by(network: &Network, number: usize) -> PortNum
     ensures { result ≡ far_port_by (cells_of network.now.facts) number }
 {
     match network.switch(number / 256) {
-        Some(guid) => far_port(wires, guid, PortNum::new((number % 256) as u8)),
+        Some(guid) => far_port(network.subnet(), guid, PortNum::new((number % 256) as u8)),
         None => PortNum::new(0),
     }
 }
 
 /// Returns the port at the far end of the wire in `port` of `node`, or 0 if there is none.
-fn far_port(wires: &Wires, node: Guid, port: PortNum) -> PortNum
-    ensures { result ≡ far_port (cells_of wires.now) node port }
+fn far_port(subnet: &Subnet, node: Guid, port: PortNum) -> PortNum
+    ensures { result ≡ far_port (cells_of subnet.now) node port }
 {
-    match wires.across(node, port) {
+    match subnet.wires().across(node, port) {
         Some((_, far)) => far,
         None => PortNum::new(0),
     }
 }
 
 /// Returns, for each sender, the stop at which its packets first reach a usable switch, or `None` if they reach none.
-/// `wires` must be those of the facts of `network`.
 pub(crate) fn first_stops(
     alloc: Global,
     network: &Network,
-    wires: &Wires,
 ) -> Result<Vec<Option<usize>>, AllocError>
-    requires wires { cells_of wires.now ≡ cells_of network.now.facts }
-    requires room { 256 * length (switches (cells_of network.now.facts)) < 2 ^ 64 }
+    requires { 256 * length (switches (cells_of network.now.facts)) < 2 ^ 64 }
     ensures { IfOk result (λ firsts. firsts.items ≡ map (first_stop (cells_of network.now.facts))
         (end_ports (cells_of network.now.facts))) }
 {
     let mut firsts = Vec::with_capacity(alloc, network.sources().len())?;
     for source in network.sources() {
-        firsts.push(first_stop(wires, source))?;
+        firsts.push(first_stop(network.subnet(), source))?;
     }
     Ok(firsts)
 }
 
 /// Returns the stop at which the packets of `source` first reach a usable switch, or `None` if they reach none.
-fn first_stop(wires: &Wires, source: &Sender) -> Option<usize>
+fn first_stop(subnet: &Subnet, source: &Sender) -> Option<usize>
     requires { (index : ℕ) → first_switch source.now ≡ Some index → 256 * index + 256 < 2 ^ 64 + 1 }
-    ensures { result ≡ stop_from source.now (far_port (cells_of wires.now) source.now.port.node source.now.port.port) }
+    ensures { result ≡ stop_from source.now (far_port (cells_of subnet.now) source.now.port.node source.now.port.port) }
 {
     match source.switch {
         Some(index) => Some(stop_at(index, PortNum::new(0))),
         None => {
-            let port = far_port(wires, source.port.node, source.port.port);
+            let port = far_port(subnet, source.port.node, source.port.port);
             stop_over(source.far, port)
         }
     }

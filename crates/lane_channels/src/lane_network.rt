@@ -5,13 +5,11 @@ ghost use Rattle.lane_channels.specs.Stops.{first_stop, guid_at, lane_between, l
 ghost use Rattle.lane_channels.specs.Stops.{port_across};
 
 use crate::far_ports::{far_ports, first_stops};
-use fact_store::Refused;
 use lanes_file::Lanes;
 use packet_walks::Network;
 use smp_bytes::{Guid, PortNum};
 use std::alloc::{AllocError, Global};
 use std::marker::Model;
-use subnet_view::Wires;
 
 /// A network whose packets take the lanes that a text gives.
 #[derive(Drop)]
@@ -40,14 +38,13 @@ impl<'a> Model for LaneNetwork<'a> {
 impl<'a> LaneNetwork<'a> {
     /// Finds where the wires of `network` lead, for packets that take the lanes of `lanes`. Takes a search for a wire
     /// for each of 256 ports of each usable switch, and for each end port.
-    pub fn of(alloc: Global, network: &'a Network<'a>, lanes: &'a Lanes) -> Result<Self, Refused>
+    pub fn of(alloc: Global, network: &'a Network<'a>, lanes: &'a Lanes) -> Result<Self, AllocError>
         ensures seen { IfOk result (λ by_lane. by_lane.seen ≡ network.now) }
         ensures said { IfOk result (λ by_lane. by_lane.said ≡ lanes.now) }
     {
-        let wires = Wires::of(alloc, network.store())?;
         network.switch_count().checked_mul(256).ok_or(AllocError)?;
-        let far_ports = far_ports(alloc, network, &wires)?;
-        let firsts = first_stops(alloc, network, &wires)?;
+        let far_ports = far_ports(alloc, network)?;
+        let firsts = first_stops(alloc, network)?;
         Ok(LaneNetwork {
             network,
             lanes,

@@ -1,7 +1,6 @@
 //! Which channels by lane can come after which while switches change from the held tables to the next ones.
-ghost use Rattle.std.specs.Prelude.{◌≡◌, ◌/◌, [], ◌∷◌, IfOk};
+ghost use Rattle.std.specs.Prelude.{◌≡◌, [], ◌∷◌, IfOk};
 ghost use Rattle.fact_store.specs.View.{cells_of};
-ghost use Rattle.held_tables.specs.Blocks.{AreBlocks};
 ghost use Rattle.packet_walks.specs.Edges.{edges_of};
 ghost use Rattle.lane_channels.specs.AnyTables.{AreWaitsByAny, IsCycleByAny, IsSomeDropByAny, NoneShorterByAny};
 ghost use Rattle.lane_channels.specs.Visits.{columns_in};
@@ -13,7 +12,7 @@ use crate::waits_by_lane::{LaneWaits, follow_lid, nothing_followed};
 use crate::walk_state::LidColumns;
 use audit_channels::order_channels;
 use next_tables::greater;
-use packet_walks::{Blocks, Network};
+use packet_walks::{LidCursor, Network};
 use smp_bytes::Lid;
 use std::alloc::{AllocError, Global};
 
@@ -59,14 +58,14 @@ fn step_lane_waits(
     let count = held.switch_count().checked_mul(4096).ok_or(AllocError)?;
     let mut walks = nothing_followed(alloc, count)?;
     let asked = asked_of(alloc, by_lane, answers)?;
-    let mut held_blocks = held.blocks(alloc, 0)?;
-    let mut next_blocks = next.blocks(alloc, 0)?;
+    let mut held_at = LidCursor::of(alloc, held)?;
+    let mut next_at = LidCursor::of(alloc, next)?;
     // No switch forwards packets above both greatest tops.
     for below in 0..greater(held.greatest_top(), next.greatest_top()).number() {
         let lid = Lid::new(below + 1);
-        held_blocks = held.blocks_for(alloc, held_blocks, lid)?;
-        next_blocks = next.blocks_for(alloc, next_blocks, lid)?;
-        let columns = two_columns(alloc, held, next, &held_blocks, &next_blocks, lid)?;
+        held_at.go_to(alloc, lid)?;
+        next_at.go_to(alloc, lid)?;
+        let columns = two_columns(alloc, &held_at, &next_at)?;
         let owners = held.owners(alloc, lid)?;
         follow_lid(by_lane, &asked, &columns, &owners, &mut walks)?;
     }
@@ -76,27 +75,18 @@ fn step_lane_waits(
     })
 }
 
-/// Returns the edges of `lid` by the held tables and by the next ones. `held_blocks` and `next_blocks` must be those
-/// with its entries.
-fn two_columns(
-    alloc: Global,
-    held: &Network,
-    next: &Network,
-    held_blocks: &Blocks,
-    next_blocks: &Blocks,
-    lid: Lid,
-) -> Result<LidColumns, AllocError>
-    requires held { AreBlocks held.now.held held_blocks.now.number held_blocks.now.rows.items }
-    requires held_number { held_blocks.now.number ≡ lid / 64 }
-    requires next { AreBlocks next.now.held next_blocks.now.number next_blocks.now.rows.items }
-    requires next_number { next_blocks.now.number ≡ lid / 64 }
-    ensures lid { IfOk result (λ columns. columns.lid ≡ lid) }
+/// Returns the edges of the LID of `held` by the held tables and by the next ones. `next` must be at the same LID.
+fn two_columns(alloc: Global, held: &LidCursor, next: &LidCursor) -> Result<LidColumns, AllocError>
+    ensures lid { IfOk result (λ columns. columns.lid ≡ held.now.lid) }
     ensures columns { IfOk result (λ columns. columns_in columns
-        ≡ edges_of (cells_of held.now.facts) held.now.held lid
-        ∷ edges_of (cells_of next.now.facts) next.now.held lid ∷ []) }
+        ≡ edges_of (cells_of held.now.seen.facts) held.now.seen.held held.now.lid
+        ∷ edges_of (cells_of next.now.seen.facts) next.now.seen.held next.now.lid ∷ []) }
 {
     let mut columns = Vec::with_capacity(alloc, 2)?;
-    columns.push(held.edges(alloc, held_blocks, lid)?)?;
-    columns.push(next.edges(alloc, next_blocks, lid)?)?;
-    Ok(LidColumns { lid, columns })
+    columns.push(held.edges(alloc)?)?;
+    columns.push(next.edges(alloc)?)?;
+    Ok(LidColumns {
+        lid: held.lid(),
+        columns,
+    })
 }

@@ -20,6 +20,7 @@ use crate::walk_state::{LidColumns, Walks};
 use audit_channels::Waits;
 use held_tables::Sender;
 use lanes_file::Lanes;
+use packet_walks::LidCursor;
 use port_graph::Edge;
 use smp_bytes::Lid;
 use std::alloc::{AllocError, Global};
@@ -37,11 +38,10 @@ pub struct LaneWaits {
 /// Follows the packets that each end port sends for each LID, at their service level. If `answers` is true, packets
 /// that answer others also have the level of what they answer.
 ///
-/// Takes what `Network::blocks` takes for each 64 LIDs up to the greatest top of a usable switch. For each of these
-/// LIDs, takes time linear in the number of switches, a binary search among levels for each end port, and two among
-/// maps for each port of a switch and each level at which packets come in there. If `answers` is true, it also walks
-/// the held LIDs for each end port, and takes a binary search for each LID of an end port and each end port that holds
-/// the LID.
+/// For each LID up to the greatest top of a usable switch, takes what `LidCursor::go_to` takes, time linear in the
+/// number of switches, a binary search among levels for each end port, and two among maps for each port of a switch and
+/// each level at which packets come in there. If `answers` is true, it also walks the held LIDs for each end port, and
+/// takes a binary search for each LID of an end port and each end port that holds the LID.
 pub fn lane_waits(
     alloc: Global,
     by_lane: &LaneNetwork,
@@ -54,12 +54,12 @@ pub fn lane_waits(
     let count = network.switch_count().checked_mul(4096).ok_or(AllocError)?;
     let mut walks = nothing_followed(alloc, count)?;
     let asked = asked_of(alloc, by_lane, answers)?;
-    let mut blocks = network.blocks(alloc, 0)?;
+    let mut cursor = LidCursor::of(alloc, network)?;
     // No switch forwards packets above the greatest top.
     for below in 0..network.greatest_top().number() {
         let lid = Lid::new(below + 1);
-        blocks = network.blocks_for(alloc, blocks, lid)?;
-        let edges = network.edges(alloc, &blocks, lid)?;
+        cursor.go_to(alloc, lid)?;
+        let edges = cursor.edges(alloc)?;
         let columns = one_column(alloc, lid, edges)?;
         let owners = network.owners(alloc, lid)?;
         follow_lid(by_lane, &asked, &columns, &owners, &mut walks)?;

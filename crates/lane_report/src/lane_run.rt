@@ -16,6 +16,7 @@ use crate::levels_missing::pairs_without_level;
 use audit_report::{Audit, AuditAsked, most_told, write_findings};
 use byte_io::{Sink, Source, WriteFault};
 use fact_store::Refused;
+use held_tables::Subnet;
 use lane_channels::{LaneNetwork, LaneOrder, lane_order};
 use lanes_file::Lanes;
 use sm_cli::{Fault, LanesAndFiles, TablesAndFacts, read_lanes_and_files};
@@ -102,7 +103,10 @@ fn answer<W: Sink>(
     ensures nothing_written { OnErr result ((result ≡ Err Fault.Write) ⊎ (sink.new ≡ sink.old)) }
 {
     let most = most_told(asked.audit.all);
-    let Ok(audit) = Audit::of(alloc, most, &read.store, &read.held) else {
+    let Ok(subnet) = Subnet::of(alloc, &read.store) else {
+        return Err(Fault::Memory);
+    };
+    let Ok(audit) = Audit::of(alloc, most, &subnet, &read.held) else {
         return Err(Fault::Memory);
     };
     let Ok(found) = findings(alloc, most, &audit, lanes, asked.answers) else {

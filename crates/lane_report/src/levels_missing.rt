@@ -41,7 +41,7 @@ pub fn pairs_without_level(
     if lanes.has_level_for_all() {
         return Ok(FirstFew::new(alloc, most));
     }
-    let sites = sites(alloc, network.store())?;
+    let sites = sites(alloc, network.subnet())?;
     Ok(pairs_at_sites(alloc, most, network, &sites, lanes)?)
 }
 

@@ -20,8 +20,7 @@ use crate::step_choice::{StepChoice, step_choice};
 use crate::step_order::write_step_order;
 use crate::step_verdict::StepVerdict;
 use byte_io::{Sink, Source, WriteFault};
-use fact_store::Store;
-use held_tables::Held;
+use held_tables::{Held, Subnet};
 use lft_blocks::{Plan, Rule, SwitchOrder};
 use next_tables::{StepFault, StepRule, next_tables};
 use packet_walks::Network;
@@ -116,28 +115,22 @@ fn step<W: Sink, E: Sink>(
     let by_told = asked.held_order.is_told();
     let answers = asked.lanes.has_answers();
     let plan = Plan::of(alloc, &read.store, lmc, rule)?;
-    let Ok(from) = Network::of(alloc, &read.store, &read.held) else {
+    let Ok(subnet) = Subnet::of(alloc, &read.store) else {
+        return Err(Fault::Memory);
+    };
+    let Ok(from) = Network::of(alloc, &subnet, &read.held) else {
         return Err(Fault::Memory);
     };
     let Ok(named) = named_rule(alloc, asked.held_order, &found.others.order) else {
         return Err(Fault::Memory);
     };
     let input = texts_before(asked);
-    let made = match made_step(
-        alloc,
-        input,
-        by_told,
-        &read.store,
-        rule,
-        &named,
-        &from,
-        &plan,
-    ) {
+    let made = match made_step(alloc, input, by_told, rule, &named, &from, &plan) {
         Ok(made) => made,
         Err(fault) => return Err(fault),
     };
     let lanes = &found.lanes;
-    let Ok(verdict) = StepVerdict::of(alloc, &read.store, lanes, answers, &from, &made.next) else {
+    let Ok(verdict) = StepVerdict::of(alloc, lanes, answers, &from, &made.next) else {
         return Err(Fault::Memory);
     };
     write_next(sink, plan.lids(), &made.next)?;
@@ -179,23 +172,20 @@ fn write_told<E: Sink>(
     write_step_order(told, order)
 }
 
-/// Makes the step from the tables of the network `from` towards `plan`, by `rule`. `from` must have the facts of
-/// `store`. `told` says whether the step may go by an order that the tables of `from` imply, of several the one nearest
+/// Makes the step from the tables of the network `from` towards `plan`, by `rule`. `told` says whether the step may go by an order that the tables of `from` imply, of several the one nearest
 /// to the order of `named`, or of `rule` if `named` is `None`. `input` is the index of the held tables' text, for
 /// faults.
 fn made_step(
     alloc: Global,
     input: usize,
     told: bool,
-    store: &Store,
     rule: &Rule,
     named: &Option<Rule>,
     from: &Network,
     plan: &Plan,
 ) -> Result<MadeStep, Fault>
-    requires { from.now.facts ≡ store.now }
     ensures made { IfOk result (λ made. IsMade told (value_of rule.now)
-        (rule_or (value_of rule.now) (option_map value_of named.now)) store.now from.now.held (held_plan plan.now)
+        (rule_or (value_of rule.now) (option_map value_of named.now)) from.now.facts from.now.held (held_plan plan.now)
         made.next (items_of made.order)) }
     ensures still { OnOk result (first_moved from.now.held (held_plan plan.now) ≡ None) }
     ensures refused { IfErr result (StopsNext input from.now.held (held_plan plan.now)) }
@@ -203,13 +193,13 @@ fn made_step(
     let Ok(planned) = Held::of_plan(alloc, plan) else {
         return Err(Fault::Memory);
     };
-    let Ok(to) = Network::of(alloc, store, &planned) else {
+    let Ok(to) = Network::of(alloc, from.subnet(), &planned) else {
         return Err(Fault::Memory);
     };
-    let Ok(choice) = step_choice(alloc, told, store, rule, named, from, &to) else {
+    let Ok(choice) = step_choice(alloc, told, rule, named, from, &to) else {
         return Err(Fault::Memory);
     };
-    let next = match next_by_choice(alloc, input, store, &choice, from, &to) {
+    let next = match next_by_choice(alloc, input, &choice, from, &to) {
         Ok(next) => next,
         Err(fault) => return Err(fault),
     };
@@ -218,46 +208,42 @@ fn made_step(
 }
 
 /// Returns the tables to write next as `choice` says, from the tables of the network `from`, towards the tables of the
-/// network `plan` if `choice` has no goal. Both networks must have the facts of `store`. `input` is the index of the
+/// network `plan` if `choice` has no goal. Both networks must have the same facts. `input` is the index of the
 /// held tables' text, for faults.
 fn next_by_choice(
     alloc: Global,
     input: usize,
-    store: &Store,
     choice: &StepChoice,
     from: &Network,
     plan: &Network,
 ) -> Result<Held, Fault>
-    requires from { from.now.facts ≡ store.now }
-    requires plan { plan.now.facts ≡ store.now }
+    requires { plan.now.facts ≡ from.now.facts }
     ensures tables { IfOk result (λ next.
-        next ≡ next_by_choice (cells_of store.now) (choice_of choice.now) from.now.held plan.now.held) }
+        next ≡ next_by_choice (cells_of from.now.facts) (choice_of choice.now) from.now.held plan.now.held) }
     ensures still { OnOk result (first_moved from.now.held (goal_or plan.now.held choice.now.goal) ≡ None) }
     ensures refused { IfErr result (StopsNext input from.now.held (goal_or plan.now.held choice.now.goal)) }
 {
     match &choice.goal {
-        Some(goal) => next_towards_goal(alloc, input, store, &choice.by, from, goal),
+        Some(goal) => next_towards_goal(alloc, input, &choice.by, from, goal),
         None => next_towards(alloc, input, &choice.by, from, plan),
     }
 }
 
 /// Returns the tables to write next by the rule `by`, from the tables of the network `from` towards the tables `goal`.
-/// `from` must have the facts of `store`. `input` is the index of the held tables' text, for faults.
+/// `input` is the index of the held tables' text, for faults.
 fn next_towards_goal(
     alloc: Global,
     input: usize,
-    store: &Store,
     by: &StepRule,
     from: &Network,
     goal: &Held,
 ) -> Result<Held, Fault>
-    requires { from.now.facts ≡ store.now }
     ensures tables { IfOk result (λ next.
-        next ≡ next_tables (cells_of store.now) (chosen_of by.now) from.now.held goal.now) }
+        next ≡ next_tables (cells_of from.now.facts) (chosen_of by.now) from.now.held goal.now) }
     ensures still { OnOk result (first_moved from.now.held goal.now ≡ None) }
     ensures refused { IfErr result (StopsNext input from.now.held goal.now) }
 {
-    let Ok(to) = Network::of(alloc, store, goal) else {
+    let Ok(to) = Network::of(alloc, from.subnet(), goal) else {
         return Err(Fault::Memory);
     };
     next_towards(alloc, input, by, from, &to)

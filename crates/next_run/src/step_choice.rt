@@ -10,7 +10,7 @@ ghost use Rattle.next_run.specs.RunNext.{IsChoice, IsGoalFrom, choice_of};
 
 use crate::step_order::switches_by;
 use between_orders::{StepGoal, between};
-use fact_store::{Refused, Store};
+use fact_store::Refused;
 use held_tables::Held;
 use lft_blocks::Rule;
 use next_tables::StepRule;
@@ -42,19 +42,17 @@ pub(crate) struct StepChoice {
 pub(crate) fn step_choice(
     alloc: Global,
     told: bool,
-    store: &Store,
     rule: &Rule,
     named: &Option<Rule>,
     from: &Network,
     plan: &Network,
 ) -> Result<StepChoice, Refused>
-    requires from { from.now.facts ≡ store.now }
-    requires plan { plan.now.facts ≡ store.now }
+    requires { plan.now.facts ≡ from.now.facts }
     ensures { IfOk result (λ choice. IsChoice told (value_of rule.now)
-        (rule_or (value_of rule.now) (option_map value_of named.now)) store.now from.now.held plan.now.held
+        (rule_or (value_of rule.now) (option_map value_of named.now)) from.now.facts from.now.held plan.now.held
         (choice_of choice)) }
 {
-    let positions = plan_positions(alloc, store, rule)?;
+    let positions = plan_positions(alloc, from.subnet().store(), rule)?;
     if are_right(alloc, from, &positions)? {
         return Ok(StepChoice {
             by: StepRule::ByOrder(positions),
@@ -62,7 +60,7 @@ pub(crate) fn step_choice(
             order: None,
         });
     }
-    match goal_between(alloc, told, store, named, from, plan, &positions)? {
+    match goal_between(alloc, told, named, from, plan, &positions)? {
         Some(StepGoal { positions, tables }) => {
             let switches = switches_by(alloc, from, &positions)?;
             Ok(StepChoice {
@@ -85,17 +83,15 @@ pub(crate) fn step_choice(
 fn goal_between(
     alloc: Global,
     told: bool,
-    store: &Store,
     named: &Option<Rule>,
     from: &Network,
     plan: &Network,
     positions: &[usize],
 ) -> Result<Option<StepGoal>, Refused>
-    requires from { from.now.facts ≡ store.now }
-    requires plan { plan.now.facts ≡ store.now }
-    requires positions { length positions.now ≡ length (switches (cells_of store.now)) }
-    ensures { IfOk result (λ found. IsGoalFrom told false (cells_of store.now) from.now.held plan.now.held
-        positions.now (preferred_positions positions.now (cells_of store.now) (option_map value_of named.now))
+    requires plan { plan.now.facts ≡ from.now.facts }
+    requires positions { length positions.now ≡ length (switches (cells_of from.now.facts)) }
+    ensures { IfOk result (λ found. IsGoalFrom told false (cells_of from.now.facts) from.now.held plan.now.held
+        positions.now (preferred_positions positions.now (cells_of from.now.facts) (option_map value_of named.now))
         (option_map goal_of found)) }
 {
     if !told {
@@ -103,9 +99,9 @@ fn goal_between(
     }
     match named {
         Some(rule) => {
-            let preferred = plan_positions(alloc, store, rule)?;
-            between(alloc, store, from, plan, positions, &preferred)
+            let preferred = plan_positions(alloc, from.subnet().store(), rule)?;
+            between(alloc, from, plan, positions, &preferred)
         }
-        None => between(alloc, store, from, plan, positions, positions),
+        None => between(alloc, from, plan, positions, positions),
     }
 }

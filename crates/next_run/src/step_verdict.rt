@@ -8,7 +8,7 @@ ghost use Rattle.next_run.specs.StepVerdict.{verdict_text};
 use crate::step_loop::StepLoop;
 use audit_report::most_told;
 use byte_io::{Sink, WriteFault};
-use fact_store::{Refused, Store};
+use fact_store::Refused;
 use held_tables::Held;
 use lane_channels::{LaneNetwork, LaneOrder, step_lane_order};
 use lane_report::{LaneFindings, pairs_without_level};
@@ -28,21 +28,19 @@ pub(crate) enum StepVerdict {
 
 impl StepVerdict {
     /// Judges the step from the tables of the network `from` to the tables `next`, by all their mixtures: lane by lane
-    /// if there are `lanes`, otherwise on one lane. `from` must have the facts of `store`. If `answers` is true,
+    /// if there are `lanes`, otherwise on one lane. If `answers` is true,
     /// packets that answer others also have the service level of what they answer.
     pub fn of(
         alloc: Global,
-        store: &Store,
         lanes: &Option<Lanes>,
         answers: bool,
         from: &Network,
         next: &Held,
     ) -> Result<Self, Refused>
-        requires { from.now.facts ≡ store.now }
         ensures { IfOk result (λ verdict.
-            IsVerdict lanes.now answers store.now from.now.held next.now (verdict_of verdict)) }
+            IsVerdict lanes.now answers from.now.facts from.now.held next.now (verdict_of verdict)) }
     {
-        let after = Network::of(alloc, store, next)?;
+        let after = Network::of(alloc, from.subnet(), next)?;
         match lanes {
             Some(lanes) => Ok(StepVerdict::ByLane(lane_findings(
                 alloc, lanes, answers, from, &after,

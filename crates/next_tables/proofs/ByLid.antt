@@ -126,14 +126,6 @@ module _ (facts : Facts) (positions : List ℕ) (held plan : HeldPlan) (lid : �
       e ∙ ordered_settled_entries facts positions held plan lid port (sym held_are ∙ same ∙ e) later (sym p ∙ first) come
       ∙ sym (ap (column_by_order (cells_of facts) held plan lid positions) first) ∙ ordered_by_owners (cells_of facts) held plan lid positions planned p
 
--- the columns so far
-pub record SoFar (cells plan_cells : Cells) (rule : StepRuleValue) (held plan : HeldPlan) (count held_number plan_number : ℕ) (held_rows plan_rows : List (List ℕ))
-    (deliveries : Deliveries) (columns : List (List ℕ)) : Type 0 where
-  pub held_blocks : AreBlocks held held_number held_rows
-  pub plan_blocks : AreBlocks plan plan_number plan_rows
-  pub deliveries_are : AreDeliveries plan_cells plan deliveries
-  pub columns_are : columns ≡ map (column_of cells rule held plan) (range_with_len 0 count)
-
 -- a column more
 pub column_more : {C : Type 0} (F : ℕ → List ℕ) (entries : C → List ℕ) (old new : List C) (c : C) (n : ℕ) → map entries old ≡ map F (range_with_len 0 n)
     → new ≡ old ++ c ∷ [] → entries c ≡ F n → map entries new ≡ map F (range_with_len 0 (n + 1))

@@ -1,16 +1,14 @@
 //! The next entries, LID by LID.
-ghost use Rattle.std.specs.Prelude.{◌≡◌, ◌↔◌, ◌==◌, ◌≤◌, ◌*◌, ◌/◌, IfOk, IsTrue, length, map, replicate, slice_get};
+ghost use Rattle.std.specs.Prelude.{◌≡◌, ◌↔◌, ◌==◌, ◌≤◌, ◌*◌, IfOk, IsTrue, length, map, replicate, slice_get};
 ghost use Rattle.std.specs.List.{range_with_len};
 ghost use Rattle.fact_store.specs.View.{cells_of};
 ghost use Rattle.subnet_view.specs.Reading.{switches};
-ghost use Rattle.packet_walks.specs.Deliveries.{AreDeliveries};
-ghost use Rattle.held_tables.specs.Blocks.{AreBlocks};
 ghost use Rattle.next_tables.specs.NextTables.{by_order, column_of, keeper, kept_by, settled_first, value_of};
 
 use crate::ordered_entries::ordered_entries;
 use crate::settled_entries::next_entries;
 use crate::step_rule::StepRule;
-use packet_walks::{Blocks, Deliveries, Network, is_same_end};
+use packet_walks::{LidCursor, Network, is_same_end};
 use smp_bytes::{Lid, NO_ENTRY};
 use std::alloc::{AllocError, Global};
 use subnet_view::EndPort;
@@ -31,145 +29,88 @@ pub(crate) fn columns(
         (range_with_len 0 (64 * count))) }
 {
     let mut columns = Vec::with_capacity(alloc, 64 * count)?;
-    let mut held_blocks = held.blocks(alloc, 0)?;
-    let mut plan_blocks = plan.blocks(alloc, 0)?;
-    let mut deliveries = plan.deliveries(alloc, &plan_blocks)?;
+    let mut held_at = LidCursor::of(alloc, held)?;
+    let mut plan_at = LidCursor::with_deliveries(alloc, plan)?;
     for number in 0..64 * count {
         let lid = Lid::new(number as u16);
-        held_blocks = held.blocks_for(alloc, held_blocks, lid)?;
-        plan_blocks = plan.blocks_for(alloc, plan_blocks, lid)?;
-        deliveries = plan.deliveries_for(alloc, deliveries, &plan_blocks)?;
-        let column = column(
-            alloc,
-            rule,
-            held,
-            plan,
-            &held_blocks,
-            &plan_blocks,
-            &deliveries,
-            lid,
-        )?;
-        columns.push(column)?;
+        held_at.go_to(alloc, lid)?;
+        plan_at.go_to(alloc, lid)?;
+        columns.push(column(alloc, rule, &held_at, &plan_at)?)?;
     }
     Ok(columns)
 }
 
-/// Returns the next entries of all usable switches for `lid`, by `rule`. `held` and `plan` must have the same facts,
-/// and `held_blocks` and `plan_blocks` must be those with `lid`.
+/// Returns the next entries of all usable switches for the LID of both cursors, by `rule`. `held` and `plan` must be at
+/// one LID, and have the same facts.
 fn column(
     alloc: Global,
     rule: &StepRule,
-    held: &Network,
-    plan: &Network,
-    held_blocks: &Blocks,
-    plan_blocks: &Blocks,
-    deliveries: &Deliveries,
-    lid: Lid,
+    held: &LidCursor,
+    plan: &LidCursor,
 ) -> Result<Vec<u8>, AllocError>
-    requires facts { plan.now.facts ≡ held.now.facts }
-    requires held { AreBlocks held.now.held held_blocks.now.number held_blocks.now.rows.items }
-    requires held_number { held_blocks.now.number ≡ lid / 64 }
-    requires plan { AreBlocks plan.now.held plan_blocks.now.number plan_blocks.now.rows.items }
-    requires plan_number { plan_blocks.now.number ≡ lid / 64 }
-    requires deliveries { AreDeliveries (cells_of plan.now.facts) plan.now.held deliveries.now }
-    ensures { IfOk result (λ column. column.items
-        ≡ column_of (cells_of held.now.facts) (value_of rule.now) held.now.held plan.now.held lid) }
+    requires facts { plan.now.seen.facts ≡ held.now.seen.facts }
+    requires lid { plan.now.lid ≡ held.now.lid }
+    ensures { IfOk result (λ column. column.items ≡ column_of (cells_of held.now.seen.facts) (value_of rule.now)
+        held.now.seen.held plan.now.seen.held held.now.lid) }
 {
     match rule {
-        StepRule::SettledFirst => settled_column(
-            alloc,
-            held,
-            plan,
-            held_blocks,
-            plan_blocks,
-            deliveries,
-            lid,
-        ),
-        StepRule::ByOrder(positions) => ordered_column(
-            alloc,
-            positions,
-            held,
-            plan,
-            held_blocks,
-            plan_blocks,
-            deliveries,
-            lid,
-        ),
+        StepRule::SettledFirst => settled_column(alloc, held, plan),
+        StepRule::ByOrder(positions) => ordered_column(alloc, positions, held, plan),
     }
 }
 
-/// Returns the next entries of all usable switches for `lid`, by the order `positions`. Its other arguments must be as
-/// `column` asks.
+/// Returns the next entries of all usable switches for the LID of both cursors, by the order `positions`. `held` and
+/// `plan` must be as `column` asks.
 fn ordered_column(
     alloc: Global,
     positions: &[usize],
-    held: &Network,
-    plan: &Network,
-    held_blocks: &Blocks,
-    plan_blocks: &Blocks,
-    deliveries: &Deliveries,
-    lid: Lid,
+    held: &LidCursor,
+    plan: &LidCursor,
 ) -> Result<Vec<u8>, AllocError>
-    requires facts { plan.now.facts ≡ held.now.facts }
-    requires held { AreBlocks held.now.held held_blocks.now.number held_blocks.now.rows.items }
-    requires held_number { held_blocks.now.number ≡ lid / 64 }
-    requires plan { AreBlocks plan.now.held plan_blocks.now.number plan_blocks.now.rows.items }
-    requires plan_number { plan_blocks.now.number ≡ lid / 64 }
-    requires deliveries { AreDeliveries (cells_of plan.now.facts) plan.now.held deliveries.now }
-    ensures { IfOk result (λ column. column.items
-        ≡ column_of (cells_of held.now.facts) (by_order positions.now) held.now.held plan.now.held lid) }
+    requires facts { plan.now.seen.facts ≡ held.now.seen.facts }
+    requires lid { plan.now.lid ≡ held.now.lid }
+    ensures { IfOk result (λ column. column.items ≡ column_of (cells_of held.now.seen.facts) (by_order positions.now)
+        held.now.seen.held plan.now.seen.held held.now.lid) }
 {
-    let planned = plan.owners(alloc, lid)?;
+    let planned = plan.owners(alloc)?;
     let Some(port) = first_owner(&planned) else {
-        return no_entries(alloc, held.switch_count());
+        return no_entries(alloc, held.network().switch_count());
     };
-    if deliveries.has(lid) {
-        let before = held.entries(alloc, held_blocks, lid)?;
-        let entries = plan.entries(alloc, plan_blocks, lid)?;
+    if plan.is_delivered() {
+        let before = held.entries(alloc)?;
+        let entries = plan.entries(alloc)?;
         if are_same(&before, &entries) {
             return Ok(entries);
         }
     }
-    let held_steps = held.switch_steps(alloc, held_blocks, lid)?;
-    let plan_steps = plan.switch_steps(alloc, plan_blocks, lid)?;
+    let held_steps = held.switch_steps(alloc)?;
+    let plan_steps = plan.switch_steps(alloc)?;
     ordered_entries(alloc, &port, positions, &held_steps, &plan_steps)
 }
 
-/// Returns the next entries of all usable switches for `lid`, by settled entries. Its arguments must be as `column`
-/// asks.
-fn settled_column(
-    alloc: Global,
-    held: &Network,
-    plan: &Network,
-    held_blocks: &Blocks,
-    plan_blocks: &Blocks,
-    deliveries: &Deliveries,
-    lid: Lid,
-) -> Result<Vec<u8>, AllocError>
-    requires facts { plan.now.facts ≡ held.now.facts }
-    requires held { AreBlocks held.now.held held_blocks.now.number held_blocks.now.rows.items }
-    requires held_number { held_blocks.now.number ≡ lid / 64 }
-    requires plan { AreBlocks plan.now.held plan_blocks.now.number plan_blocks.now.rows.items }
-    requires plan_number { plan_blocks.now.number ≡ lid / 64 }
-    requires deliveries { AreDeliveries (cells_of plan.now.facts) plan.now.held deliveries.now }
-    ensures { IfOk result (λ column. column.items
-        ≡ column_of (cells_of held.now.facts) settled_first held.now.held plan.now.held lid) }
+/// Returns the next entries of all usable switches for the LID of both cursors, by settled entries. `held` and `plan`
+/// must be as `column` asks.
+fn settled_column(alloc: Global, held: &LidCursor, plan: &LidCursor) -> Result<Vec<u8>, AllocError>
+    requires facts { plan.now.seen.facts ≡ held.now.seen.facts }
+    requires lid { plan.now.lid ≡ held.now.lid }
+    ensures { IfOk result (λ column. column.items ≡ column_of (cells_of held.now.seen.facts) settled_first
+        held.now.seen.held plan.now.seen.held held.now.lid) }
 {
-    let planned = plan.owners(alloc, lid)?;
+    let planned = plan.owners(alloc)?;
     if is_nobodys(&planned) {
-        return no_entries(alloc, held.switch_count());
+        return no_entries(alloc, held.network().switch_count());
     }
-    let entries = plan.entries(alloc, plan_blocks, lid)?;
-    let owners = held.owners(alloc, lid)?;
+    let entries = plan.entries(alloc)?;
+    let owners = held.owners(alloc)?;
     let Some(port) = keeper(&planned, &owners) else {
         return Ok(entries);
     };
-    let before = held.entries(alloc, held_blocks, lid)?;
-    if deliveries.has(lid) && are_same(&before, &entries) {
+    let before = held.entries(alloc)?;
+    if plan.is_delivered() && are_same(&before, &entries) {
         return Ok(entries);
     }
-    let held_steps = held.switch_steps(alloc, held_blocks, lid)?;
-    let plan_steps = plan.switch_steps(alloc, plan_blocks, lid)?;
+    let held_steps = held.switch_steps(alloc)?;
+    let plan_steps = plan.switch_steps(alloc)?;
     next_entries(alloc, &port, &held_steps, &plan_steps)
 }
 

@@ -12,7 +12,7 @@ ghost use Rattle.order_run.specs.OrderRun.{HasTold, IsOrderFault, IsTelling, tol
 
 use byte_io::{Sink, Source};
 use fact_store::Store;
-use held_tables::Held;
+use held_tables::{Held, Subnet};
 use packet_walks::Network;
 use sm_cli::{Fault, read_tables_and_files, write_order};
 use smp_bytes::{Generation, Guid};
@@ -58,7 +58,10 @@ fn answer<W: Sink>(alloc: Global, sink: &mut W, store: &Store, held: &Held) -> R
     ensures refused { IfErr result (IsAnswerFault (W.has_failed sink.new)) }
     ensures nothing_written { OnErr result ((result ≡ Err Fault.Write) ⊎ (sink.new ≡ sink.old)) }
 {
-    let Ok(network) = Network::of(alloc, store, held) else {
+    let Ok(subnet) = Subnet::of(alloc, store) else {
+        return Err(Fault::Memory);
+    };
+    let Ok(network) = Network::of(alloc, &subnet, held) else {
         return Err(Fault::Memory);
     };
     let Ok(order) = order_of(alloc, &network) else {

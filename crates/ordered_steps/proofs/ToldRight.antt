@@ -1,23 +1,20 @@
 -- The test of rightness is exact.
-use Rattle.std.proofs.Common.{◌≡◌, ℕ, zero, suc, ◌+◌, ◌-◌, ◌<◌, ◌≤◌, Bool, true, false, cond, List, [], ◌∷◌, length, get_or, None, Some, refl, sym, ap, ◌∙◌, subst, arith, inl, inr, ◌&&◌}
-use Rattle.std.specs.Prelude.{not, map, slice_index_or, Option, Contains}
+use Rattle.std.proofs.Common.{◌≡◌, ℕ, zero, suc, ◌+◌, ◌-◌, ◌<◌, ◌≤◌, Bool, true, false, List, length, None, Some, refl, sym, ap, ◌∙◌, arith, inl, inr, ◌&&◌}
+use Rattle.std.specs.Prelude.{not, slice_index_or, Option}
 use Rattle.std.specs.List.{list_all, range_with_len}
 use Rattle.std.specs.Option.{option_map_or}
 use Rattle.std.proofs.lemmas.Bool.{and_from, and_parts, cases_lt}
 use Rattle.std.proofs.lemmas.List.{length-map}
 use Rattle.port_graph.specs.declared.edge.Edge.{Edge}
-use Rattle.smp_bytes.proofs.Members.{list_all_at, list_all_true}
 use Rattle.subnet_view.specs.Reading.{Cells, switches}
 use Rattle.held_tables.specs.Held.{HeldPlan}
-use Rattle.held_tables.specs.Blocks.{AreBlocks}
 use Rattle.held_tables.specs.Switches.{row_of}
 use Rattle.held_tables.specs.Tables.{entry_for}
 use Rattle.packet_walks.specs.Edges.{edge_by, edges_of, greatest_top}
 use Rattle.packet_walks.proofs.Tops.{none_above}
-use Rattle.next_tables.specs.EntriesByOrder.{AreRight, Leads, is_bad, is_down, is_up, switch_at}
+use Rattle.next_tables.specs.EntriesByOrder.{AreRight, is_bad, is_down, is_up}
 use Rattle.next_tables.proofs.Hops.{column_at, edge_is, leads_within}
 use Rattle.ordered_steps.specs.Rightness.{RightnessIsTold, are_right, goes_well, is_right_column, leaves_up}
-use Rattle.ordered_steps.proofs.Turns.{not_true}
 
 -- what holds of each number of a range
 all_at : (p : ℕ → Bool) (a n : ℕ) → list_all p (range_with_len a n) ≡ true → (k : ℕ) → k < n → p (a + k) ≡ true
@@ -109,22 +106,17 @@ module _ (cells : Cells) (q : ℕ → ℕ) (tables : HeldPlan) where
       right (1 + m) (omega arith) (0 + i) first.to second.to (edge_is cells tables (1 + m) (0 + i) first h) (edge_is cells tables (1 + m) first.to second k))))
 
   -- as it is computed, LID by LID
-  pub record RightSoFar (number : ℕ) (rows : List (List ℕ)) (count : ℕ) : Type 0 where
-    pub blocks_are : AreBlocks tables number rows
-    pub right : list_all (λ lid. is_right_column q (edges_of cells tables lid)) (range_with_len 1 count) ≡ true
+  abbrev pub RightSoFar : ℕ → Type 0
+  RightSoFar count = list_all (λ lid. is_right_column q (edges_of cells tables lid)) (range_with_len 1 count) ≡ true
 
-  pub right_more : (count lid old_number number : ℕ) (old_rows rows : List (List ℕ)) (edges : List (Option Edge)) → RightSoFar old_number old_rows count
-      → AreBlocks tables number rows → lid ≡ count + 1 → edges ≡ edges_of cells tables lid → is_right_column q edges ≡ true
-      → RightSoFar number rows (count + 1)
-  right_more count lid old_number number old_rows rows edges so are is columns_are well = record {
-    blocks_are = are;
-    right = let at : 1 + count ≡ lid = omega (arith, is) in
-        more column 1 count so.right (ap column at ∙ ap (is_right_column q) (sym columns_are) ∙ well);
-  }
+  pub right_more : (count lid : ℕ) (edges : List (Option Edge)) → RightSoFar count → lid ≡ count + 1 → edges ≡ edges_of cells tables lid
+      → is_right_column q edges ≡ true → RightSoFar (count + 1)
+  right_more count lid edges so is columns_are well =
+      let at : 1 + count ≡ lid = omega (arith, is) in
+      more column 1 count so (ap column at ∙ ap (is_right_column q) (sym columns_are) ∙ well)
 
-  pub all_right : (count number top : ℕ) (rows : List (List ℕ)) → RightSoFar number rows count → top ≡ greatest_top cells tables → count ≡ top
-      → true ≡ are_right cells q tables
-  all_right count number top rows so is end = sym so.right ∙ ap (λ n. list_all column (range_with_len 1 n)) (end ∙ is)
+  pub all_right : (count top : ℕ) → RightSoFar count → top ≡ greatest_top cells tables → count ≡ top → true ≡ are_right cells q tables
+  all_right count top so is end = sym so ∙ ap (λ n. list_all column (range_with_len 1 n)) (end ∙ is)
 
   pub one_wrong : (count lid top : ℕ) (edges : List (Option Edge)) → lid ≡ count + 1 → count < top → top ≡ greatest_top cells tables
       → edges ≡ edges_of cells tables lid → is_right_column q edges ≡ false → false ≡ are_right cells q tables

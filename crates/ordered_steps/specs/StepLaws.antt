@@ -1,5 +1,5 @@
 -- The laws of a step by an order of switches: no credit loop, no lost packet, and an end in the goal.
-use Rattle.std.specs.Prelude.{◌≡◌, ◌≤◌, ◌<◌, ◌⊎◌, ℕ, suc, ◌+◌, ◌*◌, true, List, [], ◌∷◌, Some, length, slice_get}
+use Rattle.std.specs.Prelude.{◌≡◌, ◌≤◌, ◌<◌, ◌⊎◌, ℕ, suc, ◌+◌, ◌*◌, true, List, Some, length, slice_get}
 use Rattle.fabric_model.specs.declared.cable.NodePort.{NodePort}
 use Rattle.fabric_model.specs.Fabric.{Node, Fabric, IsEndPort}
 use Rattle.fabric_model.specs.FabricWalks.{IsJoinedTo}

@@ -6,23 +6,22 @@ ghost use Rattle.ordered_steps.specs.Rightness.{are_right, goes_well, is_right_c
 
 use audit_channels::edge_of;
 use next_tables::{is_down, is_up};
-use packet_walks::Network;
+use packet_walks::{LidCursor, Network};
 use port_graph::Edge;
 use smp_bytes::Lid;
 use std::alloc::{AllocError, Global};
 
 /// Returns whether no packet, for any LID, goes down and then up again by the tables of `held`, in the order that
-/// `positions` gives. `positions` has the position of each usable switch, by rising GUID. Takes what `Network::edges`
-/// takes for each LID up to the greatest top, and what `Network::blocks` takes for each 64 of them.
+/// `positions` gives. `positions` has the position of each usable switch, by rising GUID. Takes what
+/// `LidCursor::go_to` and `LidCursor::edges` take for each LID up to the greatest top.
 pub fn are_right(alloc: Global, held: &Network, positions: &[usize]) -> Result<bool, AllocError>
     ensures { IfOk result (λ right.
         right ≡ are_right (cells_of held.now.facts) (position_at positions.now) held.now.held) }
 {
-    let mut blocks = held.blocks(alloc, 0)?;
+    let mut cursor = LidCursor::of(alloc, held)?;
     for below in 0..held.greatest_top().number() {
-        let lid = Lid::new(below + 1);
-        blocks = held.blocks_for(alloc, blocks, lid)?;
-        let edges = held.edges(alloc, &blocks, lid)?;
+        cursor.go_to(alloc, Lid::new(below + 1))?;
+        let edges = cursor.edges(alloc)?;
         if !is_right_column(positions, &edges) {
             return Ok(false);
         }

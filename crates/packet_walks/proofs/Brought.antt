@@ -70,16 +70,15 @@ module _ (cells : Cells) (held : HeldPlan) (lid number : ℕ) (rows : List (List
   }
 
   pub brought_is : (nodes : List AuditedSwitch) (sources : List Sender) (owners : List EndPort) (steps ends : List NextHop) (result : List (Option End))
-      (firsts : List (Option ℕ)) (begin : Bool) (chains : Chains) (lines : List HeldLid) (by_lid : List Owner)
-      → IsNetwork cells held nodes sources firsts begin chains lines by_lid
+      → nodes ≡ map (node_of cells held) (switches cells) → sources ≡ map (sender_of cells) (end_ports cells)
       → owners ≡ owners_of held lid → steps ≡ map (next_hop_of owners rows lid) nodes → HaveEnded steps ends
       → result ≡ map (λ source. end_of (onward ends (first_hop owners source))) sources → AreBrought cells held lid result
-  brought_is nodes sources owners steps ends result firsts begin chains lines by_lid network own are ended result_is =
+  brought_is nodes sources owners steps ends result nodes_are sources_are own are ended result_is =
       let all : steps ≡ next_hops_of cells held lid =
-      are ∙ ap (λ o. map (next_hop_of o rows lid) nodes) own ∙ ap (map (next_hop_of (owners_of held lid) rows lid)) network.nodes_are
+      are ∙ ap (λ o. map (next_hop_of o rows lid) nodes) own ∙ ap (map (next_hop_of (owners_of held lid) rows lid)) nodes_are
       ∙ steps_are (switches cells) in
       let found : result ≡ map (end_by ends) (map (sender_of cells) (end_ports cells)) =
-      result_is ∙ ap (λ o. map (λ source. end_of (onward ends (first_hop o source))) sources) own ∙ ap (map (end_by ends)) network.sources_are in
+      result_is ∙ ap (λ o. map (λ source. end_of (onward ends (first_hop o source))) sources) own ∙ ap (map (end_by ends)) sources_are in
       subst (AreBrought cells held lid) (sym found) (are_brought ends (subst (λ (xs : List NextHop). HaveEnded xs ends) all ended))
 
   -- the edges that are found are those of the tables

@@ -4,7 +4,6 @@ pub mod Elsewhere
 pub mod Ended
 pub mod FabricParts
 pub mod FarRows
-pub mod Fars
 pub mod Further
 pub mod GoneBack
 pub mod InTime

@@ -7,3 +7,4 @@ pub mod LidSets
 pub mod Network
 pub mod HopsByTables
 pub mod EndsBySwitch
+pub mod LidCursor

@@ -1,7 +1,6 @@
 -- The facts of a subnet with the tables that its switches hold, and the network that is made of both.
-use Rattle.std.specs.Prelude.{◌≡◌, ℕ, Bool, List, Option, length, map}
+use Rattle.std.specs.Prelude.{◌≡◌, List, map}
 use Rattle.subnet_view.specs.Reading.{Cells, switches}
-use Rattle.subnet_view.specs.EndPorts.{end_ports}
 use Rattle.std.specs.Coded.{Coded, code_by, coded×}
 use Rattle.std.specs.Prelude.{refl}
 use Rattle.fact_store.specs.View.{Facts}
@@ -12,11 +11,10 @@ use Rattle.held_tables.specs.Held.{HeldPlan}
 use Rattle.held_tables.specs.Tables.{lines_of, number_of}
 use Rattle.held_tables.specs.Chains.{AreChains}
 use Rattle.held_tables.specs.Owners.{AreOwners}
-use Rattle.held_tables.specs.Switches.{all_begin, first_switch, node_of, sender_of}
+use Rattle.held_tables.specs.Switches.{node_of}
 use Rattle.held_tables.specs.declared.audited_switch.AuditedSwitch.{AuditedSwitch}
 use Rattle.held_tables.specs.declared.chains.Chains.{Chains}
 use Rattle.held_tables.specs.declared.owners.Owner.{Owner}
-use Rattle.held_tables.specs.declared.senders.Sender.{Sender}
 
 -- the facts of a subnet, and the tables that its switches hold
 pub record Seen : Type 0 where
@@ -29,16 +27,11 @@ seen_code = code_by (Facts
     × HeldPlan) (coded× facts_code (held.the_row).coded) (λ s. (s.facts, s.held)) (λ p.
     record { facts = p.0; held = p.1 }) (λ _. refl)
 
--- the fields of a network: the usable switches by rising GUID, the end ports as senders, the first switch of each
--- sender's packets, whether each sender has one, the chains of the blocks' numbers, the held LIDs, and who holds each
--- LID
-pub record IsNetwork (cells : Cells) (held : HeldPlan) (nodes : List AuditedSwitch) (sources : List Sender)
-    (firsts : List (Option ℕ)) (begin : Bool) (chains : Chains) (lines : List HeldLid) (owners : List Owner) : Type 0
-  where
-    pub nodes_are : nodes ≡ map (node_of cells held) (switches cells)
-    pub sources_are : sources ≡ map (sender_of cells) (end_ports cells)
-    pub firsts_are : firsts ≡ map first_switch sources
-    pub begin_is : begin ≡ all_begin (length nodes) firsts
-    pub chains_are : AreChains (map number_of held.blocks) chains
-    pub lines_are : lines ≡ lines_of held
-    pub owners_are : AreOwners lines owners
+-- the fields of a network: the usable switches by rising GUID, the chains of the blocks' numbers, the held LIDs, and who
+-- holds each LID
+pub record IsNetwork (cells : Cells) (held : HeldPlan) (nodes : List AuditedSwitch) (chains : Chains)
+    (lines : List HeldLid) (owners : List Owner) : Type 0 where
+  pub nodes_are : nodes ≡ map (node_of cells held) (switches cells)
+  pub chains_are : AreChains (map number_of held.blocks) chains
+  pub lines_are : lines ≡ lines_of held
+  pub owners_are : AreOwners lines owners

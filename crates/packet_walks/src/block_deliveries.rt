@@ -17,7 +17,7 @@ use subnet_view::EndPort;
 
 /// The LIDs of a block that exactly one end port holds, if their packets are seen to reach it from every usable switch.
 #[derive(Clone, Copy, Debug, PartialEq, Eq)]
-pub struct Deliveries {
+pub(crate) struct Deliveries {
     /// The block's number.
     pub(crate) number: u16,
     pub(crate) lids: LidSet,
@@ -25,7 +25,7 @@ pub struct Deliveries {
 
 impl Deliveries {
     /// Returns whether `lid` is one of the deliveries. Takes constant time.
-    pub fn has(&self, lid: Lid) -> bool
+    pub(crate) fn has(&self, lid: Lid) -> bool
         ensures { result ≡ is_delivered self.now lid }
     {
         lid.block() == self.number && self.lids.has(lid.in_block())

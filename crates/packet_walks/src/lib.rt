@@ -7,14 +7,15 @@ pub mod ends_by_switch;
 mod entry;
 mod hops_by_tables;
 pub mod laws;
+mod lid_cursor;
 mod lid_set;
 mod network;
 mod next_hop;
 mod packet_end;
 
-pub use block_deliveries::Deliveries;
 pub use ends_by_sender::{Ends, is_at};
 pub use held_tables::{Far, Sender, is_same_end};
-pub use network::{Blocks, Network};
+pub use lid_cursor::LidCursor;
+pub use network::Network;
 pub use next_hop::{NextHop, SwitchStep};
 pub use packet_end::{Cause, End};

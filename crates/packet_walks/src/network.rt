@@ -18,30 +18,23 @@ use crate::ends_by_switch::ends;
 use crate::entry::entry_for;
 use crate::hops_by_tables::{edges, entries, steps, switch_steps};
 use crate::next_hop::SwitchStep;
-use fact_store::{Refused, Store};
 use held_tables::{
-    AuditedSwitch, Chains, Far, Held, HeldLid, Owner, Sender, all_begin, block_chains, block_rows,
-    firsts, is_sole_owner, is_told_twice, lid_owners, lines_of, nodes, owners_of, sources,
+    AuditedSwitch, Chains, Far, Held, HeldLid, Owner, Sender, Subnet, block_chains, block_rows,
+    is_sole_owner, is_told_twice, lid_owners, lines_of, owners_of,
 };
 use port_graph::Edge;
 use smp_bytes::{Guid, Lid};
 use std::alloc::{AllocError, Global};
 use std::marker::Model;
-use subnet_view::{EndPort, Wires, end_ports, is_usable, switches};
+use subnet_view::{EndPort, is_usable};
 
-/// A subnet as a view describes it, with the forwarding tables that its switches hold.
+/// A subnet with the forwarding tables that its switches hold.
 #[derive(Drop)]
 pub struct Network<'a> {
-    store: &'a Store,
+    subnet: &'a Subnet<'a>,
     held: &'a Held,
     /// The usable switches, by rising GUID.
     nodes: Vec<AuditedSwitch>,
-    /// The end ports as senders, in their order.
-    sources: Vec<Sender>,
-    /// For each sender, the index of the first switch that its packets reach.
-    firsts: Vec<Option<usize>>,
-    /// Whether each sender's packets first reach a switch.
-    begin: bool,
     /// For each held block, the index of the next one with its number.
     chains: Chains,
     /// The held LIDs; each pair of a LID and an end port that holds it occurs once.
@@ -58,38 +51,33 @@ impl<'a> Model for Network<'a> {
 
     ghost coded = { seen_code };
 
-    ghost view = { λ a. record { facts = a.store.now; held = a.held.now } };
+    ghost view = { λ a. record { facts = a.subnet.now; held = a.held.now } };
 
-    ghost invariant = { λ a. IsNetwork (cells_of a.store.now) a.held.now a.nodes.items a.sources.items a.firsts.items
-        a.begin a.chains a.lines.items a.owners.items };
+    ghost invariant = { λ a. IsNetwork (cells_of a.subnet.now) a.held.now a.nodes.items a.chains a.lines.items
+        a.owners.items };
 }
 
 /// The held blocks with one number.
 #[derive(Drop)]
-pub struct Blocks {
+pub(crate) struct Blocks {
     pub(crate) number: u16,
     /// For each held switch in order, the entries of its block.
     pub(crate) rows: Vec<[u8; 64]>,
 }
 
 impl<'a> Network<'a> {
-    /// Builds the network of the view's usable switches and end ports, with the tables `held`.
-    pub fn of(alloc: Global, store: &'a Store, held: &'a Held) -> Result<Self, Refused>
-        ensures facts { IfOk result (λ network. network.facts ≡ store.now) }
+    /// Builds the network of `subnet` with the tables `held`.
+    pub fn of(alloc: Global, subnet: &'a Subnet<'a>, held: &'a Held) -> Result<Self, AllocError>
+        ensures facts { IfOk result (λ network. network.facts ≡ subnet.now) }
         ensures held { IfOk result (λ network. network.held ≡ held.now) }
     {
-        let (nodes, sources) = nodes_and_sources(alloc, store, held)?;
-        let firsts = firsts(alloc, &sources)?;
-        let begin = all_begin(nodes.len(), &firsts);
+        let nodes = subnet.audited(alloc, held)?;
         let chains = block_chains(alloc, held)?;
         let (lines, owners) = lines_and_owners(alloc, held)?;
         Ok(Network {
-            store,
+            subnet,
             held,
             nodes,
-            sources,
-            firsts,
-            begin,
             chains,
             lines,
             owners,
@@ -98,7 +86,7 @@ impl<'a> Network<'a> {
 
     /// Returns the blocks `number`, which have the entries for the 64 LIDs from 64 * `number` on. Takes time linear in
     /// the number of held switches, and of held blocks with the number `number`.
-    pub fn blocks(&self, alloc: Global, number: u16) -> Result<Blocks, AllocError>
+    pub(crate) fn blocks(&self, alloc: Global, number: u16) -> Result<Blocks, AllocError>
         ensures { IfOk result (λ blocks. AreBlocks self.now.held blocks.number blocks.rows.items
             × (blocks.number ≡ number)) }
     {
@@ -106,41 +94,29 @@ impl<'a> Network<'a> {
         Ok(Blocks { number, rows })
     }
 
-    /// Returns the blocks that have the entries for `lid`. They are `blocks` itself if its number is that of `lid`.
-    /// `blocks` must be of this network.
-    pub fn blocks_for(&self, alloc: Global, blocks: Blocks, lid: Lid) -> Result<Blocks, AllocError>
-        requires { AreBlocks self.now.held blocks.number blocks.rows.items }
-        ensures { IfOk result (λ blocks. AreBlocks self.now.held blocks.number blocks.rows.items
-            × (blocks.number ≡ lid / 64)) }
-    {
-        if blocks.number == lid.block() {
-            return Ok(blocks);
-        }
-        self.blocks(alloc, lid.block())
-    }
-
-    /// Returns where packets for the LID of `line` end, for each end port that sends one, in order, or `None` if the
-    /// packet loops forever. `blocks` must be those of this network for that LID.
-    pub fn ends<'s>(
-        &'s self,
+    /// Returns where packets for `lid` end, for each end port that sends one, in order, or `None` if the packet loops
+    /// forever. Says which of them end at `port`. `blocks` must be those of this network for `lid`.
+    pub(crate) fn ends(
+        &self,
         alloc: Global,
         blocks: &Blocks,
-        line: &HeldLid,
-    ) -> Result<Ends<'s>, AllocError>
+        lid: Lid,
+        port: EndPort,
+    ) -> Result<Ends<'a>, AllocError>
         requires held { AreBlocks self.now.held blocks.now.number blocks.now.rows.items }
-        requires number { blocks.now.number ≡ line.now.lid / 64 }
-        ensures { IfOk result (λ ended. AreBrought (cells_of self.now.facts) self.now.held line.now.lid ended.ends
-            × (ended.port ≡ line.now.port)) }
+        requires number { blocks.now.number ≡ lid / 64 }
+        ensures { IfOk result (λ ended. AreBrought (cells_of self.now.facts) self.now.held lid ended.ends
+            × (ended.port ≡ port)) }
     {
-        let owners = owners_of(alloc, &self.lines, &self.owners, line.lid)?;
-        let steps = steps(alloc, &self.nodes, &owners, &blocks.rows, line.lid)?;
+        let owners = owners_of(alloc, &self.lines, &self.owners, lid)?;
+        let steps = steps(alloc, &self.nodes, &owners, &blocks.rows, lid)?;
         let walks = ends(steps);
         Ends::new(
             alloc,
-            line.port,
-            &self.sources,
-            &self.firsts,
-            self.begin,
+            port,
+            self.subnet.sources(),
+            self.subnet.firsts(),
+            self.subnet.all_begin(),
             owners,
             walks,
         )
@@ -148,7 +124,7 @@ impl<'a> Network<'a> {
 
     /// Returns, for each usable switch by rising GUID, its entry for `lid` and what it does with packets by this entry.
     /// `blocks` must be those of this network for `lid`.
-    pub fn switch_steps(
+    pub(crate) fn switch_steps(
         &self,
         alloc: Global,
         blocks: &Blocks,
@@ -165,7 +141,12 @@ impl<'a> Network<'a> {
 
     /// Returns the entry of each usable switch for `lid`, by rising GUID; 255 means no entry. `blocks` must be those of
     /// this network for `lid`.
-    pub fn entries(&self, alloc: Global, blocks: &Blocks, lid: Lid) -> Result<Vec<u8>, AllocError>
+    pub(crate) fn entries(
+        &self,
+        alloc: Global,
+        blocks: &Blocks,
+        lid: Lid,
+    ) -> Result<Vec<u8>, AllocError>
         requires held { AreBlocks self.now.held blocks.now.number blocks.now.rows.items }
         requires number { blocks.now.number ≡ lid / 64 }
         ensures { IfOk result (λ entries. entries.items
@@ -176,7 +157,11 @@ impl<'a> Network<'a> {
 
     /// Returns the LIDs of a block that exactly one end port holds, if their packets are seen to reach it from every
     /// usable switch. They may not be seen to if a walk has over 64 switches. `blocks` must be those of this network.
-    pub fn deliveries(&self, alloc: Global, blocks: &Blocks) -> Result<Deliveries, AllocError>
+    pub(crate) fn deliveries(
+        &self,
+        alloc: Global,
+        blocks: &Blocks,
+    ) -> Result<Deliveries, AllocError>
         requires { AreBlocks self.now.held blocks.now.number blocks.now.rows.items }
         ensures { IfOk result (AreDeliveries (cells_of self.now.facts) self.now.held) }
     {
@@ -193,32 +178,14 @@ impl<'a> Network<'a> {
         })
     }
 
-    /// Returns the deliveries of `blocks`. They are `deliveries` itself if both have one number. `blocks` and
-    /// `deliveries` must be of this network.
-    pub fn deliveries_for(
-        &self,
-        alloc: Global,
-        deliveries: Deliveries,
-        blocks: &Blocks,
-    ) -> Result<Deliveries, AllocError>
-        requires held { AreBlocks self.now.held blocks.now.number blocks.now.rows.items }
-        requires deliveries { AreDeliveries (cells_of self.now.facts) self.now.held deliveries }
-        ensures { IfOk result (AreDeliveries (cells_of self.now.facts) self.now.held) }
-    {
-        if deliveries.number == blocks.number {
-            return Ok(deliveries);
-        }
-        self.deliveries(alloc, blocks)
-    }
-
     /// Returns whether all packets that end ports send to the line's LID are seen to be delivered at the line's port.
     /// If it returns false, they may be delivered there too. `deliveries` must be of this network. Takes constant time,
     /// unless several end ports hold the LID.
-    pub fn all_arrive(&self, deliveries: &Deliveries, line: &HeldLid) -> bool
+    pub(crate) fn all_arrive(&self, deliveries: &Deliveries, line: &HeldLid) -> bool
         requires { AreDeliveries (cells_of self.now.facts) self.now.held deliveries.now }
         ensures { result ≡ true → LineArrives (cells_of self.now.facts) self.now.held line.now }
     {
-        self.begin && deliveries.has(line.lid) && self.is_sole_owner(line)
+        self.subnet.all_begin() && deliveries.has(line.lid) && self.is_sole_owner(line)
     }
 
     /// Returns the end ports that hold `lid`. Takes constant time if at most one does, and otherwise time linear in the
@@ -245,11 +212,11 @@ impl<'a> Network<'a> {
         is_told_twice(&self.lines, &self.owners, lid)
     }
 
-    /// Returns the store, whose view says what the subnet is.
-    pub fn store(&self) -> &Store
+    /// Returns the subnet, without its tables.
+    pub fn subnet(&self) -> &'a Subnet<'a>
         ensures { result.now ≡ self.now.facts }
     {
-        self.store
+        self.subnet
     }
 
     /// Returns the tables that the switches hold.
@@ -274,7 +241,7 @@ impl<'a> Network<'a> {
     /// Returns, for each usable switch by rising GUID, the port by which it forwards packets for `lid` to a usable
     /// switch, possibly itself, and the index of that switch; `None` if it forwards them to none. `blocks` must be
     /// those of this network for `lid`.
-    pub fn edges(
+    pub(crate) fn edges(
         &self,
         alloc: Global,
         blocks: &Blocks,
@@ -311,22 +278,18 @@ impl<'a> Network<'a> {
         Some(node.guid)
     }
 
-    /// Returns where the wire in a port of a usable switch leads. `number` is 256 times the switch's index, plus the
-    /// port. Returns `Nothing` if there is no such switch. Takes constant time.
+    /// Returns where the wire in a port of a usable switch leads, as `Subnet::far` does.
     pub fn far(&self, number: usize) -> Far
         ensures { result ≡ far_by (cells_of self.now.facts) number }
     {
-        match self.nodes.get(number / 256) {
-            Some(node) => node.row.far((number % 256) as u8),
-            None => Far::Nothing,
-        }
+        self.subnet.far(number)
     }
 
     /// Returns the end ports as senders, in their order.
     pub fn sources(&self) -> &[Sender]
         ensures { result.now ≡ map (sender_of (cells_of self.now.facts)) (end_ports (cells_of self.now.facts)) }
     {
-        &self.sources
+        self.subnet.sources()
     }
 
     /// Returns the held LIDs in the order of the lines. Each pair of a LID and an end port that holds it occurs once.
@@ -341,39 +304,11 @@ impl<'a> Network<'a> {
     pub fn entry(&self, node: Guid, lid: Lid) -> Option<u8>
         ensures { result ≡ entry_by (cells_of self.now.facts) self.now.held node lid }
     {
-        if !is_usable(self.store, node) {
+        if !is_usable(self.subnet.store(), node) {
             return None;
         }
         Some(entry_for(self.held, node, lid))
     }
-}
-
-/// Returns the usable switches by rising GUID, and the end ports as senders, in their order.
-fn nodes_and_sources(
-    alloc: Global,
-    store: &Store,
-    held: &Held,
-) -> Result<(Vec<AuditedSwitch>, Vec<Sender>), Refused>
-    ensures nodes { IfOk result (λ both.
-        both.0.items ≡ map (node_of (cells_of store.now) held.now) (switches (cells_of store.now))) }
-    ensures sources { IfOk result (λ both.
-        both.1.items ≡ map (sender_of (cells_of store.now)) (end_ports (cells_of store.now))) }
-{
-    let guids = switches(alloc, store)?;
-    let wires = Wires::of(alloc, store)?;
-    let nodes = nodes(alloc, &wires, &guids, held)?;
-    let sources = sources_of(alloc, &wires, &guids)?;
-    Ok((nodes, sources))
-}
-
-/// Returns the end ports as senders, in their order. `guids` must be the usable switches, by rising GUID.
-fn sources_of(alloc: Global, wires: &Wires, guids: &[Guid]) -> Result<Vec<Sender>, Refused>
-    requires { guids.now ≡ switches (cells_of wires.now) }
-    ensures { IfOk result (λ sources.
-        sources.items ≡ map (sender_of (cells_of wires.now)) (end_ports (cells_of wires.now))) }
-{
-    let ports = end_ports(alloc, wires.store())?;
-    Ok(sources(alloc, wires, guids, &ports)?)
 }
 
 /// Returns the held LIDs, each pair of a LID and an end port once, and who holds each LID.

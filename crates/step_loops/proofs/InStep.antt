@@ -8,7 +8,6 @@ use Rattle.port_graph.specs.declared.edge.Edge.{Edge}
 use Rattle.subnet_view.specs.Reading.{Cells, switches}
 use Rattle.held_tables.specs.Held.{HeldPlan}
 use Rattle.packet_walks.specs.Edges.{edges_of, greatest_top}
-use Rattle.held_tables.specs.Blocks.{AreBlocks}
 use Rattle.packet_walks.proofs.Tops.{none_above}
 use Rattle.audit_channels.proofs.Waiting.{blank}
 use Rattle.audit_channels.specs.Orders.{Follows, GoesOn, IsCycle, IsOrder, IsShortest}
@@ -25,10 +24,7 @@ pub record WaitsUpTo (count : ℕ) (cells : Cells) (held next : HeldPlan) (a b :
   waits : WaitsInStep cells held next lid a b
 
 -- those of these LIDs
-pub record SoFar (count : ℕ) (cells : Cells) (held next : HeldPlan) (held_number next_number : ℕ) (held_rows next_rows : List (List ℕ)) (waits : List (List ℕ))
-    : Type 0 where
-  pub held_blocks : AreBlocks held held_number held_rows
-  pub next_blocks : AreBlocks next next_number next_rows
+pub record SoFar (count : ℕ) (cells : Cells) (held next : HeldPlan) (waits : List (List ℕ)) : Type 0 where
   pub as_many : length waits ≡ 256 * length (switches cells)
   pub follows : (a b : ℕ) → Follows waits a b ↔ WaitsUpTo count cells held next a b
 
@@ -37,14 +33,10 @@ moved x y z w a b e h t =
     subst (λ (c : List (Option Edge)). TakesInStep z c a b) h (subst (λ (c : List (Option Edge)). TakesInStep c y a b) e t)
 
 module _ (cells : Cells) (held next : HeldPlan) where
-  pub none_so_far : (held_number next_number n : ℕ) (held_rows next_rows waits : List (List ℕ)) → AreBlocks held held_number held_rows
-      → AreBlocks next next_number next_rows → waits ≡ replicate n [] → n ≡ 256 * length (switches cells)
-      → SoFar 0 cells held next held_number next_number held_rows next_rows waits
-  none_so_far held_number next_number n held_rows next_rows waits h k e all =
-      subst (SoFar 0 cells held next held_number next_number held_rows next_rows) (sym e)
+  pub none_so_far : (n : ℕ) (waits : List (List ℕ)) → waits ≡ replicate n [] → n ≡ 256 * length (switches cells) → SoFar 0 cells held next waits
+  none_so_far n waits e all =
+      subst (SoFar 0 cells held next) (sym e)
       (record {
-        held_blocks = h;
-        next_blocks = k;
         as_many = length-replicate n [] ∙ all;
         follows = λ a b. (
           λ f. absurd (contains_none b (subst (λ (xs : List ℕ). Contains xs b) (blank n a) f)),
@@ -53,15 +45,11 @@ module _ (cells : Cells) (held next : HeldPlan) where
         );
       })
 
-  pub more : (count lid held_before next_before held_number next_number : ℕ) (old_held old_next held_rows next_rows waits new : List (List ℕ))
-      (before after : List (Option Edge)) → SoFar count cells held next held_before next_before old_held old_next waits
-      → AreBlocks held held_number held_rows → AreBlocks next next_number next_rows → lid ≡ count + 1
-      → before ≡ edges_of cells held lid → after ≡ edges_of cells next lid → IsWithStep waits before after new
-      → SoFar (count + 1) cells held next held_number next_number held_rows next_rows new
-  more count lid held_before next_before held_number next_number old_held old_next held_rows next_rows waits new before after so h k lid_is b_is a_is with_it =
+  pub more : (count lid : ℕ) (waits new : List (List ℕ)) (before after : List (Option Edge)) → SoFar count cells held next waits
+      → lid ≡ count + 1 → before ≡ edges_of cells held lid → after ≡ edges_of cells next lid → IsWithStep waits before after new
+      → SoFar (count + 1) cells held next new
+  more count lid waits new before after so lid_is b_is a_is with_it =
       record {
-        held_blocks = h;
-        next_blocks = k;
         as_many = with_it.as_many ∙ so.as_many;
         follows = λ a b. ((λ f. there a b ((with_it.follows a b).0 f)), (λ t. (with_it.follows a b).1 (back a b t)));
       }
@@ -106,10 +94,9 @@ module _ (cells : Cells) (held next : HeldPlan) where
       nothing {x} {y} (inr (inr (inl t))) h k = no_turn y x k t
       nothing {x} {y} (inr (inr (inr t))) h k = no_turn y y k t
 
-  pub all : (count held_number next_number : ℕ) (held_rows next_rows waits : List (List ℕ))
-      → SoFar count cells held next held_number next_number held_rows next_rows waits
+  pub all : (count : ℕ) (waits : List (List ℕ)) → SoFar count cells held next waits
       → max (greatest_top cells held) (greatest_top cells next) ≤ count → AreWaits cells held next waits
-  all count held_number next_number held_rows next_rows waits h past = record {
+  all count waits h past = record {
     as_many = h.as_many;
     follows = λ a b. ((λ f. there a b ((h.follows a b).0 f)), (λ w. (h.follows a b).1 (back a b w)));
   }

@@ -12,7 +12,6 @@ use Rattle.held_tables.specs.declared.far_end.Far.{Far}
 use Rattle.held_tables.specs.declared.far_end.Far.TheVariants.{Nothing, Switch, Port}
 use Rattle.packet_walks.specs.Edges.{edge_by, edge_to, edges_of, greatest_top}
 use Rattle.held_tables.specs.Switches.{far_of, row_of}
-use Rattle.held_tables.specs.Blocks.{AreBlocks}
 use Rattle.held_tables.specs.Tables.{entry_for}
 use Rattle.audit_channels.specs.Columns.{number_of, TakesAcross}
 use Rattle.audit_channels.proofs.Columns.{same_edge}
@@ -148,9 +147,7 @@ module _ (cells : Cells) (held next : HeldPlan) where
   IsLeastUpTo count a b lid =
       ((lid ≡ 0) × ((other : ℕ) → 1 ≤ other → other ≤ count → ¬ (WaitsInStep cells held next other a b))) ⊎ IsLeastLid cells held next a b lid
 
-  pub record LidsUpTo (count held_number next_number : ℕ) (held_rows next_rows : List (List ℕ)) (cycle after lids : List ℕ) : Type 0 where
-    pub held_blocks : AreBlocks held held_number held_rows
-    pub next_blocks : AreBlocks next next_number next_rows
+  pub record LidsUpTo (count : ℕ) (cycle after lids : List ℕ) : Type 0 where
     pub as_many : length lids ≡ length cycle
     pub each : (i : ℕ) → i < length cycle → IsLeastUpTo count (slice_index_or cycle i 0) (slice_index_or after i 0) (slice_index_or lids i 0)
 
@@ -163,12 +160,8 @@ module _ (cells : Cells) (held next : HeldPlan) where
   many_zeros zero = refl
   many_zeros (suc n) = ap suc (many_zeros n)
 
-  pub none_known : (held_number next_number n : ℕ) (held_rows next_rows : List (List ℕ)) (cycle after lids : List ℕ)
-      → AreBlocks held held_number held_rows → AreBlocks next next_number next_rows → lids ≡ replicate n 0 → n ≡ length cycle
-      → LidsUpTo 0 held_number next_number held_rows next_rows cycle after lids
-  none_known held_number next_number n held_rows next_rows cycle after lids h k e all = record {
-    held_blocks = h;
-    next_blocks = k;
+  pub none_known : (n : ℕ) (cycle after lids : List ℕ) → lids ≡ replicate n 0 → n ≡ length cycle → LidsUpTo 0 cycle after lids
+  none_known n cycle after lids e all = record {
     as_many = ap length e ∙ many_zeros n ∙ all;
     each = λ i less. inl (ap (λ xs. slice_index_or xs i 0) e ∙ zeros n i, λ other low most. absurd (omega arith));
   }
@@ -208,14 +201,9 @@ module _ (cells : Cells) (held next : HeldPlan) where
     one_more count a b known new at (inr least) (inl noted) = (let some = least.is_lid in let none = noted.0 in absurd (omega arith))
     one_more count a b known new at (inr least) (inr kept) = inr (subst (IsLeastLid cells held next a b) (sym kept.0) least)
 
-    pub more_lids : (count held_before next_before held_number next_number : ℕ) (old_held old_next held_rows next_rows : List (List ℕ))
-        (cycle after known new : List ℕ) → LidsUpTo count held_before next_before old_held old_next cycle after known
-        → AreBlocks held held_number held_rows → AreBlocks next next_number next_rows → lid ≡ count + 1
-        → AreNoted before now lid cycle after known new
-        → LidsUpTo (count + 1) held_number next_number held_rows next_rows cycle after new
-    more_lids count held_before next_before held_number next_number old_held old_next held_rows next_rows cycle after known new so h k at noted = record {
-      held_blocks = h;
-      next_blocks = k;
+    pub more_lids : (count : ℕ) (cycle after known new : List ℕ) → LidsUpTo count cycle after known → lid ≡ count + 1
+        → AreNoted before now lid cycle after known new → LidsUpTo (count + 1) cycle after new
+    more_lids count cycle after known new so at noted = record {
       as_many = noted.as_many ∙ so.as_many;
       each = λ i less.
           one_more count (slice_index_or cycle i 0) (slice_index_or after i 0) (slice_index_or known i 0) (slice_index_or new i 0) at (so.each i less)
@@ -244,11 +232,10 @@ module _ (cells : Cells) (held next : HeldPlan) where
       ]
   found count a b lid past w (inr least) = least
 
-  pub all_lids : (count held_number next_number : ℕ) (held_rows next_rows : List (List ℕ)) (cycle after lids : List ℕ)
-      → LidsUpTo count held_number next_number held_rows next_rows cycle after lids → after ≡ turned cycle
+  pub all_lids : (count : ℕ) (cycle after lids : List ℕ) → LidsUpTo count cycle after lids → after ≡ turned cycle
       → max (greatest_top cells held) (greatest_top cells next) ≤ count → WaitInCycle cells held next cycle
       → AreLoopLids cells held next cycle lids
-  all_lids count held_number next_number held_rows next_rows cycle after lids so is past waiting = record {
+  all_lids count cycle after lids so is past waiting = record {
     as_many = so.as_many;
     each = λ i less.
         found count (slice_index_or cycle i 0) (slice_index_or (turned cycle) i 0) (slice_index_or lids i 0) past (each_waits cycle waiting i less)
@@ -256,10 +243,9 @@ module _ (cells : Cells) (held next : HeldPlan) where
   }
 
   -- if each LID is known, they are the least
-  pub known_lids : (count held_number next_number : ℕ) (held_rows next_rows : List (List ℕ)) (cycle after lids : List ℕ)
-      → LidsUpTo count held_number next_number held_rows next_rows cycle after lids → after ≡ turned cycle → are_known lids ≡ true
+  pub known_lids : (count : ℕ) (cycle after lids : List ℕ) → LidsUpTo count cycle after lids → after ≡ turned cycle → are_known lids ≡ true
       → AreLoopLids cells held next cycle lids
-  known_lids count held_number next_number held_rows next_rows cycle after lids so is known = record {
+  known_lids count cycle after lids so is known = record {
     as_many = so.as_many;
     each = λ i less.
         least_known count (slice_index_or cycle i 0) (slice_index_or (turned cycle) i 0) (slice_index_or lids i 0)

@@ -1,14 +1,12 @@
 //! The channels that packets for one LID take one after the other while switches change from one table to another.
-ghost use Rattle.std.specs.Prelude.{◌≡◌, ◌<◌, ◌*◌, ◌/◌, ◌^◌, [], IfOk, OnOk, length};
+ghost use Rattle.std.specs.Prelude.{◌≡◌, ◌<◌, ◌*◌, ◌^◌, [], IfOk, OnOk, length};
 ghost use Rattle.fact_store.specs.View.{cells_of};
 ghost use Rattle.packet_walks.specs.Edges.{edges_of};
-ghost use Rattle.held_tables.specs.Blocks.{AreBlocks};
 ghost use Rattle.step_loops.specs.StepOrder.{IsAddedInStep, IsWithStep};
 
 use audit_channels::{Waits, add_across, add_column, is_same_column};
-use packet_walks::{Blocks, Network};
+use packet_walks::LidCursor;
 use port_graph::Edge;
-use smp_bytes::Lid;
 use std::alloc::{AllocError, Global};
 
 /// The edges by which packets for one LID leave the switches, by the held tables and by the next ones.
@@ -31,27 +29,20 @@ impl Columns {
     }
 }
 
-/// Returns the columns of `lid`. `held_blocks` and `next_blocks` must be those with its entries. Takes what
-/// `Network::edges` takes for each.
+/// Returns the columns of the LID of both cursors. `held` and `next` must be at one LID. Takes what `LidCursor::edges`
+/// takes for each.
 pub(crate) fn columns_of(
     alloc: Global,
-    held: &Network,
-    next: &Network,
-    held_blocks: &Blocks,
-    next_blocks: &Blocks,
-    lid: Lid,
+    held: &LidCursor,
+    next: &LidCursor,
 ) -> Result<Columns, AllocError>
-    requires held { AreBlocks held.now.held held_blocks.now.number held_blocks.now.rows.items }
-    requires held_number { held_blocks.now.number ≡ lid / 64 }
-    requires next { AreBlocks next.now.held next_blocks.now.number next_blocks.now.rows.items }
-    requires next_number { next_blocks.now.number ≡ lid / 64 }
     ensures held { IfOk result (λ columns.
-        columns.held.items ≡ edges_of (cells_of held.now.facts) held.now.held lid) }
+        columns.held.items ≡ edges_of (cells_of held.now.seen.facts) held.now.seen.held held.now.lid) }
     ensures next { IfOk result (λ columns.
-        columns.next.items ≡ edges_of (cells_of next.now.facts) next.now.held lid) }
+        columns.next.items ≡ edges_of (cells_of next.now.seen.facts) next.now.seen.held next.now.lid) }
 {
-    let held_edges = held.edges(alloc, held_blocks, lid)?;
-    let next_edges = next.edges(alloc, next_blocks, lid)?;
+    let held_edges = held.edges(alloc)?;
+    let next_edges = next.edges(alloc)?;
     Ok(Columns {
         held: held_edges,
         next: next_edges,

@@ -8,7 +8,7 @@ ghost use Rattle.step_loops.specs.StepOrder.{WaitInCycle};
 use crate::across::columns_of;
 use audit_channels::edge_of;
 use next_tables::greater;
-use packet_walks::Network;
+use packet_walks::{LidCursor, Network};
 use port_graph::Edge;
 use smp_bytes::Lid;
 use std::alloc::{AllocError, Global};
@@ -30,16 +30,16 @@ pub fn loop_lids(
 {
     let after = turned(alloc, cycle)?;
     let mut lids = none_known(alloc, cycle.len())?;
-    let mut held_blocks = held.blocks(alloc, 0)?;
-    let mut next_blocks = next.blocks(alloc, 0)?;
+    let mut held_at = LidCursor::of(alloc, held)?;
+    let mut next_at = LidCursor::of(alloc, next)?;
     for below in 0..greater(held.greatest_top(), next.greatest_top()).number() {
         if are_known(&lids) {
             return Ok(lids);
         }
         let lid = Lid::new(below + 1);
-        held_blocks = held.blocks_for(alloc, held_blocks, lid)?;
-        next_blocks = next.blocks_for(alloc, next_blocks, lid)?;
-        let columns = columns_of(alloc, held, next, &held_blocks, &next_blocks, lid)?;
+        held_at.go_to(alloc, lid)?;
+        next_at.go_to(alloc, lid)?;
+        let columns = columns_of(alloc, &held_at, &next_at)?;
         note_lid(&mut lids, cycle, &after, &columns.held, &columns.next, lid);
     }
     Ok(lids)

@@ -6,7 +6,7 @@ ghost use Rattle.step_loops.specs.StepOrder.{AreWaits, IsShortestInStep, IsStepO
 use crate::across::{Columns, add_step, columns_of};
 use audit_channels::{ChannelOrder, Waits, order_channels};
 use next_tables::greater;
-use packet_walks::Network;
+use packet_walks::{LidCursor, Network};
 use smp_bytes::Lid;
 use std::alloc::{AllocError, Global};
 
@@ -36,14 +36,14 @@ fn waits(alloc: Global, held: &Network, next: &Network) -> Result<Waits, AllocEr
 {
     let count = held.switch_count().checked_mul(256).ok_or(AllocError)?;
     let mut waits = Waits::new(alloc, count)?;
-    let mut held_blocks = held.blocks(alloc, 0)?;
-    let mut next_blocks = next.blocks(alloc, 0)?;
+    let mut held_at = LidCursor::of(alloc, held)?;
+    let mut next_at = LidCursor::of(alloc, next)?;
     let mut before = Columns::none(alloc);
     for below in 0..greater(held.greatest_top(), next.greatest_top()).number() {
         let lid = Lid::new(below + 1);
-        held_blocks = held.blocks_for(alloc, held_blocks, lid)?;
-        next_blocks = next.blocks_for(alloc, next_blocks, lid)?;
-        let columns = columns_of(alloc, held, next, &held_blocks, &next_blocks, lid)?;
+        held_at.go_to(alloc, lid)?;
+        next_at.go_to(alloc, lid)?;
+        let columns = columns_of(alloc, &held_at, &next_at)?;
         add_step(&mut waits, &before, &columns)?;
         before = columns;
     }

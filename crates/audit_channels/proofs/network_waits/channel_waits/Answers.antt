@@ -1,9 +1,10 @@
 -- A LID more, and all of them.
-use Rattle.std.proofs.Common.{◌≡◌, ◌*◌, List, length, sym, subst, arith}
+use Rattle.std.proofs.Common.{◌≡◌, ◌∙◌, ◌*◌, List, length, sym, subst, arith}
 use Rattle.std.specs.Prelude.{Option}
 use Rattle.port_graph.specs.declared.edge.Edge.{Edge}
 use Rattle.fact_store.specs.View.{cells_of}
 use Rattle.subnet_view.specs.Reading.{switches}
+use Rattle.packet_walks.specs.Edges.{edges_of}
 use Rattle.audit_channels.specs.Columns.{IsWithColumn}
 use Rattle.audit_channels.specs.Waiting.{IsAdded}
 use Rattle.audit_channels.proofs.Waiting.{some_is, none_so_far, none_added, is_added, more, all}
@@ -16,8 +17,8 @@ loop-below-init c =
     let all_switches = c.switch_count.ensures in
     let count : c.in_ok-count.count ≡ 256 * length (switches cells) = omega arith in
     record {
-      so_far = none_so_far cells c.args.network.now.held c.in_ok-blocks.blocks.number c.in_ok-blocks.blocks.rows.items
-          c.in_ok-count.count c.in_ok-waits.waits c.in_ok-blocks.ensures.0 c.in_ok-waits.ensures count;
+      seen = c.in_ok-cursor.ensures;
+      so_far = none_so_far cells c.args.network.now.held c.in_ok-count.count c.in_ok-waits.waits c.in_ok-waits.ensures count;
       added = subst (λ (xs : List (Option Edge)). IsAdded xs c.in_ok-waits.waits) (sym c.new-before.ensures.items) (none_added c.in_ok-waits.waits);
     }
 
@@ -26,12 +27,14 @@ loop-below-preserved c =
     let cells = cells_of c.args.network.now.facts in
     let held = c.args.network.now.held in
     let column = c.in_ok-column.column.items in
+    let seen = c.go_to.ensures.seen ∙ c.loop-below.invariant.seen in
+    let column_is = c.in_ok-column.ensures ∙ (λ i. edges_of (cells_of (seen i).facts) (seen i).held (c.in_ok-go_to.ensures.lid i)) in
     let with_it = subst (λ (xs : List (Option Edge)). IsWithColumn c.loop-below.waits xs c.add_after.new.waits)
     c.deref-in-loop-below.ensures.value c.in_ok-add_after.ensures in
     record {
-      so_far = more cells held c.loop-below.blocks.number c.in_ok-blocks-2.blocks.number c.loop-below.below c.new-lid.result c.loop-below.blocks.rows.items
-          c.in_ok-blocks-2.blocks.rows.items c.loop-below.waits c.add_after.new.waits column c.loop-below.invariant.so_far c.in_ok-blocks-2.ensures.0
-          c.new-lid.ensures c.in_ok-column.ensures with_it;
+      seen = seen;
+      so_far = more cells held c.loop-below.below c.new-in-loop-below.result c.loop-below.waits c.add_after.new.waits column c.loop-below.invariant.so_far
+          c.new-in-loop-below.ensures column_is with_it;
       added = is_added column c.loop-below.waits c.add_after.new.waits with_it;
     }
 
@@ -41,5 +44,4 @@ add_after-requires-clause-added c =
 
 pub returns : goal.returns
 returns c =
-    all (cells_of c.args.network.now.facts) c.args.network.now.held c.loop-below.blocks.number c.loop-below.below c.loop-below.blocks.rows.items
-    c.loop-below.waits c.loop-below.invariant.so_far (omega arith)
+    all (cells_of c.args.network.now.facts) c.args.network.now.held c.loop-below.below c.loop-below.waits c.loop-below.invariant.so_far (omega arith)

@@ -1,10 +1,14 @@
 -- A LID more.
-use Rattle.std.proofs.Common.{◌≡◌, ◌∙◌, ◌+◌, ℕ, Bool, true, List, sym, subst}
+use Rattle.std.proofs.Common.{◌≡◌, ◌∙◌, ◌+◌, ◌++◌, ℕ, Bool, true, List, ap, sym, subst}
 use Rattle.std.specs.Prelude.{Option}
 use Rattle.fact_store.specs.View.{cells_of}
 use Rattle.subnet_view.specs.EndPorts.{end_ports}
 use Rattle.audit_ways.specs.Ways.{AllComeTo}
-use Rattle.audit_counts.specs.Sites.{IsSiteOf}
+use Rattle.packet_walks.specs.Network.{Seen}
+use Rattle.audit_counts.specs.Packets.{sent_to}
+use Rattle.audit_counts.specs.PacketTally.{IsTally}
+use Rattle.audit_counts.specs.declared.sent_packet.SentPacket.{SentPacket}
+use Rattle.audit_counts.specs.Sites.{IsSiteOf, site_of}
 use Rattle.audit_counts.specs.declared.site.Site.{Site}
 use Rattle.audit_counts.specs.declared.packet_tally.PacketTally.{PacketTally}
 use Rattle.audit_counts.proofs.Sited.{site_is, no_site}
@@ -18,17 +22,16 @@ add_packets-requires-clause-owner c =
     let cells = cells_of c.args.network.now.facts in
     let sites = c.args.sites.now in
     let port = c.line-item.result.port in
+    let seen = c.go_to.ensures.seen ∙ c.loop-line.invariant.seen in
     (site_is cells port (end_ports cells) sites c.requires.sites c.in-Some.owner
     (subst (λ (o : Option Site). IsSiteOf sites port o) (sym c.site_in.ensures ∙ c.in-Some.is) c.index_of-index.ensures)).0
+    ∙ ap (λ (s : Seen). site_of (cells_of s.facts) port) (sym seen)
 
 pub add_packets-requires-clause-listed : goal.add_packets-requires-clause-listed
 add_packets-requires-clause-listed c =
     let sites = c.args.sites.now in
     let port = c.line-item.result.port in
     (subst (λ (o : Option Site). IsSiteOf sites port o) (sym c.site_in.ensures ∙ c.in-Some.is) c.index_of-index.ensures).0
-
-pub blocks_for-requires : goal.blocks_for-requires
-blocks_for-requires c = c.loop-line.invariant.blocks_are
 
 pub loop-line-preserved : goal.loop-line-preserved
 loop-line-preserved c =
@@ -39,32 +42,31 @@ loop-line-preserved c =
     let line = c.line-item.result in
     let port = line.port in
     let n = c.loop-line.line-index in
-    let rows = c.in_ok-blocks-2.blocks.rows.items in
-    let number = c.in_ok-blocks-2.blocks.number in
+    let seen = c.go_to.ensures.seen ∙ c.loop-line.invariant.seen in
     let all = c.match-site_in.all in
-    let Surveyed = λ (most : ℕ) (t : PacketTally). AreSurveyed most cells held lines number rows (n + 1) t in
+    let Surveyed = λ (most : ℕ) (t : PacketTally). AreSurveyed most cells held lines (n + 1) t in
     let come : all ≡ true → AllComeTo cells held line = elim c.match-site_in.branch [
-      | in-Some+in_ok-all-in-Some w ↦ λ e. w.in_ok-all-in-Some.ensures.told (sym w.all-is ∙ e)
+      | in-Some+in_ok-all-in-Some w ↦ λ e. subst (λ (s : Seen). AllComeTo (cells_of s.facts) s.held line) seen (w.in_ok-all-in-Some.ensures.told (sym w.all-is ∙ e))
       | in-None w ↦ λ e. (let no = w.all-is in absurd (cc))
     ] in
     record {
-      blocks_are = c.in_ok-blocks-2.ensures.0;
+      seen = seen;
       surveyed = λ most begun. elim c.match-site_in.branch [
         | in-Some+in_ok-all-in-Some w ↦
             subst (Surveyed most) (sym w.tally-is)
-            (line_surveyed most cells held lines c.loop-line.blocks.number number c.loop-line.blocks.rows.items rows n line c.loop-line.tally
-            w.add_packets.new.tally (c.loop-line.invariant.surveyed most begun) c.in_ok-blocks-2.ensures.0 c.loop-line-test.true c.line-item.is
+            (line_surveyed most cells held lines n line c.loop-line.tally
+            w.add_packets.new.tally (c.loop-line.invariant.surveyed most begun) c.loop-line-test.true c.line-item.is
             (site_is cells port (end_ports cells) sites c.requires.sites w.in-Some.owner
             (subst (λ (o : Option Site). IsSiteOf sites port o) (sym c.site_in.ensures ∙ w.in-Some.is) c.index_of-index.ensures)).1
-            (w.in_ok-all-in-Some.ensures.counted most))
+            (subst (λ (s : Seen). (packets : List SentPacket) → IsTally most packets c.loop-line.tally
+            → IsTally most (packets ++ sent_to (cells_of s.facts) s.held line) w.add_packets.new.tally) seen (w.in_ok-all-in-Some.ensures.counted most)))
         | in-None w ↦
             subst (Surveyed most) (sym w.tally-is)
-            (line_passed most cells held lines c.loop-line.blocks.number number c.loop-line.blocks.rows.items rows n line c.loop-line.tally
-            (c.loop-line.invariant.surveyed most begun) c.in_ok-blocks-2.ensures.0 c.loop-line-test.true c.line-item.is
+            (line_passed most cells held lines n line c.loop-line.tally
+            (c.loop-line.invariant.surveyed most begun) c.loop-line-test.true c.line-item.is
             (no_site cells port (end_ports cells) sites c.requires.sites
             (subst (λ (o : Option Site). IsSiteOf sites port o) (sym c.site_in.ensures ∙ w.in-None.is) c.index_of-index.ensures)))
       ];
-      deliveries_are = c.in_ok-deliveries-2.ensures;
       told = subst (λ (ts : List Bool). ToldSoFar cells held lines (n + 1) ts) (sym c.in_ok-push.ensures.items)
           (told_more cells held lines n line c.loop-line.told.items all c.loop-line.invariant.told c.loop-line-test.true c.line-item.is come);
     }
@@ -79,11 +81,9 @@ loop-line-init c =
     let cells = cells_of c.args.network.now.facts in
     let held = c.args.network.now.held in
     let lines = c.lids-line-items.result.now in
-    let blocks = c.in_ok-blocks.blocks in
     record {
-      blocks_are = c.in_ok-blocks.ensures.0;
-      surveyed = λ most. none_surveyed most cells held lines blocks.number blocks.rows.items c.args.tally.now c.in_ok-blocks.ensures.0;
-      deliveries_are = c.in_ok-deliveries.ensures;
+      seen = c.in_ok-cursor.ensures;
+      surveyed = λ most. none_surveyed most cells held lines c.args.tally.now;
       told = subst (λ (ts : List Bool). ToldSoFar cells held lines 0 ts) (sym c.requires.told) (none_told cells held lines);
     }
 
@@ -91,5 +91,5 @@ pub returns-clause-tally : goal.returns-clause-tally
 returns-clause-tally c =
     let l = c.loop-line in
     λ most begun.
-    all_surveyed most (cells_of c.args.network.now.facts) c.args.network.now.held c.lids-line-items.result.now l.blocks.number l.blocks.rows.items l.line-index
+    all_surveyed most (cells_of c.args.network.now.facts) c.args.network.now.held c.lids-line-items.result.now l.line-index
     l.tally (l.invariant.surveyed most begun) c.lids-line-items.ensures c.loop-line-test.false

@@ -24,21 +24,20 @@ none_of (Some x) differs = absurd (differs x refl)
 
 pub returns-in_default : goal.returns-in_default
 returns-in_default c =
-    let cells = cells_of c.args.store.now in
+    let cells = cells_of c.args.held.now.facts in
     let held = c.args.held.now.held in
     let graph = c.in_ok-graph.graph in
     let edges : c.adjacency-edges.result.now ≡ edges_in cells =
     edges_are graph c.adjacency-edges.ensures.is_graph c.adjacency-edges.result.now c.adjacency-edges.ensures.edges
-    ∙ ap by_index (c.in_ok-graph.ensures ∙ ap (λ (f : Facts). graph_of (cells_of f)) c.in_ok-wires.ensures) in
+    ∙ ap by_index (c.in_ok-graph.ensures ∙ ap (λ (f : Facts). graph_of (cells_of f)) (c.wires.ensures ∙ c.subnet.ensures)) in
     let are : AreOrders cells held (edges_in cells) c.args.positions.now c.args.preferred.now c.in_ok-orders.field-0 =
-    subst (λ (x : Facts × List (List Edge)). AreOrders (cells_of x.0) held x.1 c.args.positions.now c.args.preferred.now c.in_ok-orders.field-0)
-    (λ i. (c.requires.held i, edges i)) c.in_ok-orders.ensures in
+    subst (λ (x : List (List Edge)). AreOrders cells held x c.args.positions.now c.args.preferred.now c.in_ok-orders.field-0) edges c.in_ok-orders.ensures in
     subst (λ (o : Option TwoOrders). AreOrders cells held (edges_in cells) c.args.positions.now c.args.preferred.now o)
     (none_of c.in_ok-orders.field-0 c.in_default.not-Some) are
 
 pub returns : goal.returns
 returns c =
-    let cells = cells_of c.args.store.now in
+    let cells = cells_of c.args.held.now.facts in
     let held = c.args.held.now.held in
     let plan = c.args.plan.now.held in
     let by = c.args.positions.now in
@@ -47,13 +46,12 @@ returns c =
     let orders = c.in-Some.orders in
     let edges : own ≡ edges_in cells =
     edges_are c.in_ok-graph.graph c.adjacency-edges.ensures.is_graph own c.adjacency-edges.ensures.edges
-    ∙ ap by_index (c.in_ok-graph.ensures ∙ ap (λ (f : Facts). graph_of (cells_of f)) c.in_ok-wires.ensures) in
+    ∙ ap by_index (c.in_ok-graph.ensures ∙ ap (λ (f : Facts). graph_of (cells_of f)) (c.wires.ensures ∙ c.subnet.ensures)) in
     let are : AreOrders cells held (edges_in cells) by preferred (Some orders) =
     subst (λ (o : Option TwoOrders). AreOrders cells held (edges_in cells) by preferred o) c.in-Some.is
-    (subst (λ (x : Facts × List (List Edge)). AreOrders (cells_of x.0) held x.1 by preferred c.in_ok-orders.field-0)
-    (λ i. (c.requires.held i, edges i)) c.in_ok-orders.ensures) in
+    (subst (λ (x : List (List Edge)). AreOrders cells held x by preferred c.in_ok-orders.field-0) edges c.in_ok-orders.ensures) in
     let tables : c.in_ok-tables.tables ≡ tables_between cells (edges_in cells) orders held plan =
-    c.in_ok-tables.ensures ∙ (λ i. tables_between (cells_of (c.requires.held i)) (edges i) orders held plan) in
+    c.in_ok-tables.ensures ∙ ap (λ (x : List (List Edge)). tables_between cells x orders held plan) edges in
     let list : c.into_first.result.items ≡ orders.first = c.into_first.ensures in
     record {
       orders = orders;

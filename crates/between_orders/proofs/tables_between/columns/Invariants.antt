@@ -1,10 +1,16 @@
 -- The columns so far.
-use Rattle.std.proofs.Common.{map}
+use Rattle.std.proofs.Common.{◌≡◌, map}
+use Rattle.std.specs.List.{range_with_len}
 use Rattle.fact_store.specs.View.{cells_of}
-use Rattle.between_orders.proofs.Columns.{SoFar}
+use Rattle.two_orders.specs.Labels.{labels_from}
+use Rattle.between_orders.specs.TablesBetween.{column_between}
 use Rattle.between_orders.proofs.tables_between.columns.Given as goal
 
 abbrev pub invariant-loop-number : goal.invariant-loop-number
-invariant-loop-number l =
-    SoFar (cells_of l.held.facts) l.edges l.orders l.held.held l.plan.held l.number l.held_blocks.number l.plan_blocks.number
-    l.held_blocks.rows.items l.plan_blocks.rows.items (map (λ c. c.items) l.columns.items) l.labelled.firsts.items l.labelled.labels.items
+invariant-loop-number l = record {
+  held : l.held_at.seen ≡ l.fn.held;
+  plan : l.plan_at.seen ≡ l.fn.plan;
+  labels : l.labelled.labels.items ≡ labels_from l.edges l.orders l.labelled.firsts.items;
+  columns : map (λ c. c.items) l.columns.items
+      ≡ map (column_between (cells_of l.fn.held.facts) l.edges l.orders l.fn.held.held l.fn.plan.held) (range_with_len 0 l.number);
+}

@@ -25,4 +25,4 @@ loop-source-preserved c =
     item_more (first_stop cells) (end_ports cells) i s.0 c.loop-source.firsts.items c.push.new.self.items c.first_stop.result s.1 c.loop-source.invariant
     c.in_ok-push.ensures.items
     (c.first_stop.ensures
-    ∙ (λ k. stop_from (s.2 k) (far_port (c.requires.wires k) (s.2 k).port.node (s.2 k).port.port)))
+    ∙ (λ k. stop_from (s.2 k) (far_port (cells_of (c.subnet.ensures k)) (s.2 k).port.node (s.2 k).port.port)))

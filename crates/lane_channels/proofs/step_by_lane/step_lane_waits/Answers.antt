@@ -2,15 +2,15 @@
 use Rattle.std.proofs.Common.{◌≡◌, ◌*◌, ◌∙◌, Bool, [], ◌∷◌, length, sym, ap, subst, arith}
 use Rattle.fact_store.specs.View.{Facts, cells_of}
 use Rattle.subnet_view.specs.Reading.{switches}
-use Rattle.held_tables.specs.Blocks.{AreBlocks}
 use Rattle.packet_walks.specs.Edges.{edges_of, greatest_top}
 use Rattle.packet_walks.specs.Network.{Seen}
 use Rattle.audit_channels.proofs.Waiting.{some_is}
 use Rattle.lane_channels.specs.AnyTables.{columns_for}
 use Rattle.lane_channels.specs.Senders.{SentFor}
-use Rattle.lane_channels.specs.Visits.{columns_in, walked}
+use Rattle.lane_channels.specs.Visits.{AreWithin, columns_in, walked}
 use Rattle.lane_channels.specs.Walks.{AreFollowed}
-use Rattle.lane_channels.proofs.LidWaits.{all_waits, more, none_so_far, some_drop}
+use Rattle.lane_channels.specs.Stops.{Columns}
+use Rattle.lane_channels.proofs.LidWaits.{all_waits, columns_within, more, none_so_far, some_drop}
 use Rattle.lane_channels.proofs.step_by_lane.step_lane_waits.Goals as goal
 
 pub loop-below-init : goal.loop-below-init
@@ -21,10 +21,8 @@ loop-below-init c =
     let all_switches = c.switch_count.ensures ∙ ap (λ (x : Seen). length (switches (cells_of x.facts))) c.network-held.ensures in
     let count : c.in_ok-count.count ≡ 4096 * length (switches (cells_of s.seen.facts)) = omega arith in
     record {
-      held_blocks =
-          subst (λ (x : Seen). AreBlocks x.held c.in_ok-held_blocks.held_blocks.number c.in_ok-held_blocks.held_blocks.rows.items) c.network-held.ensures
-          c.in_ok-held_blocks.ensures.0;
-      next_blocks = c.in_ok-next_blocks.ensures.0;
+      held = c.in_ok-held_at.ensures ∙ c.network-held.ensures;
+      next = c.in_ok-next_at.ensures;
       so_far = none_so_far s others c.args.answers c.in_ok-count.count (walked c.in_ok-walks.walks) c.in_ok-walks.ensures count;
     }
 
@@ -34,17 +32,23 @@ loop-below-preserved c =
     let next = c.args.next.now in
     let others = next.held ∷ [] in
     let lid = c.new-lid.result in
-    let held_edges = ap (λ (x : Seen). edges_of (cells_of x.facts) x.held lid) c.network-held.ensures in
-    let next_edges = ap (λ (x : Facts). edges_of (cells_of x) next.held lid) c.requires.facts in
+    let held_is = c.go_to.ensures.seen ∙ c.loop-below.invariant.held in
+    let next_is = c.go_to-in-loop-below.ensures.seen ∙ c.loop-below.invariant.next in
+    let held_edges : edges_of (cells_of c.go_to.new.self.seen.facts) c.go_to.new.self.seen.held c.go_to.new.self.lid
+    ≡ edges_of (cells_of s.seen.facts) s.seen.held lid =
+    (λ i. edges_of (cells_of (held_is i).facts) (held_is i).held (c.in_ok-go_to.ensures.lid i)) in
+    let at = c.go_to-in-loop-below.new.self in
+    let next_edges : edges_of (cells_of at.seen.facts) at.seen.held at.lid ≡ edges_of (cells_of s.seen.facts) next.held lid =
+    (λ i. edges_of (cells_of (next_is i).facts) (next_is i).held (c.in_ok-go_to-2.ensures.lid i))
+    ∙ ap (λ (x : Facts). edges_of (cells_of x) next.held lid) c.requires.facts in
+    let lid_is = c.in_ok-columns.ensures.lid ∙ c.in_ok-go_to.ensures.lid in
     record {
-      held_blocks =
-          subst (λ (x : Seen). AreBlocks x.held c.in_ok-held_blocks-2.held_blocks.number c.in_ok-held_blocks-2.held_blocks.rows.items) c.network-held.ensures
-          c.in_ok-held_blocks-2.ensures.0;
-      next_blocks = c.in_ok-next_blocks-2.ensures.0;
+      held = held_is;
+      next = next_is;
       so_far =
           more s others c.args.answers c.loop-below.below c.in_ok-columns.columns.lid (walked c.loop-below.walks) (walked c.follow_lid.new.walks)
-          (columns_in c.in_ok-columns.columns) c.loop-below.invariant.so_far (c.in_ok-columns.ensures.lid ∙ c.new-lid.ensures)
-          (c.in_ok-columns.ensures.columns ∙ (λ i. held_edges i ∷ next_edges i ∷ []) ∙ sym (ap (columns_for s others) c.in_ok-columns.ensures.lid))
+          (columns_in c.in_ok-columns.columns) c.loop-below.invariant.so_far (lid_is ∙ c.new-lid.ensures)
+          (c.in_ok-columns.ensures.columns ∙ (λ i. held_edges i ∷ next_edges i ∷ []) ∙ sym (ap (columns_for s others) lid_is))
           (subst (λ (a : Bool). AreFollowed s.said (cells_of s.seen.facts) (columns_in c.in_ok-columns.columns) c.in_ok-columns.columns.lid
           (SentFor s a c.in_ok-columns.columns.lid) (walked c.loop-below.walks) (walked c.follow_lid.new.walks)) c.in_ok-asked.ensures.answers
           c.in_ok-follow_lid.ensures);
@@ -69,3 +73,17 @@ returns-clause-dropped c =
     let both = c.greater.ensures in
     let number = c.number-below-end.ensures in
     some_drop s (next.held ∷ []) c.args.answers c.loop-below.below (walked c.loop-below.walks) c.loop-below.invariant.so_far (omega arith, (omega arith, tt))
+
+pub follow_lid-requires-clause-columns : goal.follow_lid-requires-clause-columns
+follow_lid-requires-clause-columns c =
+    let s = c.args.by_lane.now in
+    let next = c.args.next.now in
+    let lid = c.new-lid.result in
+    let held_is = c.go_to.ensures.seen ∙ c.loop-below.invariant.held in
+    let next_is = c.go_to-in-loop-below.ensures.seen ∙ c.loop-below.invariant.next in
+    let columns_are = c.in_ok-columns.ensures.columns
+    ∙ (λ i. edges_of (cells_of (held_is i).facts) (held_is i).held (c.in_ok-go_to.ensures.lid i)
+    ∷ edges_of (cells_of (next_is i).facts) (next_is i).held (c.in_ok-go_to-2.ensures.lid i) ∷ [])
+    ∙ ap (λ (x : Facts). edges_of (cells_of s.seen.facts) s.seen.held lid ∷ edges_of (cells_of x) next.held lid ∷ []) c.requires.facts in
+    subst (λ (xs : Columns). AreWithin (cells_of s.seen.facts) xs) (sym columns_are)
+    (columns_within (cells_of s.seen.facts) (s.seen.held ∷ next.held ∷ []) lid)

@@ -2,7 +2,6 @@
 use Rattle.std.proofs.Common.{◌≡◌, ◌*◌, ◌∙◌, Bool, [], ◌∷◌, length, sym, ap, subst, arith}
 use Rattle.fact_store.specs.View.{cells_of}
 use Rattle.subnet_view.specs.Reading.{switches}
-use Rattle.held_tables.specs.Blocks.{AreBlocks}
 use Rattle.packet_walks.specs.Edges.{edges_of, greatest_top}
 use Rattle.packet_walks.specs.Network.{Seen}
 use Rattle.audit_channels.proofs.Waiting.{some_is}
@@ -20,20 +19,17 @@ loop-below-init c =
     let all_switches = c.switch_count.ensures ∙ ap (λ (x : Seen). length (switches (cells_of x.facts))) c.network-network.ensures in
     let count : c.in_ok-count.count ≡ 4096 * length (switches (cells_of s.seen.facts)) = omega arith in
     record {
-      blocks =
-          subst (λ (x : Seen). AreBlocks x.held c.in_ok-blocks.blocks.number c.in_ok-blocks.blocks.rows.items) c.network-network.ensures
-          c.in_ok-blocks.ensures.0;
+      seen = c.in_ok-cursor.ensures ∙ c.network-network.ensures;
       so_far = none_so_far s [] c.args.answers c.in_ok-count.count (walked c.in_ok-walks.walks) c.in_ok-walks.ensures count;
     }
 
 pub loop-below-preserved : goal.loop-below-preserved
 loop-below-preserved c =
     let s = c.args.by_lane.now in
-    let edges = c.in_ok-edges.ensures ∙ ap (λ (x : Seen). edges_of (cells_of x.facts) x.held c.new-lid.result) c.network-network.ensures in
+    let seen = c.go_to.ensures.seen ∙ c.loop-below.invariant.seen in
+    let edges = c.in_ok-edges.ensures ∙ (λ i. edges_of (cells_of (seen i).facts) (seen i).held (c.in_ok-go_to.ensures.lid i)) in
     record {
-      blocks =
-          subst (λ (x : Seen). AreBlocks x.held c.in_ok-blocks-2.blocks.number c.in_ok-blocks-2.blocks.rows.items) c.network-network.ensures
-          c.in_ok-blocks-2.ensures.0;
+      seen = seen;
       so_far =
           more s [] c.args.answers c.loop-below.below c.in_ok-columns.columns.lid (walked c.loop-below.walks) (walked c.follow_lid.new.walks)
           (columns_in c.in_ok-columns.columns) c.loop-below.invariant.so_far (c.in_ok-columns.ensures.lid ∙ c.new-lid.ensures)

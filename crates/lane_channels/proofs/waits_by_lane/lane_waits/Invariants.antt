@@ -1,12 +1,11 @@
 -- The LIDs so far.
-use Rattle.std.specs.Prelude.{[]}
-use Rattle.held_tables.specs.Blocks.{AreBlocks}
+use Rattle.std.specs.Prelude.{◌≡◌, []}
 use Rattle.lane_channels.specs.Visits.{walked}
 use Rattle.lane_channels.proofs.LidWaits.{SoFar}
 use Rattle.lane_channels.proofs.waits_by_lane.lane_waits.Given as goal
 
 abbrev pub invariant-loop-below : goal.invariant-loop-below
 invariant-loop-below l = record {
-  blocks : AreBlocks l.by_lane.seen.held l.blocks.number l.blocks.rows.items;
+  seen : l.cursor.seen ≡ l.by_lane.seen;
   so_far : SoFar l.by_lane [] l.answers l.below (walked l.walks);
 }

@@ -1,9 +1,12 @@
 -- The LIDs so far are right.
+use Rattle.std.proofs.Common.{◌≡◌}
 use Rattle.fact_store.specs.View.{cells_of}
 use Rattle.next_tables.specs.EntriesByOrder.{position_at}
 use Rattle.ordered_steps.proofs.ToldRight.{RightSoFar}
 use Rattle.ordered_steps.proofs.rightness.are_right.Given as goal
 
 abbrev pub invariant-loop-below : goal.invariant-loop-below
-invariant-loop-below l =
-    RightSoFar (cells_of l.held.facts) (position_at l.positions) l.held.held l.blocks.number l.blocks.rows.items l.below
+invariant-loop-below l = record {
+  seen : l.cursor.seen ≡ l.fn.held;
+  right : RightSoFar (cells_of l.fn.held.facts) (position_at l.positions) l.fn.held.held l.below;
+}

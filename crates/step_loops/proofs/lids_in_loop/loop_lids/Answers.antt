@@ -11,7 +11,7 @@ use Rattle.step_loops.proofs.lids_in_loop.loop_lids.Goals as goal
 
 pub note_lid-requires-clause-after : goal.note_lid-requires-clause-after
 note_lid-requires-clause-after c =
-    ap length (c.deref-in-loop-below.ensures.value ∙ c.in_ok-after.ensures) ∙ turned_long c.args.cycle.now ∙ sym c.loop-below.invariant.as_many
+    ap length (c.deref-in-loop-below.ensures.value ∙ c.in_ok-after.ensures) ∙ turned_long c.args.cycle.now ∙ sym c.loop-below.invariant.lids.as_many
     ∙ sym (ap length c.deref_mut.ensures.value)
 
 pub loop-below-preserved : goal.loop-below-preserved
@@ -37,14 +37,19 @@ loop-below-preserved c =
     c.deref-in-loop-below-3.ensures.value one in
     let three = subst (λ (xs : List ℕ). AreNoted before now lid cycle xs c.deref_mut.result.now new) c.deref-in-loop-below.ensures.value two in
     let noted = subst (λ (xs : List ℕ). AreNoted before now lid cycle after xs new) c.deref_mut.ensures.value three in
-    subst (LidsUpTo cells held next (c.loop-below.below + 1) c.in_ok-held_blocks-2.held_blocks.number c.in_ok-next_blocks-2.next_blocks.number
-    c.in_ok-held_blocks-2.held_blocks.rows.items c.in_ok-next_blocks-2.next_blocks.rows.items cycle after) (sym kept)
-    (more_lids cells held next lid low before now c.in_ok-columns.ensures.held
-    (c.in_ok-columns.ensures.next ∙ ap (λ (f : Facts). edges_of (cells_of f) next lid) c.requires.facts)
-    c.loop-below.below c.loop-below.held_blocks.number c.loop-below.next_blocks.number c.in_ok-held_blocks-2.held_blocks.number
-    c.in_ok-next_blocks-2.next_blocks.number c.loop-below.held_blocks.rows.items c.loop-below.next_blocks.rows.items
-    c.in_ok-held_blocks-2.held_blocks.rows.items c.in_ok-next_blocks-2.next_blocks.rows.items cycle after was.items new c.loop-below.invariant
-    c.in_ok-held_blocks-2.ensures.0 c.in_ok-next_blocks-2.ensures.0 c.new-lid.ensures noted)
+    let held_is = c.go_to.ensures.seen ∙ c.loop-below.invariant.held in
+    let next_is = c.go_to-in-loop-below.ensures.seen ∙ c.loop-below.invariant.next in
+    let before_is = c.in_ok-columns.ensures.held ∙ (λ i. edges_of (cells_of (held_is i).facts) (held_is i).held (c.in_ok-go_to.ensures.lid i)) in
+    let now_is = c.in_ok-columns.ensures.next
+    ∙ (λ i. edges_of (cells_of (next_is i).facts) (next_is i).held (c.in_ok-go_to-2.ensures.lid i))
+    ∙ ap (λ (f : Facts). edges_of (cells_of f) next lid) c.requires.facts in
+    record {
+      held = held_is;
+      next = next_is;
+      lids = subst (LidsUpTo cells held next (c.loop-below.below + 1) cycle after) (sym kept)
+          (more_lids cells held next lid low before now before_is now_is c.loop-below.below cycle after was.items new c.loop-below.invariant.lids
+          c.new-lid.ensures noted);
+    }
 
 pub returns : goal.returns
 returns c =
@@ -56,13 +61,11 @@ returns c =
     c.greatest_top-2.ensures ∙ ap (λ (f : Facts). greatest_top (cells_of f) next) c.requires.facts in
     let both = c.greater.ensures in
     let end = c.number-below-end.ensures in
-    all_lids cells held next c.loop-below.below c.loop-below.held_blocks.number c.loop-below.next_blocks.number c.loop-below.held_blocks.rows.items
-    c.loop-below.next_blocks.rows.items c.args.cycle.now c.in_ok-after.after.items c.loop-below.lids.items c.loop-below.invariant c.in_ok-after.ensures
+    all_lids cells held next c.loop-below.below c.args.cycle.now c.in_ok-after.after.items c.loop-below.lids.items c.loop-below.invariant.lids c.in_ok-after.ensures
     (omega arith) c.requires.cycle
 
 pub returns-then-are_known : goal.returns-then-are_known
 returns-then-are_known c =
     let l = c.loop-below in
-    known_lids (cells_of c.args.held.now.facts) c.args.held.now.held c.args.next.now.held l.below l.held_blocks.number l.next_blocks.number
-    l.held_blocks.rows.items l.next_blocks.rows.items c.args.cycle.now c.in_ok-after.after.items l.lids.items l.invariant c.in_ok-after.ensures
+    known_lids (cells_of c.args.held.now.facts) c.args.held.now.held c.args.next.now.held l.below c.args.cycle.now c.in_ok-after.after.items l.lids.items l.invariant.lids c.in_ok-after.ensures
     (sym (c.are_known.ensures ∙ ap are_known c.deref.ensures.value) ∙ c.if-are_known.true)

@@ -1,9 +1,12 @@
 -- The LIDs so far.
+use Rattle.std.proofs.Common.{◌≡◌}
 use Rattle.fact_store.specs.View.{cells_of}
 use Rattle.step_loops.proofs.LoopLids.{LidsUpTo}
 use Rattle.step_loops.proofs.lids_in_loop.loop_lids.Given as goal
 
 abbrev pub invariant-loop-below : goal.invariant-loop-below
-invariant-loop-below l =
-    LidsUpTo (cells_of l.held.facts) l.held.held l.next.held l.below l.held_blocks.number l.next_blocks.number l.held_blocks.rows.items
-    l.next_blocks.rows.items l.cycle l.after.items l.lids.items
+invariant-loop-below l = record {
+  held : l.held_at.seen ≡ l.fn.held;
+  next : l.next_at.seen ≡ l.fn.next;
+  lids : LidsUpTo (cells_of l.fn.held.facts) l.fn.held.held l.fn.next.held l.below l.cycle l.after.items l.lids.items;
+}

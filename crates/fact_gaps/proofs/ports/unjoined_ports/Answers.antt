@@ -8,7 +8,7 @@ use Rattle.fact_gaps.specs.InOrder.{each_once, port_cmp}
 use Rattle.fact_gaps.specs.Gaps.{is_known_port, port_at}
 use Rattle.fact_gaps.specs.Named.{link_key, far_port, kept, own_port}
 use Rattle.fact_gaps.proofs.Named.{kept_both, kept_passes}
-use Rattle.fact_gaps.proofs.ports.unjoined_by.Goals as goal
+use Rattle.fact_gaps.proofs.ports.unjoined_ports.Goals as goal
 
 pub returns : goal.returns
 returns c =

@@ -1,0 +1,144 @@
+ghost use Rattle.std.specs.Prelude.{◌≡◌, IfOk, length, map, slice_get};
+ghost use Rattle.fact_store.specs.View.{cells_of};
+ghost use Rattle.subnet_view.specs.EndPorts.{end_ports};
+ghost use Rattle.subnet_view.specs.Reading.{switches};
+ghost use Rattle.held_tables.specs.Switches.{all_begin, far_by, first_switch, node_of, sender_of};
+
+use crate::audited_switch::{AuditedSwitch, nodes};
+use crate::far_end::Far;
+use crate::held::Held;
+use crate::senders::{Sender, all_begin, firsts, sources};
+use crate::wired_switch::{WiredSwitch, wired_switches};
+use fact_store::{Refused, Store};
+use smp_bytes::Guid;
+use std::alloc::{AllocError, Global};
+use std::marker::Model;
+use subnet_view::{EndPort, Wires, end_ports, switches};
+
+/// A subnet as a view describes it: its usable switches, its wires and its end ports.
+#[derive(Drop)]
+pub struct Subnet<'s> {
+    wires: Wires<'s>,
+    /// The GUIDs of the usable switches, in rising order.
+    guids: Vec<Guid>,
+    /// The usable switches, by rising GUID.
+    switches: Vec<WiredSwitch>,
+    /// The end ports, in their order.
+    ports: Vec<EndPort>,
+    /// The end ports as senders, in their order.
+    sources: Vec<Sender>,
+    /// For each sender, the index of the first switch that its packets reach, or `None` if they reach none.
+    firsts: Vec<Option<usize>>,
+    /// Whether the packets of each sender reach a switch.
+    begin: bool,
+}
+
+impl<'s> Model for Subnet<'s> {
+    ghost use Rattle.fact_store.specs.Coded.{facts_code};
+    ghost use Rattle.fact_store.specs.View.{Facts, cells_of};
+    ghost use Rattle.held_tables.specs.Subnet.{IsSubnet};
+
+    ghost Value = { Facts };
+
+    ghost coded = { facts_code };
+
+    ghost view = { λ a. a.wires };
+
+    ghost invariant = { λ a. IsSubnet (cells_of a.wires) a.guids.items a.switches.items a.ports.items
+        a.sources.items a.firsts.items a.begin };
+}
+
+impl<'s> Subnet<'s> {
+    /// Finds the usable switches, the wires and the end ports of the view that `store` holds.
+    pub fn of(alloc: Global, store: &'s Store) -> Result<Self, Refused>
+        ensures { IfOk result (λ subnet. subnet ≡ store.now) }
+    {
+        let wires = Wires::of(alloc, store)?;
+        let guids = switches(alloc, store)?;
+        let wired = wired_switches(alloc, &wires, &guids)?;
+        let ports = end_ports(alloc, store)?;
+        let sources = sources(alloc, &wires, &guids, &ports)?;
+        let firsts = firsts(alloc, &sources)?;
+        let begin = all_begin(wired.len(), &firsts);
+        Ok(Subnet {
+            wires,
+            guids,
+            switches: wired,
+            ports,
+            sources,
+            firsts,
+            begin,
+        })
+    }
+
+    /// Returns the store, whose view says what the subnet is.
+    pub fn store(&self) -> &Store
+        ensures { result.now ≡ self.now }
+    {
+        self.wires.store()
+    }
+
+    /// Returns the wires.
+    pub fn wires(&self) -> &Wires<'s>
+        ensures { result.now ≡ self.now }
+    {
+        &self.wires
+    }
+
+    /// Returns the GUIDs of the usable switches, in rising order.
+    pub fn switches(&self) -> &[Guid]
+        ensures { result.now ≡ switches (cells_of self.now) }
+    {
+        &self.guids
+    }
+
+    /// Returns the end ports, in their order.
+    pub fn end_ports(&self) -> &[EndPort]
+        ensures { result.now ≡ end_ports (cells_of self.now) }
+    {
+        &self.ports
+    }
+
+    /// Returns the end ports as senders, in their order.
+    pub fn sources(&self) -> &[Sender]
+        ensures { result.now ≡ map (sender_of (cells_of self.now)) (end_ports (cells_of self.now)) }
+    {
+        &self.sources
+    }
+
+    /// Returns, for each sender in order, the index of the first switch that its packets reach, or `None` if they reach
+    /// none.
+    pub fn firsts(&self) -> &[Option<usize>]
+        ensures { result.now
+            ≡ map first_switch (map (sender_of (cells_of self.now)) (end_ports (cells_of self.now))) }
+    {
+        &self.firsts
+    }
+
+    /// Returns whether the packets of each sender reach a switch.
+    pub fn all_begin(&self) -> bool
+        ensures { result ≡ all_begin (length (switches (cells_of self.now)))
+            (map first_switch (map (sender_of (cells_of self.now)) (end_ports (cells_of self.now)))) }
+    {
+        self.begin
+    }
+
+    /// Returns where the wire in a port of a usable switch leads. `number` is 256 times the switch's index, plus the
+    /// port. Returns `Nothing` if there is no such switch. Takes constant time.
+    pub fn far(&self, number: usize) -> Far
+        ensures { result ≡ far_by (cells_of self.now) number }
+    {
+        match self.switches.get(number / 256) {
+            Some(switch) => switch.row.far((number % 256) as u8),
+            None => Far::Nothing,
+        }
+    }
+
+    /// Returns the usable switches by rising GUID, with what `held` says of them.
+    pub fn audited(&self, alloc: Global, held: &Held) -> Result<Vec<AuditedSwitch>, AllocError>
+        ensures { IfOk result (λ nodes.
+            nodes.items ≡ map (node_of (cells_of self.now) held.now) (switches (cells_of self.now))) }
+    {
+        nodes(alloc, &self.switches, held)
+    }
+}
