@@ -73,12 +73,12 @@ loop-index-preserved c =
                 (subst (λ (s : Seen). AreGrouped (cells_of s.facts) (adapters (cells_of s.facts)) w.add_ways.new.senders) seen w.in_ok-add_ways.ensures.senders);
           }
       | in_default w ↦ record {
-          seen = ap (λ a. a.seen) w.cursor-is ∙ c.loop-index.invariant.seen;
-          surveyed = subst Surveyed (sym w.tally-is)
-              (line_passed cells held lines n line c.loop-index.tally before c.loop-index-test.true c.line-item.is
-              (no_target cells c.deref.result.now line.port roster c.target_among.result c.target_among.ensures w.in_default.not-Some));
-          grouped = subst Grouped (sym w.senders-is) c.loop-index.invariant.grouped;
-        }
+        seen = ap (λ a. a.seen) w.cursor-is ∙ c.loop-index.invariant.seen;
+        surveyed = subst Surveyed (sym w.tally-is)
+            (line_passed cells held lines n line c.loop-index.tally before c.loop-index-test.true c.line-item.is
+            (no_target cells c.deref.result.now line.port roster c.target_among.result c.target_among.ensures w.in_default.not-Some));
+        grouped = subst Grouped (sym w.senders-is) c.loop-index.invariant.grouped;
+      }
     ]
 
 pub returns : goal.returns
