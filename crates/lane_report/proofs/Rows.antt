@@ -12,7 +12,8 @@ use Rattle.lanes_file.specs.Lanes.{LanesSaid, level_by}
 use Rattle.lanes_file.specs.declared.lanes.LevelBlock.{LevelBlock}
 use Rattle.lane_report.specs.declared.level_row.RowSender.{RowSender}
 use Rattle.lane_report.specs.declared.levels_missing.PacketPair.{PacketPair}
-use Rattle.lane_report.specs.LevelsMissing.{is_full, lacks_level, missing_for, missing_in_row, pair_of, row_of, sender_at, sender_lacks}
+use Rattle.lane_report.specs.LevelRow.{is_full, missing_in_row, row_of, sender_at, sender_lacks}
+use Rattle.lane_report.specs.LevelsMissing.{lacks_level, missing_for, pair_of}
 use Rattle.lane_report.proofs.NoneMissing.{none_fourth}
 
 -- a number below n is one of the first n

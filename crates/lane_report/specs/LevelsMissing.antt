@@ -14,12 +14,18 @@ use Rattle.lanes_file.specs.declared.lanes.LevelBlock.{LevelBlock}
 use Rattle.lane_report.specs.declared.level_row.RowSender.{RowSender}
 use Rattle.lane_report.specs.declared.levels_missing.PacketPair.{PacketPair}
 
+-- `site` and `owner` are of different adapter ports in one component, and packets from `site` to `owner` have no
+-- `level`
+abbrev pub lacks : Site → Site → Option ℕ → Bool
+lacks site owner level =
+    are_joined site owner && are_adapters site.port owner.port && not (is_same_end site.port owner.port)
+    && not (is_some level)
+
 -- `site` and `owner` are of different adapter ports in one component, and the text gives packets from `site` for the
 -- LID of `line` no service level
 abbrev pub lacks_level : LanesSaid → HeldLid → Site → Site → Bool
 lacks_level said line owner site =
-    are_joined site owner && are_adapters site.port owner.port && not (is_same_end site.port owner.port)
-    && not (is_some (level_of said site.port.node site.port.port line.lid))
+    lacks site owner (level_of said site.port.node site.port.port line.lid)
 
 -- the packet from `site` for the LID of `line`
 abbrev pub pair_of : HeldLid → Site → PacketPair
@@ -39,43 +45,3 @@ missing_at said cells line =
 -- for all held LIDs, the packets without a service level between adapter ports of one component
 abbrev pub missing_levels : LanesSaid → Cells → HeldPlan → List PacketPair
 missing_levels said cells held = flat_map (missing_at said cells) (lines_of held)
-
--- the block of levels of packets from the end port of `site` to the LIDs from 64 times `number` on; None if the text
--- has none
-abbrev pub block_of : LanesSaid → ℕ → Site → Option LevelBlock
-block_of said number site = find (is_block site.port.node site.port.port number) said.levels
-
--- each byte of `block` is a service level, so that packets to each of its LIDs have one
-abbrev pub gives_each : LevelBlock → Bool
-gives_each block = list_all (λ index. nat_lt (slice_index block.levels index) 16) (range_with_len 0 64)
-
--- there is a block, and each of its bytes is a service level
-abbrev pub is_full : Option LevelBlock → Bool
-is_full None = false
-is_full (Some block) = gives_each block
-
--- the end port of `site` with its levels for the LIDs from 64 times `number` on
-abbrev pub sender_at : LanesSaid → ℕ → Site → RowSender
-sender_at said number site = record { site = site; block = block_of said number site }
-
--- the end ports of `sites` whose packets may lack a level for one of the LIDs from 64 times `number` on
-abbrev pub row_of : LanesSaid → List Site → ℕ → List RowSender
-row_of said sites number = filter (λ sender. not (is_full sender.block)) (map (sender_at said number) sites)
-
--- `senders` is the row of `sites` for the LIDs from 64 times `number` on
-abbrev pub IsRow : LanesSaid → List Site → ℕ → List RowSender → Type 0
-IsRow said sites number senders = senders ≡ row_of said sites number
-
--- `sender` and `owner` are different adapter ports of one component, and by the block of `sender` its packets for the
--- LID of `line` have no service level
-abbrev pub sender_lacks : LanesSaid → HeldLid → Site → RowSender → Bool
-sender_lacks said line owner sender =
-    are_joined sender.site owner && are_adapters sender.site.port owner.port
-    && not (is_same_end sender.site.port owner.port)
-    && not (is_some (level_by said.level (line.lid % 64) sender.block))
-
--- the packets without a service level that the end ports of a row send to the LID of `line`, which the end port of
--- `owner` holds
-abbrev pub missing_in_row : LanesSaid → List RowSender → HeldLid → Site → List PacketPair
-missing_in_row said senders line owner =
-    map (λ sender. pair_of line sender.site) (filter (sender_lacks said line owner) senders)

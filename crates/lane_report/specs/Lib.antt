@@ -1,3 +1,0 @@
-pub mod LaneText
-pub mod LevelsMissing
-pub mod RunLaneAudit

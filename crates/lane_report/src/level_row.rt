@@ -1,6 +1,6 @@
 //! The end ports whose packets may lack a service level, for 64 LIDs at a time.
 ghost use Rattle.std.specs.Prelude.{◌≡◌, IfOk};
-ghost use Rattle.lane_report.specs.LevelsMissing.{IsRow, gives_each, is_full, row_of, sender_at};
+ghost use Rattle.lane_report.specs.LevelRow.{IsRow, gives_each, is_full, row_of, sender_at};
 
 use audit_counts::Site;
 use lanes_file::{Lanes, LevelBlock};

@@ -5,7 +5,8 @@ ghost use Rattle.subnet_view.specs.EndPorts.{end_ports};
 ghost use Rattle.audit_counts.specs.FirstFew.{all_listed};
 ghost use Rattle.audit_counts.specs.Sites.{site_of};
 ghost use Rattle.lane_report.specs.declared.levels_missing.PacketPair.{PacketPair as Pair};
-ghost use Rattle.lane_report.specs.LevelsMissing.{missing_in_row, missing_levels, sender_lacks};
+ghost use Rattle.lane_report.specs.LevelRow.{missing_in_row, sender_lacks};
+ghost use Rattle.lane_report.specs.LevelsMissing.{missing_levels};
 
 use crate::level_row::{LevelRow, RowSender};
 use audit_counts::{FirstFew, Site, are_adapters, index_of, site_in, sites};

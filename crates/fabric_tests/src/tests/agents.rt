@@ -221,9 +221,12 @@ fn holds(smp: &Smp, offset: usize, bytes: [u8; 8]) -> bool {
     }
 }
 
-#[test]
-fn each_attribute(rt: HostRuntime) -> Result<(), Fail> {
-    let (mut switch, mut adapter) = (s2(rt.alloc())?, h1(rt.alloc())?);
+/// An attribute and its modifier, an offset, and the eight bytes there that the switch and the adapter answer.
+type Row = (AttributeId, u32, usize, [u8; 8], [u8; 8]);
+
+/// Creates S2 and H1 after Sets of the switch's block 1, top and port, and of the adapter's port.
+fn agents_once_set(alloc: Global) -> Result<(Agent, Agent), AllocError> {
+    let (mut switch, mut adapter) = (s2(alloc)?, h1(alloc)?);
     let mut block = [4; 64];
     block[0] = 255;
     let mut top = [0; 64];
@@ -235,14 +238,28 @@ fn each_attribute(rt: HostRuntime) -> Result<(), Fail> {
     ] {
         ask(&mut switch, SET, attribute, modifier, &payload);
     }
-    ask(
-        &mut adapter,
-        SET,
-        PORT_INFO,
-        0,
-        &port_info(0x0506, 0x0708, 3),
-    );
-    for (attribute, modifier, offset, at_switch, at_adapter) in [
+    let port = port_info(0x0506, 0x0708, 3);
+    ask(&mut adapter, SET, PORT_INFO, 0, &port);
+    Ok((switch, adapter))
+}
+
+/// Returns the index of the first of `rows` that one of the agents answers otherwise, or `None` if there is none.
+fn first_wrong(alloc: Global, rows: &[Row]) -> Result<Option<usize>, AllocError> {
+    let (mut switch, mut adapter) = agents_once_set(alloc)?;
+    for (index, row) in rows.iter().enumerate() {
+        let (attribute, modifier, offset, at_switch, at_adapter) = *row;
+        let told = ask(&mut switch, GET, attribute, modifier, &[0; 64]);
+        let told_there = ask(&mut adapter, GET, attribute, modifier, &[0; 64]);
+        if !holds(&told, offset, at_switch) || !holds(&told_there, offset, at_adapter) {
+            return Ok(Some(index));
+        }
+    }
+    Ok(None)
+}
+
+#[test]
+fn nodes_are_described(rt: HostRuntime) -> Result<(), Fail> {
+    let rows = [
         (NODE_DESCRIPTION, 0, 0, [b'S'; 8], [b'H'; 8]),
         (
             NODE_INFO,
@@ -280,6 +297,15 @@ fn each_attribute(rt: HostRuntime) -> Result<(), Fail> {
             [0, 0, 0, 0, 1, 0, 0, 0],
         ),
         (NODE_INFO, 0, 56, [0; 8], [0; 8]),
+    ];
+    let wrong = first_wrong(rt.alloc(), &rows)?;
+    assert!(rt; wrong.is_none(), "{wrong:?}");
+    Ok(())
+}
+
+#[test]
+fn switch_and_ports_are_told(rt: HostRuntime) -> Result<(), Fail> {
+    let rows = [
         (SWITCH_INFO, 0, 0, [4, 0, 0, 0, 0, 0, 3, 255], [0; 8]),
         (SWITCH_INFO, 0, 8, [0; 8], [0; 8]),
         (PORT_INFO, 0, 0, [0; 8], [0; 8]),
@@ -305,22 +331,22 @@ fn each_attribute(rt: HostRuntime) -> Result<(), Fail> {
             [4, 0, 0, 0, 0, 0, 0, 0],
             [3, 0, 0, 0, 0, 0, 0, 0],
         ),
+    ];
+    let wrong = first_wrong(rt.alloc(), &rows)?;
+    assert!(rt; wrong.is_none(), "{wrong:?}");
+    Ok(())
+}
+
+#[test]
+fn blocks_are_told(rt: HostRuntime) -> Result<(), Fail> {
+    let rows = [
         (TABLE, 0, 56, [255; 8], [0; 8]),
         (TABLE, 1, 0, [255, 4, 4, 4, 4, 4, 4, 4], [0; 8]),
         (TABLE, 1, 56, [4; 8], [0; 8]),
         (TABLE, 2, 0, [255; 8], [0; 8]),
-    ] {
-        let is_right = holds(
-            &ask(&mut switch, GET, attribute, modifier, &[0; 64]),
-            offset,
-            at_switch,
-        ) && holds(
-            &ask(&mut adapter, GET, attribute, modifier, &[0; 64]),
-            offset,
-            at_adapter,
-        );
-        assert!(rt; is_right, "{attribute} {modifier} {offset}");
-    }
+    ];
+    let wrong = first_wrong(rt.alloc(), &rows)?;
+    assert!(rt; wrong.is_none(), "{wrong:?}");
     Ok(())
 }
 

@@ -1,7 +1,7 @@
 use Rattle.std.proofs.Common.{◌≡◌, ◌++◌, ℕ, List, take}
 use Rattle.audit_counts.specs.FirstFew.{all_listed}
 use Rattle.lane_report.specs.declared.levels_missing.PacketPair.{PacketPair}
-use Rattle.lane_report.specs.LevelsMissing.{missing_in_row}
+use Rattle.lane_report.specs.LevelRow.{missing_in_row}
 use Rattle.lane_report.proofs.levels_missing.add_for.Given as goal
 
 -- the packets of the end ports so far

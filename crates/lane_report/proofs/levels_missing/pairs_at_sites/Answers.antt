@@ -9,7 +9,8 @@ use Rattle.audit_counts.specs.FirstFew.{all_listed}
 use Rattle.audit_counts.specs.Sites.{IsSiteOf, site_of}
 use Rattle.audit_counts.proofs.Sited.{no_site, site_is}
 use Rattle.lane_report.specs.declared.level_row.LevelRow.{LevelRow}
-use Rattle.lane_report.specs.LevelsMissing.{IsRow, missing_at, missing_for, missing_in_row, row_of}
+use Rattle.lane_report.specs.LevelRow.{IsRow, missing_in_row, row_of}
+use Rattle.lane_report.specs.LevelsMissing.{missing_at, missing_for}
 use Rattle.lane_report.proofs.Rows.{same_missing}
 use Rattle.lane_report.proofs.Leveled.{flat_all, flat_none, flat_one}
 use Rattle.lane_report.proofs.levels_missing.pairs_at_sites.Goals as goal

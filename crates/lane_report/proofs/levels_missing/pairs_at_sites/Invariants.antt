@@ -2,7 +2,8 @@ use Rattle.std.proofs.Common.{◌≡◌, take}
 use Rattle.std.specs.List.{flat_map}
 use Rattle.fact_store.specs.View.{cells_of}
 use Rattle.audit_counts.specs.FirstFew.{all_listed}
-use Rattle.lane_report.specs.LevelsMissing.{IsRow, missing_at}
+use Rattle.lane_report.specs.LevelRow.{IsRow}
+use Rattle.lane_report.specs.LevelsMissing.{missing_at}
 use Rattle.lane_report.proofs.levels_missing.pairs_at_sites.Given as goal
 
 -- the packets for the LIDs so far, and a row of end ports

@@ -1,0 +1,54 @@
+-- The end ports whose packets may lack a service level, for 64 LIDs at a time: what an audit by lane looks at instead of
+-- all end ports.
+use Rattle.std.specs.Prelude.{ℕ, ◌%◌, ◌≡◌, ◌&&◌, Bool, false, not, List, [], filter, find, map, Option, None, Some, is_some, nat_lt}
+use Rattle.std.specs.Prelude.{slice_index, if◌then◌else◌}
+use Rattle.std.specs.List.{flat_map, list_all, range_with_len}
+use Rattle.subnet_view.specs.Reading.{Cells}
+use Rattle.subnet_view.specs.EndPorts.{end_ports}
+use Rattle.held_tables.specs.declared.held.HeldLid.{HeldLid}
+use Rattle.held_tables.specs.Held.{HeldPlan}
+use Rattle.held_tables.specs.Tables.{is_owner, is_same_end, lines_of}
+use Rattle.audit_counts.specs.declared.site.Site.{Site}
+use Rattle.audit_counts.specs.Sites.{are_adapters, are_joined, site_of}
+use Rattle.lanes_file.specs.Lanes.{LanesSaid, is_block, level_by, level_of}
+use Rattle.lanes_file.specs.declared.lanes.LevelBlock.{LevelBlock}
+use Rattle.lane_report.specs.declared.level_row.RowSender.{RowSender}
+use Rattle.lane_report.specs.declared.levels_missing.PacketPair.{PacketPair}
+use Rattle.lane_report.specs.LevelsMissing.{lacks, pair_of}
+
+-- the block of levels of packets from the end port of `site` to the LIDs from 64 times `number` on; None if the text
+-- has none
+abbrev pub block_of : LanesSaid → ℕ → Site → Option LevelBlock
+block_of said number site = find (is_block site.port.node site.port.port number) said.levels
+
+-- each byte of `block` is a service level, so that packets to each of its LIDs have one
+abbrev pub gives_each : LevelBlock → Bool
+gives_each block = list_all (λ index. nat_lt (slice_index block.levels index) 16) (range_with_len 0 64)
+
+-- there is a block, and each of its bytes is a service level
+abbrev pub is_full : Option LevelBlock → Bool
+is_full None = false
+is_full (Some block) = gives_each block
+
+-- the end port of `site` with its levels for the LIDs from 64 times `number` on
+abbrev pub sender_at : LanesSaid → ℕ → Site → RowSender
+sender_at said number site = record { site = site; block = block_of said number site }
+
+-- the end ports of `sites` whose packets may lack a level for one of the LIDs from 64 times `number` on
+abbrev pub row_of : LanesSaid → List Site → ℕ → List RowSender
+row_of said sites number = filter (λ sender. not (is_full sender.block)) (map (sender_at said number) sites)
+
+-- `senders` is the row of `sites` for the LIDs from 64 times `number` on
+abbrev pub IsRow : LanesSaid → List Site → ℕ → List RowSender → Type 0
+IsRow said sites number senders = senders ≡ row_of said sites number
+
+-- `sender` and `owner` are different adapter ports of one component, and by the block of `sender` its packets for the
+-- LID of `line` have no service level
+abbrev pub sender_lacks : LanesSaid → HeldLid → Site → RowSender → Bool
+sender_lacks said line owner sender = lacks sender.site owner (level_by said.level (line.lid % 64) sender.block)
+
+-- the packets without a service level that the end ports of a row send to the LID of `line`, which the end port of
+-- `owner` holds
+abbrev pub missing_in_row : LanesSaid → List RowSender → HeldLid → Site → List PacketPair
+missing_in_row said senders line owner =
+    map (λ sender. pair_of line sender.site) (filter (sender_lacks said line owner) senders)
