@@ -9,7 +9,7 @@ use Rattle.std.proofs.lemmas.Bool.{eqb-true, ltb-false}
 use Rattle.std.proofs.lemmas.Map.Keys.{IsDistinct-push}
 use Rattle.std.proofs.lemmas.Map.Steps.{length-le_from_distinct_below}
 use Rattle.std.proofs.lemmas.List.Folds.{list_any-append}
-use Rattle.audit_channels.specs.Orders.{Follows, GoesOn, IsCycle}
+use Rattle.audit_channels.specs.ChannelOrders.{Follows, GoesOn, IsCycle}
 use Rattle.audit_channels.specs.Numbers.{has_none, AreGiven}
 use Rattle.audit_channels.proofs.Given.{none_there}
 use Rattle.audit_channels.proofs.Passing.{IsFound, found}

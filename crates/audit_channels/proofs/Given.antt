@@ -8,7 +8,7 @@ use Rattle.std.proofs.lemmas.List.Quantifiers.{position-Some}
 use Rattle.smp_bytes.proofs.Members.{contains_none}
 use Rattle.std.proofs.lemmas.Bool.{cases_lt, eqb-true, eq-eqb, ltb-false}
 use Rattle.std.proofs.lemmas.List.Sums.{sum_by-cons}
-use Rattle.audit_channels.specs.Orders.{Follows, LeadToChannels, Rise}
+use Rattle.audit_channels.specs.ChannelOrders.{Follows, LeadToChannels, Rise}
 use Rattle.audit_channels.specs.Numbers.{has_none, is_held_up, next_number, AreFurther, AreGiven}
 use Rattle.audit_channels.proofs.Passing.{list_any_true}
 

@@ -4,7 +4,7 @@ use Rattle.std.specs.Prelude.{Contains, map, slice_index_or, ◌==◌}
 use Rattle.std.specs.List.{list_any}
 use Rattle.std.proofs.lemmas.Bool.{eqb-true, eq-eqb, cases_lt}
 use Rattle.smp_bytes.proofs.Members.{contains_here, contains_later, contains_cases, contains_none}
-use Rattle.audit_channels.specs.Orders.{AreWith, Follows, LeadToChannels, IsWith}
+use Rattle.audit_channels.specs.ChannelOrders.{AreWith, Follows, LeadToChannels, IsWith}
 use Rattle.audit_channels.proofs.Passing.{found, list_any_true}
 
 blank : (n i : ℕ) → slice_index_or (replicate {A = List ℕ} n []) i [] ≡ []

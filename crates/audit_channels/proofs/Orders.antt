@@ -1,7 +1,7 @@
 -- The order of channels, in terms of packets.
 use Rattle.std.proofs.Common.{◌<◌, ℕ, List, [], ◌∷◌, ◌∙◌, arith}
 use Rattle.std.specs.Prelude.{slice_index_or}
-use Rattle.audit_channels.specs.Orders.{GoesOn, IsCycle, IsOrder, IsShortest}
+use Rattle.audit_channels.specs.ChannelOrders.{GoesOn, IsCycle, IsOrder, IsShortest}
 use Rattle.audit_channels.specs.declared.order.ChannelOrder.{ChannelOrder}
 use Rattle.audit_channels.specs.declared.order.ChannelOrder.TheVariants.{Rises, Cycle}
 use Rattle.subnet_view.specs.Reading.{Cells}

@@ -1,7 +1,7 @@
 -- Numbers that rise along a walk do not come back to the first.
 use Rattle.std.proofs.Common.{◌<◌, ℕ, List, [], ◌∷◌, arith}
 use Rattle.std.specs.Prelude.{slice_index_or}
-use Rattle.audit_channels.specs.Orders.{Rise, GoesOn, NoCycleWhereNumbersRise}
+use Rattle.audit_channels.specs.ChannelOrders.{Rise, GoesOn, NoCycleWhereNumbersRise}
 
 rise_along : (waits : List (List ℕ)) (numbers : List ℕ) → Rise waits numbers → (c last : ℕ) (later : List ℕ) → GoesOn waits c later last
     → slice_index_or numbers c 0 < slice_index_or numbers last 0

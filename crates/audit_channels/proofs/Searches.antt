@@ -4,7 +4,7 @@ use Rattle.std.specs.Prelude.{slice_index_or}
 use Rattle.std.proofs.lemmas.Bool.{cases_lt}
 use Rattle.audit_channels.specs.declared.shortest.Visited.{Visited}
 use Rattle.audit_channels.specs.Numbers.{has_none, AreGiven}
-use Rattle.audit_channels.specs.Orders.{Follows, GoesOn, IsCycle, NoneShorter}
+use Rattle.audit_channels.specs.ChannelOrders.{Follows, GoesOn, IsCycle, NoneShorter}
 use Rattle.audit_channels.specs.Searches.{at_index, HasReached, IsStep, IsSearch, Grows, NoneBelow, IsLeast}
 use Rattle.audit_channels.proofs.Given.{there, none_there, has_none_at, follows_channel}
 

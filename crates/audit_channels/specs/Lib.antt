@@ -2,6 +2,6 @@ pub mod Columns
 pub mod Fabrics
 pub mod Known
 pub mod Numbers
-pub mod Orders
+pub mod ChannelOrders
 pub mod Searches
 pub mod Waiting

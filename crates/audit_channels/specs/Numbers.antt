@@ -1,7 +1,7 @@
 -- Numbers of channels while they are being given. A channel gets a number only if each channel that follows it has one.
 use Rattle.std.specs.Prelude.{◌≡◌, ◌≢◌, ◌<◌, ℕ, ◌==◌, ◌&&◌, not, true, Bool, List, [], length, slice_index_or, if◌then◌else◌}
 use Rattle.std.specs.List.{list_any}
-use Rattle.audit_channels.specs.Orders.{Follows}
+use Rattle.audit_channels.specs.ChannelOrders.{Follows}
 
 -- `channel` has no number yet: its entry is 0
 abbrev pub has_none : List ℕ → ℕ → Bool

@@ -2,7 +2,7 @@
 -- and each is marked with the number of the first channel plus 1.
 use Rattle.std.specs.Prelude.{◌≡◌, ◌<◌, ◌≤◌, ◌+◌, ℕ, List, [], ◌∷◌, length, slice_index_or}
 use Rattle.audit_channels.specs.declared.shortest.Visited.{Visited}
-use Rattle.audit_channels.specs.Orders.{Follows, GoesOn, IsCycle}
+use Rattle.audit_channels.specs.ChannelOrders.{Follows, GoesOn, IsCycle}
 
 -- the entry of `reached` at `index`; a blank one past the end
 abbrev pub at_index : List Visited → ℕ → Visited

@@ -3,7 +3,7 @@
 -- control by credits.
 use Rattle.std.specs.Prelude.{◌≡◌, ◌↔◌, ◌<◌, ◌≤◌, ◌*◌, ℕ, List, [], ◌∷◌, Option, length, slice_index_or}
 use Rattle.port_graph.specs.declared.edge.Edge.{Edge}
-use Rattle.audit_channels.specs.Orders.{Follows}
+use Rattle.audit_channels.specs.ChannelOrders.{Follows}
 use Rattle.audit_channels.specs.Columns.{TakesInTurn}
 use Rattle.audit_channels.specs.declared.order.ChannelOrder.{ChannelOrder}
 use Rattle.audit_channels.specs.declared.order.ChannelOrder.TheVariants.{Rises, Cycle}

@@ -1,6 +1,6 @@
 ghost use Rattle.std.specs.Prelude.{◌≡◌, ◌↔◌, ◌<◌, IfOk, IsTrue, ◌==◌, position, true};
 ghost use Rattle.std.specs.List.{find, list_any};
-ghost use Rattle.audit_channels.specs.Orders.{Follows, IsCycle};
+ghost use Rattle.audit_channels.specs.ChannelOrders.{Follows, IsCycle};
 ghost use Rattle.audit_channels.specs.Numbers.{AreGiven, has_none};
 
 use crate::numbers::has_none;

@@ -2,7 +2,7 @@
 ghost use Rattle.std.specs.Prelude.{◌≡◌, ◌==◌, [], ℕ, OnErr, OnOk, true};
 ghost use Rattle.std.specs.List.{list_any};
 ghost use Rattle.audit_channels.specs.Known.{Knows};
-ghost use Rattle.audit_channels.specs.Orders.{AreWith};
+ghost use Rattle.audit_channels.specs.ChannelOrders.{AreWith};
 
 use crate::known::Known;
 use std::alloc::{AllocError, Global};

@@ -1,6 +1,6 @@
 //! The laws of channels that follow or wait for each other.
 ghost use Rattle.audit_channels.specs.Fabrics.{ChannelsRise};
-ghost use Rattle.audit_channels.specs.Orders.{NoCycleWhereNumbersRise};
+ghost use Rattle.audit_channels.specs.ChannelOrders.{NoCycleWhereNumbersRise};
 ghost use Rattle.audit_channels.specs.Waiting.{NeverBoth};
 
 /// There is no cycle of channels if channels have numbers that rise.

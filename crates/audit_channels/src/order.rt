@@ -1,5 +1,5 @@
 ghost use Rattle.std.specs.Prelude.{IfOk};
-ghost use Rattle.audit_channels.specs.Orders.{IsOrder, IsShortest};
+ghost use Rattle.audit_channels.specs.ChannelOrders.{IsOrder, IsShortest};
 
 use crate::cycle::cycle_from;
 use crate::numbers::{first_without, numbers};

@@ -2,7 +2,7 @@
 ghost use Rattle.std.specs.Prelude.{◌≡◌, ◌<◌, ◌≤◌, ◌+◌, ◌^◌, ℕ, true, None, IfOk, IfSome, OnOk, length};
 ghost use Rattle.std.specs.Prelude.{slice_index_or};
 ghost use Rattle.audit_channels.specs.Numbers.{has_none, AreGiven};
-ghost use Rattle.audit_channels.specs.Orders.{Follows, IsCycle, NoneShorter};
+ghost use Rattle.audit_channels.specs.ChannelOrders.{Follows, IsCycle, NoneShorter};
 ghost use Rattle.audit_channels.specs.Searches.{at_index, HasReached, IsStep, AreWays, IsSearch, Grows};
 ghost use Rattle.audit_channels.specs.Searches.{IsLeast, NoneBelow};
 

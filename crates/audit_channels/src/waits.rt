@@ -1,5 +1,5 @@
 ghost use Rattle.std.specs.Prelude.{◌≡◌, ◌<◌, [], IfOk, OnOk, length, replicate, slice_index_or};
-ghost use Rattle.audit_channels.specs.Orders.{IsWith, LeadToChannels};
+ghost use Rattle.audit_channels.specs.ChannelOrders.{IsWith, LeadToChannels};
 
 use crate::following::Following;
 use std::alloc::{AllocError, Global};
@@ -14,7 +14,7 @@ pub struct Waits {
 
 impl Model for Waits {
     ghost use Rattle.std.specs.Prelude.{List, ℕ, map};
-    ghost use Rattle.audit_channels.specs.Orders.{LeadToChannels};
+    ghost use Rattle.audit_channels.specs.ChannelOrders.{LeadToChannels};
 
     ghost Value = { List (List ℕ) };
 

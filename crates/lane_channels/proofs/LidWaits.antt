@@ -11,7 +11,7 @@ use Rattle.held_tables.specs.Held.{HeldPlan}
 use Rattle.packet_walks.specs.Edges.{edges_of, greatest_top}
 use Rattle.packet_walks.proofs.Tops.{none_above}
 use Rattle.smp_bytes.proofs.Members.{contains_none}
-use Rattle.audit_channels.specs.Orders.{Follows}
+use Rattle.audit_channels.specs.ChannelOrders.{Follows}
 use Rattle.audit_channels.proofs.Waiting.{blank, column_long}
 use Rattle.lanes_file.specs.Lanes.{LanesSaid}
 use Rattle.lane_channels.specs.AnyTables.{AreWaitsByAny, IsDroppedByAny, IsSomeDropByAny, WaitsByAny, columns_for}

@@ -2,7 +2,7 @@
 use Rattle.std.proofs.Common.{ℕ, List, [], ◌∷◌, Bool, arith}
 use Rattle.std.specs.Prelude.{slice_index_or}
 use Rattle.held_tables.specs.Held.{HeldPlan}
-use Rattle.audit_channels.specs.Orders.{GoesOn, IsCycle, IsOrder, IsShortest}
+use Rattle.audit_channels.specs.ChannelOrders.{GoesOn, IsCycle, IsOrder, IsShortest}
 use Rattle.audit_channels.specs.declared.order.ChannelOrder.{ChannelOrder}
 use Rattle.audit_channels.specs.declared.order.ChannelOrder.TheVariants.{Rises, Cycle}
 use Rattle.lane_channels.specs.LaneNetwork.{SeenByLane}

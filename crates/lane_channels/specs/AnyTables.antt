@@ -6,7 +6,7 @@ use Rattle.fact_store.specs.View.{cells_of}
 use Rattle.subnet_view.specs.Reading.{switches}
 use Rattle.held_tables.specs.Held.{HeldPlan}
 use Rattle.packet_walks.specs.Edges.{edges_of}
-use Rattle.audit_channels.specs.Orders.{Follows}
+use Rattle.audit_channels.specs.ChannelOrders.{Follows}
 use Rattle.lane_channels.specs.declared.stop.Dropped.{Dropped}
 use Rattle.lane_channels.specs.LaneNetwork.{SeenByLane}
 use Rattle.lane_channels.specs.Senders.{SentFor}

@@ -2,7 +2,7 @@
 -- stops packets of which level were followed; 4096 marks belong to each switch.
 use Rattle.std.specs.Prelude.{◌≡◌, ◌⊎◌, ◌<◌, ◌≤◌, ◌+◌, ◌*◌, ℕ, ◌==◌, ◌||◌, Bool, List, Option, None, Some, length, nat_le, slice_index_or}
 use Rattle.subnet_view.specs.Reading.{Cells, switches}
-use Rattle.audit_channels.specs.Orders.{Follows}
+use Rattle.audit_channels.specs.ChannelOrders.{Follows}
 use Rattle.lanes_file.specs.Lanes.{LanesSaid}
 use Rattle.lane_channels.specs.declared.stop.Dropped.{Dropped}
 use Rattle.lane_channels.specs.Stops.{Columns, ComesAfter, IsNextStop}

@@ -14,7 +14,7 @@ use Rattle.spread_labels.proofs.Earlier.{filter_more, numbers_more}
 use Rattle.spread_labels.proofs.Growing.{numbers_below, numbers_there}
 use Rattle.subnet_view.specs.SwitchEdges.{SwitchEdges}
 use Rattle.subnet_view.specs.Graph.{guids_of}
-use Rattle.spread_routes.specs.Tables.{with_entries}
+use Rattle.spread_routes.specs.Exits.{with_entries}
 use Rattle.lft_blocks.specs.declared.attachment.Attachment.{Attachment}
 use Rattle.lft_blocks.specs.Entries.{Next, port_to, entry, blocks}
 use Rattle.lft_blocks.specs.Attachments.{meant, AreWithin, AreIndexed}

@@ -6,7 +6,7 @@ ghost use Rattle.subnet_view.specs.Graph.{graph_of, guids_of};
 ghost use Rattle.spread_routes.specs.Adapters.{adapters_of};
 ghost use Rattle.spread_routes.specs.Spread.{spread_at, spread_by};
 ghost use Rattle.spread_routes.specs.SwitchOrders.{order_value_of};
-ghost use Rattle.spread_routes.specs.Tables.{AreTowards};
+ghost use Rattle.spread_routes.specs.Exits.{AreTowards};
 ghost use Rattle.lft_blocks.specs.Attachments.{AreWithin};
 ghost use Rattle.lft_blocks.specs.LidNumbers.{number_of, numbered, numbering_of};
 ghost use Rattle.lft_blocks.specs.Plan.{tables_of};

@@ -1,7 +1,7 @@
 //! The entries of switches by LID, written target by target.
 ghost use Rattle.std.specs.Prelude.{◌≡◌, ◌<◌, ◌≤◌, ◌+◌, ◌*◌, [], All, IfOk, None, length, map, replicate};
 ghost use Rattle.std.specs.Prelude.{slice_index, slice_index_or};
-ghost use Rattle.spread_routes.specs.Tables.{port_by, with_entries};
+ghost use Rattle.spread_routes.specs.Exits.{port_by, with_entries};
 ghost use Rattle.lft_blocks.specs.Attachments.{AreWithin};
 ghost use Rattle.lft_blocks.specs.TableRows.{AreLidsAt, block_of_row, blocks_of_row, entry_by, attachment_port};
 

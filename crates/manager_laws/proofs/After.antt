@@ -30,7 +30,7 @@ use Rattle.sm_manager.specs.declared.outgoing.Outgoing.{Outgoing}
 use Rattle.sm_manager.specs.declared.pending.Pending.{Pending}
 use Rattle.sm_manager.specs.Manager.{Manager, Writing, begin_fault, after_begin_sweep, after_take_outgoing}
 use Rattle.sm_manager.specs.Packets.{Called, answers, unless_spent, after_packet, after_timeout}
-use Rattle.sm_manager.specs.Plans.{writing_fault}
+use Rattle.sm_manager.specs.PlanFaults.{writing_fault}
 use Rattle.sm_manager.specs.ManagerRequests.{counts, is_for_step, is_step, no_step_waits, none_counts, without_number}
 use Rattle.sm_manager.specs.Writing.{is_spent, is_written, is_written_by, next_phase, next_pending, noted, without_empty_phases, phase_sent, after_step, went_on_with}
 use Rattle.manager_laws.specs.Scene.{Handed, Scene, Sending, ByLid, ByPath, Answer, Event, Deliver, Lose, Repeat, Send as SendFrom, after_event}

@@ -14,7 +14,7 @@ use Rattle.sweep.specs.Sweep.{Sweep}
 use Rattle.sm_manager.specs.declared.outgoing.Outgoing.{Outgoing}
 use Rattle.sm_manager.specs.Manager.{Manager, begin_fault, after_begin_sweep, after_take_outgoing, taken_of}
 use Rattle.sm_manager.specs.Packets.{after_packet, after_timeout}
-use Rattle.sm_manager.specs.Plans.{writing_fault}
+use Rattle.sm_manager.specs.PlanFaults.{writing_fault}
 use Rattle.sm_manager.specs.ManagerRequests.{is_for_step}
 use Rattle.sm_manager.specs.Writing.{begun_with, without_empty_phases, phases_by, after_write_steps}
 use Rattle.manager_laws.specs.Scene.{Handed}

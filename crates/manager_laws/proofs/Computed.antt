@@ -39,7 +39,7 @@ use Rattle.sweep.specs.Sweep.{Sweep, started}
 use Rattle.sm_manager.specs.Manager.{Manager}
 use Rattle.lft_blocks.specs.Planning.{Planning}
 use Rattle.sm_manager.specs.declared.fault.ManagerFault.{ManagerFault}
-use Rattle.sm_manager.specs.Plans.{number_fault, or_else, plan_fault}
+use Rattle.sm_manager.specs.PlanFaults.{number_fault, or_else, plan_fault}
 use Rattle.sm_manager.specs.Writing.{phases_by, write_fault_with}
 use Rattle.manager_laws.specs.Scene.{Deliver, Lose, Repeat}
 use Rattle.manager_laws.specs.Managing.{Managing, ManagerEvent, Around, Begin, Write, Take, Send, Hear, TimeOut, Raise, Merge}

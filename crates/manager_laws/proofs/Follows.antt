@@ -34,7 +34,7 @@ use Rattle.sm_manager.specs.Manager.{Manager, Writing, begin_fault}
 use Rattle.sm_manager.specs.Packets.{Called, answered_by, after_timeout, is_for_sweep, is_info_request, packet_taken, pending_for}
 use Rattle.sm_manager.specs.Packets.{request_answered, request_gave_up, after_request}
 use Rattle.sm_manager.specs.Packets.{sweep_answered, sweep_gave_up, sweep_timed_out, after_packet, unless_spent}
-use Rattle.sm_manager.specs.Plans.{writing_fault}
+use Rattle.sm_manager.specs.PlanFaults.{writing_fault}
 use Rattle.sm_manager.specs.ManagerRequests.{counts, no_step_waits, with_number, without_number}
 use Rattle.sm_manager.specs.Served.{acknowledged_at, answering, controlled, is_control, moved_on, replying, request_counted, served}
 use Rattle.sm_manager.specs.Traps.{represses, repressing}

@@ -14,7 +14,7 @@ use Rattle.sm_state.specs.Conducts.{is_live}
 use Rattle.sm_state.specs.Standing.{active_once_more}
 use Rattle.sm_state.specs.declared.conduct.Conduct.{Conduct}
 use Rattle.sm_manager.specs.Manager.{Manager, after_begin_sweep, begin_fault, new_manager, with_sweep}
-use Rattle.sm_manager.specs.Plans.{writing_fault}
+use Rattle.sm_manager.specs.PlanFaults.{writing_fault}
 use Rattle.sm_manager.specs.Writing.{after_write_steps, begun_with, phases_by}
 use Rattle.sm_manager.specs.declared.fault.ManagerFault.TheVariants.{GenerationsSpent}
 use Rattle.manager_laws.specs.Complete.{IsWhole}

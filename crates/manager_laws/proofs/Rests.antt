@@ -13,7 +13,7 @@ use Rattle.sm_manager.specs.Manager.{Manager, begin_fault, after_begin_sweep}
 use Rattle.sm_manager.specs.Packets.{Called, after_timeout, is_for_sweep, is_info_request, packet_taken, pending_for, request_answered, request_gave_up}
 use Rattle.sm_manager.specs.Packets.{sweep_answered, sweep_gave_up, after_packet}
 use Rattle.plan_steps.specs.Bound.{most_steps}
-use Rattle.sm_manager.specs.Plans.{number_fault, or_else, plan_fault, writing_fault}
+use Rattle.sm_manager.specs.PlanFaults.{number_fault, or_else, plan_fault, writing_fault}
 use Rattle.fact_store.specs.View.{cells_of}
 use Rattle.sm_manager.specs.ManagerRequests.{with_number}
 use Rattle.sm_manager.specs.Writing.{write_fault_with}

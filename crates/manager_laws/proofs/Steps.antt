@@ -36,8 +36,8 @@ use Rattle.plan_steps.specs.declared.step.Step.{Step}
 use Rattle.plan_steps.specs.declared.carried.PortRead.{PortRead}
 use Rattle.plan_steps.specs.Carried.{carried_switch, port_read}
 use Rattle.plan_steps.specs.Step.{step_at}
-use Rattle.plan_steps.specs.Lids.{port_data, lid_step, owner_step, lid_steps}
-use Rattle.plan_steps.specs.Tables.{block_step, switch_steps, block_steps, top_data, top_step, top_steps}
+use Rattle.plan_steps.specs.LidSets.{port_data, lid_step, owner_step, lid_steps}
+use Rattle.plan_steps.specs.TableSets.{block_step, switch_steps, block_steps, top_data, top_step, top_steps}
 use Rattle.plan_steps.specs.States.{wired_ports, is_due, vertex_port, state_data, state_step, state_steps}
 use Rattle.plan_steps.specs.Phases.{Phase, phases_by}
 use Rattle.plan_steps.proofs.SetLaws.{carried_switch_whole, port_data_whole, range-port_data, says_top}

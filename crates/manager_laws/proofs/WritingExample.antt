@@ -17,7 +17,7 @@ use Rattle.plan_steps.specs.Phases.{Phase}
 use Rattle.fabric_sim.specs.Simulation.{fabric_of}
 use Rattle.fabric_sim.specs.Changes.{after_inject, cabled_at, after_lose, after_repeat}
 use Rattle.fabric_sim.specs.Delivery.{outcome_of, after_deliver}
-use Rattle.sm_manager.specs.Plans.{writing_fault}
+use Rattle.sm_manager.specs.PlanFaults.{writing_fault}
 use Rattle.sm_manager.specs.Writing.{begun_with, is_written}
 use Rattle.manager_laws.proofs.Lists.{all_append}
 use Rattle.manager_laws.specs.Managing.{Managing, ManagerEvent, Around, Begin, Write, Take, Send, Hear}

@@ -15,7 +15,7 @@ use Rattle.sweep.specs.Sweep.{Sweep, path_to}
 use Rattle.lft_blocks.specs.Planning.{Planning}
 use Rattle.sm_state.specs.declared.conduct.Conduct.{Conduct}
 use Rattle.sm_manager.specs.Manager.{begin_fault, new_manager}
-use Rattle.sm_manager.specs.Plans.{writing_fault}
+use Rattle.sm_manager.specs.PlanFaults.{writing_fault}
 use Rattle.sm_manager.specs.Writing.{is_written, phases_by}
 use Rattle.manager_laws.specs.Truth.{HasNode}
 use Rattle.manager_laws.specs.Managing.{Managing, ManagerEvent, Around, Begin, Write, CanBe, Starts, after_manager_event, after_manager_events}

@@ -18,7 +18,7 @@ use Rattle.sm_manager.specs.declared.pending.Pending.{Pending}
 use Rattle.sm_manager.specs.Manager.{Manager, Writing, after_begin_sweep, begin_fault, taken_of}
 use Rattle.sm_manager.specs.ManagerRequests.{counts, is_for_step, is_step, no_step_waits, without_number}
 use Rattle.sm_manager.specs.Packets.{Called, after_packet, after_timeout, unless_spent}
-use Rattle.sm_manager.specs.Plans.{writing_fault}
+use Rattle.sm_manager.specs.PlanFaults.{writing_fault}
 use Rattle.sm_manager.specs.Writing.{after_step, after_write_steps, is_spent, next_phase, noted, phase_sent, phases_by, steps_out, went_on_with, without_empty_phases}
 use Rattle.manager_laws.specs.Scene.{Handed, after_event}
 use Rattle.manager_laws.specs.Managing.{Managing, ManagerEvent, Around, Begin, Write, Take, Send, Hear, TimeOut, Raise, Merge, Poll, HandOver}

@@ -26,7 +26,7 @@ use Rattle.fabric_sim.specs.Simulation.{fabric_of}
 use Rattle.fabric_sim.specs.Delivery.{outcome_of, after_deliver}
 use Rattle.fabric_sim.specs.Changes.{after_inject, after_lose, cabled_at}
 use Rattle.sm_manager.specs.declared.fault.ManagerFault.{ManagerFault}
-use Rattle.sm_manager.specs.Plans.{writing_fault}
+use Rattle.sm_manager.specs.PlanFaults.{writing_fault}
 use Rattle.sm_manager.specs.Manager.{Manager, begin_fault, newest_held}
 use Rattle.manager_laws.specs.Scene.{Deliver, Lose, Repeat}
 use Rattle.manager_laws.specs.Managing as one

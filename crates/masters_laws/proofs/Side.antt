@@ -20,7 +20,7 @@ use Rattle.sweep.specs.Sweep.{Sweep}
 use Rattle.sm_manager.specs.declared.outgoing.Outgoing.{Outgoing}
 use Rattle.sm_manager.specs.Calls as calls
 use Rattle.sm_manager.specs.Manager.{after_begin_sweep, begin_fault}
-use Rattle.sm_manager.specs.Plans.{writing_fault}
+use Rattle.sm_manager.specs.PlanFaults.{writing_fault}
 use Rattle.sm_manager.specs.Writing.{phases_by}
 use Rattle.sm_manager.proofs.Lives.{planning_stays}
 use Rattle.manager_laws.specs.Complete.{facts_of}

@@ -16,7 +16,7 @@ use Rattle.lft_blocks.specs.Plan.{PlanValue}
 use Rattle.lft_blocks.specs.Planning.{Planning}
 use Rattle.sweep.specs.Sweep.{Sweep}
 use Rattle.sm_manager.specs.Manager.{begin_fault}
-use Rattle.sm_manager.specs.Plans.{writing_fault}
+use Rattle.sm_manager.specs.PlanFaults.{writing_fault}
 use Rattle.sm_manager.specs.Writing.{is_written}
 use Rattle.manager_laws.specs.Complete.{IsWhole}
 use Rattle.manager_laws.specs.Scene.{Event, Deliver, Lose, Repeat, Send as SendFrom}

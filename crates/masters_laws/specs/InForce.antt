@@ -13,7 +13,7 @@ use Rattle.lft_blocks.specs.Plan.{PlanValue}
 use Rattle.lft_blocks.specs.Arrival.{HoldsPlan}
 use Rattle.lft_blocks.specs.Planning.{Planning}
 use Rattle.sm_manager.specs.Manager.{new_manager}
-use Rattle.sm_manager.specs.Plans.{writing_fault}
+use Rattle.sm_manager.specs.PlanFaults.{writing_fault}
 use Rattle.manager_laws.specs.Managing as one
 use Rattle.sm_manager.specs.Writing.{is_written}
 use Rattle.manager_laws.specs.Written.{BeginsNoWriting, plan_at}

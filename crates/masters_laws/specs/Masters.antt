@@ -8,7 +8,7 @@ use Rattle.fact_store.specs.View.{cells_of}
 use Rattle.sweep.specs.Sweep.{Sweep}
 use Rattle.sm_manager.specs.declared.outgoing.Outgoing.{Outgoing}
 use Rattle.sm_manager.specs.Manager.{Manager, begin_fault}
-use Rattle.sm_manager.specs.Plans.{writing_fault}
+use Rattle.sm_manager.specs.PlanFaults.{writing_fault}
 use Rattle.manager_laws.specs.Scene as around
 use Rattle.manager_laws.specs.Scene.{Scene, ByLid, ByPath, Event, CanHappen, IsQuiet, after_event}
 use Rattle.manager_laws.specs.Managing as one

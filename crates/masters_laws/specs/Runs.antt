@@ -1,7 +1,7 @@
 -- What one of several managers does on its own: the packets that it gives out, and its own run.
 use Rattle.std.specs.Prelude.{◌≡◌, ℕ, true, List, [], ◌∷◌, All, slice_get, Some, None}
 use Rattle.sm_manager.specs.declared.outgoing.Outgoing.{Outgoing}
-use Rattle.sm_manager.specs.Plans.{writing_fault}
+use Rattle.sm_manager.specs.PlanFaults.{writing_fault}
 use Rattle.manager_laws.specs.Scene.{Sending, CanSend, sent, sent_from}
 use Rattle.manager_laws.specs.Managing as one
 use Rattle.manager_laws.specs.Managing.{Managing, ManagerEvent, Starts, packet_of, after_manager_events}

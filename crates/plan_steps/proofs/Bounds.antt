@@ -19,9 +19,9 @@ use Rattle.lft_blocks.specs.Entries.{block_count}
 use Rattle.lft_blocks.specs.Plan.{SwitchTable, plan_of, switches_of}
 use Rattle.sweep.specs.Sweep.{Sweep}
 use Rattle.plan_steps.specs.Bound.{PhaseBoundLaw}
-use Rattle.plan_steps.specs.Lids.{owner_step}
+use Rattle.plan_steps.specs.LidSets.{owner_step}
 use Rattle.plan_steps.specs.States.{state_step, state_steps, wired_port, wired_ports}
-use Rattle.plan_steps.specs.Tables.{block_step, switch_steps, top_step, top_steps}
+use Rattle.plan_steps.specs.TableSets.{block_step, switch_steps, top_step, top_steps}
 
 -- lists ------------------------------------------------------------------------------------------
 

@@ -15,7 +15,7 @@ use Rattle.subnet_view.proofs.EndPortList.{end_ports_law}
 use Rattle.subnet_view.proofs.Members.{contains_here, contains_later, contains_cases, contains_none}
 use Rattle.lid_assign.specs.Lids.{lids}
 use Rattle.lid_assign.proofs.LidLaws.{ports-lids}
-use Rattle.plan_steps.specs.Lids.{is_own_port, own_lid, IsOwnPort, IsOwnLidOr0, OwnLidLaw}
+use Rattle.plan_steps.specs.LidSets.{is_own_port, own_lid, IsOwnPort, IsOwnLidOr0, OwnLidLaw}
 
 -- the order of end ports of one GUID and number ----------------------------------------------
 

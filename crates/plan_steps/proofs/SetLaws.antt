@@ -21,11 +21,11 @@ use Rattle.sweep.specs.Sweep.{Sweep, path_to, seen_state}
 use Rattle.plan_steps.specs.declared.step.Step.{Step}
 use Rattle.attr_codec.proofs.PortStates.{state_small}
 use Rattle.plan_steps.specs.Carried.{Change, carried_port, carried_switch, client_reregister, copied, hoq_life, link_local_prefix, link_speed_enabled, link_speed_ext_enabled, link_width_enabled, or_default, port_changes, subnet_timeout, switch_changes, mtu_cap, mtu_of, neighbor_mtu, port_read}
-use Rattle.plan_steps.specs.Lids.{port_data}
+use Rattle.plan_steps.specs.LidSets.{port_data}
 use Rattle.plan_steps.specs.States.{is_due, state_data, vertex_port}
 use Rattle.plan_steps.specs.Step.{step_at}
 use Rattle.plan_steps.specs.SetLaws.{CarriesPort, CarriesSwitch, LidAndStateAgree, SaysPort, SaysTop, SetsChangeNothingElse, SetsSayThePlan}
-use Rattle.plan_steps.specs.Tables.{top_data}
+use Rattle.plan_steps.specs.TableSets.{top_data}
 use Rattle.plan_steps.proofs.Changed.{AllFit, Fits, bits_in-changed, bits_in-changed_apart, bits_in-with_number, number_in-changed_apart, whole-changed}
 use Rattle.plan_steps.proofs.Whole.{IsWhole, copied_is, copied_whole, whole-with_bits, whole-with_number, whole_zeros}
 use Rattle.plan_steps.specs.declared.carried.PortRead.{PortRead}

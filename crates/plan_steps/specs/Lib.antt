@@ -1,7 +1,7 @@
 pub mod Step
 pub mod Carried
-pub mod Lids
-pub mod Tables
+pub mod LidSets
+pub mod TableSets
 pub mod States
 pub mod Phases
 pub mod Bound

@@ -6,8 +6,8 @@ use Rattle.subnet_view.specs.Reading.{Cells}
 use Rattle.lft_blocks.specs.Plan.{PlanValue}
 use Rattle.sweep.specs.Sweep.{Sweep}
 use Rattle.plan_steps.specs.declared.step.Step.{Step}
-use Rattle.plan_steps.specs.Lids.{own_lid, lid_steps}
-use Rattle.plan_steps.specs.Tables.{block_steps, top_steps}
+use Rattle.plan_steps.specs.LidSets.{own_lid, lid_steps}
+use Rattle.plan_steps.specs.TableSets.{block_steps, top_steps}
 use Rattle.plan_steps.specs.States.{state_steps}
 
 -- the steps of a phase, and whether the plan counts as written only if all of them succeed

@@ -13,9 +13,9 @@ use Rattle.sweep.specs.Sweep.{Sweep}
 use Rattle.plan_steps.specs.declared.step.Step.{Step}
 use Rattle.plan_steps.specs.declared.carried.PortRead.{PortRead}
 use Rattle.plan_steps.specs.Carried.{Change, link_local_prefix, or_default, port_changes, switch_changes}
-use Rattle.plan_steps.specs.Lids.{lid_step, port_data}
+use Rattle.plan_steps.specs.LidSets.{lid_step, port_data}
 use Rattle.plan_steps.specs.States.{state_step}
-use Rattle.plan_steps.specs.Tables.{top_data}
+use Rattle.plan_steps.specs.TableSets.{top_data}
 
 -- what the plan asks for ---------------------------------------------------------------------------
 

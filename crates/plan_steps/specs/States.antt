@@ -20,7 +20,7 @@ use Rattle.plan_steps.specs.declared.step.Step.{Step}
 use Rattle.plan_steps.specs.declared.carried.PortRead.{PortRead}
 use Rattle.plan_steps.specs.Carried.{port_read}
 use Rattle.plan_steps.specs.Step.{step_at}
-use Rattle.plan_steps.specs.Lids.{port_data}
+use Rattle.plan_steps.specs.LidSets.{port_data}
 
 -- the port whose link a cell says; None if the cell is of no link, or the port is not on a wire
 abbrev pub wired_port : Cells → Key × Cell Value → Option (ℕ × ℕ)

@@ -1,6 +1,6 @@
 //! Laws of the steps of a plan.
 ghost use Rattle.plan_steps.specs.Bound.{PhaseBoundLaw};
-ghost use Rattle.plan_steps.specs.Lids.{OwnLidLaw};
+ghost use Rattle.plan_steps.specs.LidSets.{OwnLidLaw};
 ghost use Rattle.plan_steps.specs.SetLaws.{LidAndStateAgree, SetsChangeNothingElse, SetsSayThePlan};
 ghost use Rattle.plan_steps.specs.States.{WiredPortsLaw};
 

@@ -10,7 +10,7 @@ use Rattle.fabric_sim.specs.Simulation.{fabric_of}
 use Rattle.fact_store.specs.View.{cells_of}
 use Rattle.lft_blocks.specs.Plan.{PlanValue, plan_of}
 use Rattle.sm_manager.specs.Manager.{Manager, begin_fault, new_manager, after_begin_sweep}
-use Rattle.sm_manager.specs.Plans.{writing_fault}
+use Rattle.sm_manager.specs.PlanFaults.{writing_fault}
 use Rattle.sm_manager.specs.Writing.{is_written, phases_by, after_write_steps}
 use Rattle.sm_manager.specs.declared.fault.ManagerFault.{ManagerFault}
 use Rattle.sm_manager.specs.declared.fault.ManagerFault.TheVariants.{GenerationsSpent}

@@ -24,7 +24,7 @@ use Rattle.fabric_sim.specs.Changes.{after_inject, cabled_at, after_lose, after_
 use Rattle.fabric_sim.specs.Delivery.{outcome_of, after_deliver}
 use Rattle.sm_manager.specs.Manager.{Manager, new_manager, after_begin_sweep}
 use Rattle.sm_manager.specs.declared.fault.ManagerFault.{ManagerFault}
-use Rattle.sm_manager.specs.Plans.{writing_fault}
+use Rattle.sm_manager.specs.PlanFaults.{writing_fault}
 use Rattle.sm_manager.specs.Writing.{begun_with, is_written, phases_by, after_write_steps}
 use Rattle.manager_laws.specs.Sets.{IsOwnSet, OwnSets}
 use Rattle.manager_laws.proofs.Computed.{delivery_keeps, in_pairs, is_kept}

@@ -33,7 +33,7 @@ use Rattle.sm_manager.specs.Election.{after_handover, handover_fault, successor_
 use Rattle.sm_manager.specs.Manager.{Manager, begin_fault, after_raise_floor, after_merge, outstanding, after_begin_sweep}
 use Rattle.sm_manager.specs.Packets as manager
 use Rattle.sm_manager.specs.Packets.{after_packet, done}
-use Rattle.sm_manager.specs.Plans.{writing_fault}
+use Rattle.sm_manager.specs.PlanFaults.{writing_fault}
 use Rattle.sm_manager.specs.Writing.{after_write_steps}
 use Rattle.sm_manager.proofs.Refusals.{packet_leaves}
 use Rattle.sm_manager.proofs.Lives.{Keeps, handing_keeps, planning_stays, takes_call, timeout_keeps}

@@ -14,7 +14,7 @@ use Rattle.sweep.specs.Sweep.{Sweep}
 use Rattle.lft_blocks.specs.Planning.{Planning}
 use Rattle.sm_state.specs.declared.conduct.Conduct.{Conduct}
 use Rattle.sm_manager.specs.Manager.{Manager, new_manager}
-use Rattle.sm_manager.specs.Plans.{writing_fault}
+use Rattle.sm_manager.specs.PlanFaults.{writing_fault}
 use Rattle.sm_manager.specs.Writing.{phases_by}
 use Rattle.manager_laws.specs.Scene as around
 use Rattle.manager_laws.specs.Truth.{AreGuidsDistinct}

@@ -13,7 +13,7 @@ use Rattle.schedule_file.specs.declared.command.Shown.TheVariants.{Facts, Plan, 
 use Rattle.sm_manager.specs.Election.{after_handover, after_poll, handover_fault, poll_fault}
 use Rattle.sm_manager.specs.Fault.{manager_fault_name}
 use Rattle.sm_manager.specs.Manager.{Manager, after_begin_sweep, begin_fault, progress_of, silent_in}
-use Rattle.sm_manager.specs.Plans.{plan_fault, writing_fault}
+use Rattle.sm_manager.specs.PlanFaults.{plan_fault, writing_fault}
 use Rattle.sm_manager.specs.Writing.{after_write_steps, is_written}
 use Rattle.sm_manager.specs.declared.fault.ManagerFault.{ManagerFault}
 use Rattle.schedule_lines.specs.Lines.{progress_line, silent_line, state_line, written_line}

@@ -3,7 +3,7 @@ ghost use Rattle.fact_store.specs.View.{cells_of};
 ghost use Rattle.schedule_lines.specs.Asked.{plan_or_refusal, text_of};
 ghost use Rattle.schedule_lines.specs.Lines.{name_of, trap_text};
 ghost use Rattle.schedule_lines.specs.Prints.{PrintsUnless};
-ghost use Rattle.sm_manager.specs.Plans.{plan_fault};
+ghost use Rattle.sm_manager.specs.PlanFaults.{plan_fault};
 
 use crate::manager_lines::{write_progress, write_silent, write_state, write_trap, write_written};
 use crate::refusals::refuse_manager;

@@ -8,7 +8,7 @@ use Rattle.sm_state.specs.declared.conduct.Conduct.{Conduct}
 use Rattle.schedule_lines.specs.Asked.{plan_or_refusal}
 use Rattle.sm_manager.specs.Calls.{KnowTheSame, after_calls}
 use Rattle.sm_manager.specs.Manager.{Manager, new_manager}
-use Rattle.sm_manager.specs.Plans.{plan_fault}
+use Rattle.sm_manager.specs.PlanFaults.{plan_fault}
 use Rattle.sm_manager.proofs.Lives.{knows_what_it_took_in, planning_of_calls, same_taken_in_same_plan}
 use Rattle.serve_lines.specs.declared.line.ServeLine.TheVariants as is
 use Rattle.schedule_file.specs.declared.command.Shown.TheVariants as shown

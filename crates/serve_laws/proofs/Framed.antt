@@ -47,7 +47,7 @@ use Rattle.sm_state.specs.declared.state.SmState.TheVariants.{NotActive, Discove
 use Rattle.sm_manager.specs.Manager.{outstanding, progress_of, silent_in}
 use Rattle.sm_manager.specs.Packets.{after_packet, after_timeout, trap_told}
 use Rattle.sm_manager.specs.declared.traps.Trap.{Trap}
-use Rattle.sm_manager.specs.Plans.{plan_fault}
+use Rattle.sm_manager.specs.PlanFaults.{plan_fault}
 use Rattle.sm_manager.specs.Writing.{is_written}
 use Rattle.sm_manager.specs.declared.progress.Progress.{Progress}
 use Rattle.sm_manager.specs.declared.progress.Progress.TheVariants.{Never, Running, Done}

@@ -19,7 +19,7 @@ use Rattle.fabric_sim.specs.Delivery.{outcome_of, after_deliver}
 use Rattle.schedule_file.specs.declared.command.Ask.TheVariants as ask
 use Rattle.schedule_lines.specs.Asked.{emptied}
 use Rattle.sm_manager.specs.Manager.{Manager, new_manager, after_begin_sweep}
-use Rattle.sm_manager.specs.Plans.{writing_fault}
+use Rattle.sm_manager.specs.PlanFaults.{writing_fault}
 use Rattle.sm_manager.specs.Writing.{after_write_steps, begun_with, is_written}
 use Rattle.manager_laws.specs.Scene.{Deliver, Lose, Repeat, Send as SendFrom}
 use Rattle.manager_laws.proofs.Lists.{all_append, all_tested}

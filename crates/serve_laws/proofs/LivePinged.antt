@@ -6,7 +6,7 @@ use Rattle.fact_store.specs.View.{cells_of}
 use Rattle.lft_blocks.specs.Plan.{PlanValue}
 use Rattle.schedule_file.specs.declared.command.Ask.TheVariants as ask
 use Rattle.sm_manager.specs.Manager.{outstanding}
-use Rattle.sm_manager.specs.Plans.{writing_fault}
+use Rattle.sm_manager.specs.PlanFaults.{writing_fault}
 use Rattle.sm_manager.specs.Writing.{is_written}
 use Rattle.sm_manager.specs.declared.outgoing.Outgoing.{Outgoing}
 use Rattle.manager_laws.specs.Managing as managing

@@ -8,7 +8,7 @@ use Rattle.sm_manager.specs.Calls.{Call, after_call, after_calls}
 use Rattle.sm_manager.specs.Election.{after_handover, after_poll, handover_fault, poll_fault}
 use Rattle.sm_manager.specs.Manager.{Manager, after_begin_sweep, begin_fault, outstanding}
 use Rattle.sm_manager.specs.Packets.{after_timeout}
-use Rattle.sm_manager.specs.Plans.{writing_fault}
+use Rattle.sm_manager.specs.PlanFaults.{writing_fault}
 use Rattle.sm_manager.specs.Writing.{after_write_steps}
 use Rattle.sm_manager.specs.declared.fault.ManagerFault.{ManagerFault}
 use Rattle.sm_manager.specs.declared.outgoing.Outgoing.{Outgoing}

@@ -5,7 +5,7 @@ use Rattle.sweep.specs.Sweep.{Sweep}
 use Rattle.lft_blocks.specs.Plan.{PlanValue}
 use Rattle.schedule_file.specs.declared.command.Ask.TheVariants as ask
 use Rattle.sm_manager.specs.Manager.{begin_fault}
-use Rattle.sm_manager.specs.Plans.{writing_fault}
+use Rattle.sm_manager.specs.PlanFaults.{writing_fault}
 use Rattle.sm_manager.specs.Writing.{is_written}
 use Rattle.manager_laws.specs.Complete.{IsWhole}
 use Rattle.manager_laws.specs.Managing.{Managing, Starts, after_manager_events}

@@ -35,7 +35,7 @@ use Rattle.sm_manager.specs.Election.{asked, control_out, after_handover, handed
 use Rattle.sm_manager.specs.Manager.{Manager, Writing, begin_fault, new_manager, after_begin_sweep, taken_of}
 use Rattle.sm_manager.specs.Packets.{Called, answered_by, answers, after_timeout, is_for_sweep, is_info_request, packet_taken, pending_for, refused, request_answered}
 use Rattle.sm_manager.specs.Packets.{done as done_call, request_gave_up, after_request, sweep_answered, sweep_gave_up, sweep_timed_out, unless_spent}
-use Rattle.sm_manager.specs.Plans.{writing_fault}
+use Rattle.sm_manager.specs.PlanFaults.{writing_fault}
 use Rattle.sm_manager.specs.ManagerRequests.{counts, how_many, is_step, no_step_waits, none_counts, with_number, without_number}
 use Rattle.sm_manager.specs.Served.{acknowledged_at, answering, controlled, request_counted, is_control, moved_on, replying, request_counted, served}
 use Rattle.sm_manager.specs.Traps.{represses, repressing}

@@ -8,7 +8,7 @@ use Rattle.lid_assign.specs.declared.fault.NoRoom.{NoRoom}
 use Rattle.lid_assign.specs.LidFault.{no_room}
 use Rattle.lid_assign.specs.Lids.{IsNoRoom, is_no_room}
 use Rattle.plan_steps.specs.Bound.{most_steps}
-use Rattle.plan_steps.specs.Lids.{own_lid}
+use Rattle.plan_steps.specs.LidSets.{own_lid}
 use Rattle.plan_steps.specs.Phases.{Phase}
 use Rattle.plan_steps.proofs.Bounds.{phase_bound_law}
 use Rattle.lft_blocks.specs.Plan.{plan_of}
@@ -21,7 +21,7 @@ use Rattle.sm_manager.specs.declared.fault.ManagerFault.TheVariants.{NotMaster, 
 use Rattle.sm_manager.specs.Fault.{is_memory}
 use Rattle.sm_manager.specs.Manager.{Manager}
 use Rattle.sm_manager.specs.ManagerRequests.{no_step_waits}
-use Rattle.sm_manager.specs.Plans.{number_fault, or_else, plan_fault, room_fault, unless_numbers, writing_fault}
+use Rattle.sm_manager.specs.PlanFaults.{number_fault, or_else, plan_fault, room_fault, unless_numbers, writing_fault}
 use Rattle.sm_manager.specs.Writing.{next_phase, without_empty_phases, phases_by, write_fault, write_fault_with}
 use Rattle.sm_manager.proofs.Over.{numbers_there}
 

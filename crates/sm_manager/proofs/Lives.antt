@@ -29,7 +29,7 @@ use Rattle.sm_manager.specs.Election.{after_handover, handed_to, handover_fault,
 use Rattle.sm_manager.specs.Served.{acknowledged_at, answering, controlled, request_counted, is_control, moved_on, replying, served}
 use Rattle.sm_manager.specs.Traps.{represses, repressing}
 use Rattle.sm_state.specs.Standing.{moved_to}
-use Rattle.sm_manager.specs.Plans.{writing_fault}
+use Rattle.sm_manager.specs.PlanFaults.{writing_fault}
 use Rattle.sm_manager.specs.ManagerRequests.{counts, no_step_waits, with_number, without_number}
 use Rattle.sm_state.specs.declared.event.Event.TheVariants as event
 use Rattle.sm_state.specs.declared.event.Message.{Message}

@@ -12,7 +12,7 @@ use Rattle.sm_state.specs.Transitions.{status_of, stepped}
 use Rattle.sm_manager.specs.Election.{after_message, message_count, message_out, message_pending}
 use Rattle.sm_manager.specs.Manager.{Manager}
 use Rattle.sm_manager.specs.Packets.{done, refused, unless_spent}
-use Rattle.sm_manager.specs.Plans.{number_fault}
+use Rattle.sm_manager.specs.PlanFaults.{number_fault}
 use Rattle.sm_manager.specs.Served.{acknowledged_at, answering, controlled}
 use Rattle.sm_manager.specs.declared.fault.ManagerFault.TheVariants as fault
 

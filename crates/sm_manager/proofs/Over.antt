@@ -10,7 +10,7 @@ use Rattle.sm_manager.specs.declared.outgoing.Outgoing.{Outgoing}
 use Rattle.sm_manager.specs.declared.pending.Pending.{Pending}
 use Rattle.sm_manager.specs.Manager.{Manager, Writing}
 use Rattle.sm_manager.specs.Packets.{refused, done, unless_spent}
-use Rattle.sm_manager.specs.Plans.{number_fault}
+use Rattle.sm_manager.specs.PlanFaults.{number_fault}
 use Rattle.sm_manager.specs.ManagerRequests.{AreNumbered, counts, how_many, is_step, no_step_waits, without_number}
 use Rattle.sm_manager.specs.Writing.{count_after, count_with, is_spent, next_pending, next_phase, noted, without_empty_phases}
 use Rattle.sm_manager.specs.Writing.{phase_sent, steps_out, after_step, went_on_with}

@@ -24,7 +24,7 @@ use Rattle.sm_state.specs.declared.election.SeenManager.{SeenManager}
 use Rattle.sm_manager.specs.declared.fault.ManagerFault.{ManagerFault}
 use Rattle.sm_manager.specs.Election.{control_out, control_sent, after_handover, handover_move, successor, successor_fault, successor_lid, successor_port, info_pending, port_seen, after_message, unless_lid}
 use Rattle.sm_manager.specs.Manager.{Manager}
-use Rattle.sm_manager.specs.Plans.{number_fault, or_else, plan_fault, room_fault, unless_numbers}
+use Rattle.sm_manager.specs.PlanFaults.{number_fault, or_else, plan_fault, room_fault, unless_numbers}
 use Rattle.sm_manager.specs.declared.fault.ManagerFault.TheVariants.{Nobody}
 use Rattle.sm_manager.proofs.Begun.{unless_so_many}
 use Rattle.sm_state.specs.Standing.{moved_to}

@@ -18,7 +18,7 @@ use Rattle.sm_manager.specs.Packets.{after_packet, after_timeout, is_for_sweep, 
 use Rattle.lft_blocks.specs.Planning.{Planning}
 use Rattle.sm_state.specs.declared.conduct.Conduct.{Conduct}
 use Rattle.sm_manager.specs.Traps.{represses}
-use Rattle.sm_manager.specs.Plans.{writing_fault}
+use Rattle.sm_manager.specs.PlanFaults.{writing_fault}
 use Rattle.sm_manager.specs.Writing.{after_write_steps}
 
 -- a call that may change a manager. `Packet` brings bytes to its port; `from` is the LID of their sender, if that is

@@ -27,7 +27,7 @@ use Rattle.sm_state.specs.declared.election.SeenManager.{SeenManager}
 use Rattle.sm_state.specs.declared.standing.Standing.{Standing}
 use Rattle.sweep.specs.Sweep.{Sweep, path_to}
 use Rattle.sm_manager.specs.Manager.{Manager}
-use Rattle.sm_manager.specs.Plans.{number_fault, or_else, plan_fault}
+use Rattle.sm_manager.specs.PlanFaults.{number_fault, or_else, plan_fault}
 use Rattle.sm_state.specs.Election.{polled_of, successor_of}
 use Rattle.sm_state.specs.Standing.{info_of, info_with, is_in, moved_to}
 

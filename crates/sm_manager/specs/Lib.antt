@@ -8,7 +8,7 @@ pub mod Manager
 pub mod ManagerRequests
 pub mod NotedManagers
 pub mod Packets
-pub mod Plans
+pub mod PlanFaults
 pub mod PollLaws
 pub mod Served
 pub mod Traps

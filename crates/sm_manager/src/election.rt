@@ -15,7 +15,7 @@ ghost use Rattle.sm_manager.specs.declared.pending.Purpose.TheVariants.{Control 
 ghost use Rattle.sm_state.specs.Controls.{modifier_of_control};
 ghost use Rattle.sm_manager.specs.Fault.{is_memory};
 ghost use Rattle.sm_manager.specs.Manager.{after_verdict};
-ghost use Rattle.sm_manager.specs.Plans.{or_else, plan_fault};
+ghost use Rattle.sm_manager.specs.PlanFaults.{or_else, plan_fault};
 
 use crate::fault::ManagerFault;
 use crate::manager::Manager;

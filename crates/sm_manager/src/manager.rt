@@ -7,7 +7,7 @@ ghost use Rattle.sm_manager.specs.Manager.{outstanding, progress_of, after_begin
 ghost use Rattle.sm_manager.specs.Manager.{is_running, silent_in};
 ghost use Rattle.smp_bytes.specs.Judges.{JudgesButFor};
 ghost use Rattle.sm_manager.specs.Fault.{is_memory};
-ghost use Rattle.sm_manager.specs.Plans.{plan_fault};
+ghost use Rattle.sm_manager.specs.PlanFaults.{plan_fault};
 ghost use Rattle.sweep.specs.Replies.{judged};
 
 use crate::fault::ManagerFault;

@@ -13,7 +13,7 @@ ghost use Rattle.std.specs.VecDeque.{deque_capacity, deque_len};
 ghost use Rattle.smp_bytes.specs.Judges.{JudgesButFor};
 ghost use Rattle.sm_manager.specs.declared.pending.Pending.{Pending};
 ghost use Rattle.sm_manager.specs.Fault.{is_memory};
-ghost use Rattle.sm_manager.specs.Plans.{number_fault};
+ghost use Rattle.sm_manager.specs.PlanFaults.{number_fault};
 
 use crate::fault::ManagerFault;
 use crate::outgoing::Outgoing;

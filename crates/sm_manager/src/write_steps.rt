@@ -5,7 +5,7 @@ ghost use Rattle.sm_manager.specs.declared.pending.Pending.{Pending};
 ghost use Rattle.sm_manager.specs.declared.fault.ManagerFault.{ManagerFault as Refusal};
 ghost use Rattle.sm_manager.specs.Fault.{is_memory};
 ghost use Rattle.sm_manager.specs.Packets.{unless_spent};
-ghost use Rattle.sm_manager.specs.Plans.{or_else, unless_numbers, writing_fault};
+ghost use Rattle.sm_manager.specs.PlanFaults.{or_else, unless_numbers, writing_fault};
 ghost use Rattle.sm_manager.specs.ManagerRequests.{is_step};
 ghost use Rattle.sm_manager.specs.Writing.{count_after, without_empty_phases, phases_by, after_step};
 ghost use Rattle.sm_manager.specs.Writing.{write_fault, after_write_steps};

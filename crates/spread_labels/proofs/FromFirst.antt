@@ -15,7 +15,7 @@ use Rattle.port_graph.proofs.Paths.{walk_append, walk_reverse}
 use Rattle.port_graph.proofs.WalkLemmas.{least_found, least_is, shortest_is, test_from_walk, walk_from_test}
 use Rattle.spread_labels.specs.declared.vertex_key.VertexKey.{VertexKey}
 use Rattle.spread_labels.specs.DistanceClasses.{distance}
-use Rattle.spread_labels.specs.Firsts.{AreFar, distances_from, first_among, first_at, from_first}
+use Rattle.spread_labels.specs.GrowthKeys.{AreFar, distances_from, first_among, first_at, from_first}
 use Rattle.spread_labels.specs.Keys.{before_by}
 use Rattle.spread_labels.specs.LabelLaws.{IsSymmetric}
 use Rattle.spread_labels.specs.Orders.{earliest, numbers_from}

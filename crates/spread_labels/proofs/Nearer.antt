@@ -12,7 +12,7 @@ use Rattle.spread_labels.specs.declared.label.Mark.{Mark}
 use Rattle.spread_labels.specs.Labels.{candidates, candidates_by, gives, givers_before, is_down, marks, marks_after}
 use Rattle.spread_labels.specs.LabelLaws.{Gives}
 use Rattle.spread_labels.specs.RoundMarks.{AreMarksAfter}
-use Rattle.spread_labels.specs.Candidates.{CandidatesAreNearer, is_nearer, is_nearer_by}
+use Rattle.spread_labels.specs.CandidatesByMarks.{CandidatesAreNearer, is_nearer, is_nearer_by}
 use Rattle.spread_labels.proofs.Rounds.{gave, gave_all, given_known, known_gives}
 use Rattle.spread_labels.proofs.Tests.{same_filter}
 

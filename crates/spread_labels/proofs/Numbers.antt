@@ -7,7 +7,7 @@ use Rattle.port_graph.specs.Heads.{AreDistances}
 use Rattle.port_graph.proofs.Counts.{length_map}
 use Rattle.spread_labels.specs.declared.distance_class.DistanceSum.{DistanceSum}
 use Rattle.spread_labels.specs.DistanceClasses.{AreDistanceSums, distance_class_at, distance_class_by, distance_class_of, distance_classes_of, distance, no_distances}
-use Rattle.spread_labels.specs.Firsts.{distances_from}
+use Rattle.spread_labels.specs.GrowthKeys.{distances_from}
 use Rattle.spread_labels.specs.Levels.{level_of, levels_of}
 use Rattle.spread_labels.specs.Orders.{numbers_from}
 

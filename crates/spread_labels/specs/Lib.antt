@@ -1,13 +1,13 @@
 pub mod Labels
 pub mod RoundMarks
-pub mod Candidates
+pub mod CandidatesByMarks
 pub mod LabelLaws
 pub mod Ways
 pub mod Orders
 pub mod Keys
 pub mod DistanceClasses
 pub mod Stages
-pub mod Firsts
+pub mod GrowthKeys
 pub mod Levels
 pub mod LeafVertices
 pub mod Positions

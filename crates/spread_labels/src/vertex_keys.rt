@@ -1,7 +1,7 @@
 //! The keys of vertices by their distance classes.
 ghost use Rattle.std.specs.Prelude.{◌≡◌, ◌<◌, length, IfOk, MatchOption};
 ghost use Rattle.port_graph.specs.Heads.{AreDistances, LeadToVertices};
-ghost use Rattle.spread_labels.specs.Firsts.{AreFar, FillsIn, by_distance_class, first_among, first_at, keys_of};
+ghost use Rattle.spread_labels.specs.GrowthKeys.{AreFar, FillsIn, by_distance_class, first_among, first_at, keys_of};
 ghost use Rattle.spread_labels.specs.LabelLaws.{IsSymmetric};
 
 use crate::growth::earlier;

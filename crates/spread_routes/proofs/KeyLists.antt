@@ -2,7 +2,7 @@
 use Rattle.std.proofs.Common.{◌≡◌, ℕ, List, [], ◌∙◌, length}
 use Rattle.port_graph.proofs.Counts.{length_map}
 use Rattle.spread_labels.specs.DistanceClasses.{distance_classes_of}
-use Rattle.spread_labels.specs.Firsts.{key_of}
+use Rattle.spread_labels.specs.GrowthKeys.{key_of}
 use Rattle.spread_labels.specs.LeafVertices.{leaf_vertices}
 use Rattle.spread_labels.specs.Levels.{level_of, levels_of}
 use Rattle.spread_labels.proofs.Numbers.{numbers_long}

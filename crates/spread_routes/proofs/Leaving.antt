@@ -9,7 +9,7 @@ use Rattle.port_graph.specs.declared.edge.Edge.{Edge}
 use Rattle.port_graph.specs.Heads.{edges_at}
 use Rattle.port_graph.proofs.Counts.{length_map}
 use Rattle.spread_labels.specs.declared.target_set.TargetSet.{TargetSet}
-use Rattle.spread_labels.specs.Candidates.{chosen}
+use Rattle.spread_labels.specs.CandidatesByMarks.{chosen}
 use Rattle.spread_labels.specs.Labels.{candidates}
 use Rattle.spread_labels.specs.MarkSets.{AreCandidateSets, AreRowsOf, edge_at, picked, set_at, sets_at}
 use Rattle.spread_labels.specs.Orders.{position_of}
@@ -19,7 +19,7 @@ use Rattle.subnet_view.specs.GraphLaws.{IsGraph}
 use Rattle.spread_routes.specs.declared.lid_digit.LidDigit.{LidDigit}
 use Rattle.spread_routes.specs.Rule.{by_positions, order_by_keys}
 use Rattle.spread_routes.specs.Spread.{Grading, goes_higher, lid_digit_there, number_by, number_with}
-use Rattle.spread_routes.specs.Tables.{AreExits, AreTowards, ExitsValue, TowardsValue, no_lid_digit, port_chosen}
+use Rattle.spread_routes.specs.Exits.{AreExits, AreTowards, ExitsValue, TowardsValue, no_lid_digit, port_chosen}
 use Rattle.spread_routes.proofs.Ports.{higher_is, lead, port_is, position_there}
 
 -- the ports of some edges as the edges themselves ----------------------------------------------

@@ -10,7 +10,7 @@ use Rattle.spread_labels.specs.declared.vertex_key.VertexKey.{VertexKey}
 use Rattle.spread_labels.specs.Labels.{candidates}
 use Rattle.spread_labels.specs.LeafVertices.{leaf_vertices}
 use Rattle.spread_labels.specs.Levels.{levels_of}
-use Rattle.spread_labels.specs.Candidates.{chosen}
+use Rattle.spread_labels.specs.CandidatesByMarks.{chosen}
 use Rattle.spread_labels.specs.Ways.{cost, channel_number}
 use Rattle.spread_labels.specs.Orders.{at_position, position_of, by_position}
 use Rattle.spread_labels.specs.Keys.{before_by, key_at, key_less}

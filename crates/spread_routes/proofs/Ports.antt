@@ -7,7 +7,7 @@ use Rattle.port_graph.specs.declared.edge.Edge.{Edge}
 use Rattle.port_graph.specs.Heads.{edges_at, LeadToVertices}
 use Rattle.port_graph.proofs.Counts.{length_map}
 use Rattle.port_graph.proofs.SearchSteps.{all_from_contained}
-use Rattle.spread_labels.specs.Candidates.{chosen}
+use Rattle.spread_labels.specs.CandidatesByMarks.{chosen}
 use Rattle.spread_labels.specs.Labels.{candidates}
 use Rattle.spread_labels.specs.Levels.{rises_at, digit_weight_of, width_of}
 use Rattle.spread_labels.specs.Orders.{numbers_from, position_of}
@@ -20,7 +20,7 @@ use Rattle.subnet_view.specs.SwitchGraph.{switch_at}
 use Rattle.spread_routes.specs.declared.lid_digit.LidDigit.{LidDigit}
 use Rattle.spread_routes.specs.Rule.{Spreading, by_index, by_positions, order_by_keys, position, edge_to}
 use Rattle.spread_routes.specs.Spread.{Grading, goes_higher, number_there, spread_at, lid_digit_there}
-use Rattle.spread_routes.specs.Tables.{no_lid_digit}
+use Rattle.spread_routes.specs.Exits.{no_lid_digit}
 use Rattle.spread_routes.proofs.Indices.{index_of_switch}
 use Rattle.spread_routes.proofs.Names.{all_positioned, grows, is_grown_graph}
 

@@ -20,7 +20,7 @@ use Rattle.spread_routes.specs.declared.lid_digit.LidDigit.{LidDigit}
 use Rattle.spread_routes.specs.AdapterChoices.{AdapterChoices}
 use Rattle.spread_routes.specs.Rule.{by_index, by_positions, order_by_keys}
 use Rattle.spread_routes.specs.Spread.{indices_of, lid_digit_at}
-use Rattle.spread_routes.specs.Tables.{IsByPositions, no_lid_digit}
+use Rattle.spread_routes.specs.Exits.{IsByPositions, no_lid_digit}
 use Rattle.spread_routes.proofs.Indices.{index_of_switch, rows}
 use Rattle.spread_routes.proofs.Names.{all_positioned, grows}
 

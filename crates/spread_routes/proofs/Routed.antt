@@ -13,7 +13,7 @@ use Rattle.port_graph.specs.declared.edge.Edge.{Edge}
 use Rattle.port_graph.proofs.Counts.{length_map}
 use Rattle.spread_labels.specs.declared.label.Mark.{Mark}
 use Rattle.spread_labels.specs.Labels.{marks, candidates}
-use Rattle.spread_labels.specs.Candidates.{chosen}
+use Rattle.spread_labels.specs.CandidatesByMarks.{chosen}
 use Rattle.spread_labels.specs.Ways.{Climbs, Descends, Follows, CostsFall, Way, PicksCandidates, cost, channels_along}
 use Rattle.spread_labels.specs.Orders.{position_of}
 use Rattle.spread_labels.proofs.Steps.{candidates_in_words}

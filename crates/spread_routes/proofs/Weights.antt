@@ -6,7 +6,7 @@ use Rattle.port_graph.proofs.Counts.{length_map}
 use Rattle.spread_routes.specs.declared.lid_digit.LidDigit.{LidDigit}
 use Rattle.spread_routes.specs.Rule.{order_by_keys}
 use Rattle.spread_routes.specs.Spread.{Grading, lid_digit_at, weights_there}
-use Rattle.spread_routes.specs.Tables.{IsByPositions, no_lid_digit}
+use Rattle.spread_routes.specs.Exits.{IsByPositions, no_lid_digit}
 use Rattle.spread_routes.proofs.Names.{all_positioned}
 
 module _ (by : Grading) (edges : List (List Edge)) (positions : List ℕ) (lid_digits : List LidDigit)

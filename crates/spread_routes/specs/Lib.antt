@@ -4,4 +4,4 @@ pub mod SwitchOrders
 pub mod AdapterChoices
 pub mod LeafNumbers
 pub mod Spread
-pub mod Tables
+pub mod Exits

@@ -4,7 +4,7 @@ use Rattle.std.specs.Prelude.{ℕ, List, map, length, Option, option_map}
 use Rattle.port_graph.specs.declared.edge.Edge.{Edge}
 use Rattle.spread_labels.specs.declared.vertex_key.VertexKey.{VertexKey}
 use Rattle.spread_labels.specs.Labels.{candidates}
-use Rattle.spread_labels.specs.Candidates.{chosen}
+use Rattle.spread_labels.specs.CandidatesByMarks.{chosen}
 use Rattle.spread_labels.specs.Ways.{cost, channel_number}
 use Rattle.spread_labels.specs.Orders.{order, at_position, position_of, positioned_edge}
 use Rattle.spread_labels.specs.Keys.{before_by}

@@ -6,7 +6,7 @@ use Rattle.std.specs.List.{list_any}
 use Rattle.port_graph.specs.declared.edge.Edge.{Edge}
 use Rattle.spread_labels.specs.declared.vertex_key.VertexKey.{VertexKey}
 use Rattle.spread_labels.specs.DistanceClasses.{distance_classes_of}
-use Rattle.spread_labels.specs.Firsts.{keys_of}
+use Rattle.spread_labels.specs.GrowthKeys.{keys_of}
 use Rattle.spread_labels.specs.LeafVertices.{leaf_vertices}
 use Rattle.spread_labels.specs.Levels.{levels_of, digit_weight_of}
 use Rattle.spread_labels.specs.Orders.{at_position, position_of}

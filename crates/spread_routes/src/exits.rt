@@ -7,7 +7,7 @@ ghost use Rattle.spread_labels.specs.MarkSets.{picked};
 ghost use Rattle.std.specs.Option.{option_copied};
 ghost use Rattle.spread_routes.specs.AdapterChoices.{choice_towards};
 ghost use Rattle.spread_routes.specs.Spread.{number_by};
-ghost use Rattle.spread_routes.specs.Tables.{port_by, port_turn, with_entries};
+ghost use Rattle.spread_routes.specs.Exits.{port_by, port_turn, with_entries};
 
 use crate::adapter_choices::{AdapterChoices, in_turn};
 use crate::lid_digit::LidDigit;
@@ -35,7 +35,7 @@ pub struct Exits<'s> {
 impl<'s> Model for Exits<'s> {
     ghost use Rattle.std.specs.Prelude.{◌<◌};
     ghost use Rattle.std.specs.Option.{option_copied};
-    ghost use Rattle.spread_routes.specs.Tables.{ExitsValue};
+    ghost use Rattle.spread_routes.specs.Exits.{ExitsValue};
 
     ghost Value = { ExitsValue };
 

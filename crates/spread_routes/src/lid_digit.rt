@@ -6,7 +6,7 @@ ghost use Rattle.spread_labels.specs.TargetSets.{EachTarget, has};
 ghost use Rattle.spread_labels.specs.MarkSets.{picked};
 ghost use Rattle.spread_routes.specs.Rule.{by_index};
 ghost use Rattle.spread_routes.specs.Spread.{lid_digit_at};
-ghost use Rattle.spread_routes.specs.Tables.{no_lid_digit};
+ghost use Rattle.spread_routes.specs.Exits.{no_lid_digit};
 ghost use Rattle.balanced_choices.specs.RoundRobins.{IsTurn};
 
 use balanced_choices::RoundRobin;

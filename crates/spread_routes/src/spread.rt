@@ -4,7 +4,7 @@ ghost use Rattle.spread_routes.specs.AdapterChoices.{adapter_choices};
 ghost use Rattle.spread_routes.specs.Rule.{by_positions, order_by_keys};
 ghost use Rattle.spread_routes.specs.Spread.{grading_of, weights_there};
 ghost use Rattle.spread_routes.specs.SwitchOrders.{is_balanced, order_value_of};
-ghost use Rattle.spread_routes.specs.Tables.{AreExits, AreTowards};
+ghost use Rattle.spread_routes.specs.Exits.{AreExits, AreTowards};
 
 use crate::SwitchOrder;
 use crate::adapter_choices::AdapterChoices;
@@ -31,7 +31,7 @@ pub struct Towards {
 }
 
 impl Model for Towards {
-    ghost use Rattle.spread_routes.specs.Tables.{TowardsValue};
+    ghost use Rattle.spread_routes.specs.Exits.{TowardsValue};
 
     ghost Value = { TowardsValue };
 
@@ -74,7 +74,7 @@ pub struct Spread<'g> {
 
 impl<'g> Model for Spread<'g> {
     ghost use Rattle.spread_routes.specs.Spread.{Grading};
-    ghost use Rattle.spread_routes.specs.Tables.{IsByPositions};
+    ghost use Rattle.spread_routes.specs.Exits.{IsByPositions};
 
     ghost Value = { Grading };
 

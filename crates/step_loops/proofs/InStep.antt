@@ -10,7 +10,7 @@ use Rattle.held_tables.specs.Held.{HeldPlan}
 use Rattle.packet_walks.specs.Edges.{edges_of, greatest_top}
 use Rattle.packet_walks.proofs.Tops.{none_above}
 use Rattle.audit_channels.proofs.Waiting.{blank}
-use Rattle.audit_channels.specs.Orders.{Follows, GoesOn, IsCycle, IsOrder, IsShortest}
+use Rattle.audit_channels.specs.ChannelOrders.{Follows, GoesOn, IsCycle, IsOrder, IsShortest}
 use Rattle.audit_channels.specs.declared.order.ChannelOrder.{ChannelOrder}
 use Rattle.audit_channels.specs.declared.order.ChannelOrder.TheVariants.{Rises, Cycle}
 use Rattle.next_tables.specs.Mixtures.{TakesBy, TakesInStep, WaitsInStep}

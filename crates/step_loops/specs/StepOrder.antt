@@ -3,7 +3,7 @@ use Rattle.std.specs.Prelude.{◌≡◌, ◌↔◌, ◌⊎◌, ◌≤◌, ◌*�
 use Rattle.port_graph.specs.declared.edge.Edge.{Edge}
 use Rattle.subnet_view.specs.Reading.{Cells, switches}
 use Rattle.held_tables.specs.Held.{HeldPlan}
-use Rattle.audit_channels.specs.Orders.{Follows}
+use Rattle.audit_channels.specs.ChannelOrders.{Follows}
 use Rattle.audit_channels.specs.declared.order.ChannelOrder.{ChannelOrder}
 use Rattle.audit_channels.specs.declared.order.ChannelOrder.TheVariants.{Rises, Cycle}
 use Rattle.next_tables.specs.Mixtures.{TakesInStep, WaitsInStep, RiseInStep}

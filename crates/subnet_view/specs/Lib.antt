@@ -10,5 +10,5 @@ pub mod Graph
 pub mod GraphLaws
 pub mod Components
 pub mod SwitchGraph
-pub mod Roots
+pub mod RootSearch
 pub mod Routing

@@ -2,7 +2,7 @@
 ghost use Rattle.std.specs.Prelude.{◌≡◌, IfOk, length, map};
 ghost use Rattle.subnet_view.specs.Components.{root_of};
 ghost use Rattle.subnet_view.specs.Graph.{guids_of};
-ghost use Rattle.subnet_view.specs.Roots.{FillsIn};
+ghost use Rattle.subnet_view.specs.RootSearch.{FillsIn};
 
 use crate::switch_graph::SwitchGraph;
 use smp_bytes::Guid;

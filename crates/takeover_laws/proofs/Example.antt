@@ -35,7 +35,7 @@ use Rattle.fabric_sim.specs.Changes.{after_inject, after_lose, cabled_at}
 use Rattle.lft_blocks.specs.Planning.{Planning}
 use Rattle.lft_blocks.specs.Rules.{up_and_down}
 use Rattle.manager_laws.specs.Scene.{Deliver, Lose}
-use Rattle.sm_manager.specs.Plans.{writing_fault}
+use Rattle.sm_manager.specs.PlanFaults.{writing_fault}
 use Rattle.sm_manager.specs.Writing.{begun_with}
 use Rattle.manager_laws.specs.Managing.{Managing, ManagerEvent, Around, Begin, Write, Take, Send, Hear, TimeOut}
 use Rattle.manager_laws.proofs.Computed.{told_with, all_can_be, all_keep, are_kept, joined_told, no_sweeps}

@@ -16,7 +16,7 @@ use Rattle.held_tables.specs.Switches.{far_by, row_of}
 use Rattle.held_tables.specs.Tables.{entry_for}
 use Rattle.packet_walks.specs.Edges.{edges_of}
 use Rattle.audit_channels.specs.Columns.{number_of}
-use Rattle.audit_channels.specs.Orders.{Follows}
+use Rattle.audit_channels.specs.ChannelOrders.{Follows}
 use Rattle.audit_channels.specs.Waiting.{AreWaits, WaitsFor}
 use Rattle.next_tables.proofs.Hops.{channel_leads, column_at, edge_is}
 use Rattle.next_tables.specs.EntriesByOrder.{Leads, switch_at}

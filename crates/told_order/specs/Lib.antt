@@ -1,4 +1,4 @@
-pub mod Last
+pub mod MayBeLast
 pub mod ToldLaws
 pub mod ToldOrder
 pub mod Turns

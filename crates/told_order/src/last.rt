@@ -1,6 +1,6 @@
 //! The switch that may be the last of the switches left.
 ghost use Rattle.std.specs.Prelude.{◌≡◌};
-ghost use Rattle.told_order.specs.Last.{IsNextBy, may_be_last, turns_in};
+ghost use Rattle.told_order.specs.MayBeLast.{IsNextBy, may_be_last, turns_in};
 ghost use Rattle.told_order.specs.ToldOrder.{is_left};
 ghost use Rattle.told_order.specs.Turns.{lists_of};
 

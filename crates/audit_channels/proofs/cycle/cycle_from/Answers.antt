@@ -2,7 +2,7 @@
 use Rattle.std.proofs.Common.{◌≡◌, ◌-◌, ℕ, List, [], length, take, drop, true, false, ap, sym, ◌∙◌, subst}
 use Rattle.std.specs.Prelude.{slice_index_or, ◌==◌, unwrap_or, position}
 use Rattle.std.specs.List.{find, list_any}
-use Rattle.audit_channels.specs.Orders.{IsCycle}
+use Rattle.audit_channels.specs.ChannelOrders.{IsCycle}
 use Rattle.audit_channels.specs.Numbers.{has_none}
 use Rattle.audit_channels.proofs.ChannelWays.{at_first, cycle_there, further_on, longer, rest_is}
 use Rattle.audit_channels.proofs.cycle.cycle_from.Goals as goal

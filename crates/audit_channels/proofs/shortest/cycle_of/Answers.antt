@@ -1,6 +1,6 @@
 -- Where a search ends, and a channel more that is done.
 use Rattle.std.proofs.Common.{◌≡◌, ◌<◌, ◌≤◌, List, length, sym, ap, ◌∙◌, subst, arith}
-use Rattle.audit_channels.specs.Orders.{Follows}
+use Rattle.audit_channels.specs.ChannelOrders.{Follows}
 use Rattle.audit_channels.specs.Searches.{at_index, IsLeast, NoneBelow}
 use Rattle.audit_channels.specs.declared.shortest.Visited.{Visited}
 use Rattle.audit_channels.proofs.Searches.{none_below, past_end, past_count, least_is, one_done}

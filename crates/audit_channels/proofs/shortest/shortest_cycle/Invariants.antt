@@ -1,7 +1,7 @@
 -- A cycle, and no shorter one from the channels so far.
 use Rattle.std.proofs.Common.{◌≡◌, ◌<◌, ◌≤◌, ℕ, true, length, slice_index_or}
 use Rattle.audit_channels.specs.Numbers.{has_none}
-use Rattle.audit_channels.specs.Orders.{IsCycle}
+use Rattle.audit_channels.specs.ChannelOrders.{IsCycle}
 use Rattle.audit_channels.specs.Searches.{NoneBelow}
 use Rattle.audit_channels.proofs.shortest.shortest_cycle.Given as goal
 

@@ -1,6 +1,6 @@
 -- From the channel at an index on, the way leads back to the first.
 use Rattle.std.proofs.Common.{◌≡◌, ◌<◌, ◌+◌, length}
-use Rattle.audit_channels.specs.Orders.{GoesOn}
+use Rattle.audit_channels.specs.ChannelOrders.{GoesOn}
 use Rattle.audit_channels.specs.Searches.{at_index}
 use Rattle.audit_channels.proofs.shortest.way_back.Given as goal
 

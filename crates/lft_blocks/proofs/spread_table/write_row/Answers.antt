@@ -3,7 +3,7 @@ use Rattle.std.proofs.lemmas.List.{get_or-map, length-map}
 use Rattle.std.specs.Prelude.{Option, slice_index, slice_index_or}
 use Rattle.subnet_view.specs.Graph.{guids_of}
 use Rattle.spread_routes.specs.Spread.{spread_at}
-use Rattle.spread_routes.specs.Tables.{port_by, with_entries}
+use Rattle.spread_routes.specs.Exits.{port_by, with_entries}
 use Rattle.lft_blocks.specs.declared.attachment.Attachment.{Attachment}
 use Rattle.lft_blocks.specs.LidNumbers.{numbered}
 use Rattle.lft_blocks.specs.TableRows.{AreLidsAt, IsRow, entry_by, lids_at}

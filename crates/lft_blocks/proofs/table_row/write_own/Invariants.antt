@@ -1,6 +1,6 @@
 use Rattle.std.proofs.Common.{◌≡◌, drop, length}
 use Rattle.std.specs.Prelude.{None, slice_index_or}
-use Rattle.spread_routes.specs.Tables.{with_entries}
+use Rattle.spread_routes.specs.Exits.{with_entries}
 use Rattle.lft_blocks.specs.TableRows.{attachment_port}
 use Rattle.lft_blocks.proofs.table_row.write_own.Given as goal
 

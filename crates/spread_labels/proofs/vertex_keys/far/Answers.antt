@@ -3,7 +3,7 @@ use Rattle.std.proofs.Common.{◌≡◌, ◌<◌, ◌+◌, ℕ, refl, sym, ap, a
 use Rattle.std.proofs.lemmas.List.{with_items_is, get_or_default}
 use Rattle.std.specs.Prelude.{Option, None, Some, is_some}
 use Rattle.std.specs.Option.{option_or}
-use Rattle.spread_labels.specs.Firsts.{AreFar}
+use Rattle.spread_labels.specs.GrowthKeys.{AreFar}
 use Rattle.spread_labels.proofs.FromFirst.{far_more, far_passed, none_far}
 use Rattle.spread_labels.proofs.vertex_keys.far.Goals as goal
 use Rattle.spread_labels.proofs.vertex_keys.far.Goals.{then-is_none+in_ok-found, else-is_none}

@@ -1,4 +1,4 @@
-use Rattle.spread_labels.specs.Firsts.{AreFar}
+use Rattle.spread_labels.specs.GrowthKeys.{AreFar}
 use Rattle.spread_labels.proofs.vertex_keys.far.Given as goal
 
 -- the vertices so far are known

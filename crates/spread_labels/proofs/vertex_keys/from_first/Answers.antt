@@ -1,7 +1,7 @@
 use Rattle.std.proofs.Common.{◌≡◌, ℕ, ap, ◌∙◌, subst}
 use Rattle.std.specs.Prelude.{IfOk, unwrap_or}
 use Rattle.port_graph.specs.Heads.{AreDistances}
-use Rattle.spread_labels.specs.Firsts.{first_among, first_at}
+use Rattle.spread_labels.specs.GrowthKeys.{first_among, first_at}
 use Rattle.spread_labels.proofs.Numbers.{distances_are}
 use Rattle.spread_labels.proofs.vertex_keys.from_first.Goals as goal
 

@@ -2,7 +2,7 @@ use Rattle.std.proofs.Common.{◌≡◌, ◌<◌, ◌++◌, [], ◌∷◌, sym, 
 use Rattle.std.proofs.lemmas.List.{get_or_default}
 use Rattle.std.specs.Prelude.{None, slice_index, unwrap_or}
 use Rattle.port_graph.proofs.Counts.{length_map}
-use Rattle.spread_labels.specs.Firsts.{by_distance_class, distances_from, from_first, key_of}
+use Rattle.spread_labels.specs.GrowthKeys.{by_distance_class, distances_from, from_first, key_of}
 use Rattle.spread_labels.specs.Orders.{numbers_from}
 use Rattle.spread_labels.proofs.FromFirst.{far_is}
 use Rattle.spread_labels.proofs.DistanceSums.{distance_classes_more}

@@ -1,5 +1,5 @@
 use Rattle.std.proofs.Common.{◌≡◌, map}
-use Rattle.spread_labels.specs.Firsts.{key_of}
+use Rattle.spread_labels.specs.GrowthKeys.{key_of}
 use Rattle.spread_labels.specs.Orders.{numbers_from}
 use Rattle.spread_labels.proofs.vertex_keys.keys.Given as goal
 

@@ -1,6 +1,6 @@
 use Rattle.std.proofs.Common.{◌≡◌, drop, get_or, length}
 use Rattle.spread_routes.specs.AdapterChoices.{choice_towards}
-use Rattle.spread_routes.specs.Tables.{port_turn, with_entries}
+use Rattle.spread_routes.specs.Exits.{port_turn, with_entries}
 use Rattle.spread_routes.proofs.exits.write_chosen.Given as goal
 
 -- the LIDs that are left do the rest

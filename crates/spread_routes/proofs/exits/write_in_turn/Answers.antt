@@ -6,7 +6,7 @@ use Rattle.std.proofs.Math.Nat.{mod-lt}
 use Rattle.std.specs.Prelude.{max, slice_set}
 use Rattle.balanced_choices.specs.BalancedChoices.{digits_from, in_turn}
 use Rattle.spread_routes.specs.AdapterChoices.{choice_towards, choice_with, end_number}
-use Rattle.spread_routes.specs.Tables.{port_turn, with_entries}
+use Rattle.spread_routes.specs.Exits.{port_turn, with_entries}
 use Rattle.balanced_choices.proofs.Counting.{turn_of}
 use Rattle.spread_routes.proofs.exits.write_in_turn.Goals as goal
 

@@ -1,5 +1,5 @@
 use Rattle.std.proofs.Common.{◌≡◌, drop, length}
-use Rattle.spread_routes.specs.Tables.{with_entries}
+use Rattle.spread_routes.specs.Exits.{with_entries}
 use Rattle.spread_routes.proofs.exits.write_none.Given as goal
 
 -- the LIDs that are left do the rest

@@ -5,7 +5,7 @@ use Rattle.std.proofs.lemmas.List.{at_drop_more, length-set}
 use Rattle.std.proofs.Math.Nat.{mod-lt}
 use Rattle.std.specs.Prelude.{slice_set}
 use Rattle.spread_routes.specs.Spread.{number_by}
-use Rattle.spread_routes.specs.Tables.{port_turn, with_entries}
+use Rattle.spread_routes.specs.Exits.{port_turn, with_entries}
 use Rattle.spread_routes.proofs.Turns.{digit_by}
 use Rattle.spread_routes.proofs.exits.write_ports.Goals as goal
 

@@ -1,6 +1,6 @@
 use Rattle.std.proofs.Common.{◌≡◌, cond, drop, get_or, length}
 use Rattle.spread_routes.specs.Spread.{number_by}
-use Rattle.spread_routes.specs.Tables.{port_turn, with_entries}
+use Rattle.spread_routes.specs.Exits.{port_turn, with_entries}
 use Rattle.balanced_choices.specs.RoundRobins.{IsTurn}
 use Rattle.spread_routes.proofs.exits.write_ports.Given as goal
 

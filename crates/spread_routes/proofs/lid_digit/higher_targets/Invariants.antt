@@ -3,7 +3,7 @@ use Rattle.std.specs.Prelude.{nat_lt, slice_index_or}
 use Rattle.std.specs.List.{list_any}
 use Rattle.spread_labels.specs.TargetSets.{EachTarget, has}
 use Rattle.spread_labels.specs.MarkSets.{picked}
-use Rattle.spread_routes.specs.Tables.{no_lid_digit}
+use Rattle.spread_routes.specs.Exits.{no_lid_digit}
 use Rattle.spread_routes.proofs.lid_digit.higher_targets.Given as goal
 
 -- those found so far, and those by the edges that are left

@@ -1,6 +1,6 @@
 use Rattle.std.proofs.Common.{◌≡◌, ap, sym, ◌∙◌, subst, length}
 use Rattle.spread_labels.specs.DistanceClasses.{distance_class_of, distance_classes_of}
-use Rattle.spread_labels.specs.Firsts.{keys_of}
+use Rattle.spread_labels.specs.GrowthKeys.{keys_of}
 use Rattle.spread_labels.specs.LeafVertices.{leaf_vertices}
 use Rattle.spread_labels.specs.Levels.{levels_of}
 use Rattle.spread_labels.proofs.Numbers.{numbers_long}

@@ -1,7 +1,7 @@
 -- With one more that follows a channel, or the same.
 use Rattle.std.proofs.Common.{◌<◌, ◌∙◌, ℕ, List, length, slice_set, sym, subst}
 use Rattle.std.specs.Prelude.{map}
-use Rattle.audit_channels.specs.Orders.{AreWith, LeadToChannels, IsWith}
+use Rattle.audit_channels.specs.ChannelOrders.{AreWith, LeadToChannels, IsWith}
 use Rattle.audit_channels.proofs.Made.{is_with, leads_with, at_item, same_there}
 use Rattle.audit_channels.proofs.waits.Waits.add.Goals as goal
 

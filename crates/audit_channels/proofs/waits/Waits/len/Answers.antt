@@ -1,5 +1,5 @@
 use Rattle.std.proofs.Common.{subst}
-use Rattle.audit_channels.specs.Orders.{LeadToChannels}
+use Rattle.audit_channels.specs.ChannelOrders.{LeadToChannels}
 use Rattle.audit_channels.proofs.waits.Waits.len.Goals as goal
 
 pub returns-clause-channels : goal.returns-clause-channels

@@ -1,6 +1,6 @@
 -- None follows.
 use Rattle.std.proofs.Common.{sym, subst}
-use Rattle.audit_channels.specs.Orders.{LeadToChannels}
+use Rattle.audit_channels.specs.ChannelOrders.{LeadToChannels}
 use Rattle.audit_channels.proofs.Made.{none_follows}
 use Rattle.audit_channels.proofs.waits.Waits.new.Goals as goal
 

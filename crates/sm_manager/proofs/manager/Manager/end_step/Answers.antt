@@ -4,7 +4,7 @@ use Rattle.std.proofs.lemmas.Result.{err_from_is_err_and}
 use Rattle.std.specs.Prelude.{drop, not, slice_get, ◌&&◌, ◌||◌}
 use Rattle.sm_manager.specs.Manager.{Manager}
 use Rattle.sm_manager.specs.Packets.{unless_spent}
-use Rattle.sm_manager.specs.Plans.{number_fault}
+use Rattle.sm_manager.specs.PlanFaults.{number_fault}
 use Rattle.sm_manager.specs.declared.pending.Pending.{Pending}
 use Rattle.sm_manager.specs.ManagerRequests.{AreNumbered, is_step, without_number}
 use Rattle.sm_manager.specs.Writing.{count_after, next_pending, next_phase, without_empty_phases, after_step, steps_out}

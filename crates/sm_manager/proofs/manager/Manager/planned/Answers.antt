@@ -7,7 +7,7 @@ use Rattle.fact_store.specs.View.{cells_of}
 use Rattle.plan_steps.specs.Phases.{Phase, phases_of}
 use Rattle.sm_manager.specs.Manager.{Manager, Writing}
 use Rattle.sm_manager.specs.Writing.{without_empty_phases, phases_by}
-use Rattle.sm_manager.specs.Plans.{plan_fault}
+use Rattle.sm_manager.specs.PlanFaults.{plan_fault}
 use Rattle.sm_manager.proofs.Begun.{fault_first, fault_of_plan}
 use Rattle.sm_manager.proofs.manager.Manager.planned.Goals as goal
 

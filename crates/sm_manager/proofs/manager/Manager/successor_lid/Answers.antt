@@ -5,7 +5,7 @@ use Rattle.sm_state.specs.Election.{successor_of}
 use Rattle.sm_manager.specs.Election.{port_seen, successor}
 use Rattle.sm_manager.specs.Fault.{is_memory}
 use Rattle.sm_manager.specs.Manager.{Manager}
-use Rattle.sm_manager.specs.Plans.{plan_fault}
+use Rattle.sm_manager.specs.PlanFaults.{plan_fault}
 use Rattle.sm_manager.proofs.SuccessorLids.{judged_with_lid}
 use Rattle.sm_manager.proofs.manager.Manager.successor_lid.Goals as goal
 

@@ -6,7 +6,7 @@ use Rattle.port_graph.specs.Heads.{LeadToVertices}
 use Rattle.spread_routes.specs.declared.lid_digit.LidDigit.{LidDigit}
 use Rattle.spread_routes.specs.AdapterChoices.{AdapterChoices, adapter_choices}
 use Rattle.spread_routes.specs.Spread.{Grading}
-use Rattle.spread_routes.specs.Tables.{IsByPositions}
+use Rattle.spread_routes.specs.Exits.{IsByPositions}
 use Rattle.spread_routes.proofs.Ports.{lead}
 use Rattle.spread_routes.proofs.Weights.{weights_are, weights_long}
 use Rattle.spread_routes.proofs.spread.Spread.balanced.Goals as goal

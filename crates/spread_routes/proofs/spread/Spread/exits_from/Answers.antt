@@ -11,7 +11,7 @@ use Rattle.spread_labels.specs.Orders.{position_of}
 use Rattle.spread_routes.specs.declared.lid_digit.LidDigit.{LidDigit}
 use Rattle.spread_routes.specs.Rule.{by_index, by_positions, order_by_keys}
 use Rattle.spread_routes.specs.Spread.{Grading, level_there, lid_digit_there}
-use Rattle.spread_routes.specs.Tables.{IsByPositions, no_lid_digit}
+use Rattle.spread_routes.specs.Exits.{IsByPositions, no_lid_digit}
 use Rattle.spread_routes.proofs.Leaving.{exits_are}
 use Rattle.spread_routes.proofs.Ports.{digit_weight_positive, position_there, row_leads}
 use Rattle.spread_routes.proofs.spread.Spread.exits_from.Goals as goal

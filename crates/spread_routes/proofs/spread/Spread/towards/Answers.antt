@@ -5,7 +5,7 @@ use Rattle.spread_routes.specs.declared.lid_digit.LidDigit.{LidDigit}
 use Rattle.spread_labels.specs.Orders.{position_of}
 use Rattle.spread_routes.specs.Rule.{order_by_keys}
 use Rattle.spread_routes.specs.Spread.{Grading}
-use Rattle.spread_routes.specs.Tables.{IsByPositions}
+use Rattle.spread_routes.specs.Exits.{IsByPositions}
 use Rattle.spread_routes.proofs.Leaving.{targets_within, towards_are}
 use Rattle.spread_routes.proofs.Ports.{lead, position_there}
 use Rattle.spread_routes.proofs.spread.Spread.towards.Goals as goal
