@@ -7,9 +7,10 @@ use crate::waits::Waits;
 use port_graph::Edge;
 use std::alloc::AllocError;
 
-/// Records, for each vertex, that the channel of its edge in `column` is followed by the channel of the next vertex's
-/// edge. `column` has the edge by which packets for one LID leave each vertex, if there is one. The channel of an edge
-/// has the number 256 times its vertex, plus its port. `waits` must have 256 channels for each vertex.
+/// Records in `waits`, for each vertex, that the channel of its edge in `column` is followed by the channel of the next
+/// vertex's edge. `column` has, for each vertex, the edge along which packets for one LID leave it, if there is one.
+/// The channel of an edge has the number 256 times its vertex, plus its port. `waits` must have 256 channels for each
+/// vertex, fewer than 2^64 in all.
 pub fn add_column(waits: &mut Waits, column: &[Option<Edge>]) -> Result<(), AllocError>
     requires channels { length waits.old ≡ 256 * length column.now }
     requires room { 256 * length column.now < 2 ^ 64 }
@@ -18,9 +19,9 @@ pub fn add_column(waits: &mut Waits, column: &[Option<Edge>]) -> Result<(), Allo
     add_across(waits, column, column)
 }
 
-/// Records, for each vertex, that the channel of its edge in `before` is followed by the channel of the next vertex's
-/// edge in `now`. Records nothing for a vertex if one of these edges is missing. `waits` must have 256 channels for
-/// each vertex of either column.
+/// Records in `waits`, for each vertex, that the channel of its edge in `before` is followed by the channel of the next
+/// vertex's edge in `now`. Records nothing for a vertex if one of these edges is missing. `waits` must have 256
+/// channels for each vertex of either column, fewer than 2^64 in all.
 #[tactic(auto, using(crate::proofs::Columns::none_so_far))]
 pub fn add_across(
     waits: &mut Waits,
@@ -63,8 +64,9 @@ struct Turn {
     next: usize,
 }
 
-/// Returns the channel by which a packet leaves `vertex` along its edge in `before`, and the channel by which it leaves
-/// the next vertex along that vertex's edge in `now`. Returns `None` if one of these edges is missing.
+/// Returns the channel that a packet takes from `vertex` along its edge in `before`, and the channel that it takes
+/// next, along the next vertex's edge in `now`. Returns `None` if one of these edges is missing. Each column must have
+/// fewer than 2^56 vertices.
 fn turn_at(before: &[Option<Edge>], now: &[Option<Edge>], vertex: usize) -> Option<Turn>
     requires before { 256 * length before.now < 2 ^ 64 }
     requires now { 256 * length now.now < 2 ^ 64 }
@@ -78,14 +80,15 @@ fn turn_at(before: &[Option<Edge>], now: &[Option<Edge>], vertex: usize) -> Opti
     Some(Turn { channel, next })
 }
 
-/// Returns the edge of `vertex`, or `None` if it has none or is not in `column`. Takes constant time.
+/// Returns the edge of `vertex` in `column`, or `None` if there is none. Takes constant time.
 pub fn edge_of(column: &[Option<Edge>], vertex: usize) -> Option<Edge>
     ensures { result ≡ slice_index_or column.now vertex None }
 {
     column.get(vertex).copied().flatten()
 }
 
-/// Returns the number of the channel of `edge`, an edge of `vertex`. The number must fit in 64 bits.
+/// Returns the number of the channel of `edge`, an edge of `vertex`. The numbers of all channels of `vertex` must fit
+/// in 64 bits.
 fn number_of(vertex: usize, edge: Edge) -> usize
     requires { 256 * vertex + 256 < 2 ^ 64 + 1 }
     ensures is { result ≡ number_of vertex edge }

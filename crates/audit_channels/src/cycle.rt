@@ -7,8 +7,9 @@ use crate::numbers::has_none;
 use crate::waits::Waits;
 use std::alloc::{AllocError, Global};
 
-/// Returns the cycle that a walk from `first` over channels without a number reaches. `first` must have no number, and
-/// `numbers` must be given so that each channel without a number is followed by another one.
+/// Returns the cycle that a walk from `first` over channels without a number reaches. `first` must have no number. By
+/// `waits`, each channel without a number must be followed by a channel without a number, and `numbers` must rise from
+/// each other channel to those that follow it.
 pub(crate) fn cycle_from(
     alloc: Global,
     waits: &Waits,
@@ -37,7 +38,7 @@ pub(crate) fn follows(waits: &Waits, channel: usize, next: usize) -> bool
     is_on(waits.at(channel), next)
 }
 
-/// Returns the first channel of `following` that has no number, or `None` if all have one.
+/// Returns the first channel of `following` that has no number, or `None` if each has a number.
 fn first_held_up(following: &[usize], numbers: &[usize]) -> Option<usize>
     ensures { result ≡ find (has_none numbers.now) following.now }
 {
@@ -54,7 +55,7 @@ fn is_on(way: &[usize], channel: usize) -> bool
     way.iter().any(|c| channel == *c)
 }
 
-/// Returns the index of `channel` on the walk `way`, or `None` if it is not there.
+/// Returns the index of `channel` on the walk `way`, or `None` if `way` does not have it.
 fn index_of(way: &[usize], channel: usize) -> Option<usize>
     ensures { result ≡ position (λ c. channel == c) way.now }
 {

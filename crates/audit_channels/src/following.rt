@@ -7,8 +7,8 @@ ghost use Rattle.audit_channels.specs.ChannelOrders.{AreWith};
 use crate::known::Known;
 use std::alloc::{AllocError, Global};
 
-/// A list of channels without duplicates, in the order in which they were added. Some are also known, so that they are
-/// found in constant time.
+/// A list of channels without duplicates, in the order in which they were added. `known` has some of these channels,
+/// and finds them in constant time.
 #[derive(Drop)]
 pub(crate) struct Following {
     channels: Vec<usize>,
@@ -34,8 +34,8 @@ impl Following {
         &self.channels
     }
 
-    /// Adds `channel`, unless it is there already. Takes constant time if it is known, otherwise time linear in the
-    /// number of channels. If it returns an error, the channels are as before.
+    /// Adds `channel` unless the list has it already. Takes constant time if `channel` is known, and otherwise time
+    /// linear in the number of channels. If memory is refused, the list stays as it is.
     pub(crate) fn add(&mut self, channel: usize) -> Result<(), AllocError>
         ensures added { OnOk result (AreWith self.old.channels.items channel self.new.channels.items) }
         ensures kept { OnErr result (self.new.channels.items ≡ self.old.channels.items) }
@@ -49,7 +49,7 @@ impl Following {
     }
 }
 
-/// Appends `channel` to `channels`, unless it is there already.
+/// Appends `channel` to `channels` unless they have it already.
 fn put(channels: &mut Vec<usize>, channel: usize) -> Result<(), AllocError>
     ensures added { OnOk result (AreWith channels.old.items channel channels.new.items) }
     ensures kept { OnErr result (channels.new.items ≡ channels.old.items) }

@@ -2,7 +2,7 @@
 ghost use Rattle.std.specs.Prelude.{◌≡◌, ◌↔◌, ◌⊎◌, ◌/◌, ℕ, IsTrue};
 ghost use Rattle.audit_channels.specs.Known.{Knows};
 
-/// A set of known channels, all in one row of 64. Each has one bit.
+/// A set of known channels, all in one row of 64. Bit i of `bits` is 1 if channel 64 * `row` + i is known.
 #[derive(Clone, Copy)]
 pub(crate) struct Known {
     row: usize,
@@ -17,15 +17,14 @@ impl Known {
         Known { row: 0, bits: 0 }
     }
 
-    /// Returns whether `channel` is known. Takes constant time.
+    /// Returns whether `channel` is in the set. Takes constant time.
     pub(crate) fn has(self, channel: usize) -> bool
         ensures { IsTrue result ↔ Knows self channel }
     {
         self.row == channel / 64 && (self.bits >> (channel % 64)) & 1 == 1
     }
 
-    /// Returns the set with `channel` added if the set is empty or `channel` is in its row; otherwise the set
-    /// unchanged.
+    /// Returns `self` with `channel` added if `self` is empty or `channel` is in its row, and otherwise `self`.
     pub(crate) fn with(self, channel: usize) -> Self
         ensures kept { (other : ℕ) → Knows self other → Knows result other }
         ensures only { (other : ℕ) → Knows result other → Knows self other ⊎ (other ≡ channel) }

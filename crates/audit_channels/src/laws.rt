@@ -14,9 +14,9 @@ pub fn never_both()
     ensures law { NeverBoth }
 {}
 
-/// If numbers of channels rise by facts and tables, the facts describe all that is joined to an end port of a fabric,
-/// and the end ports and switches there hold the tables, each packet that such an end port sends, for any LID, takes
-/// channels with rising numbers, wire after wire.
+/// A packet that an end port of a part sends, for any LID, takes channels with rising numbers, wire after wire, if
+/// three conditions hold: numbers of channels rise by facts and tables; the facts describe the part; and its end ports
+/// and switches hold the tables. The part is all that is joined to some end port.
 pub fn channels_rise()
     ensures law { ChannelsRise }
 {}

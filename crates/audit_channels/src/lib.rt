@@ -1,5 +1,5 @@
-//! Channels by the forwarding tables that a subnet's switches hold, whoever wrote them: whether they can wait for each
-//! other in a cycle (a credit loop).
+//! Whether channels can wait for each other in a cycle (a credit loop), by the forwarding tables that a subnet's
+//! switches hold, whoever wrote them.
 #![tactic(auto)]
 
 mod column;

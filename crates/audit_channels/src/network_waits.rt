@@ -18,7 +18,7 @@ pub fn channel_waits(alloc: Global, network: &Network) -> Result<Waits, AllocErr
     let mut waits = Waits::new(alloc, count)?;
     let mut cursor = LidCursor::of(alloc, network)?;
     let mut before = Vec::new(alloc);
-    // No switch forwards packets above the greatest top.
+    // No switch forwards packets for LIDs above the greatest top to another switch.
     for below in 0..network.greatest_top().number() {
         cursor.go_to(alloc, Lid::new(below + 1))?;
         let column = cursor.edges(alloc)?;
@@ -28,8 +28,9 @@ pub fn channel_waits(alloc: Global, network: &Network) -> Result<Waits, AllocErr
     Ok(waits)
 }
 
-/// Adds to `waits` what `column` says, unless `column` equals `before`. What `before` says must be in `waits` already.
-/// `waits` must have 256 channels for each vertex of `column`.
+/// Records in `waits` the channels that packets take one after the other by `column`. Does nothing if `column` equals
+/// `before`. The channels by `before` must be recorded already. `waits` must have 256 channels for each vertex of
+/// `column`, fewer than 2^64 in all.
 fn add_after(
     waits: &mut Waits,
     before: &[Option<Edge>],

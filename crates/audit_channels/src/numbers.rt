@@ -6,9 +6,10 @@ ghost use Rattle.audit_channels.specs.Numbers.{is_held_up, has_none, AreGiven, A
 use crate::waits::Waits;
 use std::alloc::{AllocError, Global};
 
-/// Returns a number for each channel that leads to no cycle, and 0 for the others. A round takes time linear in the
-/// number of channels and of what follows each. There are as many rounds as the longest chain of numbered channels has
-/// channels, and one more if some channel gets no number.
+/// Returns a number above 0 for each channel that leads to no cycle, and 0 for each other channel. A number above 0 is
+/// less than the numbers of the channels that follow. A round takes time linear in the number of channels, plus that of
+/// the channels that follow each. There are as many rounds as the longest chain of numbered channels has channels, and
+/// one more if some channel gets no number.
 pub(crate) fn numbers(alloc: Global, waits: &Waits) -> Result<Vec<usize>, AllocError>
     ensures { IfOk result (λ numbers. AreGiven waits.now numbers.items) }
 {
@@ -26,7 +27,7 @@ pub(crate) fn numbers(alloc: Global, waits: &Waits) -> Result<Vec<usize>, AllocE
     Ok(numbers)
 }
 
-/// Returns `numbers`, but with `number` for each channel that has no number and whose followers all have one in
+/// Returns `numbers` with `number` given to each channel that has none, if each channel that follows it has a number in
 /// `numbers`.
 fn further(
     alloc: Global,
@@ -45,7 +46,7 @@ fn further(
 }
 
 /// Returns the new number of a channel that has `old` and is followed by `following`. It is `number` if `old` is 0 and
-/// each channel of `following` has a number, otherwise `old`.
+/// each channel of `following` has a number in `numbers`, otherwise `old`.
 fn next_number(following: &[usize], numbers: &[usize], old: usize, number: usize) -> usize
     ensures { result ≡ next_number following.now numbers.now old number }
 {
@@ -56,7 +57,7 @@ fn next_number(following: &[usize], numbers: &[usize], old: usize, number: usize
     }
 }
 
-/// Returns whether a channel of `following` has no number yet.
+/// Returns whether a channel of `following` has no number in `numbers` yet.
 fn is_held_up(following: &[usize], numbers: &[usize]) -> bool
     ensures { result ≡ is_held_up numbers.now following.now }
 {
@@ -80,7 +81,7 @@ fn count_without(numbers: &[usize]) -> usize
     numbers.iter().filter(|number| **number == 0).count()
 }
 
-/// Returns the first channel without a number, or `None` if all have one.
+/// Returns the first channel without a number, or `None` if each channel has a number.
 pub(crate) fn first_without(numbers: &[usize]) -> Option<usize>
     ensures { result ≡ position (λ n. n == 0) numbers.now }
 {

@@ -17,13 +17,7 @@ pub enum ChannelOrder {
     Cycle(Vec<usize>),
 }
 
-/// Returns numbers of the channels that rise, or a shortest cycle of channels if there are none.
-///
-/// A round takes time linear in the number of channels and of what follows each. There are at most as many rounds as
-/// the longest chain of numbered channels has channels, and one more. If there is a cycle, finding a first one takes
-/// time quadratic in the number of channels that are walked until one recurs. Each channel without a number then costs
-/// a breadth-first search over the channels that it reaches by fewer channels than the shortest cycle found before it
-/// has.
+/// Returns numbers of the channels that rise, or a shortest cycle of channels if there are no such numbers.
 pub fn order_channels(alloc: Global, waits: &Waits) -> Result<ChannelOrder, AllocError>
     ensures order { IfOk result (λ found. IsOrder waits.now found) }
     ensures shortest { IfOk result (λ found. IsShortest waits.now found) }

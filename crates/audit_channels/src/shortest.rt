@@ -11,7 +11,8 @@ use crate::numbers::has_none;
 use crate::waits::Waits;
 use std::alloc::{AllocError, Global};
 
-/// Returns a cycle with the fewest channels, which is `known` if none is shorter. `known` must be a cycle.
+/// Returns a cycle with the fewest channels, which is `known` if no cycle is shorter. `known` must be a cycle, and
+/// `numbers` must be as `cycle_from` asks.
 pub(crate) fn shortest_cycle(
     alloc: Global,
     waits: &Waits,
@@ -31,8 +32,9 @@ pub(crate) fn shortest_cycle(
     Ok(shortest)
 }
 
-/// Returns a shortest cycle through `first` if it has fewer channels than `known`, otherwise `known`. `known` must be a
-/// cycle, and no mark may be greater than `first`.
+/// Returns a shortest cycle through `first` if such a cycle has fewer channels than `known`, and otherwise `known`.
+/// `known` must be a cycle. There must be a mark for each channel, none greater than `first`. `numbers` must be as
+/// `cycle_from` asks.
 fn shorter_from(
     alloc: Global,
     waits: &Waits,
@@ -68,15 +70,16 @@ fn shorter_from(
 #[derive(Clone, Copy)]
 pub(crate) struct Visited {
     channel: usize,
-    /// The index, among those reached, of the channel from which it was reached; 0 for the first.
+    /// The index in the list of reached channels from which this channel was reached; 0 for the first channel.
     from: usize,
-    /// The number of channels on the way to it, itself and the first included.
+    /// The number of channels on the path to this channel, counting this channel and the first one.
     count: usize,
 }
 
-/// Returns a shortest cycle through `first` if it has fewer than `least` channels, otherwise an empty list. Marks each
-/// channel that it reaches, except `first`, with `first` + 1. `first` must have no number, and no mark may be greater
-/// than `first`. Takes time linear in the number of channels reached and of what follows them.
+/// Returns a shortest cycle through `first` if such a cycle has fewer than `least` channels, and otherwise an empty
+/// list. Marks each channel that the search reaches, except `first`, with `first` + 1. `first` must have no number.
+/// There must be a mark for each channel, none greater than `first`. `numbers` must be as `cycle_from` asks. Takes time
+/// linear in the number of channels reached, plus that of the channels that follow each.
 fn cycle_of(
     alloc: Global,
     waits: &Waits,
@@ -122,7 +125,7 @@ fn cycle_of(
     Ok(Vec::new(alloc))
 }
 
-/// Returns the channel reached at `index`. Returns `None` if there is none, or if it was reached by a way of `least`
+/// Returns the item of `reached` at `index`. Returns `None` if there is no such item, or if its path has `least`
 /// channels or more.
 fn in_turn(reached: &[Visited], index: usize, least: usize) -> Option<Visited>
     ensures some { IfSome result (λ here. (index < length reached.now) × (here ≡ at_index reached.now index)
@@ -133,8 +136,9 @@ fn in_turn(reached: &[Visited], index: usize, least: usize) -> Option<Visited>
     if here.count < least { Some(here) } else { None }
 }
 
-/// Reaches each channel that follows `here` and has neither a number nor a mark of this search, if a way to it has
-/// fewer than `least` channels. `here` must be the channel reached at `index`.
+/// Adds to `reached` each channel that follows `here`, if its path over `here` has fewer than `least` channels. Leaves
+/// out channels that have a number or the mark of this search, `first` + 1. `here` must be the item of `reached` at
+/// `index`, and its path must have fewer than `least` channels.
 fn reach_on(
     waits: &Waits,
     numbers: &[usize],
@@ -171,7 +175,8 @@ fn reach_on(
     Ok(())
 }
 
-/// Reaches `next` if its channel has neither a number nor a mark of this search. Marks it.
+/// Adds `next` to `reached` and marks its channel with `first` + 1. Does nothing if the channel has a number or this
+/// mark already.
 fn reach(
     waits: &Waits,
     numbers: &[usize],
@@ -196,8 +201,8 @@ fn reach(
     Ok(())
 }
 
-/// Returns the way from `first` to the channel reached at `index`. `first` must follow that channel, so the way is a
-/// cycle.
+/// Returns the path from `first` to the channel of `reached` at `index`. `first` must follow that channel, so the path
+/// is a cycle.
 fn way_back(
     alloc: Global,
     waits: &Waits,

@@ -5,8 +5,8 @@ use crate::following::Following;
 use std::alloc::{AllocError, Global};
 use std::marker::Model;
 
-/// For each channel, the channels that follow it. A packet that holds the channel can wait for them. Channels are
-/// numbered from 0.
+/// For each channel, the channels that follow it. A packet that holds a channel can wait for those that follow it.
+/// Channels are numbered from 0.
 #[derive(Drop)]
 pub struct Waits {
     channels: Vec<Following>,
@@ -24,7 +24,7 @@ impl Model for Waits {
 }
 
 impl Waits {
-    /// Returns `count` channels, none of which follows another.
+    /// Returns `count` channels that no channel follows.
     pub fn new(alloc: Global, count: usize) -> Result<Self, AllocError>
         ensures { IfOk result (λ waits. waits ≡ replicate count []) }
     {
@@ -43,7 +43,7 @@ impl Waits {
         self.channels.len()
     }
 
-    /// Returns the channels that follow `channel`, and none if there is no such channel. Takes constant time.
+    /// Returns the channels that follow `channel`, or none if there is no such channel. Takes constant time.
     pub fn at(&self, channel: usize) -> &[usize]
         ensures { result.now ≡ slice_index_or self.now channel [] }
     {
@@ -53,8 +53,8 @@ impl Waits {
         }
     }
 
-    /// Records that `next` follows `channel`. Both must be channels here. Takes constant time if this is known,
-    /// otherwise time linear in the number of channels that follow `channel`.
+    /// Records that `next` follows `channel`. Both must be below the number of channels. Takes constant time if `next`
+    /// is known to follow `channel`, and otherwise time linear in the number of channels that follow `channel`.
     pub fn add(&mut self, channel: usize, next: usize) -> Result<(), AllocError>
         requires channel { channel < length self.old }
         requires next { next < length self.old }

@@ -15,7 +15,7 @@ use held_tables::HeldLid;
 use packet_walks::{LidCursor, Network};
 use std::alloc::{AllocError, Global};
 
-/// The counts of packets, and the lines whose packets are all delivered.
+/// The counts of packets, and for each line whether all its packets are seen to be delivered.
 #[derive(Drop)]
 pub struct PacketSurvey {
     pub tally: PacketTally,
@@ -23,9 +23,10 @@ pub struct PacketSurvey {
     pub told: Vec<bool>,
 }
 
-/// Counts the packets that end ports send to the LIDs of their components. Keeps the first `most` of each kind that do
-/// not arrive. `sites` must be those of the end ports, in order. Takes what `LidCursor::go_to` takes for each LID. If
-/// the deliveries do not show that all packets for a LID arrive, that LID also costs what `LidCursor::ends` takes.
+/// Counts the packets that end ports send to the LIDs of their components. Keeps the first `most` packets of each kind
+/// that do not arrive: lost, misdelivered and looping. `sites` must be the sites of the end ports, in order. Takes what
+/// `LidCursor::go_to` takes for each LID. If the deliveries do not show that all packets for a LID arrive, that LID
+/// also costs what `LidCursor::ends` takes.
 pub fn survey(
     alloc: Global,
     most: usize,
@@ -45,7 +46,7 @@ pub fn survey(
 }
 
 /// Adds the packets for the LIDs of all lines to `tally`. Appends to `told`, which must be empty, an entry for each
-/// line, true only if all packets for its LID are delivered at its port. `sites` must be those of the end ports, in
+/// line, true only if all packets for its LID are delivered at its port. `sites` must be the sites of the end ports, in
 /// order.
 fn add_lines(
     alloc: Global,
@@ -77,8 +78,10 @@ fn add_lines(
     Ok(())
 }
 
-/// Adds the packets for the LID of `line` to `tally`. Returns true only if all of them are delivered at its port.
-/// `cursor` must be at the LID. `owner` must be the site of that port, and among `sites`.
+/// Adds to `tally` the packets that the end ports in the component of `owner` send to the LID of `line`. Returns true
+/// only if all packets for this LID are delivered at the port of `line`. `cursor` must be at this LID. `sites` must be
+/// the sites of the end ports, in order, and `census` their census. `owner` must be the one of `sites` for the port of
+/// `line`.
 fn add_packets(
     alloc: Global,
     tally: &mut PacketTally,
@@ -121,8 +124,8 @@ fn add_packets(
     Ok(false)
 }
 
-/// Adds the packets that the end ports in the component of `owner` send to it, as packets that all arrive. `owner` must
-/// be among `sites`, and `census` must be theirs.
+/// Adds to `tally` the packets that the end ports in the component of `owner` send to the port of `owner`, all as
+/// arrived. `owner` must be one of `sites`, and `census` must be the census of `sites`.
 fn add_arrived(
     tally: &mut PacketTally,
     sites: &[Site],

@@ -6,7 +6,7 @@ ghost use Rattle.audit_counts.specs.Disputed.{disputed, is_disputed};
 use fact_join::Cell;
 use fact_store::{Sighting, Store};
 
-/// Returns the number of disputed facts. Takes time linear in the number of cells.
+/// Returns the number of disputed facts in `store`. Takes time linear in the number of its cells.
 pub fn disputed(store: &Store) -> usize
     ensures { result ≡ disputed (cells_of store.now) }
 {

@@ -1,4 +1,4 @@
-//! The first items of a kind, which are listed, and how many there are.
+//! The number of items of a kind, and the first of them, which are listed.
 ghost use Rattle.std.specs.Prelude.{◌≡◌, [], IfOk, OnOk};
 ghost use Rattle.audit_counts.specs.FirstFew.{all_listed, listed, more_of, first_few};
 
@@ -43,7 +43,7 @@ impl<T: Drop> FirstFew<T> {
         note(&mut self.first, self.most, item)
     }
 
-    /// Returns the first items, at most as many as `new` or `of` was told to keep.
+    /// Returns the items that are kept: the first ones, and at most `most` of them, as given to `new` or `of`.
     pub fn first(&self) -> &[T]
         ensures { result.now ≡ self.now.first }
     {
@@ -66,7 +66,7 @@ impl<T: Drop> FirstFew<T> {
 }
 
 impl<T: Copy + Drop> FirstFew<T> {
-    /// Counts `items`, and keeps the first `most` of them.
+    /// Returns the number of `items`, with the first `most` of them kept.
     pub(crate) fn of(alloc: Global, most: usize, items: &[T]) -> Result<Self, AllocError>
         ensures { IfOk result (λ few. few ≡ all_listed most items.now) }
     {

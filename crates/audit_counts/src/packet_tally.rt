@@ -1,4 +1,4 @@
-//! How many packets arrive, why others do not, and the first that do not.
+//! The number of packets that arrive, the causes for which others are lost, and the first packets that do not arrive.
 ghost use Rattle.std.specs.Prelude.{◌≡◌, [], false, OnOk};
 
 use crate::causes::Causes;
@@ -8,7 +8,8 @@ use crate::sent_packet::SentPacket;
 use packet_walks::End;
 use std::alloc::{AllocError, Global};
 
-/// How many packets there are and how many arrive. Of the others, the number and the first packets of each kind.
+/// The number of packets, and how many of them arrive. For each kind of packet that does not arrive, the number of
+/// packets and the first of them.
 #[derive(Drop)]
 pub struct PacketTally {
     pub all: Pairs,
@@ -38,7 +39,7 @@ impl PacketTally {
         }
     }
 
-    /// Adds `packet`. If it does not arrive, adds it to the packets of its kind too.
+    /// Counts `packet`. If `packet` does not arrive, also adds it to the packets of its kind.
     pub(crate) fn add(&mut self, packet: SentPacket) -> Result<(), AllocError>
         ensures { OnOk result (IsWith self.old packet self.new) }
     {
@@ -49,7 +50,8 @@ impl PacketTally {
         self.miss(packet)
     }
 
-    /// Adds `count` packets that arrive, and `between` to those between adapter ports.
+    /// Adds `count` packets to all packets, and `between` packets to those between adapter ports, all as arrived.
+    /// Returns an error if a count does not fit in 64 bits.
     pub(crate) fn add_arrived(&mut self, count: u64, between: u64) -> Result<(), AllocError>
         ensures { OnOk result (IsWithArrived self.old count between self.new) }
     {
@@ -57,7 +59,8 @@ impl PacketTally {
         self.between.add_arrived(between)
     }
 
-    /// Counts `packet`, and whether it arrives, among all packets and, if it is one, among those between adapter ports.
+    /// Counts `packet`, and whether it arrives, among all packets. If `packet` goes between adapter ports, counts it
+    /// among those packets too.
     fn count(&mut self, packet: &SentPacket) -> Result<(), AllocError>
         ensures { OnOk result (IsCountedWith self.old packet.now self.new) }
     {

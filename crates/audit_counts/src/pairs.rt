@@ -23,8 +23,8 @@ impl Pairs {
         }
     }
 
-    /// Counts a packet if `is_one` is true, and that it arrives if `arrives` is true too. Returns an error if the count
-    /// does not fit in 64 bits.
+    /// Counts one packet if `is_one` is true, and counts it as arrived if `arrives` is true too. Changes nothing if
+    /// `is_one` is false. Returns an error if the count does not fit in 64 bits.
     pub(crate) fn add(&mut self, is_one: bool, arrives: bool) -> Result<(), AllocError>
         ensures { OnOk result (ArePairsIf self.old is_one arrives self.new) }
     {
@@ -38,7 +38,7 @@ impl Pairs {
         Ok(())
     }
 
-    /// Adds `count` packets that arrive. Returns an error if the count does not fit in 64 bits.
+    /// Adds `count` packets, all as arrived. Returns an error if the count does not fit in 64 bits.
     pub(crate) fn add_arrived(&mut self, count: u64) -> Result<(), AllocError>
         ensures { OnOk result (ArePairsWithArrived self.old count self.new) }
     {

@@ -25,13 +25,13 @@ pub struct Site {
     pub port: EndPort,
     /// The least GUID of the switches in the port's component. `None` if the port lies at no usable switch.
     pub root: Option<Guid>,
-    /// The port at the other end of the port's wire. `None` if it has no wire.
+    /// The port at the other end of the port's wire. `None` if the port has no wire.
     pub across: Option<(Guid, PortNum)>,
 }
 
 impl Site {
-    /// Returns whether the end ports of `self` and `other` lie in one component: they are equal, they lie at usable
-    /// switches that wires join, or a wire of the first leads to the second.
+    /// Returns whether the end ports of `self` and `other` lie in one component. Either the two ports are equal, or
+    /// they lie at usable switches of one component, or the wire of the port of `self` leads to the port of `other`.
     pub fn is_joined_to(&self, other: &Site) -> bool
         ensures { result ≡ are_joined self.now other.now }
     {
@@ -41,7 +41,7 @@ impl Site {
     }
 }
 
-/// Returns whether both `one` and `other` are roots, and equal.
+/// Returns whether `one` and `other` are equal and not `None`.
 fn is_one_root(one: Option<Guid>, other: Option<Guid>) -> bool
     ensures { result ≡ is_one_root one other }
 {
@@ -51,7 +51,7 @@ fn is_one_root(one: Option<Guid>, other: Option<Guid>) -> bool
     }
 }
 
-/// Returns whether `far` is `port`.
+/// Returns whether `far`, a node and a port number, is `port`. Returns false if `far` is `None`.
 fn leads_to(far: Option<(Guid, PortNum)>, port: &EndPort) -> bool
     ensures { result ≡ leads_to far port.now }
 {
@@ -61,7 +61,8 @@ fn leads_to(far: Option<(Guid, PortNum)>, port: &EndPort) -> bool
     }
 }
 
-/// Returns whether all end ports lie at usable switches of one component. Returns true if there is no end port.
+/// Returns whether the end ports of all `sites` lie at usable switches of one component. Returns true if `sites` is
+/// empty.
 pub(crate) fn are_one_component(sites: &[Site]) -> bool
     ensures { result ≡ are_one_component sites.now }
 {
@@ -69,7 +70,7 @@ pub(crate) fn are_one_component(sites: &[Site]) -> bool
     sites.iter().all(|site| is_one_root(site.root, root))
 }
 
-/// Returns the root of the first of `sites`, or `None` if there is no site or it has no root.
+/// Returns the root of the first of `sites`, or `None` if `sites` is empty or its first site has no root.
 fn first_root(sites: &[Site]) -> Option<Guid>
     ensures { result ≡ first_root sites.now }
 {
@@ -82,7 +83,8 @@ fn first_root(sites: &[Site]) -> Option<Guid>
 /// Whether all end ports lie in one component, and how many of them are ports of adapters.
 #[derive(Clone, Copy, Debug, PartialEq, Eq)]
 pub(crate) struct Census {
-    /// Whether each end port lies at a usable switch, and all these switches lie in one component.
+    /// Whether each end port lies at a usable switch, and all these switches lie in one component. True if there is no
+    /// end port.
     pub whole: bool,
     /// How many of the end ports are ports of adapters.
     pub adapters: usize,
@@ -97,15 +99,15 @@ pub(crate) fn census_of(sites: &[Site]) -> Census
     Census { whole, adapters }
 }
 
-/// Returns how many of `sites` are those of adapter ports.
+/// Returns how many of `sites` are the sites of adapter ports.
 fn adapter_count(sites: &[Site]) -> usize
     ensures { result ≡ count_by (λ site. is_adapter site.port) sites.now }
 {
     sites.iter().filter(|site| is_adapter(&site.port)).count()
 }
 
-/// Returns the number of end ports in the component of `owner`. `owner` must be among `sites`, and `census` must be
-/// theirs. Takes constant time if all lie in one component, otherwise time linear in their number.
+/// Returns how many of `sites` are in the component of `owner`. `owner` must be one of `sites`, and `census` must be
+/// the census of `sites`. Takes constant time if `census.whole` is true, otherwise time linear in the number of sites.
 pub(crate) fn joined_count(sites: &[Site], owner: &Site, census: Census) -> usize
     requires census { IsCensus sites.now census }
     requires listed { Contains sites.now owner.now }
@@ -117,9 +119,9 @@ pub(crate) fn joined_count(sites: &[Site], owner: &Site, census: Census) -> usiz
     sites.iter().filter(|site| site.is_joined_to(owner)).count()
 }
 
-/// Returns the number of adapter ports in the component of `owner` if `owner` is an adapter port, otherwise 0. `owner`
-/// must be among `sites`, and `census` must be theirs. Takes constant time if all lie in one component or the answer is
-/// 0 for want of an adapter port, otherwise time linear in their number.
+/// Returns how many of `sites` are of adapter ports in the component of `owner`, or 0 if `owner` is not of an adapter
+/// port. `owner` must be one of `sites`, and `census` must be the census of `sites`. Takes constant time if `owner` is
+/// not of an adapter port or `census.whole` is true, otherwise time linear in the number of sites.
 pub(crate) fn joined_adapters(sites: &[Site], owner: &Site, census: Census) -> usize
     requires census { IsCensus sites.now census }
     requires listed { Contains sites.now owner.now }
@@ -137,14 +139,14 @@ pub(crate) fn joined_adapters(sites: &[Site], owner: &Site, census: Census) -> u
         .count()
 }
 
-/// Returns whether `site` and `owner` are adapter ports in one component.
+/// Returns whether `site` and `owner` are of adapter ports in one component.
 fn are_joined_adapters(site: &Site, owner: &Site) -> bool
     ensures { result ≡ are_joined_adapters site.now owner.now }
 {
     site.is_joined_to(owner) && are_adapters(&site.port, &owner.port)
 }
 
-/// Returns whether `port` and `other` are end ports of adapters.
+/// Returns whether `port` and `other` are both end ports of adapters.
 pub fn are_adapters(port: &EndPort, other: &EndPort) -> bool
     ensures { result ≡ are_adapters port.now other.now }
 {
@@ -196,7 +198,8 @@ fn site_of(wires: &Wires, graph: &SwitchGraph, roots: &[Option<Guid>], port: &En
     }
 }
 
-/// Returns the root of the component in which `port` lies, or `None` if it lies at no usable switch.
+/// Returns the root of the component in which `port` lies, or `None` if `port` lies at no usable switch. `graph` must
+/// be the graph of `wires`, and `roots` must be the roots of its switches.
 fn root_at(
     wires: &Wires,
     graph: &SwitchGraph,
@@ -212,8 +215,8 @@ fn root_at(
     roots[index]
 }
 
-/// Returns the usable switch at which `port` lies: its own node, or the switch to which its wire leads. Returns `None`
-/// if there is none.
+/// Returns the usable switch at which `port` lies: its own node if that is a usable switch, else the switch to which
+/// its wire leads. Returns `None` if `port` lies at no usable switch.
 fn switch_of(wires: &Wires, port: &EndPort) -> Option<Guid>
     ensures { result ≡ switch_of (cells_of wires.now) port.now }
 {
@@ -224,8 +227,8 @@ fn switch_of(wires: &Wires, port: &EndPort) -> Option<Guid>
     Some(switch)
 }
 
-/// Returns the index of a site of `port`, or an index beyond the end if there is none. Takes constant time if that site
-/// is at `index` or the next index, otherwise time linear in the number of sites.
+/// Returns the index of a site of `port`, or an index beyond the end of `sites` if no site is of `port`. Takes constant
+/// time if a site of `port` is at `index` or at the next index, otherwise time linear in the number of sites.
 pub fn index_of(sites: &[Site], index: usize, port: &EndPort) -> usize
     ensures { IsSiteOf sites.now port.now (slice_get sites.now result) }
 {
@@ -249,14 +252,14 @@ fn is_site_at(sites: &[Site], index: usize, port: &EndPort) -> bool
     }
 }
 
-/// Returns the site at `index`, or `None` if there is none.
+/// Returns the site at `index`, or `None` if `index` is beyond the end of `sites`.
 pub fn site_in(sites: &[Site], index: usize) -> Option<Site>
     ensures { result ≡ slice_get sites.now index }
 {
     sites.get(index).copied()
 }
 
-/// Returns the index of the first site of `port`, or the number of sites if there is none.
+/// Returns the index of the first site of `port`, or the number of sites if no site is of `port`.
 fn first_at(sites: &[Site], port: &EndPort) -> usize
     ensures { IsSiteOf sites.now port.now (slice_get sites.now result) }
 {
@@ -266,7 +269,7 @@ fn first_at(sites: &[Site], port: &EndPort) -> usize
     }
 }
 
-/// Returns the index of the first site of `port`, or `None` if there is none.
+/// Returns the index of the first site of `port`, or `None` if no site is of `port`.
 fn position_of(sites: &[Site], port: &EndPort) -> Option<usize>
     ensures { result ≡ position (is_of port.now) sites.now }
 {

@@ -29,12 +29,13 @@ pub struct Unmatched {
     pub unusable: FirstFew<Guid>,
     /// End ports of the facts without a LID.
     pub lidless: FirstFew<EndPort>,
-    /// Ports that the facts name without saying where they lead.
+    /// Ports that the facts name but do not show to be down, to have a wire, or to be the end port of a switch.
     pub unjoined: FirstFew<EndPort>,
 }
 
 impl Unmatched {
-    /// Compares tables and facts, and keeps the first `most` of each kind.
+    /// Compares the held tables of `network` with its facts, and counts the gaps in the facts. Keeps the first `most`
+    /// items of each kind.
     pub fn of(alloc: Global, most: usize, network: &Network) -> Result<Self, AllocError>
         ensures { IfOk result (IsUnmatched most (cells_of network.now.facts) network.now.held) }
     {
@@ -54,8 +55,8 @@ impl Unmatched {
     }
 }
 
-/// Returns the lines of LIDs whose ports are not end ports of the facts, and the lines of LIDs that more than one end
-/// port holds.
+/// Counts the lines of LIDs whose ports are not end ports of the facts, and the lines of LIDs that more than one end
+/// port holds. Keeps the first `most` lines of either kind.
 fn unowned_and_twice(
     alloc: Global,
     most: usize,
@@ -69,8 +70,8 @@ fn unowned_and_twice(
     Ok((unowned, twice))
 }
 
-/// Returns the switches that have tables but are not usable switches of the facts, and the usable switches without
-/// tables.
+/// Counts the switches that have tables but are not usable switches of the facts, and the usable switches without
+/// tables. Keeps the first `most` switches of either kind.
 fn unknown_and_tableless(
     alloc: Global,
     most: usize,
@@ -84,8 +85,7 @@ fn unknown_and_tableless(
     Ok((unknown, tableless))
 }
 
-/// Returns the nodes that the facts name but whose type is unknown, with the switches whose table room is unknown, and
-/// the ports that the facts name without saying where they lead.
+/// Counts the unusable nodes and the unjoined ports that the facts name. Keeps the first `most` items of either kind.
 fn unusable_and_unjoined(
     alloc: Global,
     most: usize,
@@ -99,7 +99,8 @@ fn unusable_and_unjoined(
     Ok((unusable, unjoined))
 }
 
-/// Returns the nodes that the facts name but whose type is unknown, and the switches whose table room is unknown.
+/// Counts the nodes that the facts name but whose type is unknown, and the switches whose table room is unknown. Keeps
+/// the first `most` of these nodes.
 fn unusable_of(alloc: Global, most: usize, store: &Store) -> Result<FirstFew<Guid>, AllocError>
     ensures { IfOk result (λ few. few ≡ unusable most (cells_of store.now)) }
 {
@@ -107,7 +108,8 @@ fn unusable_of(alloc: Global, most: usize, store: &Store) -> Result<FirstFew<Gui
     FirstFew::of(alloc, most, &guids)
 }
 
-/// Returns the ports that the facts name without saying where they lead.
+/// Counts the ports that the facts name but do not show to be down, to have a wire, or to be the end port of a switch.
+/// Keeps the first `most` of these ports.
 fn unjoined_of(alloc: Global, most: usize, wires: &Wires) -> Result<FirstFew<EndPort>, AllocError>
     ensures { IfOk result (λ few. few ≡ unjoined most (cells_of wires.now)) }
 {
@@ -115,7 +117,7 @@ fn unjoined_of(alloc: Global, most: usize, wires: &Wires) -> Result<FirstFew<End
     FirstFew::of(alloc, most, &ports)
 }
 
-/// Returns those of `lines` whose ports are not end ports of the facts.
+/// Counts those of `lines` whose ports are not end ports of the facts, and keeps the first `most` of them.
 fn unowned(
     alloc: Global,
     most: usize,
@@ -133,7 +135,7 @@ fn unowned(
     Ok(few)
 }
 
-/// Returns the lines of the LIDs that more than one end port holds.
+/// Counts the lines of the LIDs that more than one end port holds, and keeps the first `most` of them.
 fn twice(alloc: Global, most: usize, network: &Network) -> Result<FirstFew<HeldLid>, AllocError>
     ensures { IfOk result (λ few. few ≡ twice most network.now.held) }
 {
@@ -146,7 +148,7 @@ fn twice(alloc: Global, most: usize, network: &Network) -> Result<FirstFew<HeldL
     Ok(few)
 }
 
-/// Returns the switches of `held` that are not usable switches of the facts.
+/// Counts the switches of `held` that are not usable switches of the facts, and keeps the first `most` of them.
 fn unknown(
     alloc: Global,
     most: usize,
@@ -164,7 +166,7 @@ fn unknown(
     Ok(few)
 }
 
-/// Returns the switches of `guids` that have no tables in `held`.
+/// Counts the switches of `guids` that have no tables in `held`, and keeps the first `most` of them.
 fn tableless(
     alloc: Global,
     most: usize,
@@ -189,7 +191,7 @@ fn is_held(held: &Held, guid: Guid) -> bool
     held.switches().iter().any(|switch| switch.guid == guid)
 }
 
-/// Returns the end ports of `ports` that have no LID in `held`.
+/// Counts the end ports of `ports` that have no LID in `held`, and keeps the first `most` of them.
 fn lidless(
     alloc: Global,
     most: usize,

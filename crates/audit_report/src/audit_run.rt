@@ -24,14 +24,14 @@ pub struct AuditAsked {
     pub floor: Generation,
     /// Whether to write all lines of each kind, or only the first 20.
     pub all: bool,
-    /// The maximum load of a channel: how many packets may take it, of one from each adapter port to each LID of
-    /// another. `None` if there is no bound.
+    /// The maximum load of a channel, or `None` if there is no bound. The load counts one packet from each adapter port
+    /// to each LID of another adapter port, if the packet is delivered and takes the channel.
     pub max_load: Option<u64>,
 }
 
-/// Reads the tables from the first input, which there must be, and then the files in order. Writes what these tables do
-/// with the packets of the subnet that the files describe together. Returns whether the tables pass and no channel has
-/// a load over `asked.max_load`.
+/// Reads the tables from the first input, and then the files in order. There must be at least one input. Writes what
+/// these tables do with the packets of the subnet that the files describe together, and flushes. Returns whether the
+/// tables pass and no channel has a load over `asked.max_load`.
 ///
 /// # Errors
 ///

@@ -26,14 +26,17 @@ use subnet_view::EndPort;
 
 /// Writes an audit, and flushes:
 ///
-/// - how many packets there are and how many arrive: of all, between adapter ports, and with a switch at one end;
-/// - how many packets are lost for each cause;
+/// - how many packets there are and how many arrive: of all packets, of packets between adapter ports, and of packets
+///   to or from a switch;
+/// - how many packets are lost for each cause, are misdelivered, and loop;
 /// - the first packets of each kind that do not arrive, by rising LID and then in the order of the end ports, and how
 ///   many more there are;
-/// - the first differences of each kind between tables and facts, and how many more there are;
+/// - the first differences of each kind between tables and facts, the first gaps of each kind in the facts, and how
+///   many more there are;
 /// - how many facts are disputed, if any are;
-/// - the wires that packets between adapter ports take, and the loads of channels;
-/// - a credit loop, if there is one.
+/// - the greatest and the mean number of wires that packets between adapter ports take, and the greatest and the mean
+///   load of a channel;
+/// - the channels of a credit loop, or that there is none.
 ///
 /// Does not allocate.
 pub fn write_audit<W: Sink>(sink: &mut W, audit: &Audit) -> Result<(), WriteFault>
@@ -45,7 +48,8 @@ pub fn write_audit<W: Sink>(sink: &mut W, audit: &Audit) -> Result<(), WriteFaul
     sink.flush()
 }
 
-/// Writes an audit as `write_audit` does, but without its credit loop, and without flushing. Does not allocate.
+/// Writes `audit` as `write_audit` does, but without the line of the credit loop, and without flushing. Does not
+/// allocate.
 pub fn write_findings<W: Sink>(sink: &mut W, audit: &Audit) -> Result<(), WriteFault>
     ensures { WritesPart W.written W.has_failed result sink.old sink.new
         (findings_text audit.now.most (cells_of audit.now.facts) audit.now.held) }
@@ -76,8 +80,8 @@ fn write_tally<W: Sink>(
     write_missed(sink, network, tally)
 }
 
-/// Writes how many packets there are and how many arrive: of all packets, of packets between adapter ports, and of the
-/// others.
+/// Writes how many packets there are and how many arrive: of all packets, of packets between adapter ports, and of
+/// packets to or from a switch.
 fn write_pairs<W: Sink>(sink: &mut W, all: &Pairs, between: &Pairs) -> Result<(), WriteFault>
     ensures { WritesPart W.written W.has_failed result sink.old sink.new (pairs_text all.now between.now) }
 {
@@ -86,8 +90,8 @@ fn write_pairs<W: Sink>(sink: &mut W, all: &Pairs, between: &Pairs) -> Result<()
     write_with_switch(sink, all, between)
 }
 
-/// Writes how many packets are in `all` but not in `between`, which are to or from a switch, and how many of them
-/// arrive.
+/// Writes how many packets of `all` are not in `between`, and how many of those packets arrive. They are the packets to
+/// or from a switch.
 fn write_with_switch<W: Sink>(sink: &mut W, all: &Pairs, between: &Pairs) -> Result<(), WriteFault>
     ensures { Writes W.written W.has_failed result sink.old sink.new
         (counts_line (codes "with a switch ") (all.now.sent - between.now.sent)
@@ -115,7 +119,7 @@ fn write_counts<W: Sink>(
     sink.write(b"\n")
 }
 
-/// Writes how many packets do not arrive, by what becomes of them.
+/// Writes the line of the packets that do not arrive: how many are lost for each cause, are misdelivered, and loop.
 fn write_counted<W: Sink>(
     sink: &mut W,
     causes: &Causes,
@@ -131,7 +135,7 @@ fn write_counted<W: Sink>(
     sink.write(b"\n")
 }
 
-/// Writes how many packets are delivered at another port, and how many loop.
+/// Writes how many packets are misdelivered, and how many loop.
 fn write_others<W: Sink>(sink: &mut W, misdelivered: u64, round: u64) -> Result<(), WriteFault>
     ensures { WritesPart W.written W.has_failed result sink.old sink.new (others_text misdelivered round) }
 {
@@ -189,7 +193,7 @@ fn write_listed<W: Sink>(
     write_more(sink, word, few.more())
 }
 
-/// Writes a line for each of `packets`, which begins with `word`.
+/// Writes a line for each of `packets`. Each line begins with `word`.
 fn write_packets<W: Sink>(
     sink: &mut W,
     network: &Network,
@@ -231,7 +235,7 @@ fn write_sent<W: Sink>(sink: &mut W, word: &str, packet: &SentPacket) -> Result<
     write_number(sink, u64::from(packet.line.lid.number()))
 }
 
-/// Writes where a packet for `lid` ends; nothing if it loops.
+/// Writes `end`, where a packet for `lid` ends, or nothing if `end` is `None`: the packet loops.
 fn write_end<W: Sink>(
     sink: &mut W,
     network: &Network,
@@ -248,7 +252,7 @@ fn write_end<W: Sink>(
     }
 }
 
-/// Writes that `port` takes a packet.
+/// Writes that a packet is delivered at `port`.
 fn write_taken<W: Sink>(sink: &mut W, port: &EndPort) -> Result<(), WriteFault>
     ensures { Writes W.written W.has_failed result sink.old sink.new (taken_text port.now) }
 {
@@ -256,7 +260,8 @@ fn write_taken<W: Sink>(sink: &mut W, port: &EndPort) -> Result<(), WriteFault>
     write_port(sink, port.node, port.port)
 }
 
-/// Writes the node at which a packet for `lid` is lost, its entry for `lid` if it is a usable switch, and the cause.
+/// Writes `node`, at which a packet for `lid` is lost, the entry of `node` for `lid`, and `cause`. The entry is left
+/// out if `node` is not a usable switch.
 fn write_lost<W: Sink>(
     sink: &mut W,
     network: &Network,
@@ -273,7 +278,7 @@ fn write_lost<W: Sink>(
     write_cause(sink, cause)
 }
 
-/// Writes why a packet is lost.
+/// Writes `cause`, for which a packet is lost.
 fn write_cause<W: Sink>(sink: &mut W, cause: Cause) -> Result<(), WriteFault>
     ensures { Writes W.written W.has_failed result sink.old sink.new (cause_text cause) }
 {
@@ -286,7 +291,7 @@ fn write_cause<W: Sink>(sink: &mut W, cause: Cause) -> Result<(), WriteFault>
     }
 }
 
-/// Writes `entry`, by which a packet is lost, or nothing if it is `None`.
+/// Writes `entry`, the table entry of a lost packet, or nothing if it is `None`.
 fn write_entry<W: Sink>(sink: &mut W, entry: Option<u8>) -> Result<(), WriteFault>
     ensures { WritesPart W.written W.has_failed result sink.old sink.new (entry_text entry) }
 {
@@ -299,7 +304,7 @@ fn write_entry<W: Sink>(sink: &mut W, entry: Option<u8>) -> Result<(), WriteFaul
     }
 }
 
-/// Writes where tables and facts differ, and what the facts leave open.
+/// Writes where tables and facts differ, and the gaps in the facts.
 fn write_unmatched<W: Sink>(sink: &mut W, unmatched: &Unmatched) -> Result<(), WriteFault>
     ensures { WritesPart W.written W.has_failed result sink.old sink.new (unmatched_text unmatched.now) }
 {
@@ -320,7 +325,7 @@ fn write_lids<W: Sink>(sink: &mut W, word: &str, few: &FirstFew<HeldLid>) -> Res
     write_more(sink, word, few.more())
 }
 
-/// Writes a line for each of `lines`, which begins with `word`.
+/// Writes a line for each of `lines`. Each written line begins with `word`.
 fn write_each_lid<W: Sink>(sink: &mut W, word: &str, lines: &[HeldLid]) -> Result<(), WriteFault>
     ensures { WritesPart W.written W.has_failed result sink.old sink.new (flat_map (lid_line word.now) lines.now) }
 {
@@ -342,7 +347,7 @@ fn write_lid<W: Sink>(sink: &mut W, word: &str, line: &HeldLid) -> Result<(), Wr
     sink.write(b"\n")
 }
 
-/// Writes the first switches of the kind `word`, and how many more there are.
+/// Writes the first nodes of the kind `word`, and how many more there are.
 fn write_switches<W: Sink>(sink: &mut W, word: &str, few: &FirstFew<Guid>) -> Result<(), WriteFault>
     ensures { WritesPart W.written W.has_failed result sink.old sink.new (kind_text switch_line word.now few.now) }
 {
@@ -350,7 +355,7 @@ fn write_switches<W: Sink>(sink: &mut W, word: &str, few: &FirstFew<Guid>) -> Re
     write_more(sink, word, few.more())
 }
 
-/// Writes a line for each of `guids`, which begins with `word`.
+/// Writes a line for each of `guids`. Each line begins with `word`.
 fn write_each_switch<W: Sink>(sink: &mut W, word: &str, guids: &[Guid]) -> Result<(), WriteFault>
     ensures { WritesPart W.written W.has_failed result sink.old sink.new (flat_map (switch_line word.now) guids.now) }
 {
@@ -360,7 +365,7 @@ fn write_each_switch<W: Sink>(sink: &mut W, word: &str, guids: &[Guid]) -> Resul
     Ok(())
 }
 
-/// Writes `word` and the switch `guid`, as a line.
+/// Writes `word` and `guid`, as a line.
 fn write_switch<W: Sink>(sink: &mut W, word: &str, guid: Guid) -> Result<(), WriteFault>
     ensures { Writes W.written W.has_failed result sink.old sink.new (switch_line word.now guid) }
 {
@@ -370,7 +375,7 @@ fn write_switch<W: Sink>(sink: &mut W, word: &str, guid: Guid) -> Result<(), Wri
     sink.write(b"\n")
 }
 
-/// Writes the first end ports of the kind `word`, and how many more there are.
+/// Writes the first ports of the kind `word`, and how many more there are.
 fn write_ports<W: Sink>(sink: &mut W, word: &str, few: &FirstFew<EndPort>) -> Result<(), WriteFault>
     ensures { WritesPart W.written W.has_failed result sink.old sink.new (kind_text port_line word.now few.now) }
 {
@@ -378,7 +383,7 @@ fn write_ports<W: Sink>(sink: &mut W, word: &str, few: &FirstFew<EndPort>) -> Re
     write_more(sink, word, few.more())
 }
 
-/// Writes a line for each of `ports`, which begins with `word`.
+/// Writes a line for each of `ports`. Each line begins with `word`.
 fn write_each_port<W: Sink>(sink: &mut W, word: &str, ports: &[EndPort]) -> Result<(), WriteFault>
     ensures { WritesPart W.written W.has_failed result sink.old sink.new (flat_map (port_line word.now) ports.now) }
 {
@@ -388,7 +393,7 @@ fn write_each_port<W: Sink>(sink: &mut W, word: &str, ports: &[EndPort]) -> Resu
     Ok(())
 }
 
-/// Writes `word` and the end port `port`, as a line.
+/// Writes `word` and `port`, as a line.
 fn write_end_port<W: Sink>(sink: &mut W, word: &str, port: &EndPort) -> Result<(), WriteFault>
     ensures { Writes W.written W.has_failed result sink.old sink.new (port_line word.now port.now) }
 {
@@ -412,7 +417,7 @@ pub fn write_more<W: Sink>(sink: &mut W, word: &str, count: u64) -> Result<(), W
     sink.write(b"\n")
 }
 
-/// Writes how many facts are disputed, or nothing if `count` is 0.
+/// Writes that `count` facts are disputed, or nothing if `count` is 0.
 fn write_disputed<W: Sink>(sink: &mut W, count: usize) -> Result<(), WriteFault>
     ensures { WritesPart W.written W.has_failed result sink.old sink.new (disputed_line count) }
 {
@@ -424,7 +429,7 @@ fn write_disputed<W: Sink>(sink: &mut W, count: usize) -> Result<(), WriteFault>
     sink.write(b"\n")
 }
 
-/// Writes the figures of the wires that packets take, and of the loads of channels.
+/// Writes the line of figures of the wires that packets take, and the line of figures of the loads of channels.
 fn write_ways<W: Sink>(sink: &mut W, ways: &WayFigures) -> Result<(), WriteFault>
     ensures { WritesPart W.written W.has_failed result sink.old sink.new (ways_text ways.now.hops ways.now.load) }
 {
@@ -432,7 +437,7 @@ fn write_ways<W: Sink>(sink: &mut W, ways: &WayFigures) -> Result<(), WriteFault
     write_line(sink, "load", &ways.load)
 }
 
-/// Writes a line of figures: `word`, the greatest number and the mean.
+/// Writes a line of figures: `word`, and the greatest number and the mean, or `none` if `figures` is `None`.
 fn write_line<W: Sink>(
     sink: &mut W,
     word: &str,
@@ -445,7 +450,7 @@ fn write_line<W: Sink>(
     sink.write(b"\n")
 }
 
-/// Writes the greatest number and the mean, or that there are no numbers.
+/// Writes the greatest number and the mean of `figures`, or `none` if `figures` is `None`.
 fn write_figures<W: Sink>(sink: &mut W, figures: &Option<Figures>) -> Result<(), WriteFault>
     ensures { WritesPart W.written W.has_failed result sink.old sink.new (figures_text figures.now) }
 {
@@ -471,7 +476,7 @@ fn write_hundredths<W: Sink>(sink: &mut W, number: u64) -> Result<(), WriteFault
 }
 
 /// Writes the line of the credit loop `cycle`, or that there is none if `cycle` is empty. Each channel is written as a
-/// switch and the port by which packets leave it.
+/// switch and its outgoing port.
 pub fn write_cycle<W: Sink>(
     sink: &mut W,
     network: &Network,
@@ -501,7 +506,7 @@ fn write_channels<W: Sink>(
     write_each_channel(sink, network, cycle)
 }
 
-/// Writes each of `channels`.
+/// Writes each of `channels`, with a space before it.
 fn write_each_channel<W: Sink>(
     sink: &mut W,
     network: &Network,
@@ -516,7 +521,7 @@ fn write_each_channel<W: Sink>(
     Ok(())
 }
 
-/// Writes the switch and the port of `channel`.
+/// Writes a space, and the switch and the outgoing port of `channel`.
 fn write_channel<W: Sink>(sink: &mut W, network: &Network, channel: usize) -> Result<(), WriteFault>
     ensures { Writes W.written W.has_failed result sink.old sink.new
         (channel_text (cells_of network.now.facts) channel) }
@@ -526,7 +531,7 @@ fn write_channel<W: Sink>(sink: &mut W, network: &Network, channel: usize) -> Re
     write_port(sink, switch_of(network, channel), port)
 }
 
-/// Returns the switch of `channel`, or GUID 0 if there is none.
+/// Returns the switch of `channel`, or GUID 0 if no usable switch has the index that `channel` gives.
 fn switch_of(network: &Network, channel: usize) -> Guid
     ensures { result ≡ slice_index (switches (cells_of network.now.facts)) (channel / 256) }
 {

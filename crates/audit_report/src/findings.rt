@@ -60,13 +60,13 @@ impl<'a> Model for Audit<'a> {
 }
 
 impl<'a> Audit<'a> {
-    /// Audits the tables `held` in `subnet`. Follows the packets for each held LID from every end port of
-    /// its owner's component. Counts the wires and channels that packets between adapter ports take, and looks for a
+    /// Audits the tables `held` in `subnet`. Follows the packets for each held LID from every end port in the component
+    /// of the LID's owner. Counts the wires and channels that packets between adapter ports take, and looks for a
     /// shortest credit loop. Keeps the first `most` lines of each kind.
     ///
-    /// Costs what `Network::deliveries` takes for each 64 LIDs, and twice what `Network::edges` takes for each LID. If
-    /// the deliveries do not show that all packets for a LID arrive, that LID also costs what `Network::ends` takes,
-    /// and costs this twice if not all are delivered at its port.
+    /// Costs what `Network::deliveries` takes for each 64 LIDs, and twice what `Network::edges` takes for each LID. A
+    /// LID also costs what `Network::ends` takes if the deliveries do not show that all its packets arrive, and twice
+    /// that if some packet is not delivered at the port of its line.
     pub fn of(
         alloc: Global,
         most: usize,
@@ -88,9 +88,9 @@ impl<'a> Audit<'a> {
         })
     }
 
-    /// Returns whether the tables pass and no channel has a load over `bound`, which is no bound if it is `None`. The
-    /// load of a channel counts the delivered packets that take it, one from each adapter port to each LID of another
-    /// adapter port.
+    /// Returns whether the tables pass and no channel has a load over `bound`. If `bound` is `None`, there is no bound.
+    /// The load of a channel counts the delivered packets that take it, one from each adapter port to each LID of
+    /// another adapter port.
     pub fn passes_within(&self, bound: Option<u64>) -> bool
         ensures { IsTrue result ↔ PassesWithin bound (cells_of self.now.facts) self.now.held }
     {
@@ -105,36 +105,37 @@ impl<'a> Audit<'a> {
         is_within(bound, &self.findings.ways.load)
     }
 
-    /// Returns whether the tables pass: nothing is missing, each packet arrives, and there is no credit loop.
+    /// Returns whether the tables pass: they are whole for the facts, each packet arrives, and there is no credit loop.
     pub fn passes(&self) -> bool
         ensures { IsTrue result ↔ Passes (cells_of self.now.facts) self.now.held }
     {
         self.is_whole() && self.is_sound()
     }
 
-    /// Returns whether nothing is missing. Each end port of the view holds a LID. If there is an end port, each usable
-    /// switch has tables. The type of each node that the view names is known and, if it is a switch, its table room.
+    /// Returns whether the tables are whole for the facts. Each end port must hold a LID. Each usable switch must have
+    /// tables if there is an end port. The type of each node that the facts name must be known and, for a switch, its
+    /// table room.
     fn is_whole(&self) -> bool
         ensures { IsTrue result ↔ IsWholeFor (cells_of self.now.facts) self.now.held }
     {
         self.has_lids() && self.has_tables() && self.has_nodes()
     }
 
-    /// Returns whether the type of each node that the view names is known, and the table room of each switch.
+    /// Returns whether the type of each node that the facts name is known and, for a switch, its table room.
     fn has_nodes(&self) -> bool
         ensures { IsTrue result ↔ EachNodeIsKnown (cells_of self.now.facts) }
     {
         self.findings.unmatched.unusable.count() == 0
     }
 
-    /// Returns whether each end port of the view holds a LID.
+    /// Returns whether each end port of the facts holds a LID.
     fn has_lids(&self) -> bool
         ensures { IsTrue result ↔ EachHoldsLid (cells_of self.now.facts) self.now.held }
     {
         self.findings.unmatched.lidless.count() == 0
     }
 
-    /// Returns whether each usable switch of the view has tables, or the view has no end port.
+    /// Returns whether each usable switch of the facts has tables, or the facts have no end port.
     fn has_tables(&self) -> bool
         ensures { IsTrue result ↔ EachHasTables (cells_of self.now.facts) self.now.held }
     {
@@ -156,15 +157,16 @@ impl<'a> Audit<'a> {
         self.findings.cycle.is_empty()
     }
 
-    /// Returns whether nothing is missing, each packet arrives, and no channel has a load over `bound`, if there is a
-    /// bound. Credit loops do not matter.
+    /// Returns whether the tables are whole for the facts, each packet arrives, and no channel has a load over `bound`.
+    /// If `bound` is `None`, there is no bound. Credit loops do not matter.
     pub fn delivers_within(&self, bound: Option<u64>) -> bool
         ensures { IsTrue result ↔ DeliversWithin bound (cells_of self.now.facts) self.now.held }
     {
         self.is_whole() && self.all_arrive() && self.is_within(bound)
     }
 
-    /// Returns whether each packet to a held LID from its owner's component is delivered at its owner.
+    /// Returns whether each packet for a held LID, sent by an end port in the component of the LID's owner, is
+    /// delivered at that owner.
     fn all_arrive(&self) -> bool
         ensures { IsTrue result ↔ EachArrives (cells_of self.now.facts) self.now.held }
     {
@@ -180,7 +182,7 @@ impl<'a> Audit<'a> {
     }
 }
 
-/// Returns whether the greatest load in `load` is at most `bound`. Returns true if either is `None`.
+/// Returns whether the greatest load in `load` is at most `bound`. Returns true if `bound` or `load` is `None`.
 fn is_within(bound: Option<u64>, load: &Option<Figures>) -> bool
     ensures { result ≡ is_within bound load.now }
 {
@@ -190,7 +192,7 @@ fn is_within(bound: Option<u64>, load: &Option<Figures>) -> bool
     }
 }
 
-/// Collects what an audit finds in `network`.
+/// Collects what an audit finds in `network`. Keeps the first `most` lines of each kind.
 fn findings_of(alloc: Global, most: usize, network: &Network) -> Result<Findings, Refused>
     ensures found { IfOk result (λ f. IsFound most network.now f.tally f.unmatched f.disputed f.ways f.cycle.items) }
     ensures shortest { IfOk result (λ f. NoneShorter (cells_of network.now.facts) network.now.held f.cycle.items) }
@@ -207,7 +209,7 @@ fn findings_of(alloc: Global, most: usize, network: &Network) -> Result<Findings
     })
 }
 
-/// Counts the packets, and computes the figures of the wires and channels that they take.
+/// Counts the packets, and computes the figures of the wires and channels that packets between adapter ports take.
 fn packets_and_ways(
     alloc: Global,
     most: usize,
@@ -232,7 +234,8 @@ fn survey_of(alloc: Global, most: usize, network: &Network) -> Result<PacketSurv
     Ok(survey(alloc, most, network, &sites)?)
 }
 
-/// Finds where tables and facts differ, and a shortest credit loop, which is empty if there is none.
+/// Returns where tables and facts differ, and the channels of a shortest credit loop, or an empty list if there is no
+/// credit loop.
 fn unmatched_and_cycle(
     alloc: Global,
     most: usize,
@@ -247,7 +250,7 @@ fn unmatched_and_cycle(
     Ok((unmatched, cycle))
 }
 
-/// Returns a shortest credit loop, or an empty list if there is none.
+/// Returns the channels of a shortest credit loop, or an empty list if there is no credit loop.
 #[tactic(auto, using(crate::proofs::Judged::none_is_shorter))]
 fn cycle_of(alloc: Global, network: &Network) -> Result<Vec<usize>, AllocError>
     ensures cycle { IfOk result (λ cycle. IsCycle (cells_of network.now.facts) network.now.held cycle.items) }

@@ -1,5 +1,5 @@
-//! What the forwarding tables that a subnet's switches hold do with its packets, as text: which do not arrive, where
-//! tables and facts differ, and whether channels can wait for each other in a credit loop.
+//! What the forwarding tables that the switches of a subnet hold do with packets, as text: which packets do not arrive,
+//! where tables and facts differ, and whether channels can wait for each other in a credit loop.
 #![tactic(auto)]
 
 mod audit_run;

@@ -8,9 +8,10 @@ ghost use Rattle.audit_ways.specs.Ways.{channels_from};
 use port_graph::Edge;
 use std::alloc::AllocError;
 
-/// Follows packets from the switch at index `first` by `edges`, and adds `times` to the load of each channel that they
-/// take. Returns the number of channels taken, at most one for each switch. Returns an error if a load does not fit in
-/// 64 bits. Takes time linear in the number of channels taken. `loads` must have 256 channels for each switch.
+/// Adds `times` to the load of each channel that a packet takes from the switch at index `first` on, by `edges`, each
+/// time that it takes the channel. Stops after as many channels as there are switches. Returns the number of channels
+/// taken. Returns an error if a load does not fit in 64 bits. Takes time linear in the number of channels taken.
+/// `loads` must have 256 channels for each switch of `edges`.
 pub(crate) fn load_channels(
     loads: &mut [u64],
     edges: &[Option<Edge>],
@@ -36,8 +37,8 @@ pub(crate) fn load_channels(
     Ok(edges.len())
 }
 
-/// Adds `times` to the load of `channel`, which must be one of `loads`. Returns an error if the load does not fit in 64
-/// bits.
+/// Adds `times` to the load of `channel`. `channel` must be one of `loads`. Returns an error if the load does not fit
+/// in 64 bits.
 pub(crate) fn load_channel(loads: &mut [u64], channel: usize, times: u64) -> Result<(), AllocError>
     requires { channel < length loads.old }
     ensures { OnOk result (loads.new ≡ slice_set loads.old channel (slice_index loads.old channel + times)) }
@@ -46,14 +47,15 @@ pub(crate) fn load_channel(loads: &mut [u64], channel: usize, times: u64) -> Res
     Ok(())
 }
 
-/// Returns the edge of `switch`, or `None` if it has none or is not in `edges`.
+/// Returns the edge of `switch` in `edges`, or `None` if there is none.
 fn edge_of(edges: &[Option<Edge>], switch: usize) -> Option<Edge>
     ensures { result ≡ slice_index_or edges.now switch None }
 {
     edges.get(switch).copied().flatten()
 }
 
-/// Returns the number of the channel of `edge`, an edge of `switch`. The number must fit in 64 bits.
+/// Returns the number of the channel of `edge`, an edge of `switch`. The numbers of all channels of `switch` must fit
+/// in 64 bits.
 fn number_of(switch: usize, edge: Edge) -> usize
     requires { 256 * switch + 256 < 2 ^ 64 + 1 }
     ensures is { result ≡ number_of switch edge }

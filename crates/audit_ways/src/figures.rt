@@ -13,7 +13,7 @@ pub struct Figures {
     pub hundredths: u64,
 }
 
-/// The count, the sum and the maximum of some numbers, while they are added.
+/// The count, the sum and the maximum of the numbers added so far.
 #[derive(Clone, Copy)]
 pub(crate) struct Total {
     pub(crate) count: u64,

@@ -34,8 +34,8 @@ fn port_of(source: &Sender) -> (Guid, PortNum)
     (source.port.node, source.port.port)
 }
 
-/// Returns where the wire in the adapter port `port` leads, or `None` if `port` is no adapter port or not in `roster`.
-/// `roster` must be sorted by node and port. Takes a binary search.
+/// Returns the far end of the wire in `port`, or `None` if `port` is no adapter port or not in `roster`. `roster` must
+/// be sorted by node and port. Takes a binary search.
 pub(crate) fn target_among(roster: &[Sender], port: &EndPort) -> Option<Far>
     requires { AreByPort roster.now }
     ensures { IsTargetAmong roster.now port.now result }

@@ -17,9 +17,9 @@ use subnet_view::EndPort;
 /// How many packets reach each switch first.
 #[derive(Drop)]
 pub(crate) struct Groups {
-    /// For each switch, the number of packets whose senders' wires lead to it.
+    /// For each switch, the number of packets whose senders' wires lead to the switch.
     pub(crate) weights: Vec<u64>,
-    /// The number of all other packets, which go over one wire.
+    /// The number of packets whose senders' wires lead to no switch.
     pub(crate) direct: u64,
 }
 
@@ -34,8 +34,8 @@ impl Groups {
         })
     }
 
-    /// Adds a packet whose sender's wire leads to `far`, which must be no switch or one of the groups'. Returns an
-    /// error if a count does not fit in 64 bits.
+    /// Adds a packet whose sender's wire leads to `far`. If `far` is a switch, `self` must have a weight for it.
+    /// Returns an error if a count does not fit in 64 bits.
     pub(crate) fn join(&mut self, far: &Far) -> Result<(), AllocError>
         requires { IsWithin (length self.old.weights.items) far.now }
         ensures { OnOk result (IsGroupedWith self.old far.now self.new) }
@@ -46,7 +46,7 @@ impl Groups {
         }
     }
 
-    /// Adds a packet that reaches no switch first. Returns an error if the count does not fit in 64 bits.
+    /// Adds a packet whose sender's wire leads to no switch. Returns an error if the count does not fit in 64 bits.
     fn join_direct(&mut self) -> Result<(), AllocError>
         ensures direct { OnOk result (self.new.direct ≡ self.old.direct + 1) }
         ensures weights { self.new.weights ≡ self.old.weights }
@@ -55,7 +55,7 @@ impl Groups {
         Ok(())
     }
 
-    /// Removes a packet whose sender's wire leads to `far`. There must be one.
+    /// Removes a packet whose sender's wire leads to `far`. `self` must have such a packet.
     pub(crate) fn leave(&mut self, far: &Far)
         requires { 1 ≤ packets_at self.old (switch_over far.now) }
         ensures { IsGroupedWith self.new far.now self.old }
@@ -67,7 +67,7 @@ impl Groups {
     }
 }
 
-/// Subtracts one from the weight of the switch `first`, which must be at least 1.
+/// Subtracts 1 from the weight of the switch at index `first`. The weight must be at least 1.
 fn unload(weights: &mut [u64], first: usize)
     requires { 1 ≤ slice_index weights.old first }
     ensures { weights.old ≡ slice_set weights.new first (slice_index weights.new first + 1) }
@@ -75,7 +75,7 @@ fn unload(weights: &mut [u64], first: usize)
     weights[first] -= 1;
 }
 
-/// Groups one packet from each adapter port. Takes time linear in the number of end ports.
+/// Returns groups with one packet from each adapter port. Takes time linear in the number of end ports.
 pub(crate) fn senders(alloc: Global, network: &Network) -> Result<Groups, AllocError>
     ensures { IfOk result (AreGrouped (cells_of network.now.facts) (adapters (cells_of network.now.facts))) }
 {
@@ -88,8 +88,9 @@ pub(crate) fn senders(alloc: Global, network: &Network) -> Result<Groups, AllocE
     Ok(groups)
 }
 
-/// Groups the packets for the LID of `line` that other adapter ports send and that are delivered at the line's port.
-/// `ends` must say where each end port's packet for that LID ends. Takes time linear in the number of end ports.
+/// Returns groups with the packets for the LID of `line` that other adapter ports send and that are delivered at the
+/// port of `line`. `ends` must have the end of each end port's packet for this LID, and its port must be that of
+/// `line`. Takes time linear in the number of end ports.
 pub(crate) fn group_packets(
     alloc: Global,
     network: &Network,

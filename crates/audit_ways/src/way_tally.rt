@@ -8,12 +8,12 @@ use crate::figures::Total;
 use port_graph::Edge;
 use std::alloc::{AllocError, Global};
 
-/// Counts of routes, while they are added.
+/// Counts of the routes added so far.
 #[derive(Drop)]
 pub(crate) struct WayTally {
     /// The count, the sum and the maximum of the routes' numbers of wires.
     pub(crate) hops: Total,
-    /// For each channel, how often it is taken.
+    /// For each channel, how often the routes take it.
     pub(crate) loads: Vec<u64>,
 }
 
@@ -28,9 +28,10 @@ impl WayTally {
         })
     }
 
-    /// Adds the route from each switch as many times as `weights` says, and `direct` routes over one wire. `weights`
-    /// must have a weight for each switch of `edges`, and there must be 256 channels for each. Takes time linear in the
-    /// number of switches and, for each weight above 0, in the number of channels of its route.
+    /// Adds, for each switch, its route by `edges` as many times as its weight, and `direct` routes over one wire.
+    /// `weights` must have as many items as `edges`, and `self` must have 256 channels for each of these switches.
+    /// Takes time linear in the number of switches and, for each weight above 0, in the number of channels of that
+    /// switch's route.
     pub(crate) fn add(
         &mut self,
         edges: &[Option<Edge>],
@@ -53,7 +54,8 @@ impl WayTally {
         Ok(())
     }
 
-    /// Adds the route from the switch `first`, `times` times: a wire to it, its channels, and a wire to an adapter.
+    /// Adds the route over the switch at index `first`, `times` times: a wire to that switch, the channels from there
+    /// on by `edges`, and a wire to an adapter. `self` must have 256 channels for each switch of `edges`.
     fn add_from(
         &mut self,
         edges: &[Option<Edge>],

@@ -19,7 +19,7 @@ use held_tables::HeldLid;
 use packet_walks::{Far, LidCursor, Network};
 use std::alloc::{AllocError, Global};
 
-/// Figures of the delivered packets that adapter ports send to each other's LIDs.
+/// Figures of the delivered packets that adapter ports send to the LIDs of other adapter ports.
 #[derive(Clone, Copy, Debug, PartialEq, Eq)]
 pub struct WayFigures {
     /// The figures of the numbers of wires that packets take, including the wires at the adapters. `None` if there is
@@ -29,19 +29,17 @@ pub struct WayFigures {
     pub load: Option<Figures>,
 }
 
-/// Computes how many wires packets between adapter ports take, and how evenly they load the channels.
-///
-/// Costs what `LidCursor::go_to`, `LidCursor::ends` and `LidCursor::edges` take for each LID. Each LID also costs a walk from each switch at which packets for it begin. Returns an error if memory is
-/// refused or a number does not fit in 64 bits.
+/// Returns figures of the delivered packets between adapter ports: how many wires they take, and how many of them take
+/// each channel.
 pub fn figures_of_ways(alloc: Global, network: &Network) -> Result<WayFigures, AllocError>
     ensures { IfOk result (IsToldOfWays (cells_of network.now.facts) network.now.held) }
 {
     figures_of_ways_told(alloc, network, &[])
 }
 
-/// Computes the figures as `figures_of_ways` does, with less work for lines whose packets are known to arrive. If
-/// `told` is true at the index of a line, all packets for its LID must be delivered at its port. Such a line does not
-/// cost what `LidCursor::ends` takes.
+/// Returns the figures of `figures_of_ways`, with less work for lines whose packets are known to arrive. If `told` is
+/// true at the index of a line, all packets for the line's LID must be delivered at its port. For such a line
+/// `LidCursor::ends` is not called.
 pub fn figures_of_ways_told(
     alloc: Global,
     network: &Network,
@@ -58,7 +56,7 @@ pub fn figures_of_ways_told(
 }
 
 /// Counts the routes of the delivered packets between adapter ports. If `told` is true at the index of a line, all
-/// packets for its LID must be delivered at its port.
+/// packets for the line's LID must be delivered at its port.
 fn tally_of(alloc: Global, network: &Network, told: &[bool]) -> Result<WayTally, AllocError>
     requires { AreTold (cells_of network.now.facts) network.now.held told.now }
     ensures { IfOk result (IsCounted (256 * length (switches (cells_of network.now.facts)))
@@ -79,16 +77,18 @@ fn tally_of(alloc: Global, network: &Network, told: &[bool]) -> Result<WayTally,
     Ok(tally)
 }
 
-/// Returns the entry of `told` at `index`, or false if there is none.
+/// Returns the item of `told` at `index`, or false if there is none.
 fn is_told(told: &[bool], index: usize) -> bool
     ensures { result ≡ slice_index_or told.now index false }
 {
     told.get(index).copied().unwrap_or(false)
 }
 
-/// Adds the routes of the delivered packets for the LID of `line`, whose port must be an adapter port of the facts.
-/// `cursor` must be at that LID. `far` must be where the wire in that port leads. `senders` must have a packet from each adapter port; it is changed
-/// and then restored. If `told` is true, all packets for the LID must be delivered at the port.
+/// Adds to `tally` the routes of the delivered packets for the LID of `line` from other adapter ports. The port of
+/// `line` must be an adapter port of the facts, and `far` must be the far end of the wire in it. `cursor` must be at
+/// the LID of `line`. `tally` must have 256 channels for each usable switch. `senders` must have one packet from each
+/// adapter port, and has them again in the end. If `told` is true, all packets for the LID must be delivered at the
+/// port of `line`.
 fn add_ways(
     alloc: Global,
     tally: &mut WayTally,
@@ -119,8 +119,9 @@ fn add_ways(
     senders.join(far)
 }
 
-/// Returns the delivered packets for the LID of `line` from other adapter ports, or `None` if all packets for it are
-/// delivered. If `told` is true, they must be. `cursor` must be at that LID.
+/// Returns the delivered packets for the LID of `line` from other adapter ports, or `None` if all packets for the LID
+/// are delivered at the port of `line`. If `told` is true, all must be delivered there. `cursor` must be at the LID of
+/// `line`.
 fn some_of_all(
     alloc: Global,
     cursor: &LidCursor,
@@ -144,8 +145,8 @@ fn some_of_all(
     }
 }
 
-/// Totals the loads of the network's channels, its ports with wires between usable switches. `loads` must have 256
-/// entries for each switch.
+/// Returns the total of the loads of the network's channels: the ports of usable switches whose wires lead to usable
+/// switches. `loads` must have 256 items for each usable switch.
 fn loads_of(network: &Network, loads: &[u64]) -> Result<Total, AllocError>
     requires { length loads.now ≡ 256 * length (switches (cells_of network.now.facts)) }
     ensures { IfOk result (IsTotal (map (slice_index loads.now) (channels_of (cells_of network.now.facts)))) }

@@ -11,7 +11,7 @@ use two_orders::{Orders, Sides, label_all};
 pub(crate) struct Labelled {
     /// The first labels, from which the others follow.
     pub firsts: Vec<Option<Sides>>,
-    /// The labels that follow from the first labels, with these.
+    /// The first labels, with the labels that follow from them.
     pub labels: Vec<Option<Sides>>,
 }
 

@@ -24,21 +24,22 @@ ghost use Rattle.between_orders.specs.HandedSteps.{
   StagesStayWhole,
 };
 
-/// By the tables between two orders, whatever the orders are, no packet for any LID goes down and then up by either
-/// order.
+/// By the tables between two orders, whatever the orders are, no packet for any LID goes down and then up by the first
+/// order or by the second.
 pub fn goal_turns_well()
     ensures law { GoalTurnsWell }
 {}
 
 /// The tables between two orders deliver, from each switch that has a label, at the first end port that has the LID in
-/// the plan, if no usable switch has a top below the LID in the plan and the first order is an order of the switches.
+/// the plan, if three conditions hold: the facts are in range; no usable switch has a top below the LID in the plan;
+/// and the first order is an order of the switches.
 pub fn goal_delivers()
     ensures law { GoalDelivers }
 {}
 
-/// If the first order grows and the second grows over its tree, the tables between them deliver from each switch from
-/// which wires lead, directly or over other switches, to a switch whose plan entry leads to the end port, if no usable
-/// switch has a top below the LID in the plan.
+/// The tables between two orders deliver from each switch from which wires lead, directly or over other switches, to a
+/// switch whose plan entry leads to the end port, if three conditions hold: the facts are in range; no usable switch
+/// has a top below the LID in the plan; and the first order grows, and the second grows over its tree.
 pub fn goal_reaches_all()
     ensures law { GoalReachesAll }
 {}
@@ -50,8 +51,9 @@ pub fn goals_are_safe()
     ensures law { GoalsAreSafe }
 {}
 
-/// For a LID that one end port alone holds in the held tables and in the plan, the step follows the rule of the goal's
-/// first order (`ordered_steps`): no packet that the held tables deliver is lost in any mixture.
+/// A step towards the goal of `between` follows the rule of the goal's first order (`ordered_steps`) for a LID that one
+/// end port alone holds in the held tables and in the plan: no packet that the held tables deliver is lost in any
+/// mixture.
 pub fn goals_follow_the_rule()
     ensures law { GoalsFollowTheRule }
 {}
@@ -76,14 +78,15 @@ pub fn goals_are_few()
 {}
 
 /// If each held entry for a LID is 255 or delivers, the goal between two orders has the same entries for the LID after
-/// a step towards it by the first order.
+/// a step towards it by the first order. Facts and tops are as in `goal_delivers`.
 pub fn goal_stands_still()
     ensures law { GoalStandsStill }
 {}
 
-/// Each switch from which the first goal delivers has that goal's entry after twice as many steps as there are
-/// switches, and the tables deliver from it, if the steps go towards the goal between an order that grows and one that
-/// grows over its tree, and each entry was 255 or delivered at first.
+/// In steps towards goals between an order that grows and one that grows over its tree (`AreGoalSteps`), each switch
+/// from which the first goal delivers has that goal's entry after 2n or more steps, for n switches, and the tables then
+/// deliver from it. At first the tables have the plan's owners of the LID and are right by the first order, and each
+/// entry is 255 or delivers. Facts and tops are as in `goal_delivers`.
 pub fn goal_is_reached()
     ensures law { GoalIsReached }
 {}
@@ -94,14 +97,15 @@ pub fn orders_stay()
     ensures law { OrdersStay }
 {}
 
-/// If, for any two switches that wires join, directly or over others, packets for at least one LID from the first
-/// switch reach the second, tables that imply an order are also right by the order that grows by it.
+/// Tables that imply an order are also right by the order that grows by it if, for any two switches that wires join,
+/// directly or over others, packets for at least one LID from the first switch reach the second.
 pub fn whole_tables_grow()
     ensures law { WholeTablesGrow }
 {}
 
-/// After 2n steps as in `goal_is_reached`, for n switches, the tables are right for the LID by the second order, if the
-/// goal delivers from each switch that sends packets for the LID straight to the end port by the first tables.
+/// After 2n steps as in `goal_is_reached`, for n switches, and at least one, the tables are right for the LID by the
+/// second order, if the first goal delivers from each switch that sends packets for the LID straight to the end port by
+/// the first tables.
 pub fn goal_ends_right()
     ensures law { GoalEndsRight }
 {}
@@ -112,36 +116,39 @@ pub fn right_tables_have_goals()
     ensures law { RightTablesHaveGoals }
 {}
 
-/// If tables are right by the order that grows by the order that they imply, and each step is handed the first order of
-/// the step before it, all steps have the two orders of the first step.
+/// If the first tables are right by the order that grows by the order that they imply, all handed steps have the two
+/// orders of the first step.
 pub fn handed_orders_stay()
     ensures law { HandedOrdersStay }
 {}
 
-/// If tables are right by the order that grows by the order that they imply, handed steps are steps as in
-/// `goal_is_reached` for each LID that one end port alone holds, in the tables and in the plan, and whose entries are
-/// 255 or deliver at first.
+/// Handed steps are steps as in `goal_is_reached` for a LID if three conditions hold: the first tables are right by the
+/// order that grows by the order that they imply; one end port alone holds the LID in the first tables and in the plan,
+/// and no usable switch has a top below the LID in the plan; and each entry for the LID in the first tables is 255 or
+/// delivers.
 pub fn handed_steps_are_goal_steps()
     ensures law { HandedStepsAreGoalSteps }
 {}
 
-/// After 2n + 2 handed steps, for n switches, no further one changes the tables, if they begin as in
-/// `handed_orders_stay` and the plan is whole (`IsWholePlan`).
+/// After 2n + 2 handed steps, for n switches, no further one changes the tables, if three conditions hold: the facts
+/// are in range; the plan is whole (`IsWholePlan`); and the first tables are right by the order that grows by the order
+/// that they imply.
 pub fn handed_steps_end()
     ensures law { HandedStepsEnd }
 {}
 
-/// By the tables after 2n + 2 handed steps, for n switches, or after one that changes nothing, packets still get from
-/// each switch to all switches that wires join to it, if they did so at first. The plan is whole (`IsWholePlan`), and
-/// each usable switch has a LID in it. The first step prefers the plan's order.
+/// By the tables at the end of a stage, packets get from each switch to all switches that wires join to it, if four
+/// conditions hold: they do so by the tables at its beginning; the facts are in range; the plan is whole
+/// (`IsWholePlan`); and each usable switch has a LID in the plan. A stage has 2n + 2 handed steps or more, for n
+/// switches, or its last one changes nothing. The first step prefers the plan's order.
 pub fn stages_stay_whole()
     ensures law { StagesStayWhole }
 {}
 
-/// After n - 1 stages, for n switches, the tables are right by the plan's order. A stage has 2n + 2 handed steps or
-/// more, or its last one changes nothing. It begins with the order of the tables that is nearest to the plan's. By the
-/// first tables, which imply an order, packets get from each switch to all switches that wires join to it. The plan is
-/// whole (`IsWholePlan`), and each usable switch has a LID in it.
+/// After n - 1 or more stages, for n switches, the tables are right by the plan's order, if four conditions hold: the
+/// facts are in range; the plan is whole (`IsWholePlan`); each usable switch has a LID in the plan; and by the first
+/// tables, which imply an order, packets get from each switch to all switches that wires join to it. A stage has 2n + 2
+/// handed steps or more, or its last one changes nothing. Its first step prefers the plan's order.
 pub fn stages_are_few()
     ensures law { StagesAreFew }
 {}

@@ -13,11 +13,11 @@ use std::alloc::{AllocError, Global};
 use told_order::told_order;
 use two_orders::{Orders, grown_by, positions_in, tree};
 
-/// Returns the orders of a step from the tables of `held`: the order that they imply, and the next one on the way to
-/// the plan's. If several switches may be last, the one that comes last in the order that grows by `preferred` is taken
-/// first. Returns `None` if the tables imply no order. `edges` has the wires of each switch; each must lead to a
-/// switch, and be there from both ends. `plan` must have the position of each switch in the plan's order, and
-/// `preferred` that in the preferred order.
+/// Returns the orders of a step from the tables of `held`: the order that these tables imply, or the order that grows
+/// by it, and the next one on the way to the plan's. If several switches may be last, the one that comes last in the
+/// order that grows by `preferred` is taken first. Returns `None` if the tables imply no order. `edges` has the wires
+/// of each switch. Each wire must lead to a switch, and be there from both ends. `plan` must have the position of each
+/// switch in the plan's order, and `preferred` that in the preferred order.
 pub(crate) fn orders(
     alloc: Global,
     edges: &Adjacency,
@@ -43,9 +43,9 @@ pub(crate) fn orders(
 }
 
 /// Returns the orders of a step from the tables of `held`. `told` must have the position of each switch in the order
-/// that the tables imply. If the tables are right by the order that grows by `told`, the grown order is the first, and
-/// the second grows by the plan's positions over its tree. Otherwise the implied order is the first, and the second
-/// grows by it.
+/// that the tables imply. If the tables are right by the order that grows by `told`, this grown order is the first, and
+/// the second grows by the positions `plan` over the tree of the first. Otherwise the implied order is the first, and
+/// the grown order the second.
 fn orders_from(
     alloc: Global,
     edges: &Adjacency,
@@ -80,7 +80,8 @@ fn told_positions(alloc: Global, taken: &[usize], count: usize) -> Result<Vec<us
         .collect(alloc)
 }
 
-/// Returns the number of vertices that come after the first `vertex` in `taken`, or 0 if `vertex` is not there.
+/// Returns the number of vertices that come after the first `vertex` in `taken`, or 0 if `taken` does not have
+/// `vertex`.
 fn position_in(taken: &[usize], vertex: usize) -> usize
     ensures { result ≡ position_in taken.now vertex }
 {

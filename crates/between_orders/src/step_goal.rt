@@ -23,10 +23,11 @@ pub struct StepGoal {
 }
 
 /// Returns the goal of a step from the tables of `held` towards the tables of `plan`: tables that lead packets up and
-/// then down both by the order that the held tables imply and by the next one on the way to the plan's order. Returns
-/// `None` if the held tables imply no order. If they imply several, takes the one nearest to the order that grows by
-/// `preferred`. Both tables must have the same facts. `positions` must have the position of each usable switch in
-/// the plan's order, by rising GUID, and `preferred` that in the preferred order.
+/// then down by two orders. The first is the order that the held tables imply, or the order that grows by it. The
+/// second is the next order on the way to the plan's. Returns `None` if the held tables imply no order. If they imply
+/// several, takes the one nearest to the order that grows by `preferred`. `held` and `plan` must have the same facts.
+/// `positions` must have the position of each usable switch in the plan's order, by rising GUID, and `preferred` that
+/// in the preferred order.
 pub fn between(
     alloc: Global,
     held: &Network,

@@ -17,10 +17,10 @@ use std::alloc::{AllocError, Global};
 use subnet_view::EndPort;
 use two_orders::{Orders, Sides, label_at, leads_on};
 
-/// Returns the tables between two orders. A switch has the plan's entry if that leads to the end port. Otherwise it has
-/// its held entry if that leads on by both orders, or else the plan's entry if that does, or else the least port that
-/// does. It has no entry if there is no such port. `edges` has the wires of each switch. `held` and `plan` must have
-/// the same facts.
+/// Returns the tables between two orders, with the plan's LIDs. A switch has the plan's entry if that leads to the
+/// first end port that has the LID in the plan. Another switch with a label has the first of these whose channel leads
+/// on: its held entry, the plan's entry, the least port. A switch has no entry if no channel leads on or the switch has
+/// no label. `edges` has the wires of each switch. `held` and `plan` must have the same facts.
 pub(crate) fn tables_between(
     alloc: Global,
     edges: &Adjacency,
@@ -36,8 +36,8 @@ pub(crate) fn tables_between(
     tables_with(alloc, held, plan, &columns)
 }
 
-/// Returns the entries of all usable switches for each LID of the first `count` blocks. `held` and `plan` must have the
-/// same facts, and `count` must be at most 1024.
+/// Returns the entries between the two orders of all usable switches, for each LID of the first `count` blocks. `held`
+/// and `plan` must have the same facts, and `count` must be at most 1024.
 fn columns(
     alloc: Global,
     edges: &Adjacency,
@@ -66,9 +66,9 @@ fn columns(
     Ok(columns)
 }
 
-/// Returns the entries of all usable switches for the LID of both cursors. `held` and `plan` must be at one LID, and have
-/// the same facts. `labelled` has the labels of an earlier LID. If the LID has an owner in the plan, they are replaced
-/// by its labels.
+/// Returns the entries between the two orders of all usable switches, for the LID of both cursors. `held` and `plan`
+/// must be at one LID, and have the same facts. `labelled` has the labels for an earlier LID at first. If the LID has
+/// an owner in the plan, `labelled` has the labels for this LID afterwards.
 fn column(
     alloc: Global,
     edges: &Adjacency,
@@ -102,8 +102,8 @@ fn column(
     )
 }
 
-/// Returns the entries of all switches towards `port`, from what each switch does by the held tables and by the plan.
-/// The labels in `labelled` are replaced by the labels towards `port`.
+/// Returns the entries of all switches towards `port`, by `orders`. `held` and `plan` have what each switch does by the
+/// held tables and by the plan. The labels in `labelled` are replaced by the labels towards `port`.
 fn entries_towards(
     alloc: Global,
     port: &EndPort,
@@ -124,7 +124,8 @@ fn entries_towards(
     entries_by(alloc, port, edges, orders, &labelled.labels, held, plan)
 }
 
-/// Returns the first label of each switch, which it has if its hop by the plan leads to `port`.
+/// Returns the first label of each switch: down by both orders if the switch's hop by the plan ends at `port`,
+/// otherwise `None`.
 fn first_labels(
     alloc: Global,
     port: &EndPort,
@@ -137,7 +138,7 @@ fn first_labels(
         .collect(alloc)
 }
 
-/// Returns the first label of the switch that does `plan`, or `None` if its hop does not lead to `port`.
+/// Returns the first label of a switch: down by both orders if its hop in `plan` ends at `port`, otherwise `None`.
 fn first_label(port: &EndPort, plan: &SwitchStep) -> Option<Sides>
     ensures { result ≡ first_label port.now plan.now }
 {
@@ -181,8 +182,8 @@ fn entries_by(
         .collect(alloc)
 }
 
-/// Returns the entry of the switch at `index`: the plan's entry if it leads to `port`, otherwise the entry by the
-/// switch's label, or 255 if it has none.
+/// Returns the entry of the switch at `index`: the plan's entry if its hop ends at `port`, otherwise the entry by the
+/// switch's label, or 255 if the switch has no label.
 fn entry(
     port: &EndPort,
     edges: &Adjacency,
@@ -203,8 +204,9 @@ fn entry(
     }
 }
 
-/// Returns the entry of the switch at `index` with the label `sides`: the held entry if it fits; otherwise the plan's
-/// entry if that fits; otherwise the least port whose channel leads on, or 255 if there is none.
+/// Returns the entry of the switch at `index` with the label `sides`: the held entry if its hop leads on; otherwise the
+/// plan's entry if its hop leads on; otherwise the port of the switch's first edge that leads on, or 255 if no edge
+/// does.
 fn entry_to(
     edges: &Adjacency,
     orders: &Orders,

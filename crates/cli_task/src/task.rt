@@ -49,11 +49,11 @@ pub enum Task {
     Serve(Serving),
 }
 
-/// The name of the file from which lines are read.
+/// The name of the file from which a served manager reads its lines.
 const LINES: &str = "/dev/stdin";
 
 impl Task {
-    /// Returns the rule by which the task plans. If it does not plan, returns `UpDown`, which takes no text.
+    /// Returns the rule of routing of the task, or `UpDown`, which takes no text, if the task makes no plan.
     fn rule(&self) -> RuleAsked
         ensures { result ≡ rule_of_task self.now }
     {
@@ -81,8 +81,8 @@ impl Task {
     }
 }
 
-/// Returns the task that the subcommand and the words after it ask for, or `None` if there is no subcommand, or one of
-/// the words is missing or wrong.
+/// Returns the task that the subcommand and the words after it ask for. Returns `None` if the subcommand is missing or
+/// unknown, or if one of the words is missing or wrong.
 pub fn task_of(matches: &ArgMatches<'_>) -> Option<Task>
     ensures { result ≡ task_asked matches.now }
 {
@@ -90,8 +90,8 @@ pub fn task_of(matches: &ArgMatches<'_>) -> Option<Task>
     task_behind(command, words)
 }
 
-/// Returns the task that the subcommand `command` asks for with `words`, or `None` if there is no such subcommand, or
-/// one of the words is missing or wrong.
+/// Returns the task that the subcommand `command` asks for with `words`. Returns `None` if no subcommand has the name
+/// `command`, or if one of `words` is missing or wrong.
 fn task_behind(command: &str, words: &ArgMatches<'_>) -> Option<Task>
     ensures { result ≡ task_behind (first_value (found_of words.now)) command.now }
 {
@@ -112,8 +112,9 @@ fn task_behind(command: &str, words: &ArgMatches<'_>) -> Option<Task>
     }
 }
 
-/// Returns the task of the audit that `words`, after a subcommand, ask for: lane by lane, if a file of lanes is named.
-/// Returns `None` if one of the words is wrong, or a flag about lanes is set without a file of lanes.
+/// Returns the task of an audit, as asked by `words`, which are those after a subcommand. The audit is lane by lane if
+/// a file of lanes is named. Returns `None` if one of the words is wrong, or if a flag about lanes is set without a
+/// file of lanes.
 fn audit_task(words: &ArgMatches<'_>) -> Option<Task>
     ensures { result ≡ audit_task (first_value (found_of words.now)) }
 {
@@ -126,7 +127,8 @@ fn audit_task(words: &ArgMatches<'_>) -> Option<Task>
     }
 }
 
-/// Returns the audit that `words`, after a subcommand, ask for. Returns `None` if one of them is wrong.
+/// Returns the options of an audit, as asked by `words`, which are those after a subcommand. Returns `None` if one of
+/// the words is wrong.
 fn audit_of(words: &ArgMatches<'_>) -> Option<AuditAsked>
     ensures { result ≡ audit_asked (first_value (found_of words.now)) }
 {
@@ -139,8 +141,8 @@ fn audit_of(words: &ArgMatches<'_>) -> Option<AuditAsked>
     })
 }
 
-/// Returns the maximum load that `words`, after a subcommand, name. The inner value is `None` if they name none.
-/// Returns `None` if the word is not a number of 32 bits.
+/// Returns the maximum load that passes, as asked by `words`, which are those after a subcommand. The inner value is
+/// `None` if the words name no maximum load. Returns `None` if the maximum load is not a number of 32 bits.
 fn max_load_of(words: &ArgMatches<'_>) -> Option<Option<u64>>
     ensures { result ≡ max_load_asked (first_value (found_of words.now) (codes "max-load")) }
 {
@@ -150,7 +152,8 @@ fn max_load_of(words: &ArgMatches<'_>) -> Option<Option<u64>>
     }
 }
 
-/// Returns the step that `words`, after a subcommand, ask for. Returns `None` if one of them is wrong.
+/// Returns the options of a step, as asked by `words`, which are those after a subcommand. Returns `None` if one of the
+/// words is wrong.
 fn step_of(words: &ArgMatches<'_>) -> Option<StepAsked>
     ensures { result ≡ step_asked (first_value (found_of words.now)) }
 {
@@ -166,8 +169,9 @@ fn step_of(words: &ArgMatches<'_>) -> Option<StepAsked>
     })
 }
 
-/// Returns how `words`, after a subcommand, ask that credit loops in a step are judged: lane by lane if a file of lanes
-/// is named. Returns `None` if a flag about lanes is set without a file of lanes.
+/// Returns how credit loops in a step are judged, as asked by `words`, which are those after a subcommand: lane by lane
+/// if a file of lanes is named, otherwise on one lane. Returns `None` if a flag about lanes is set without a file of
+/// lanes.
 fn lanes_of(words: &ArgMatches<'_>) -> Option<StepLanes>
     ensures { result ≡ lanes_of (first_value (found_of words.now)) }
 {
@@ -179,7 +183,7 @@ fn lanes_of(words: &ArgMatches<'_>) -> Option<StepLanes>
     }
 }
 
-/// Returns by which order `words`, after a subcommand, let a step go.
+/// Returns which order a step may go by, as asked by `words`, which are those after a subcommand.
 fn held_order_of(words: &ArgMatches<'_>) -> HeldOrder
     ensures { result ≡ held_order_of (first_value (found_of words.now)) }
 {
@@ -190,7 +194,8 @@ fn held_order_of(words: &ArgMatches<'_>) -> HeldOrder
     }
 }
 
-/// Returns the manager that `words`, after a subcommand, ask for. Returns `None` if one of them is missing or wrong.
+/// Returns the manager that is served, as asked by `words`, which are those after a subcommand. Returns `None` if one
+/// of the words is missing or wrong.
 fn serving_of(words: &ArgMatches<'_>) -> Option<Serving>
     ensures { result ≡ serving_asked (first_value (found_of words.now)) }
 {
@@ -209,14 +214,16 @@ fn serving_of(words: &ArgMatches<'_>) -> Option<Serving>
     })
 }
 
-/// Returns the GUID that `words` name, or `None` if they name none or it is not written as 1 to 16 hex digits.
+/// Returns the GUID that `words` name. Returns `None` if `words` name no GUID, or if the GUID is not written as 1 to 16
+/// hex digits.
 fn guid_of(words: &ArgMatches<'_>) -> Option<Guid>
     ensures { result ≡ guid_asked (first_value (found_of words.now) (codes "GUID")) }
 {
     Some(Guid::new(hex_number(words.get_str(GUID)?.as_bytes())?))
 }
 
-/// Returns the port number that `words` name, or `None` if they name none or it is not from 1 to 254.
+/// Returns the port number that `words` name. Returns `None` if `words` name no port number, or if the number is not
+/// from 1 to 254.
 fn port_of(words: &ArgMatches<'_>) -> Option<PortNum>
     ensures { result ≡ port_asked (first_value (found_of words.now) (codes "PORT")) }
 {
@@ -227,7 +234,8 @@ fn port_of(words: &ArgMatches<'_>) -> Option<PortNum>
     Some(PortNum::new(port as u8))
 }
 
-/// Returns the priority that `words` name, or `None` if they name none or it is not from 0 to 15.
+/// Returns the priority that `words` name. Returns `None` if `words` name no priority, or if the priority is not from 0
+/// to 15.
 fn priority_of(words: &ArgMatches<'_>) -> Option<Priority>
     ensures { result ≡ priority_asked (first_value (found_of words.now) (codes "PRIORITY")) }
 {
@@ -238,11 +246,11 @@ fn priority_of(words: &ArgMatches<'_>) -> Option<Priority>
     Priority::new(priority as u8)
 }
 
-/// The SM_Key that OpenSM has if its options set no other.
+/// The SM_Key that OpenSM has unless its options set another.
 const OPENSM_KEY: u64 = 1;
 
-/// Returns the SM_Key that `words` name, or OpenSM's if they name none. Returns `None` if it is not written as 1 to 16
-/// hex digits.
+/// Returns the SM_Key that `words` name, or that of OpenSM if `words` name no SM_Key. Returns `None` if the SM_Key is
+/// not written as 1 to 16 hex digits.
 fn sm_key_of(words: &ArgMatches<'_>) -> Option<u64>
     ensures { result ≡ sm_key_asked (first_value (found_of words.now) (codes "sm-key")) }
 {
@@ -252,8 +260,8 @@ fn sm_key_of(words: &ArgMatches<'_>) -> Option<u64>
     }
 }
 
-/// Returns what the subcommand `command` writes about files. Returns `None` if it is not `facts`, `join`, `plan` or
-/// `order`, or one of `words` is wrong.
+/// Returns what the subcommand `command` writes about files. Returns `None` if `command` is not `facts`, `join`, `plan`
+/// or `order`, or if one of `words` is wrong.
 fn output_of(command: &str, words: &ArgMatches<'_>) -> Option<Output>
     ensures { result ≡ output_asked (first_value (found_of words.now)) command.now }
 {
@@ -269,7 +277,8 @@ fn output_of(command: &str, words: &ArgMatches<'_>) -> Option<Output>
     }
 }
 
-/// Returns the LMC and the rule of routing that `words` ask for. Returns `None` if one of them is wrong.
+/// Returns the LMC and the rule of routing that `words` ask for. Returns `None` if the words for the LMC or for the
+/// rule are wrong.
 fn planning_of(words: &ArgMatches<'_>) -> Option<(Lmc, RuleAsked)>
     ensures { result ≡ planning_asked (first_value (found_of words.now)) }
 {
@@ -278,8 +287,9 @@ fn planning_of(words: &ArgMatches<'_>) -> Option<(Lmc, RuleAsked)>
     Some((lmc, rule))
 }
 
-/// Returns the rule of the order that `words` ask for, or the rule that spreads if they name none. Returns `None` if
-/// the rule is unknown, if roots and an order are both named, or if either is named with a rule that does not take it.
+/// Returns the rule whose order `words` ask for, or the rule that spreads if `words` name no rule. Returns `None` if
+/// the named rule is unknown, if roots and an order are both named, or if roots or an order are named with a rule that
+/// does not take them.
 fn order_of(words: &ArgMatches<'_>) -> Option<RuleAsked>
     ensures { result ≡ order_asked (first_value (found_of words.now)) }
 {
@@ -292,22 +302,24 @@ fn order_of(words: &ArgMatches<'_>) -> Option<RuleAsked>
     }
 }
 
-/// Returns the floor that `words` ask for, or 1 if they ask for none. Returns `None` if it is not from 1 to 2^32 - 1.
+/// Returns the floor that `words` ask for, or 1 if `words` name no floor. Returns `None` if the named floor is not from
+/// 1 to 2^32 - 1.
 fn floor_of(words: &ArgMatches<'_>) -> Option<Generation>
     ensures { result ≡ floor_asked (first_value (found_of words.now) (codes "floor")) }
 {
     Generation::new(number_or(words, FLOOR, 1)?)
 }
 
-/// Returns the LMC that `words` ask for, or 0 if they ask for none. Returns `None` if it is greater than 7.
+/// Returns the LMC that `words` ask for, or 0 if `words` name no LMC. Returns `None` if the named LMC is not from 0 to
+/// 7.
 fn lmc_of(words: &ArgMatches<'_>) -> Option<Lmc>
     ensures { result ≡ lmc_asked (first_value (found_of words.now) (codes "lmc")) }
 {
     Lmc::new(u8::try_from(number_or(words, LMC, 0)?).ok()?)
 }
 
-/// Returns the number after the option `name`, or `otherwise` if the option is not given. Returns `None` if it is not a
-/// number of 32 bits.
+/// Returns the number after the option `name`, or `otherwise` if the option is not given. Returns `None` if the option
+/// is not followed by a number of 32 bits.
 fn number_or(words: &ArgMatches<'_>, name: &str, otherwise: u32) -> Option<u32>
     ensures { result ≡ number_or otherwise (first_value (found_of words.now) name.now) }
 {
@@ -318,16 +330,16 @@ fn number_or(words: &ArgMatches<'_>, name: &str, otherwise: u32) -> Option<u32>
 }
 
 /// Returns the number that `text` writes in decimal, with or without a sign, as the parser of words reads it. Returns
-/// `None` if it is not a number of 32 bits.
+/// `None` if `text` does not write a number of 32 bits.
 fn number_in(text: &str) -> Option<u32>
     ensures { result ≡ option_and_then (within 0 4294967295) (number_in text.now) }
 {
     u32::try_from(text.parse::<i64>().ok()?).ok()
 }
 
-/// Returns the rule of routing that `words` ask for, which is `UpDown` if they name no rule, no roots and no order.
-/// Returns `None` if the rule is unknown, if roots and an order are both named, or if either is named without a rule
-/// that takes it.
+/// Returns the rule of routing that `words` ask for, or `UpDown` if `words` name no rule, no roots and no order.
+/// Returns `None` if the named rule is unknown, if roots and an order are both named, or if roots or an order are named
+/// without a rule that takes them.
 fn rule_of(words: &ArgMatches<'_>) -> Option<RuleAsked>
     ensures { result ≡ rule_asked (first_value (found_of words.now) (codes "routing"))
         (is_some (first_value (found_of words.now) (codes "roots")))
@@ -343,8 +355,8 @@ fn rule_of(words: &ArgMatches<'_>) -> Option<RuleAsked>
     }
 }
 
-/// Returns the rule that spreads: from roots if `rooted`, and in a named order if `ordered`. Returns `None` if both are
-/// set.
+/// Returns the rule that spreads: from roots if `rooted`, in a named order if `ordered`. Returns `None` if `rooted` and
+/// `ordered` are both true.
 fn spread_by(rooted: bool, ordered: bool) -> Option<RuleAsked>
     ensures { result ≡ spread_asked rooted ordered }
 {
@@ -367,8 +379,8 @@ fn balance_by(ordered: bool) -> RuleAsked
     }
 }
 
-/// Returns the names of the task's inputs in the order in which they are read: the text of its rule, its own texts, and
-/// its files. Returns `None` if there is no subcommand, or an input is not named.
+/// Returns the names of the inputs of `task` in the order in which they are read: the text of its rule, its own texts,
+/// and its files. Returns `None` if there is no subcommand, or if an input is not named.
 pub fn names_of<'a>(
     alloc: Global,
     matches: &ArgMatches<'a>,
@@ -383,7 +395,8 @@ pub fn names_of<'a>(
     }
 }
 
-/// Returns the names of the task's inputs, by the words after the subcommand. Returns `None` if an input is not named.
+/// Returns the names of the inputs of `task`, by `words`, which are those after the subcommand. Returns `None` if an
+/// input is not named.
 fn names_behind<'a>(
     alloc: Global,
     words: &ArgMatches<'a>,
@@ -410,8 +423,8 @@ fn names_behind<'a>(
     Ok(Some(names))
 }
 
-/// Returns the name of the text of roots or of an order that `rule` takes, or no name if it takes none. Returns `None`
-/// if the text is not named.
+/// Returns the name of the text of roots or of an order that `rule` takes, or an empty list if `rule` takes no text.
+/// Returns `None` if `rule` takes a text that is not named.
 fn texts_of_rule<'a>(words: &ArgMatches<'a>, rule: RuleAsked) -> Option<ArrayVec<&'a str, 1>>
     ensures { option_map (λ found. map (λ name. name.now) found.items) result
         ≡ texts_of_rule (first_value (found_of words.now)) rule }
@@ -426,7 +439,7 @@ fn texts_of_rule<'a>(words: &ArgMatches<'a>, rule: RuleAsked) -> Option<ArrayVec
 }
 
 /// Returns the names of a step's texts: the text of lanes if `has_lanes` is true, the text of the last step's order if
-/// `has_order` is true, and the tables. Returns `None` if one is not named.
+/// `has_order` is true, and the tables. Returns `None` if one of these texts is not named.
 fn texts_of_step<'a>(
     words: &ArgMatches<'a>,
     has_lanes: bool,
@@ -446,8 +459,8 @@ fn texts_of_step<'a>(
     Some(texts)
 }
 
-/// Returns the names of the task's own texts. Returns `None` if one is not named, or if the task serves a manager and
-/// no GUID is named.
+/// Returns the names of the texts that `task` takes besides the text of its rule; to serve a manager, that is the file
+/// of lines. Returns `None` if one of these texts is not named, or if `task` serves a manager and no GUID is named.
 fn texts_of<'a>(words: &ArgMatches<'a>, task: &Task) -> Option<ArrayVec<&'a str, 3>>
     ensures { option_map (λ found. map (λ name. name.now) found.items) result
         ≡ texts_asked (first_value (found_of words.now)) task.now }

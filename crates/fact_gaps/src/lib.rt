@@ -1,4 +1,5 @@
-//! What facts leave open: nodes of unknown type or table room, and ports of which it is unknown where they lead.
+//! What facts leave open: nodes whose type or table room is unknown, and ports that are not known to be down, to have a
+//! wire, or to be the end port of a switch.
 #![tactic(auto)]
 
 mod in_order;

@@ -1,4 +1,4 @@
-//! Nodes whose type or table room is unknown.
+//! Nodes whose type is unknown, and switches whose table room is unknown.
 ghost use Rattle.std.specs.Prelude.{◌≡◌, ◌++◌, IfOk, None, OnOk, Some, not, if◌then◌else◌};
 ghost use Rattle.std.specs.List.{filter_map};
 ghost use Rattle.reply_facts.specs.Known.{peer_in, value_in};
@@ -11,9 +11,9 @@ use fact_store::{Key, Sighting, Store, Value};
 use smp_bytes::{Guid, NodeType, PortNum};
 use std::alloc::{AllocError, Global};
 
-/// Returns the unusable nodes that facts name, each once, by rising GUID. A cell names the node of its key and, if it
-/// is a link's, the node at the far end. A node is unusable if its type is unknown or, if it is a switch, its table
-/// room.
+/// Returns the unusable nodes that the cells of `store` name, each once, by rising GUID. A node is unusable if its type
+/// is unknown, or if it is a switch whose table room is unknown. A cell names the node of its key. The cell of a link
+/// also names the node at the far end, if the cell says where the link leads.
 pub fn unusable_nodes(alloc: Global, store: &Store) -> Result<Vec<Guid>, AllocError>
     ensures { IfOk result (λ guids. guids.items ≡ unusable_nodes (cells_of store.now)) }
 {
@@ -25,7 +25,7 @@ pub fn unusable_nodes(alloc: Global, store: &Store) -> Result<Vec<Guid>, AllocEr
     Ok(guids)
 }
 
-/// Returns the known nodes that have a node's cell, by rising GUID.
+/// Returns the known nodes among those for which `store` has a node cell, by rising GUID.
 fn known_nodes(alloc: Global, store: &Store) -> Result<Vec<Guid>, AllocError>
     ensures { IfOk result (λ known. known.items
         ≡ filter_map (kept (is_known_node (cells_of store.now)) node_key) (cells_of store.now)) }
@@ -39,7 +39,7 @@ fn known_nodes(alloc: Global, store: &Store) -> Result<Vec<Guid>, AllocError>
     Ok(known)
 }
 
-/// Returns the node of `sighting` if that is a node's cell and the node is known, otherwise `None`.
+/// Returns the node that `sighting` is about if `sighting` is the cell of a known node, otherwise `None`.
 fn known_node(store: &Store, sighting: &Sighting) -> Option<Guid>
     ensures { result ≡ kept (is_known_node (cells_of store.now)) node_key sighting.now }
 {
@@ -49,7 +49,8 @@ fn known_node(store: &Store, sighting: &Sighting) -> Option<Guid>
     }
 }
 
-/// Appends to `guids` the unusable nodes that cells are about. Each node in `known` must be known.
+/// Appends to `guids` the node that each cell of `store` is about, if that node is unusable. Each node in `known` must
+/// be known.
 fn add_own_nodes(guids: &mut Vec<Guid>, store: &Store, known: &[Guid]) -> Result<(), AllocError>
     requires { AreKnownNodes (cells_of store.now) known.now }
     ensures { OnOk result (guids.new.items ≡ guids.old.items
@@ -63,7 +64,8 @@ fn add_own_nodes(guids: &mut Vec<Guid>, store: &Store, known: &[Guid]) -> Result
     Ok(())
 }
 
-/// Appends to `guids` the unusable nodes at the far ends of links. Each node in `known` must be known.
+/// Appends to `guids` the node at the far end of each link in `store`, if that node is unusable. Each node in `known`
+/// must be known.
 fn add_far_nodes(guids: &mut Vec<Guid>, store: &Store, known: &[Guid]) -> Result<(), AllocError>
     requires { AreKnownNodes (cells_of store.now) known.now }
     ensures { OnOk result (guids.new.items ≡ guids.old.items
@@ -77,8 +79,8 @@ fn add_far_nodes(guids: &mut Vec<Guid>, store: &Store, known: &[Guid]) -> Result
     Ok(())
 }
 
-/// Returns the far node of `sighting` if that is a link's cell and the node is unusable, otherwise `None`. Each node in
-/// `known` must be known.
+/// Returns the node at the far end of the link that `sighting` reports, if that node is unusable. Returns `None`
+/// otherwise, also if `sighting` reports no far end. Each node in `known` must be known.
 fn unusable_far_node(store: &Store, known: &[Guid], sighting: &Sighting) -> Option<Guid>
     requires { AreKnownNodes (cells_of store.now) known.now }
     ensures { result ≡ kept (λ g. not (is_known_node (cells_of store.now) g)) far_node sighting.now }
@@ -99,8 +101,8 @@ fn if_unusable(store: &Store, known: &[Guid], node: Guid) -> Option<Guid>
     }
 }
 
-/// Returns whether `node` is known. Each node in `known` must be. Takes a binary search among `known`, and at most two
-/// searches of `store` if `known` lacks the node.
+/// Returns whether `node` is known. Each node in `known` must be known. Takes a binary search among `known`, and at
+/// most two searches of `store` if `known` lacks the node.
 fn is_known_by(store: &Store, known: &[Guid], node: Guid) -> bool
     requires { AreKnownNodes (cells_of store.now) known.now }
     ensures { result ≡ is_known_node (cells_of store.now) node }
@@ -108,8 +110,8 @@ fn is_known_by(store: &Store, known: &[Guid], node: Guid) -> bool
     known.binary_search(&node).is_ok() || is_known_node(store, node)
 }
 
-/// Returns whether the type of `node` is known and, if it is a switch, its table room. Takes at most two searches of
-/// `store`.
+/// Returns whether the type of `node` is known and, if `node` is a switch, its table room is known too. Takes at most
+/// two searches of `store`.
 fn is_known_node(store: &Store, node: Guid) -> bool
     ensures { result ≡ is_known_node (cells_of store.now) node }
 {
@@ -120,8 +122,8 @@ fn is_known_node(store: &Store, node: Guid) -> bool
     }
 }
 
-/// Returns the far port that `sighting` reports. Returns `None` if `sighting` is not the cell of a link, or if the far
-/// port is not known.
+/// Returns the port at the far end of the link that `sighting` reports. Returns `None` if `sighting` is not the cell of
+/// a link, or does not say where the link leads.
 pub(crate) fn far_port(sighting: &Sighting) -> Option<(Guid, PortNum)>
     ensures { result ≡ far_port sighting.now }
 {
@@ -131,7 +133,7 @@ pub(crate) fn far_port(sighting: &Sighting) -> Option<(Guid, PortNum)>
     }
 }
 
-/// Returns the port that is the value of `sighting`, or `None` if its value is no port or is disputed.
+/// Returns the port that is the value of `sighting`, or `None` if that value is disputed or is not a port.
 fn peer_said(sighting: &Sighting) -> Option<(Guid, PortNum)>
     ensures { result ≡ peer_in (value_in (Some sighting.now.1)) }
 {

@@ -1,4 +1,4 @@
-//! Ports of which it is unknown where they lead.
+//! Ports that facts name but do not show to be down, to have a wire, or to be the end port of a switch.
 ghost use Rattle.std.specs.Prelude.{◌≡◌, ◌++◌, IfOk, None, OnOk, Some, map, not, if◌then◌else◌};
 ghost use Rattle.std.specs.List.{filter_map};
 ghost use Rattle.reply_facts.specs.Known.{kind_in, up_of, value_in};
@@ -14,10 +14,10 @@ use smp_bytes::{Guid, NodeType, PortNum};
 use std::alloc::{AllocError, Global};
 use subnet_view::{EndPort, Wires, is_end_port};
 
-/// Returns the unjoined ports that facts name, each once, by node and port. A cell names the port of its key, the
-/// management port if it says that its node is a switch, and the far end if it is a link's. A port other than port 0 is
-/// unjoined if it is not known to be down and has no wire. Port 0 is unjoined if it is not the end port of a switch.
-/// `wires` are those of the facts.
+/// Returns the unjoined ports that the cells of `wires` name, each once, by node and port. Port 0 is unjoined if it is
+/// not the end port of a switch. Any other port is unjoined if it has no wire and is not known to be down. A cell names
+/// the port of its key, if the key has one. The cell of a link also names the port at the far end, if the cell says
+/// where the link leads. The cell of a known switch names port 0 of the switch.
 pub fn unjoined_ports(alloc: Global, wires: &Wires) -> Result<Vec<EndPort>, AllocError>
     ensures { IfOk result (λ ports. ports.items ≡ unjoined_ports (cells_of wires.now)) }
 {
@@ -29,7 +29,7 @@ pub fn unjoined_ports(alloc: Global, wires: &Wires) -> Result<Vec<EndPort>, Allo
     end_ports_at(alloc, &ports)
 }
 
-/// Returns the ports that have a link's cell and are not unjoined, by node and port.
+/// Returns the ports that have a link cell and are not unjoined, by node and port.
 fn known_ports(alloc: Global, wires: &Wires) -> Result<Vec<(Guid, PortNum)>, AllocError>
     ensures { IfOk result (λ known. known.items
         ≡ filter_map (kept (is_known_port (cells_of wires.now)) link_key) (cells_of wires.now)) }
@@ -43,7 +43,8 @@ fn known_ports(alloc: Global, wires: &Wires) -> Result<Vec<(Guid, PortNum)>, All
     Ok(known)
 }
 
-/// Returns the port of `sighting` if that is a link's cell and the port is not unjoined, otherwise `None`.
+/// Returns the port that `sighting` is about if `sighting` is the cell of a link and the port is not unjoined,
+/// otherwise `None`.
 fn known_port(wires: &Wires, sighting: &Sighting) -> Option<(Guid, PortNum)>
     ensures { result ≡ kept (is_known_port (cells_of wires.now)) link_key sighting.now }
 {
@@ -53,14 +54,14 @@ fn known_port(wires: &Wires, sighting: &Sighting) -> Option<(Guid, PortNum)>
     }
 }
 
-/// Returns each of `ports`, a node and a port of it, as an end port.
+/// Returns `ports`, each a node and a port number, as end ports.
 fn end_ports_at(alloc: Global, ports: &[(Guid, PortNum)]) -> Result<Vec<EndPort>, AllocError>
     ensures { IfOk result (λ named. named.items ≡ map port_at ports.now) }
 {
     ports.iter().map(end_port_at).collect(alloc)
 }
 
-/// Returns `port`, a node and a port of it, as an end port.
+/// Returns `port`, a node and a port number, as an end port.
 fn end_port_at(port: &(Guid, PortNum)) -> EndPort
     ensures { result ≡ port_at port.now }
 {
@@ -70,8 +71,8 @@ fn end_port_at(port: &(Guid, PortNum)) -> EndPort
     }
 }
 
-/// Appends to `ports` the unjoined ports that cells are about, management ports included. No port in `known` may be
-/// unjoined.
+/// Appends to `ports` the port that each cell is about, if that port is unjoined. The cell of a known switch counts as
+/// about port 0 of the switch. No port in `known` may be unjoined.
 fn add_own_ports(
     ports: &mut Vec<(Guid, PortNum)>,
     wires: &Wires,
@@ -89,7 +90,8 @@ fn add_own_ports(
     Ok(())
 }
 
-/// Appends to `ports` the unjoined ports at the far ends of links. No port in `known` may be unjoined.
+/// Appends to `ports` the port at the far end of each link, if that port is unjoined. No port in `known` may be
+/// unjoined.
 fn add_far_ports(
     ports: &mut Vec<(Guid, PortNum)>,
     wires: &Wires,
@@ -107,8 +109,8 @@ fn add_far_ports(
     Ok(())
 }
 
-/// Returns the port that `sighting` is about, or a switch's management port, if it is unjoined, otherwise `None`. No
-/// port in `known` may be unjoined.
+/// Returns the port that `sighting` is about if that port is unjoined, otherwise `None`. The cell of a known switch
+/// counts as about port 0 of the switch. No port in `known` may be unjoined.
 fn unjoined_own_port(
     wires: &Wires,
     known: &[(Guid, PortNum)],
@@ -121,8 +123,8 @@ fn unjoined_own_port(
     if_unjoined(wires, known, node, port)
 }
 
-/// Returns the far port of `sighting` if that is a link's cell and the port is unjoined, otherwise `None`. No port in
-/// `known` may be unjoined.
+/// Returns the port at the far end of the link that `sighting` reports, if that port is unjoined. Returns `None`
+/// otherwise, also if `sighting` reports no far end. No port in `known` may be unjoined.
 fn unjoined_far_port(
     wires: &Wires,
     known: &[(Guid, PortNum)],
@@ -161,8 +163,8 @@ fn is_known_by(wires: &Wires, known: &[(Guid, PortNum)], node: Guid, port: PortN
     known.binary_search(&(node, port)).is_ok() || is_known_port(wires, node, port)
 }
 
-/// Returns the port that `sighting` is about, or `None` if it is about no port. If a node's cell says that the node is
-/// a switch, the port is its management port.
+/// Returns the port that `sighting` is about. If `sighting` says that its node is a switch, that is port 0 of the node.
+/// Returns `None` for the cell of any other node, and for the cell of a table room.
 fn own_port(sighting: &Sighting) -> Option<(Guid, PortNum)>
     ensures { result ≡ own_port sighting.now }
 {
@@ -189,8 +191,8 @@ fn is_switch_said(sighting: &Sighting) -> bool
     matches!(sighting.value(), Some(Value::Kind(NodeType::Switch, _)))
 }
 
-/// Returns whether `port` of `node` is known to be down or has a wire. For port 0, returns whether it is a switch's end
-/// port.
+/// Returns whether `port` of `node` is known to be down or has a wire. For port 0, returns whether `port` is the end
+/// port of a switch.
 fn is_known_port(wires: &Wires, node: Guid, port: PortNum) -> bool
     ensures { result ≡ is_known_port (cells_of wires.now) (node, port) }
 {

@@ -8,18 +8,18 @@ use crate::wired_switch::WiredSwitch;
 use smp_bytes::{Guid, Lid};
 use std::alloc::{AllocError, Global};
 
-/// A usable switch, with where its wires lead and what the held tables say of it.
+/// A usable switch, with the far ends of its wires and what the held tables say of it.
 #[derive(Drop)]
 pub struct AuditedSwitch {
-    /// Its node GUID.
+    /// The node GUID of the switch.
     pub guid: Guid,
-    /// Where the wires in its ports lead.
+    /// The far ends of the wires in the switch's ports.
     pub row: FarEnds,
-    /// Its index among the held switches, or `None` if it is not held.
+    /// The index of the switch among the held switches, or `None` if the switch is not held.
     pub index: Option<usize>,
-    /// Its held top, the greatest LID that it forwards, or 0 if it is not held.
+    /// The held top of the switch: the greatest LID for which it uses its table. 0 if the switch is not held.
     pub top: Lid,
-    /// The number of its ports.
+    /// The switch's port count, without port 0.
     pub ports: u8,
 }
 
@@ -54,7 +54,7 @@ fn node_at(alloc: Global, switch: &WiredSwitch, held: &Held) -> Result<AuditedSw
     })
 }
 
-/// Returns the index of the switch `guid` among the held switches, or `None` if it is not held. Takes time linear in
+/// Returns the index of the first held switch with the GUID `guid`, or `None` if there is none. Takes time linear in
 /// the number of held switches.
 pub fn index_of(held: &Held, guid: Guid) -> Option<usize>
     ensures { result ≡ index_of held.now guid }

@@ -8,9 +8,9 @@ use crate::held::{Held, HeldBlock};
 use smp_bytes::NO_ENTRY;
 use std::alloc::{AllocError, Global};
 
-/// Returns, for each held switch in order, the 64 entries of its block `number`, or 255 for entries that are not held.
-/// `chains` must be those of the held blocks' numbers. Takes time linear in the number of held switches, and of held
-/// blocks with the number `number`.
+/// Returns a row of 64 entries for each held switch, in order: those of the switch's last block with the number
+/// `number`. An entry that is not held is 255. `chains` must be the chains of the held blocks' numbers. Takes time
+/// linear in the number of held switches, plus that of held blocks with the number `number`.
 pub fn block_rows(
     alloc: Global,
     held: &Held,
@@ -29,7 +29,7 @@ pub fn block_rows(
     Ok(rows)
 }
 
-/// Puts the block at `index`, if there is one, into the row of its switch.
+/// Puts the entries of the block at `index` into the row of its switch. Does nothing if there is no such block or row.
 fn put_block(rows: &mut Vec<[u8; 64]>, blocks: &[HeldBlock], index: usize)
     ensures { rows.new.items ≡ with_block rows.old.items (slice_get blocks.now index) }
 {
@@ -39,7 +39,7 @@ fn put_block(rows: &mut Vec<[u8; 64]>, blocks: &[HeldBlock], index: usize)
     }
 }
 
-/// Puts `block` into the row of its switch, if there is one.
+/// Puts the entries of `block` into the row of its switch. Does nothing if `rows` has no such row.
 fn put_row(rows: &mut Vec<[u8; 64]>, block: &HeldBlock)
     ensures { rows.new.items ≡ with_row rows.old.items block.now }
 {

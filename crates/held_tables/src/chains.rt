@@ -1,22 +1,23 @@
-//! Chains of equal numbers: for each block, the index of the next block with its number.
+//! Chains of equal numbers in a list: for each index, the index of the next occurrence of the number there.
 ghost use Rattle.std.specs.Prelude.{◌≡◌, ◌<◌, ◌+◌, IfOk, length, replicate, slice_index_or};
 ghost use Rattle.held_tables.specs.Chains.{AreChains, IsNext};
 
 use std::alloc::{AllocError, Global};
 
-/// A list of numbers, each chained to its next occurrence.
+/// The chains of a list of numbers: the index of each number's first occurrence, and of each item's next one.
 #[derive(Drop)]
 pub struct Chains {
     /// For each number, the index of its first occurrence, or the list's length if it does not occur.
     pub firsts: Vec<usize>,
-    /// For each index, the index of the next occurrence of its number, or the list's length if there is none.
+    /// For each index, the index of the next occurrence of the number there, or the list's length if there is none.
     pub nexts: Vec<usize>,
 }
 
 /// The number of values of a `u16`.
 const NUMBERS: usize = 0x1_0000;
 
-/// Returns the chains of `numbers`. Takes time linear in their number, and in that of the values of a `u16`.
+/// Returns the chains of `numbers`. Takes time linear in the length of `numbers`, plus 65,536 for the values of a
+/// `u16`.
 pub(crate) fn chains_of(alloc: Global, numbers: &[u16]) -> Result<Chains, AllocError>
     ensures { IfOk result (λ chains. AreChains numbers.now chains) }
 {
@@ -40,7 +41,7 @@ fn so_many(alloc: Global, count: usize, index: usize) -> Result<Vec<usize>, Allo
 }
 
 impl Chains {
-    /// Returns the item of `firsts` for `number`, the index of its first occurrence, or 0 if `firsts` has no such item.
+    /// Returns the item of `firsts` for `number`, or 0 if `firsts` has no such item.
     pub(crate) fn first(&self, number: u16) -> usize
         ensures { result ≡ slice_index_or self.now.firsts.items number 0 }
     {
@@ -50,8 +51,7 @@ impl Chains {
         }
     }
 
-    /// Returns the item of `nexts` at `index`, the index of the next occurrence of the same number, or 0 if `nexts` has
-    /// no such item.
+    /// Returns the item of `nexts` at `index`, or 0 if `nexts` has no such item.
     pub(crate) fn next(&self, index: usize) -> usize
         ensures { result ≡ slice_index_or self.now.nexts.items index 0 }
     {

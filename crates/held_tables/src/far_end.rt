@@ -12,14 +12,15 @@ use subnet_view::{EndPort, Wires};
 pub enum Far {
     /// The port has no wire.
     Nothing,
-    /// The wire leads to the usable switch at this index, by rising GUID.
+    /// The wire leads to the usable switch with this index, by rising GUID.
     Switch(usize),
-    /// The wire leads to this port, of a node that is not a usable switch.
+    /// The wire leads to this port. Its node is no usable switch.
     Port(EndPort),
 }
 
-/// Returns where the wire in `port` of `node` leads. `guids` must be the usable switches, by rising GUID, and `ports`
-/// the port count of `node`. Takes constant time if `port` is above `ports`.
+/// Returns the far end of the wire in `port` of `node`, or `Nothing` if there is no wire. `guids` must list the GUIDs
+/// of the usable switches in rising order. `ports` must be the port count of `node`. Takes constant time if `port` is
+/// above `ports`.
 pub(crate) fn far_within(wires: &Wires, guids: &[Guid], node: Guid, ports: u8, port: PortNum) -> Far
     requires guids { guids.now ≡ switches (cells_of wires.now) }
     requires ports { ports ≡ port_count_of (cells_of wires.now) node }
@@ -32,7 +33,8 @@ pub(crate) fn far_within(wires: &Wires, guids: &[Guid], node: Guid, ports: u8, p
     }
 }
 
-/// Returns where the wire in `port` of `node` leads. `guids` must be the usable switches, by rising GUID.
+/// Returns the far end of the wire in `port` of `node`, or `Nothing` if there is no wire. `guids` must list the GUIDs
+/// of the usable switches in rising order.
 pub(crate) fn far_of(wires: &Wires, guids: &[Guid], node: Guid, port: PortNum) -> Far
     requires { guids.now ≡ switches (cells_of wires.now) }
     ensures { result ≡ far_of (cells_of wires.now) node port }
@@ -46,7 +48,7 @@ pub(crate) fn far_of(wires: &Wires, guids: &[Guid], node: Guid, port: PortNum) -
     }
 }
 
-/// Returns the index of `guid` in `guids`, which must rise strictly, or `None` if it is not there. Takes a binary
+/// Returns the index of `guid` in `guids`, or `None` if `guid` is not there. `guids` must rise strictly. Takes a binary
 /// search.
 pub(crate) fn index(guids: &[Guid], guid: Guid) -> Option<usize>
     requires { IsStrictlyIncreasing guids.now }
@@ -55,7 +57,7 @@ pub(crate) fn index(guids: &[Guid], guid: Guid) -> Option<usize>
     guids.binary_search(&guid).ok()
 }
 
-/// Returns the index of the usable switch to which the wire of `far` leads, or `None` if it leads to none.
+/// Returns the index of the usable switch at the far end `far` of a wire, or `None` if there is none.
 pub(crate) fn switch_over(far: Far) -> Option<usize>
     ensures { result ≡ switch_over far }
 {

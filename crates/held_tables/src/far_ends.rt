@@ -28,22 +28,22 @@ impl Model for FarEnds {
 }
 
 impl FarEnds {
-    /// Returns where the wire in `port` leads. Takes constant time.
+    /// Returns the far end of the wire in `port`, or `Nothing` if `port` has no wire. Takes constant time.
     pub fn far(&self, port: u8) -> Far
         ensures { result ≡ slice_index_or self.now port Far.Nothing }
     {
         far_at(&self.fars, port)
     }
 
-    /// Returns the index of the usable switch to which the wire in `port` leads, or `None` if it leads to none. Takes
-    /// constant time.
+    /// Returns the index of the usable switch to which the wire in `port` leads. Returns `None` if `port` has no wire,
+    /// or if its wire leads to no usable switch. Takes constant time.
     pub fn switch(&self, port: u8) -> Option<usize>
         ensures { result ≡ switch_over (slice_index_or self.now port Far.Nothing) }
     {
         switch_at(&self.fars, port)
     }
 
-    /// Returns a copy.
+    /// Returns a copy of `self`.
     pub(crate) fn copied(&self, alloc: Global) -> Result<Self, AllocError>
         ensures { IfOk result (λ copy. copy ≡ self.now) }
     {
@@ -62,8 +62,8 @@ fn far_at(fars: &[Far], port: u8) -> Far
     }
 }
 
-/// Returns the index of the usable switch that the item of `fars` at `port` leads to, or `None` if it leads to none, or
-/// there is no such item.
+/// Returns the index of the usable switch that the item of `fars` at `port` leads to. Returns `None` if the item leads
+/// to no usable switch, or if there is no such item.
 fn switch_at(fars: &[Far], port: u8) -> Option<usize>
     ensures { result ≡ switch_over (slice_index_or fars.now port Far.Nothing) }
 {
@@ -73,7 +73,8 @@ fn switch_at(fars: &[Far], port: u8) -> Option<usize>
     }
 }
 
-/// Returns where the wires in the ports of `node` lead. `guids` must be the usable switches, by rising GUID.
+/// Returns the far ends of the wires in the ports of `node`. `guids` must list the GUIDs of the usable switches in
+/// rising order.
 pub(crate) fn row_of(
     alloc: Global,
     wires: &Wires,
@@ -88,7 +89,8 @@ pub(crate) fn row_of(
     Ok(FarEnds { fars })
 }
 
-/// Returns where the wires in ports 0 to 254 of `node` lead. `guids` must be the usable switches, by rising GUID.
+/// Returns the far ends of the wires in ports 0 to 254 of `node`, by port. `guids` must list the GUIDs of the usable
+/// switches in rising order.
 fn all_fars(
     alloc: Global,
     wires: &Wires,
@@ -106,7 +108,7 @@ fn all_fars(
     Ok(fars)
 }
 
-/// Returns the far ends up to the last port that has a wire.
+/// Returns `fars` up to the last port that has a wire, or an empty list if no port has a wire.
 fn shortened(alloc: Global, fars: &[Far]) -> Result<Vec<Far>, AllocError>
     ensures { IfOk result (λ short. padded (length fars.now) short.items ≡ fars.now) }
 {
@@ -114,7 +116,7 @@ fn shortened(alloc: Global, fars: &[Far]) -> Result<Vec<Far>, AllocError>
     Vec::from_slice(alloc, &fars[..count])
 }
 
-/// Returns the number of ports up to the last one that has a wire, or 0 if none has.
+/// Returns the number of ports from port 0 up to the last one that has a wire, or 0 if none has.
 fn wired(fars: &[Far]) -> usize
     ensures within { result ≤ length fars.now }
     ensures others { fars.now ≡ take result fars.now ++ replicate (length fars.now - result) Far.Nothing }
@@ -126,8 +128,8 @@ fn wired(fars: &[Far]) -> usize
     count
 }
 
-/// Returns the number of ports up to the last wired one of ports 0 to `port`. `count` is this number for the ports
-/// before `port`, and `far` is where the wire in `port` leads. `port` must be below 2^64 - 1.
+/// Returns the number of ports from port 0 up to the last one that has a wire, among ports 0 to `port`. `count` is this
+/// number for the ports before `port`, and `far` the far end of the wire in `port`. `port` must be below 2^64 - 1.
 fn wired_more(far: &Far, port: usize, count: usize) -> usize
     requires { port < 2 ^ 64 - 1 }
     ensures { result ≡ wired_more far.now port count }

@@ -15,28 +15,29 @@ use subnet_view::EndPort;
 /// A LID and an end port that holds it.
 #[derive(Clone, Copy, Debug, PartialEq, Eq)]
 pub struct HeldLid {
-    /// From 1 to 49,151 in the tables of a text or a plan.
+    /// The LID, from 1 to 49,151 in the tables of a text or a plan.
     pub lid: Lid,
-    /// Its port number is at most 254 in the tables of a text or a plan.
+    /// The end port that holds the LID. Its port number is at most 254 in the tables of a text or a plan.
     pub port: EndPort,
 }
 
-/// A switch with the top of its forwarding table: the greatest LID that it forwards.
+/// A switch with the top of its forwarding table: the greatest LID for which it uses the table.
 #[derive(Clone, Copy, Debug, PartialEq, Eq)]
 pub struct HeldSwitch {
     pub guid: Guid,
-    /// Up to 49,151 in the tables of a text or a plan.
+    /// The top, at most 49,151 in the tables of a text or a plan.
     pub top: Lid,
 }
 
 /// A block of a switch's forwarding table.
 #[derive(Clone, Copy, Debug, PartialEq, Eq)]
 pub struct HeldBlock {
-    /// The index of its switch, from 0, among the held switches.
+    /// The index of the block's switch among the held switches.
     pub switch: usize,
-    /// The block has the entries from LID 64 times this number on. Up to 767 in the tables of a text or a plan.
+    /// The number of the block, at most 767 in the tables of a text or a plan. The block has the entries for 64 LIDs,
+    /// from 64 times this number on.
     pub number: u16,
-    /// For each LID, the port by which packets leave.
+    /// For each of the 64 LIDs in order, the outgoing port, or 255 if there is none.
     pub entries: [u8; 64],
 }
 
@@ -72,8 +73,8 @@ impl Held {
         }
     }
 
-    /// Returns the tables of `plan`: the LIDs of its end ports, and its switches, each with the greatest LID as its
-    /// top. If `plan` has no LID, the tables are empty. The plan's text is read as the same tables.
+    /// Returns the tables of `plan`: its LIDs with their end ports, and its switches with their blocks. The top of each
+    /// switch is the greatest LID. If `plan` has no LID, the tables are empty. The plan's text is read as these tables.
     pub fn of_plan(alloc: Global, plan: &Plan) -> Result<Self, AllocError>
         ensures { IfOk result (λ held. held ≡ held_plan plan.now) }
     {
@@ -129,8 +130,8 @@ impl Held {
         &self.blocks
     }
 
-    /// Returns the tables after another line, which says `item`. A block belongs to the last switch above it, or has
-    /// index 0 if there is none.
+    /// Returns the tables with one more line, which says `item`. A block belongs to the last switch before its line, or
+    /// has the switch index 0 if there is none.
     pub fn with(self, item: HeldItem) -> Result<Self, AllocError>
         ensures { IfOk result (λ held. held ≡ held_with self item) }
     {
@@ -168,7 +169,8 @@ fn push_range(lids: &mut Vec<HeldLid>, range: HeldRange) -> Result<(), AllocErro
     push_lids(lids, &first, lmc)
 }
 
-/// Appends the 2^LMC LIDs of an end port, from `first` on, whose LID must be below 49,152.
+/// Appends the 2^`lmc` LIDs from that of `first` on, each with the end port of `first`. The LID of `first` must be
+/// below 49,152.
 pub(crate) fn push_lids(
     lids: &mut Vec<HeldLid>,
     first: &HeldLid,

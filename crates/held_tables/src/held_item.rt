@@ -4,7 +4,7 @@ use crate::held::{HeldLid, HeldSwitch};
 use attr_codec::Lmc;
 use std::marker::Model;
 
-/// The 2^`lmc` LIDs of an end port, from `first` on. The last is at most 49,151.
+/// The 2^`lmc` LIDs of an end port, from that of `first` on. The last LID is at most 49,151.
 #[derive(Clone, Copy)]
 pub struct HeldRange {
     pub first: HeldLid,
@@ -30,6 +30,6 @@ pub enum HeldItem {
     Nothing,
     Lid(HeldRange),
     Switch(HeldSwitch),
-    /// The number of a block of the switch above, and its entries.
+    /// A block of the last switch before the line: its number and its entries.
     Block(u16, [u8; 64]),
 }

@@ -9,7 +9,7 @@ use smp_bytes::Lid;
 use std::alloc::{AllocError, Global};
 use subnet_view::EndPort;
 
-/// Who holds a LID, by lines of which none occurs twice.
+/// Who holds a LID by a list of distinct lines.
 #[derive(Clone, Copy, Debug, PartialEq, Eq)]
 pub enum Owner {
     /// No end port.
@@ -24,7 +24,7 @@ pub enum Owner {
 const LIDS: usize = Lid::UNICAST_END as usize;
 
 /// Returns who holds each LID below 49,152 by `lines`. A line that occurs twice counts as two end ports. Takes time
-/// linear in the number of `lines` and of LIDs.
+/// linear in the number of `lines`, plus 49,152.
 pub fn lid_owners(alloc: Global, lines: &[HeldLid]) -> Result<Vec<Owner>, AllocError>
     ensures { IfOk result (λ owners. AreOwners lines.now owners.items) }
 {
@@ -35,8 +35,8 @@ pub fn lid_owners(alloc: Global, lines: &[HeldLid]) -> Result<Vec<Owner>, AllocE
     Ok(owners)
 }
 
-/// Records in `owners` that the end port of `line` holds its LID. Does nothing if the LID is beyond the end of
-/// `owners`.
+/// Records in `owners` that the end port of `line` holds the LID of `line`. Does nothing if `owners` has no item for
+/// this LID.
 fn add_owner(owners: &mut Vec<Owner>, line: &HeldLid)
     ensures { owners.new.items ≡ slice_set owners.old.items line.now.lid
         (owner_more (slice_index_or owners.old.items line.now.lid Several) line.now.port) }
@@ -47,7 +47,8 @@ fn add_owner(owners: &mut Vec<Owner>, line: &HeldLid)
     }
 }
 
-/// Returns who holds a LID if `port` holds it besides those of `owner`.
+/// Returns who holds a LID after `port` is added to `owner`: `port` alone if `owner` is `Nobody`, and otherwise
+/// `Several`.
 fn owner_more(owner: Owner, port: EndPort) -> Owner
     ensures { result ≡ owner_more owner port }
 {
@@ -57,8 +58,9 @@ fn owner_more(owner: Owner, port: EndPort) -> Owner
     }
 }
 
-/// Returns the end ports that hold `lid` by `lines`. `owners` must say who holds each LID by `lines`. Takes constant
-/// time if at most one line is for `lid`, and otherwise time linear in the number of `lines`.
+/// Returns the end ports that hold `lid` by `lines`. Each item of `owners` must say who holds its LID by `lines`. Takes
+/// constant time if `owners` has an item for `lid` and it is not `Several`. Otherwise takes time linear in the number
+/// of `lines`.
 pub fn owners_of(
     alloc: Global,
     lines: &[HeldLid],
@@ -75,7 +77,7 @@ pub fn owners_of(
     }
 }
 
-/// Returns who holds `lid`, or `Several` if `lid` is beyond the end of `owners`.
+/// Returns who holds `lid` by `owners`, or `Several` if `owners` has no item for `lid`.
 fn owner_at(owners: &[Owner], lid: Lid) -> Owner
     ensures { result ≡ slice_index_or owners.now lid Several }
 {
@@ -85,8 +87,8 @@ fn owner_at(owners: &[Owner], lid: Lid) -> Owner
     }
 }
 
-/// Returns the only end port that holds `lid`, or `None` if none or several do, or `lid` is beyond the end of `owners`.
-/// Takes constant time.
+/// Returns the end port that alone holds `lid` by `owners`. Returns `None` if nobody or several end ports hold `lid`,
+/// or if `owners` has no item for `lid`. Takes constant time.
 pub fn sole_owner(owners: &[Owner], lid: Lid) -> Option<EndPort>
     ensures { result ≡ sole_among (slice_index_or owners.now lid Several) }
 {
@@ -116,8 +118,8 @@ fn all_owners_of(alloc: Global, lines: &[HeldLid], lid: Lid) -> Result<Vec<EndPo
         .collect(alloc)
 }
 
-/// Returns whether more than one of `lines` is for `lid`. `owners` must say who holds each LID by `lines`. Takes
-/// constant time if `owners` has an item for `lid`, and otherwise time linear in the number of `lines`.
+/// Returns whether more than one of `lines` is for `lid`. Each item of `owners` must say who holds its LID by `lines`.
+/// Takes constant time if `owners` has an item for `lid`, and otherwise time linear in the number of `lines`.
 pub fn is_told_twice(lines: &[HeldLid], owners: &[Owner], lid: Lid) -> bool
     requires { AreOwners lines.now owners.now }
     ensures { result ≡ is_told_twice lines.now lid }
@@ -145,9 +147,9 @@ fn is_told_twice_by(lines: &[HeldLid], lid: Lid) -> bool
     1 < lines.iter().filter(|line| line.lid == lid).count()
 }
 
-/// Returns whether no end port other than the line's holds the LID of `line`, by `lines`. `owners` must say who holds
-/// each LID by `lines`. Takes constant time if at most one line is for the LID, and otherwise time linear in the number
-/// of `lines`.
+/// Returns whether no end port other than that of `line` holds the LID of `line`, by `lines`. Each item of `owners`
+/// must say who holds its LID by `lines`. Takes constant time if `owners` has an item for the LID and it is not
+/// `Several`. Otherwise takes time linear in the number of `lines`.
 pub fn is_sole_owner(lines: &[HeldLid], owners: &[Owner], line: &HeldLid) -> bool
     requires { AreOwners lines.now owners.now }
     ensures { result ≡ is_sole line.now.port (holders lines.now line.now.lid) }
@@ -159,7 +161,7 @@ pub fn is_sole_owner(lines: &[HeldLid], owners: &[Owner], line: &HeldLid) -> boo
     }
 }
 
-/// Returns whether no end port other than the line's holds the LID of `line`, by `lines`. Takes time linear in the
+/// Returns whether no end port other than that of `line` holds the LID of `line`, by `lines`. Takes time linear in the
 /// number of `lines`.
 fn is_sole_of_all(lines: &[HeldLid], line: &HeldLid) -> bool
     ensures { result ≡ is_sole line.now.port (holders lines.now line.now.lid) }

@@ -1,4 +1,4 @@
-//! What the tables of a plan hold.
+//! The tables of a plan, as held tables: LIDs with their end ports, switches and blocks.
 ghost use Rattle.std.specs.Prelude.{◌≡◌, ◌≤◌, ◌++◌, [], IfOk, OnOk, length, map};
 ghost use Rattle.std.specs.Option.{option_map_or};
 ghost use Rattle.held_tables.specs.Held.{lids_of};
@@ -10,7 +10,8 @@ use lid_assign::LidMap;
 use smp_bytes::Lid;
 use std::alloc::{AllocError, Global};
 
-/// Returns the LIDs of all end ports, with those of one end port together, by rising first LIDs.
+/// Returns each LID of `map` with its end port. The LIDs of one end port are together, and end ports are in the order
+/// of their first LIDs.
 pub(crate) fn owned_lids(alloc: Global, map: &LidMap) -> Result<Vec<HeldLid>, AllocError>
     ensures { IfOk result (λ lids. lids.items ≡ owned_lids map.now) }
 {
@@ -21,7 +22,8 @@ pub(crate) fn owned_lids(alloc: Global, map: &LidMap) -> Result<Vec<HeldLid>, Al
     Ok(lids)
 }
 
-/// Appends the LIDs of the end port that owns `lid`, from `lid` on. Appends none if no end port owns `lid`.
+/// Appends as many LIDs as the end port that owns `lid` has, from `lid` on, each with this end port. Appends none if no
+/// end port owns `lid`.
 fn push_owned(lids: &mut Vec<HeldLid>, map: &LidMap, lid: Lid) -> Result<(), AllocError>
     ensures { OnOk result (lids.new.items
         ≡ lids.old.items ++ option_map_or lids_of (owned_range map.now lid) []) }
@@ -48,7 +50,7 @@ pub(crate) fn with_top(
     Ok(switches)
 }
 
-/// Returns the blocks of all switches. The first switch has index 0.
+/// Returns the blocks of all `tables`, in order. The switch of the first table has index 0.
 pub(crate) fn blocks_of(alloc: Global, tables: &[Table]) -> Result<Vec<HeldBlock>, AllocError>
     ensures { IfOk result (λ blocks. blocks.items ≡ blocks_of 0 tables.now) }
 {
@@ -59,7 +61,8 @@ pub(crate) fn blocks_of(alloc: Global, tables: &[Table]) -> Result<Vec<HeldBlock
     Ok(blocks)
 }
 
-/// Appends the blocks in `table`, at most 1024, of the switch at index `switch`. The first block has number 0.
+/// Appends the blocks of `table` as those of the switch at index `switch`. The first block has number 0. `table` must
+/// have at most 1024 blocks.
 fn push_blocks(
     blocks: &mut Vec<HeldBlock>,
     switch: usize,

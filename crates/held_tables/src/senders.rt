@@ -13,13 +13,13 @@ use subnet_view::{EndPort, Wires};
 pub struct Sender {
     /// The end port.
     pub port: EndPort,
-    /// The index of its node among the usable switches, or `None` if its node is not one.
+    /// The index of the port's node among the usable switches, or `None` if the node is no usable switch.
     pub switch: Option<usize>,
-    /// Where its wire leads.
+    /// The far end of the wire in the port, or `Nothing` if the port has no wire.
     pub far: Far,
 }
 
-/// Returns `ports` as senders. `guids` must be the usable switches, by rising GUID.
+/// Returns `ports` as senders, in order. `guids` must list the GUIDs of the usable switches in rising order.
 pub(crate) fn sources(
     alloc: Global,
     wires: &Wires,

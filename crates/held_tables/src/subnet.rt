@@ -49,7 +49,7 @@ impl<'s> Model for Subnet<'s> {
 }
 
 impl<'s> Subnet<'s> {
-    /// Finds the usable switches, the wires and the end ports of the view that `store` holds.
+    /// Returns the subnet that the view of `store` describes.
     pub fn of(alloc: Global, store: &'s Store) -> Result<Self, Refused>
         ensures { IfOk result (λ subnet. subnet ≡ store.now) }
     {
@@ -78,7 +78,7 @@ impl<'s> Subnet<'s> {
         self.wires.store()
     }
 
-    /// Returns the wires.
+    /// Returns the wires of the subnet.
     pub fn wires(&self) -> &Wires<'s>
         ensures { result.now ≡ self.now }
     {
@@ -123,8 +123,8 @@ impl<'s> Subnet<'s> {
         self.begin
     }
 
-    /// Returns where the wire in a port of a usable switch leads. `number` is 256 times the switch's index, plus the
-    /// port. Returns `Nothing` if there is no such switch. Takes constant time.
+    /// Returns the far end of the wire in port `number` % 256 of the usable switch at index `number` / 256, by rising
+    /// GUID. Returns `Nothing` if there is no such wire or no such switch. Takes constant time.
     pub fn far(&self, number: usize) -> Far
         ensures { result ≡ far_by (cells_of self.now) number }
     {
@@ -134,7 +134,7 @@ impl<'s> Subnet<'s> {
         }
     }
 
-    /// Returns the usable switches by rising GUID, with what `held` says of them.
+    /// Returns the usable switches by rising GUID, each with what `held` says of it.
     pub fn audited(&self, alloc: Global, held: &Held) -> Result<Vec<AuditedSwitch>, AllocError>
         ensures { IfOk result (λ nodes.
             nodes.items ≡ map (node_of (cells_of self.now) held.now) (switches (cells_of self.now))) }

@@ -8,19 +8,19 @@ use smp_bytes::Guid;
 use std::alloc::{AllocError, Global};
 use subnet_view::{Wires, port_count};
 
-/// A usable switch, with where its wires lead.
+/// A usable switch, with the far ends of its wires.
 #[derive(Drop)]
 pub struct WiredSwitch {
-    /// Its node GUID.
+    /// The node GUID of the switch.
     pub guid: Guid,
-    /// Where the wires in its ports lead.
+    /// The far ends of the wires in the switch's ports.
     pub row: FarEnds,
-    /// The number of its ports.
+    /// The switch's port count, without port 0.
     pub ports: u8,
 }
 
-/// Returns the switches `guids`, with where their wires lead. `guids` must be the usable switches of the view, by
-/// rising GUID.
+/// Returns the switches `guids`, in order, with the far ends of their wires. `guids` must list the GUIDs of the usable
+/// switches in rising order.
 pub(crate) fn wired_switches(
     alloc: Global,
     wires: &Wires,
@@ -36,8 +36,8 @@ pub(crate) fn wired_switches(
     Ok(wired)
 }
 
-/// Returns the switch `guid`, with where its wires lead. `guids` must be the usable switches of the view, by rising
-/// GUID.
+/// Returns the switch `guid` with the far ends of its wires. `guids` must list the GUIDs of the usable switches in
+/// rising order.
 fn wired_switch(
     alloc: Global,
     wires: &Wires,

@@ -16,18 +16,18 @@ pub(crate) enum OpenFault {
     Memory,
 }
 
-/// Opens files by their names. No contract can say which files exist. An answer, and the name that it is for, are known
-/// only from the call that gave it.
+/// Opens files by their names. No contract can say which files exist. The answer for a name is known only from the call
+/// that gave the answer.
 pub(crate) trait Opener {
     ghost use Rattle.ibsm.specs.declared.opener.OpenFault.{OpenFault};
 
     /// The type of an open file.
     type Opened: Source + Drop;
 
-    // `answers` relates a name and an answer that a call gave for it.
+    // `answers` relates a name and an answer that a call gave for this name.
     ghost answers: { Self → List ℕ → Result Self.Opened OpenFault → Type 0 };
 
-    /// Opens the file `name`, and appends it to `files`. If it returns an error, `files` are unchanged.
+    /// Opens the file `name`, and appends it to `files`. If an error is returned, `files` is unchanged.
     fn open_behind(&self, name: &str, files: &mut Vec<Self::Opened>) -> Result<(), OpenFault>
         ensures { OpensBehind (answers self.now name.now) result files.old.items files.new.items };
 }

@@ -22,8 +22,8 @@ use sm_cli::{ExitStatus, Fault, run_files, write_fault};
 use std::alloc::Global;
 use std::io::Write;
 
-/// Performs `task` over the files `names`, which are its inputs in the order in which they are read. There must be
-/// enough names for the task. All files are opened before the first is read. If the task cannot be done, writes the
+/// Performs `task` over the files `names`, the inputs of `task` in the order in which they are read. There must be
+/// enough names for the task. All files are opened before the first one is read. If the task cannot be done, writes the
 /// reason to `errors`.
 pub(crate) fn perform_or_explain<R, O, E>(
     rt: &R,
@@ -57,7 +57,7 @@ where
     }
 }
 
-/// Returns the exit status of a task that is done: `Done`, or `Failed` if what it judged does not pass.
+/// Returns the exit status of a task that is done: `Done` if `passed` is true, otherwise `Failed`.
 fn status_after(passed: bool) -> ExitStatus
     ensures { result ≡ status_after passed }
 {
@@ -69,7 +69,7 @@ fn status_after(passed: bool) -> ExitStatus
 }
 
 /// Opens the files `names` and performs `task` over them. There must be enough names for the task. Returns whether what
-/// it judges passes. A task that judges nothing passes.
+/// `task` judges passes. A task that judges nothing passes.
 fn perform<R, O, E>(
     rt: &R,
     task: Task,
@@ -102,8 +102,8 @@ where
     }
 }
 
-/// Performs `task` over its open inputs, of which there must be enough. Returns whether what it judges passes. A task
-/// that judges nothing passes.
+/// Performs `task` over `inputs`, which are open. There must be enough inputs for the task. Returns whether what `task`
+/// judges passes. A task that judges nothing passes.
 fn do_task<S: Source, W: Sink, E: Sink>(
     alloc: Global,
     task: Task,
@@ -154,8 +154,8 @@ pub(crate) fn say<E: Write>(errors: &mut ToWrite<E>, names: &[&str], fault: &Fau
     fault.status()
 }
 
-/// Opens the files `names` in their order. Returns `Open` with the first that cannot be opened. If there is none, but
-/// memory was refused for one, returns `Memory`.
+/// Opens the files `names` in their order. Returns `Open` with the index of the first file that cannot be opened. If
+/// each file can be opened, but memory was refused for one of them, returns `Memory`.
 fn open_all<R>(rt: &R, names: &[&str]) -> Result<Vec<R::Opened>, Fault>
 where
     R: Opener + AllocGlobal,
@@ -178,7 +178,7 @@ where
     }
 }
 
-/// Returns the name of the file that `fault` concerns, or an empty name if it concerns none of `names`.
+/// Returns the name of the file that `fault` concerns, or an empty name if `fault` concerns none of `names`.
 fn name_of<'a>(names: &[&'a str], fault: &Fault) -> &'a str
     ensures { result.now ≡ name_of names.now fault.now }
 {

@@ -19,7 +19,8 @@ use std::io::{BufWriter, Write};
 use std::rt::Env;
 use std::{env, io};
 
-/// Performs what the command line asks for. If it cannot, writes the reason to `errors`.
+/// Performs what the command line asks for. If that cannot be done, writes the reason to `errors`, or prints it to
+/// standard error if the command line itself is wrong.
 pub(crate) fn run<R, O, E>(rt: &R, output: O, errors: E) -> ExitStatus
 where
     R: Env + Opener + Print + Eprint + AllocGlobal,
@@ -33,8 +34,7 @@ where
     }
 }
 
-/// Performs what the command line asks for. Returns an error if memory was refused before anything was written about
-/// it.
+/// Performs what the command line asks for. Returns an error if memory was refused before the task began.
 fn try_run<R, O, E>(rt: &R, output: O, errors: &mut ToWrite<E>) -> Result<ExitStatus, AllocError>
 where
     R: Env + Opener + Print + Eprint + AllocGlobal,
@@ -51,8 +51,8 @@ where
     }
 }
 
-/// Returns the words of the command line. If one of them is not UTF-8, prints that and returns `None`. Returns an error
-/// if memory was refused.
+/// Returns the words of the command line. If a word is not UTF-8, prints that to standard error and returns `None`.
+/// Returns an error if memory was refused.
 fn words<R: Env + Eprint + AllocGlobal>(rt: &R) -> Result<Option<Vec<String>>, AllocError> {
     match env::args(rt) {
         Ok(words) => Ok(Some(words.collect(rt.alloc())?)),
@@ -64,7 +64,8 @@ fn words<R: Env + Eprint + AllocGlobal>(rt: &R) -> Result<Option<Vec<String>>, A
     }
 }
 
-/// Performs what the words `matches`, which must be well-formed, ask for. If it cannot, writes the reason to `errors`.
+/// Performs what the words `matches` ask for. `matches` must be well-formed. If the task cannot be done, writes the
+/// reason to `errors`.
 ///
 /// # Errors
 ///
@@ -98,8 +99,8 @@ where
     Ok(perform_or_explain(rt, task, &names, output, errors))
 }
 
-/// Prints help or the version to standard output, or the fault of the command line to standard error. Returns an error
-/// if `error` is a lack of memory.
+/// Prints help or the version to standard output, or the fault of the command line to standard error. If help or the
+/// version cannot be printed, writes that to `errors`. Returns an error if `error` is a lack of memory.
 pub(crate) fn explain<R: Print + Eprint, E: Write>(
     rt: &R,
     error: &Error,

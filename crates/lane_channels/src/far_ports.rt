@@ -12,8 +12,8 @@ use packet_walks::Network;
 use smp_bytes::{Guid, PortNum};
 use std::alloc::{AllocError, Global};
 
-/// Returns, for each port of each usable switch, the port at the far end of its wire, or 0 if it has none. Port p of
-/// the switch at index i is at 256 * i + p.
+/// Returns, for each port of each usable switch, the port at the far end of the wire there, or 0 if there is no wire.
+/// The item for port p of the switch at index i is at 256 * i + p. There must be fewer than 2^56 usable switches.
 pub(crate) fn far_ports(alloc: Global, network: &Network) -> Result<Vec<PortNum>, AllocError>
     requires { 256 * length (switches (cells_of network.now.facts)) < 2 ^ 64 }
     ensures { IfOk result (λ ports. ports.items ≡ map (far_port_by (cells_of network.now.facts))
@@ -27,8 +27,8 @@ pub(crate) fn far_ports(alloc: Global, network: &Network) -> Result<Vec<PortNum>
     Ok(ports)
 }
 
-/// Returns the port at the far end of the wire in a port of a usable switch, or 0 if there is none. `number` is 256
-/// times the switch's index, plus the port.
+/// Returns the port at the far end of the wire in port `number` % 256 of the usable switch at index `number` / 256.
+/// Returns 0 if there is no such wire or no such switch.
 fn far_port_by(network: &Network, number: usize) -> PortNum
     ensures { result ≡ far_port_by (cells_of network.now.facts) number }
 {
@@ -48,7 +48,8 @@ fn far_port(subnet: &Subnet, node: Guid, port: PortNum) -> PortNum
     }
 }
 
-/// Returns, for each sender, the stop at which its packets first reach a usable switch, or `None` if they reach none.
+/// Returns, for each sender, the stop at which its packets first reach a usable switch, or `None` if there is none.
+/// There must be fewer than 2^56 usable switches.
 pub(crate) fn first_stops(
     alloc: Global,
     network: &Network,
@@ -64,7 +65,7 @@ pub(crate) fn first_stops(
     Ok(firsts)
 }
 
-/// Returns the stop at which the packets of `source` first reach a usable switch, or `None` if they reach none.
+/// Returns the stop at which the packets of `source` first reach a usable switch, or `None` if there is none.
 fn first_stop(subnet: &Subnet, source: &Sender) -> Option<usize>
     requires { (index : ℕ) → first_switch source.now ≡ Some index → 256 * index + 256 < 2 ^ 64 + 1 }
     ensures { result ≡ stop_from source.now (far_port (cells_of subnet.now) source.now.port.node source.now.port.port) }
@@ -78,7 +79,7 @@ fn first_stop(subnet: &Subnet, source: &Sender) -> Option<usize>
     }
 }
 
-/// Returns the stop at `port` of the usable switch `far`, or `None` if `far` is none.
+/// Returns the stop at `port` of the switch `far`, or `None` if `far` is no usable switch.
 fn stop_over(far: Far, port: PortNum) -> Option<usize>
     requires { (index : ℕ) → switch_over far ≡ Some index → 256 * index + 256 < 2 ^ 64 + 1 }
     ensures { result ≡ stop_by None far port }

@@ -1,4 +1,4 @@
-//! The LIDs that each end port holds, for which others send packets that it answers.
+//! The LIDs that each end port holds. An end port answers packets that others send for its LIDs.
 ghost use Rattle.std.specs.Prelude.{◌≡◌, IfOk, map};
 ghost use Rattle.fact_store.specs.View.{cells_of};
 ghost use Rattle.subnet_view.specs.EndPorts.{end_ports};
@@ -13,17 +13,17 @@ use smp_bytes::Lid;
 use std::alloc::{AllocError, Global};
 use subnet_view::EndPort;
 
-/// Of what other end ports can ask a sender: the LIDs that it holds.
+/// The LIDs of senders, for which other end ports send packets that the senders answer.
 #[derive(Drop)]
 pub(crate) struct Asked {
     /// Whether packets that answer others are followed.
     pub(crate) answers: bool,
-    /// For each sender, the LIDs that it holds, if answers are followed.
+    /// For each sender, the LIDs that it holds; empty if answers are not followed.
     pub(crate) held_by: Vec<Vec<Lid>>,
 }
 
-/// Returns the LIDs that each sender holds if `answers` is true, otherwise none. If it is true, takes a walk over the
-/// held LIDs for each end port.
+/// Returns the LIDs that each sender holds if `answers` is true, and otherwise none. If `answers` is true, takes a walk
+/// over the held LIDs for each end port.
 pub(crate) fn asked_of(
     alloc: Global,
     by_lane: &LaneNetwork,

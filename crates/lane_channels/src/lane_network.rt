@@ -16,7 +16,7 @@ use std::marker::Model;
 pub struct LaneNetwork<'a> {
     network: &'a Network<'a>,
     lanes: &'a Lanes,
-    /// For each port of each usable switch, the port at the far end of its wire; 0 if it has none.
+    /// For each port of each usable switch, the port at the far end of the wire there; 0 if there is no wire.
     far_ports: Vec<PortNum>,
     /// For each sender, the stop at which its packets first reach a usable switch; `None` if they reach none.
     firsts: Vec<Option<usize>>,
@@ -36,8 +36,8 @@ impl<'a> Model for LaneNetwork<'a> {
 }
 
 impl<'a> LaneNetwork<'a> {
-    /// Finds where the wires of `network` lead, for packets that take the lanes of `lanes`. Takes a search for a wire
-    /// for each of 256 ports of each usable switch, and for each end port.
+    /// Returns `network` with the lanes of `lanes`. Takes a search for a wire for each of 256 ports of each usable
+    /// switch, and for each end port.
     pub fn of(alloc: Global, network: &'a Network<'a>, lanes: &'a Lanes) -> Result<Self, AllocError>
         ensures seen { IfOk result (λ by_lane. by_lane.seen ≡ network.now) }
         ensures said { IfOk result (λ by_lane. by_lane.said ≡ lanes.now) }
@@ -98,10 +98,10 @@ impl<'a> LaneNetwork<'a> {
     }
 }
 
-/// The lane of packets that are dropped.
+/// Packets are dropped if their lane is not below this one.
 const DROPPED: u8 = 15;
 
-/// Returns the port of `stop`, by which packets come in.
+/// Returns the port of `stop`, at which packets come in.
 pub(crate) fn port_of(stop: usize) -> PortNum
     ensures { result ≡ stop % 256 }
 {
@@ -115,14 +115,14 @@ fn switch_at(network: &Network, index: usize) -> Guid
     network.switch(index).unwrap_or(Guid::new(0))
 }
 
-/// Returns the entry of `far_ports` at `number`, or 0 if there is none.
+/// Returns the item of `far_ports` at `number`, or 0 if there is none.
 fn far_port_at(far_ports: &[PortNum], number: usize) -> PortNum
     ensures { result ≡ slice_index_or far_ports.now number 0 }
 {
     far_ports.get(number).copied().unwrap_or(PortNum::new(0))
 }
 
-/// Returns the number of the channel by port `out` of the switch at `index`, on `lane`, which must be below 15.
+/// Returns the number of the channel by port `out` of the switch at `index`, on `lane`. `lane` must be below 15.
 pub(crate) fn lane_number(index: usize, out: PortNum, lane: u8) -> usize
     requires within { lane < 15 }
     requires room { 4096 * index + 4096 < 2 ^ 64 + 1 }

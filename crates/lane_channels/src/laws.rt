@@ -3,8 +3,8 @@ ghost use Rattle.lane_channels.specs.Fabrics.{LaneChannelsRise, StepLaneChannels
 ghost use Rattle.lane_channels.specs.LaneLaws.{AllCarried, NeverBothByLane, OneLaneSuffices};
 ghost use Rattle.lane_channels.specs.StepLaws.{HeldRiseInStep, NeverBothByLaneInStep, OneLaneSufficesInStep};
 
-/// If numbers of channels rise on one lane, numbers of channels by lane rise, whatever the lanes and service levels
-/// are.
+/// If numbers of channels rise on one lane by the held tables, numbers of channels by lane rise, whatever the lanes and
+/// service levels are.
 #[tactic(auto, using(crate::proofs::LaneLaws::one_lane_suffices))]
 pub fn one_lane_suffices()
     ensures law { OneLaneSuffices }
@@ -23,18 +23,20 @@ pub fn all_carried()
     ensures law { AllCarried }
 {}
 
-/// If numbers of channels by lane rise by facts, tables and lanes, the facts describe all that is joined to an end port
-/// of a fabric, and the end ports and switches there hold the tables and the lanes, each packet that such an end port
-/// sends, for any LID and at its own service level or that of a packet that it answers, and that is not dropped, takes
-/// channels by lane with rising numbers, wire after wire.
+/// A packet that an end port of a part sends, for any LID at a service level that it has, takes channels by lane with
+/// rising numbers, wire after wire, as long as it is not dropped, if three conditions hold: numbers of channels by lane
+/// rise by facts, tables and lanes; the facts describe the part; and its end ports and switches hold the tables and the
+/// lanes. The part is all that is joined to some end port. The packet's level is its own or, with answers, that of a
+/// packet that it answers.
 pub fn lane_channels_rise()
     ensures law { LaneChannelsRise }
 {}
 
-/// If numbers of channels by lane rise in a step, the facts describe all that is joined to an end port of a fabric, and
-/// the end ports and switches there hold the lanes and, for one LID, each switch its entry in the held or in the next
-/// tables, each packet that such an end port sends for that LID, at its own service level or that of a packet that it
-/// answers, and that is not dropped, takes channels by lane with rising numbers, wire after wire.
+/// A packet that an end port of a part sends, for a LID at a service level that it has, takes channels by lane with
+/// rising numbers, wire after wire, as long as it is not dropped, if three conditions hold: numbers of channels by lane
+/// rise in a step; the facts describe the part; and the part holds the lanes and, for this LID, at each switch the
+/// entry of the held or of the next tables. The part is all that is joined to some end port. The packet's level is its
+/// own or, with answers, that of a packet that it answers.
 pub fn step_lane_channels_rise()
     ensures law { StepLaneChannelsRise }
 {}
@@ -51,7 +53,7 @@ pub fn never_both_by_lane_in_step()
     ensures law { NeverBothByLaneInStep }
 {}
 
-/// If numbers of channels by lane rise in a step, they rise by the held tables.
+/// If numbers of channels by lane rise in a step, numbers of channels by lane also rise by the held tables.
 #[tactic(auto, using(crate::proofs::StepLaws::held_rise_in_step))]
 pub fn held_rise_in_step()
     ensures law { HeldRiseInStep }

@@ -16,11 +16,11 @@ use packet_walks::{LidCursor, Network};
 use smp_bytes::Lid;
 use std::alloc::{AllocError, Global};
 
-/// Finds a shortest credit loop of channels by lane, and a packet that is dropped for want of a lane, in the step to
-/// the tables of `next`. In a step, each switch forwards packets for a LID by its entry in the held tables or by that
-/// in those of `next`, while LIDs and service levels stay as they are. `next` must have the facts of `by_lane`. If
-/// `answers` is true, packets that answer others also have the level of what they answer. Takes what `step_lane_waits`
-/// and `order_channels` take.
+/// Returns a shortest credit loop of channels by lane, and a packet that is dropped for want of a lane, if there are
+/// any, in the step to the tables of `next`. In a step, each switch forwards packets for a LID by its entry in the held
+/// tables or by its entry in those of `next`. LIDs and service levels stay as they are. `next` must have the facts of
+/// `by_lane`. If `answers` is true, packets that answer other packets also have the levels of these. Takes what
+/// `step_lane_waits` and `order_channels` take.
 pub fn step_lane_order(
     alloc: Global,
     by_lane: &LaneNetwork,
@@ -40,10 +40,10 @@ pub fn step_lane_order(
     Ok(LaneOrder { cycle, dropped })
 }
 
-/// Follows the packets that each end port sends for each LID, at their service level, at each switch by its entry in
-/// the held tables and by that in those of `next`. `next` must have the facts of `by_lane`. If `answers` is true,
-/// packets that answer others also have the level of what they answer. Takes what `lane_waits` takes for both tables
-/// together, up to a constant factor.
+/// Follows the packets that each end port sends for each LID, at their service level. At each switch these packets go
+/// by its entry in the held tables and by its entry in those of `next`. `next` must have the facts of `by_lane`. If
+/// `answers` is true, packets that answer other packets also have the levels of these. Takes what `lane_waits` takes
+/// for both tables together, up to a constant factor.
 fn step_lane_waits(
     alloc: Global,
     by_lane: &LaneNetwork,
@@ -60,7 +60,7 @@ fn step_lane_waits(
     let asked = asked_of(alloc, by_lane, answers)?;
     let mut held_at = LidCursor::of(alloc, held)?;
     let mut next_at = LidCursor::of(alloc, next)?;
-    // No switch forwards packets above both greatest tops.
+    // No switch forwards packets for LIDs above both greatest tops to another switch.
     for below in 0..greater(held.greatest_top(), next.greatest_top()).number() {
         let lid = Lid::new(below + 1);
         held_at.go_to(alloc, lid)?;
@@ -75,7 +75,7 @@ fn step_lane_waits(
     })
 }
 
-/// Returns the edges of the LID of `held` by the held tables and by the next ones. `next` must be at the same LID.
+/// Returns the edges for the LID of `held` by the held tables and by the next ones. `next` must be at the same LID.
 fn two_columns(alloc: Global, held: &LidCursor, next: &LidCursor) -> Result<LidColumns, AllocError>
     ensures lid { IfOk result (λ columns. columns.lid ≡ held.now.lid) }
     ensures columns { IfOk result (λ columns. columns_in columns

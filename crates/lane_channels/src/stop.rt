@@ -1,6 +1,6 @@
 //! Where packets come in at switches, and what becomes of them there.
 //!
-//! A *stop* is a port by which packets come in at a usable switch. Its number is 256 times the index of the switch
+//! A *stop* is a port of a usable switch at which packets come in. Its number is 256 times the index of the switch
 //! among the usable switches, by rising GUID, plus the port. The port is 0 for packets that the switch itself sends.
 use smp_bytes::{Lid, PortNum};
 
@@ -10,9 +10,9 @@ pub struct Dropped {
     pub lid: Lid,
     /// The service level, up to 15.
     pub level: u8,
-    /// The stop at which the packet is dropped: 256 times the index of the switch, plus the port by which the packet
+    /// The stop at which the packet is dropped: 256 times the index of the switch, plus the port at which the packet
     /// comes in.
     pub stop: usize,
-    /// The port by which the switch forwards packets for the LID.
+    /// The outgoing port of the switch for the LID.
     pub out: PortNum,
 }

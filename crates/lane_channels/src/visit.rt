@@ -18,8 +18,8 @@ use port_graph::Edge;
 use smp_bytes::{Lid, PortNum};
 use std::alloc::AllocError;
 
-/// Visits `stop`, unless there is no such switch, or packets of `level` for the LID were followed from there before.
-/// `level` must be below 16.
+/// Visits `stop`, unless no usable switch has it or packets of `level` for the LID were followed from there before.
+/// `level` must be below 16. `walks` must have 4096 channels and 4096 marks for each usable switch.
 pub(crate) fn visit_if_new(
     by_lane: &LaneNetwork,
     columns: &LidColumns,
@@ -45,9 +45,9 @@ pub(crate) fn visit_if_new(
 /// Marks `stop` for the LID and `level`, and follows a packet of `level` from there along the edge of each column.
 /// `stop` must be at a usable switch, and `level` below 16.
 ///
-/// For each edge, records which channels the packet can take next, and adds the stop to which it goes. Notes the packet
-/// if it can be dropped there and none is noted yet. Takes, for each edge, a binary search among the maps of lanes, and
-/// one more for each edge of the switch to which it leads.
+/// For each edge, records which channels the packet can take after the channel of the edge, and adds the stop that the
+/// edge leads to. Notes the packet if it is dropped for want of a lane and no packet is noted yet. Takes, for each
+/// edge, a binary search among the maps of lanes, and one more for each edge of the next switch.
 fn visit(
     by_lane: &LaneNetwork,
     columns: &LidColumns,
@@ -92,7 +92,7 @@ fn leave(
     Ok(())
 }
 
-/// Follows a packet of `level` from `stop` along `edge`, which must be an edge of its switch by some column.
+/// Follows a packet of `level` from `stop` along `edge`. `edge` must be an edge of the stop's switch by some column.
 fn leave_along(
     by_lane: &LaneNetwork,
     columns: &LidColumns,
@@ -146,8 +146,8 @@ fn note(noted: &mut Option<Dropped>, dropped: Dropped)
     *noted = noted.or(Some(dropped));
 }
 
-/// Adds the channels that can come after `channel`: those by which packets of `level` leave the switch at `index`, by
-/// any column, if they come in by port `into` and are not dropped.
+/// Adds, to the channels that can come after `channel`, those that packets of `level` take from the switch at `index`
+/// along its edge in any column. These packets come in by port `into`. Leaves out edges along which they are dropped.
 fn record(
     by_lane: &LaneNetwork,
     columns: &LidColumns,
@@ -172,8 +172,8 @@ fn record(
     Ok(())
 }
 
-/// Adds the channel along `edge` to those that can come after `channel`, unless packets of `level` that come in at the
-/// switch at `index` by port `into` are dropped there.
+/// Adds the channel along `edge` from the switch at `index` to those that can come after `channel`. Adds nothing if
+/// packets of `level` that come in there by port `into` are dropped along `edge`.
 fn record_along(
     by_lane: &LaneNetwork,
     level: u8,
@@ -196,7 +196,7 @@ fn record_along(
     }
 }
 
-/// Sets the mark at `number`, which must be there, to `lid`.
+/// Sets the mark at `number` to `lid`. There must be such a mark.
 fn mark(marks: &mut [u16], number: usize, lid: Lid)
     requires { number < length marks.old }
     ensures { marks.new ≡ slice_set marks.old number lid }
@@ -204,8 +204,8 @@ fn mark(marks: &mut [u16], number: usize, lid: Lid)
     marks[number] = lid.number();
 }
 
-/// Returns whether nothing has to be followed from `stop`: it is at none of `count` switches, or packets of `level` for
-/// `lid` were followed from there before.
+/// Returns whether nothing has to be followed from `stop`: none of `count` switches has it, or packets of `level` for
+/// `lid` were followed from there before. `level` must be below 16.
 fn is_done(count: usize, lid: Lid, marks: &[u16], level: u8, stop: usize) -> bool
     requires level { level < 16 }
     requires room { 4096 * count < 2 ^ 64 }

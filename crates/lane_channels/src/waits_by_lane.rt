@@ -36,12 +36,7 @@ pub struct LaneWaits {
 }
 
 /// Follows the packets that each end port sends for each LID, at their service level. If `answers` is true, packets
-/// that answer others also have the level of what they answer.
-///
-/// For each LID up to the greatest top of a usable switch, takes what `LidCursor::go_to` takes, time linear in the
-/// number of switches, a binary search among levels for each end port, and two among maps for each port of a switch and
-/// each level at which packets come in there. If `answers` is true, it also walks the held LIDs for each end port, and
-/// takes a binary search for each LID of an end port and each end port that holds the LID.
+/// that answer other packets also have the levels of these.
 pub fn lane_waits(
     alloc: Global,
     by_lane: &LaneNetwork,
@@ -55,7 +50,7 @@ pub fn lane_waits(
     let mut walks = nothing_followed(alloc, count)?;
     let asked = asked_of(alloc, by_lane, answers)?;
     let mut cursor = LidCursor::of(alloc, network)?;
-    // No switch forwards packets above the greatest top.
+    // No switch forwards packets for LIDs above the greatest top to another switch.
     for below in 0..network.greatest_top().number() {
         let lid = Lid::new(below + 1);
         cursor.go_to(alloc, lid)?;
@@ -94,7 +89,9 @@ pub(crate) fn nothing_followed(alloc: Global, count: usize) -> Result<Walks, All
     })
 }
 
-/// Follows the packets for the LID of `columns` that end ports send. `owners` must be the end ports that hold the LID.
+/// Follows the packets for the LID of `columns` that end ports send. `owners` must be the end ports that hold the LID,
+/// which must not be 0, and `asked` must be of `by_lane`. `walks` must have 4096 channels and 4096 marks for each
+/// usable switch.
 pub(crate) fn follow_lid(
     by_lane: &LaneNetwork,
     asked: &Asked,
@@ -118,8 +115,9 @@ pub(crate) fn follow_lid(
     Ok(())
 }
 
-/// Follows the packets for the LID of `columns` that the end port at `index` sends. `owners` must be the end ports that
-/// hold the LID.
+/// Follows the packets for the LID of `columns` that the end port at `index` sends. There must be such an end port.
+/// `owners` must be the end ports that hold the LID, which must not be 0, and `asked` must be of `by_lane`. `walks`
+/// must have 4096 channels and 4096 marks for each usable switch.
 fn follow_sender(
     by_lane: &LaneNetwork,
     asked: &Asked,
@@ -151,8 +149,8 @@ fn follow_sender(
     follow_answers(by_lane, columns, owners, lids, first, walks)
 }
 
-/// Returns the first stop of packets of the end port at `index`, or `None` if they reach no switch. There must be such
-/// an end port.
+/// Returns the first stop of packets of the end port at `index`, or `None` if these packets reach no switch. There must
+/// be such an end port.
 fn first_at(firsts: &[Option<usize>], index: usize) -> Option<usize>
     requires { index < length firsts.now }
     ensures { slice_get firsts.now index ≡ Some result }
@@ -160,7 +158,7 @@ fn first_at(firsts: &[Option<usize>], index: usize) -> Option<usize>
     firsts[index]
 }
 
-/// Returns the end port of the sender at `index`, which must be there.
+/// Returns the end port of the sender at `index`. There must be such a sender.
 fn port_at(sources: &[Sender], index: usize) -> &EndPort
     requires { index < length sources.now }
     ensures { option_map (λ s. s.port) (slice_get sources.now index) ≡ Some result.now }
@@ -176,7 +174,8 @@ fn lids_at(held_by: &[Vec<Lid>], index: usize) -> &[Lid]
     &held_by[index]
 }
 
-/// Follows a packet of `level` from `first` on. Follows none if `level` or `first` is `None`.
+/// Follows a packet of `level` from `first` on. Follows none if `level` or `first` is `None`. The level must be below
+/// 16, and the LID of `columns` must not be 0. `walks` must have 4096 channels and 4096 marks for each usable switch.
 fn walk_at_level(
     by_lane: &LaneNetwork,
     columns: &LidColumns,
@@ -199,7 +198,8 @@ fn walk_at_level(
     }
 }
 
-/// Follows packets from `first` on that answer packets which one of `owners` sends for one of `lids`.
+/// Follows, from `first` on, the answers to packets that each of `owners` sends for each of `lids`. The LID of
+/// `columns` must not be 0. `walks` must have 4096 channels and 4096 marks for each usable switch.
 fn follow_answers(
     by_lane: &LaneNetwork,
     columns: &LidColumns,
@@ -224,8 +224,8 @@ fn follow_answers(
     Ok(())
 }
 
-/// Returns the service level of packets from `port` to `lid`, or `None` if they have none. Takes a binary search among
-/// the blocks of levels.
+/// Returns the service level of packets from `port` to `lid`, or `None` if the text gives them none. Takes a binary
+/// search among the blocks of levels.
 fn level_from(lanes: &Lanes, port: &EndPort, lid: Lid) -> Option<u8>
     ensures is { result ≡ level_of lanes.now port.now.node port.now.port lid }
     ensures within { IfSome result (λ l. l < 16) }
@@ -233,7 +233,8 @@ fn level_from(lanes: &Lanes, port: &EndPort, lid: Lid) -> Option<u8>
     lanes.level(port.node, port.port, lid)
 }
 
-/// Follows packets from `first` on that answer packets which `asker` sends for one of `lids`.
+/// Follows, from `first` on, the answers to packets that `asker` sends for each of `lids`. The LID of `columns` must
+/// not be 0. `walks` must have 4096 channels and 4096 marks for each usable switch.
 fn follow_answers_to(
     by_lane: &LaneNetwork,
     columns: &LidColumns,

@@ -11,10 +11,9 @@ use crate::visit::visit_if_new;
 use crate::walk_state::{LidColumns, Walks};
 use std::alloc::AllocError;
 
-/// Follows a packet of `level` from `first` on, at each stop along the edge of each column. `level` must be below 16.
-///
-/// Records which channels can come after each channel that it takes. Notes the packet if it can be dropped for want of
-/// a lane and none is noted yet. Visits only stops from which packets of this LID and level were not followed before.
+/// Follows a packet of `level` from `first` on, at each stop along the edge of each column. Follows none if `first` is
+/// `None`. `level` must be below 16, and the LID of `columns` must not be 0. `walks` must have 4096 channels and 4096
+/// marks for each usable switch.
 pub(crate) fn walk(
     by_lane: &LaneNetwork,
     columns: &LidColumns,
@@ -38,11 +37,11 @@ pub(crate) fn walk(
         };
         visit_if_new(by_lane, columns, level, stop, walks)?;
     }
-    // Each stop is visited once, so there are fewer steps than that.
+    // Each stop is visited at most once, so there are fewer steps than `usize::MAX`.
     Err(AllocError)
 }
 
-/// Replaces `stops` by `first`, or by nothing if it is `None`.
+/// Replaces `stops` by `first` alone, or by nothing if `first` is `None`.
 fn begin(stops: &mut Vec<usize>, first: Option<usize>) -> Result<(), AllocError>
     ensures { OnOk result (stops.new.items ≡ option_to_list first) }
 {

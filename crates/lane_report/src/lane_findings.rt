@@ -1,4 +1,4 @@
-//! What is found by lane, and its text.
+//! The findings by lane, and their text.
 ghost use Rattle.std.specs.Prelude.{◌↔◌, IsTrue};
 ghost use Rattle.fact_store.specs.View.{cells_of};
 ghost use Rattle.lft_blocks.specs.WritesPart.{WritesPart};
@@ -12,26 +12,26 @@ use byte_io::{Sink, WriteFault};
 use lane_channels::LaneOrder;
 use packet_walks::Network;
 
-/// What is found by lane, by tables or in a step.
+/// The findings by lane of an audit or of a step.
 #[derive(Drop)]
 pub struct LaneFindings {
-    /// The packets between joined adapters without a service level.
+    /// The packets between adapter ports of one component that have no service level.
     pub missing: FirstFew<PacketPair>,
-    /// A credit loop and a packet that is dropped for want of a lane, if there are such.
+    /// A credit loop by lane, and a packet that is dropped for want of a lane, each if one was found.
     pub order: LaneOrder,
 }
 
 impl LaneFindings {
-    /// Returns whether nothing wrong was found: no packet between adapters lacks a service level, none is dropped for
-    /// want of a lane, and there is no credit loop.
+    /// Returns whether nothing wrong was found: no packet between adapter ports lacks a service level, no packet is
+    /// dropped for want of a lane, and there is no credit loop.
     pub fn is_sound(&self) -> bool
         ensures { IsTrue result ↔ IsSoundByLane self.now.missing self.now.order.dropped self.now.order.cycle.items }
     {
         self.missing.count() == 0 && self.order.dropped.is_none() && self.order.cycle.is_empty()
     }
 
-    /// Writes the first packets without a service level and how many more there are, then a packet that is dropped, if
-    /// there is one, and then the credit loop, or that there is none.
+    /// Writes the first packets without a service level, and how many more there are. Then writes a dropped packet, if
+    /// one was found, and the credit loop, or that there is none.
     pub fn write<W: Sink>(&self, sink: &mut W, network: &Network) -> Result<(), WriteFault>
         ensures { WritesPart W.written W.has_failed result sink.old sink.new
             (lanes_text (cells_of network.now.facts) self.now.missing self.now.order.dropped

@@ -27,14 +27,14 @@ use std::alloc::Global;
 pub struct LaneAuditAsked {
     /// The options that an audit on one lane has too.
     pub audit: AuditAsked,
-    /// Whether packets that answer others also have the service level of what they answer.
+    /// Whether packets that answer others also have the service level of the packets that they answer.
     pub answers: bool,
 }
 
 /// Reads the lanes from the first input, the tables from the second and then the files in order. Writes what these
-/// tables do with the packets of the subnet that the files describe together, with credit loops by lane. Returns
-/// whether the tables pass by lane and no channel has a load over `asked.audit.max_load`. There must be at least two
-/// inputs.
+/// tables do with the packets of the subnet that the files describe together, with credit loops by lane, and flushes.
+/// Returns whether the tables pass by lane and no channel has a load over `asked.audit.max_load`. There must be at
+/// least two inputs.
 ///
 /// # Errors
 ///
@@ -86,8 +86,8 @@ fn parts(told: LanesAndFiles) -> (Lanes, TablesAndFacts)
     (lanes, read)
 }
 
-/// Writes the audit of the tables in the subnet of the files by the lanes, and flushes. Returns whether the tables pass
-/// by lane and no channel has a load over `asked.audit.max_load`.
+/// Writes the audit by `lanes` of the tables and the subnet that `read` has, and flushes. Returns whether the tables
+/// pass by lane and no channel has a load over `asked.audit.max_load`.
 fn answer<W: Sink>(
     alloc: Global,
     sink: &mut W,
@@ -115,8 +115,9 @@ fn answer<W: Sink>(
     tell(sink, asked, &audit, lanes, &found)
 }
 
-/// Finds what packets do by lane: which have no service level, whether one is dropped, and a shortest credit loop.
-/// Keeps the first `most` packets without a service level.
+/// Finds the packets between adapter ports that have no service level, a packet that is dropped for want of a lane, and
+/// a shortest credit loop by lane. Either of the last two may be missing. Keeps the first `most` packets without a
+/// service level.
 fn findings(
     alloc: Global,
     most: usize,
@@ -132,9 +133,9 @@ fn findings(
     Ok(LaneFindings { missing, order })
 }
 
-/// Finds a shortest credit loop of channels by lane, and a packet that is dropped for want of a lane. There is neither,
-/// whatever lanes packets take, if numbers of channels rise on one lane and each packet with a service level has a lane
-/// below 15. Otherwise packets are followed by lane.
+/// Finds a shortest credit loop of channels by lane, and a packet that is dropped for want of a lane. Neither exists if
+/// numbers of channels rise on one lane and each packet with a service level has a lane below 15. Otherwise packets are
+/// followed by lane.
 #[tactic(auto, using(crate::proofs::Judged::none_by_lane, lane_channels::proofs::LaneLaws::all_carried))]
 fn order_by_lane(
     alloc: Global,
@@ -160,7 +161,7 @@ fn order_by_lane(
 }
 
 /// Writes what an audit found, and flushes. Returns whether the tables pass by lane and no channel has a load over
-/// `asked.audit.max_load`. `found` must be what is found by `lanes` in the network of `audit`.
+/// `asked.audit.max_load`. `found` must be the findings by `lanes` and `asked.answers` in the network of `audit`.
 fn tell<W: Sink>(
     sink: &mut W,
     asked: &LaneAuditAsked,
@@ -184,7 +185,7 @@ fn tell<W: Sink>(
     Ok(passed)
 }
 
-/// Writes an audit with what was found by lane in place of its credit loop, and flushes.
+/// Writes `audit` with `found` in place of its credit loop, and flushes.
 fn write_all<W: Sink>(sink: &mut W, audit: &Audit, found: &LaneFindings) -> Result<(), WriteFault>
     ensures writes { Writes W.written W.has_failed result sink.old sink.new
         (findings_text audit.now.most (cells_of audit.now.facts) audit.now.held

@@ -48,7 +48,7 @@ fn write_pair<W: Sink>(sink: &mut W, pair: &PacketPair) -> Result<(), WriteFault
     sink.write(b"\n")
 }
 
-/// Writes the line of `dropped`, a packet that is dropped for want of a lane, or nothing if it is `None`.
+/// Writes the line of `dropped`, a packet that is dropped for want of a lane, or nothing if `dropped` is `None`.
 pub(crate) fn write_dropped<W: Sink>(
     sink: &mut W,
     network: &Network,
@@ -63,8 +63,8 @@ pub(crate) fn write_dropped<W: Sink>(
     }
 }
 
-/// Writes the line of `dropped`: its LID, the switch, the ports by which it comes in and would leave, and its service
-/// level.
+/// Writes the line of `dropped`, a packet that is dropped: its LID, the switch, the packet's incoming and outgoing port
+/// there, and its service level.
 fn write_drop<W: Sink>(sink: &mut W, network: &Network, dropped: Dropped) -> Result<(), WriteFault>
     ensures { Writes W.written W.has_failed result sink.old sink.new
         (drop_line (cells_of network.now.facts) dropped) }
@@ -112,7 +112,7 @@ fn write_channels<W: Sink>(
     write_each_channel(sink, network, cycle)
 }
 
-/// Writes each of `channels`.
+/// Writes each of `channels`, with a space before it.
 fn write_each_channel<W: Sink>(
     sink: &mut W,
     network: &Network,
@@ -127,7 +127,7 @@ fn write_each_channel<W: Sink>(
     Ok(())
 }
 
-/// Writes the switch, the port and the lane of `channel`.
+/// Writes a space, and the switch, the outgoing port and the lane of `channel`.
 fn write_channel<W: Sink>(sink: &mut W, network: &Network, channel: usize) -> Result<(), WriteFault>
     ensures { Writes W.written W.has_failed result sink.old sink.new
         (channel_text (cells_of network.now.facts) channel) }
@@ -139,7 +139,7 @@ fn write_channel<W: Sink>(sink: &mut W, network: &Network, channel: usize) -> Re
     write_number(sink, channel as u64 % 16)
 }
 
-/// Returns the GUID of the usable switch at `index`, or 0 if there is none.
+/// Returns the GUID of the usable switch at `index`, or GUID 0 if no usable switch has this index.
 fn switch_at(network: &Network, index: usize) -> Guid
     ensures { result ≡ guid_at (cells_of network.now.facts) index }
 {

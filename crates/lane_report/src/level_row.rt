@@ -13,21 +13,22 @@ const LEVEL_END: u8 = 16;
 #[derive(Clone, Copy, Debug, PartialEq, Eq)]
 pub(crate) struct RowSender {
     pub site: Site,
-    /// The block of levels for these LIDs, or `None` if the text has none.
+    /// The block of levels for these LIDs, or `None` if the LANES text has no such block.
     pub block: Option<LevelBlock>,
 }
 
 /// The end ports whose packets may lack a service level for one of 64 LIDs in a row.
 #[derive(Drop)]
 pub(crate) struct LevelRow {
-    /// The number of the blocks: they are of the 64 LIDs from 64 times this number on.
+    /// The number of the block of LIDs: the 64 LIDs from 64 times this number on.
     pub number: u16,
     /// The end ports that have no block with a level for each of these LIDs, in order.
     pub senders: Vec<RowSender>,
 }
 
 impl LevelRow {
-    /// Returns the row of `sites` for the LIDs from 64 times `number` on. Takes a binary search for each site.
+    /// Returns the row of `sites` for the 64 LIDs from 64 times `number` on. Takes a binary search of `lanes` for each
+    /// site.
     pub(crate) fn of(
         alloc: Global,
         lanes: &Lanes,
@@ -41,8 +42,8 @@ impl LevelRow {
         Ok(LevelRow { number, senders })
     }
 
-    /// Returns the row of `sites` for the LIDs from 64 times `number` on. `self` must be a row of `sites` by `lanes`.
-    /// Takes constant time if it has this number already.
+    /// Returns the row of `sites` for the 64 LIDs from 64 times `number` on. `self` must be a row of `sites` by
+    /// `lanes`. Takes constant time if `self` has this number already.
     pub(crate) fn turned_to(
         self,
         alloc: Global,
@@ -62,7 +63,8 @@ impl LevelRow {
     }
 }
 
-/// Returns those of `sites` that have no block `number` with a level for each of its LIDs, with their blocks.
+/// Returns those of `sites` for which `lanes` has no block `number` with a level for each LID of the block. Each site
+/// is returned with its block, if it has one.
 fn senders_of(
     alloc: Global,
     lanes: &Lanes,
@@ -78,7 +80,7 @@ fn senders_of(
         .collect(alloc)
 }
 
-/// Returns `site` with its block `number`, if the text has one.
+/// Returns `site` with its block `number` in `lanes`, or with `None` if `lanes` has no such block.
 fn sender_at(lanes: &Lanes, number: u16, site: &Site) -> RowSender
     ensures { result ≡ sender_at lanes.now number site.now }
 {
@@ -88,7 +90,7 @@ fn sender_at(lanes: &Lanes, number: u16, site: &Site) -> RowSender
     }
 }
 
-/// Returns whether there is a block, and each of its bytes is a service level.
+/// Returns whether `block` is a block of which each byte is a service level. Returns false if `block` is `None`.
 fn is_full(block: &Option<LevelBlock>) -> bool
     ensures { result ≡ is_full block.now }
 {

@@ -18,17 +18,18 @@ use smp_bytes::Lid;
 use std::alloc::{AllocError, Global};
 use subnet_view::EndPort;
 
-/// A packet by the end port that sends it and its LID.
+/// A packet, given by the end port that sends it and by its LID.
 #[derive(Clone, Copy, Debug, PartialEq, Eq)]
 pub struct PacketPair {
     pub source: EndPort,
     pub lid: Lid,
 }
 
-/// Finds the packets without a service level that adapter ports send to the LIDs of other adapter ports of their
-/// components. Keeps the first `most`, in the order of the held LIDs and then of the end ports. Takes constant time if
-/// the text gives each packet a level. Otherwise takes what `sites` takes, and time linear in the number of held LIDs
-/// times that of end ports.
+/// Counts the packets without a service level that adapter ports send to the LIDs of other adapter ports of their
+/// components. Keeps the first `most` packets, in the order of the held LIDs and then of the end ports. Takes constant
+/// time if `lanes` has a line `level`, which gives each packet a level. Otherwise takes what `sites` takes, what
+/// `LevelRow::of` takes each time that the next held LID is of another block, and time linear in the number of held
+/// LIDs times the number of end ports.
 #[tactic(auto, using(crate::proofs::NoneMissing::nothing_listed))]
 pub fn pairs_without_level(
     alloc: Global,
@@ -46,8 +47,8 @@ pub fn pairs_without_level(
     Ok(pairs_at_sites(alloc, most, network, &sites, lanes)?)
 }
 
-/// Finds the packets without a service level that adapter ports send to the LIDs of other adapter ports of their
-/// components, and keeps the first `most`. `sites` must have the site of each end port, in order.
+/// Counts the packets without a service level that adapter ports send to the LIDs of other adapter ports of their
+/// components. Keeps the first `most` packets. `sites` must have the site of each end port, in order.
 fn pairs_at_sites(
     alloc: Global,
     most: usize,
@@ -72,8 +73,8 @@ fn pairs_at_sites(
     Ok(few)
 }
 
-/// Adds the packets without a service level for the LID of `line`, which the end port of `owner` holds, from the end
-/// ports of a row: `senders` are to be those of the block of the LID.
+/// Adds to `few` the packets without a service level that `senders` send to the LID of `line`. `owner` must be the site
+/// of the end port of `line`. `senders` must be those of the row for the block of the LID.
 fn add_for(
     few: &mut FirstFew<PacketPair>,
     lanes: &Lanes,
@@ -96,8 +97,8 @@ fn add_for(
     Ok(())
 }
 
-/// Returns whether `owner` and the site of `sender` are different adapter ports of one component, and by its block
-/// packets from `sender` for the LID of `line` have no service level.
+/// Returns whether packets from `sender` for the LID of `line` have no service level, by the block of `sender`. Returns
+/// false unless `owner` and the site of `sender` are of different adapter ports in one component.
 fn lacks_level(lanes: &Lanes, line: &HeldLid, owner: &Site, sender: &RowSender) -> bool
     ensures { result ≡ sender_lacks lanes.now line.now owner.now sender.now }
 {

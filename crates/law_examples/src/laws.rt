@@ -2,7 +2,8 @@
 ghost use Rattle.law_examples.specs.Examples.{SomeFabricIsSeen, SomePacketTravels, SomeTablesChange};
 ghost use Rattle.law_examples.specs.Weaker.{FloorsStayInGroupings, NoSwitchTwice};
 
-/// Some facts describe a fabric exactly, and the part that is joined to an end port of it, and it holds tables.
+/// Some facts describe a whole fabric exactly, and also the part that is joined to one of its end ports, and the fabric
+/// holds tables.
 pub fn some_fabric_is_seen()
     ensures law { SomeFabricIsSeen }
 {}
@@ -18,8 +19,8 @@ pub fn some_tables_change()
     ensures law { SomeTablesChange }
 {}
 
-/// What one store forgot is not brought back by another store that has it, whether the floor is raised before or after
-/// the merge.
+/// A fact that one store forgot is not brought back by another store that has this fact, whether the floor is raised
+/// before or after the merge.
 pub fn floors_stay_in_groupings()
     ensures law { FloorsStayInGroupings }
 {}

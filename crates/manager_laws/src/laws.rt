@@ -8,94 +8,97 @@ ghost use Rattle.manager_laws.specs.Sweeping.{AcceptedFactsAreTrue};
 ghost use Rattle.manager_laws.specs.WritingPings.{PingsArriveOnceWritten, SomeManagerBringsUp};
 ghost use Rattle.manager_laws.specs.Written.{NewManagersSweepFirst, WrittenPlansAreHeld};
 
-/// A directed answer that comes back to a manager reports the end of the path over which it was asked: the node, its
-/// port or the size of its forwarding table, as they are. Other managers may send, each from its own port, packets that
-/// are forwarded by LIDs, requests over paths that leave by that port, and answers to requests for SMInfo. Packets may
-/// be lost, copied and reordered on the way. No cable changes.
+/// A directed answer with status 0 that comes back to a manager says what is true of the node at the end of its path:
+/// the NodeInfo, whether a port is up, or the size of the forwarding table. LIDs, tops, blocks and descriptions are
+/// left open. Other managers may send, each from its own port, packets that are forwarded by LIDs, requests over paths
+/// that leave by that port, and answers to requests for SMInfo. Packets may be lost, copied and reordered on the way.
+/// No cable changes.
 #[tactic(auto, using(crate::proofs::Answers::answers_tell))]
 pub fn answers_tell()
     ensures { AnswersTell }
 {}
 
-/// Each fact of a report that a sweep accepts is true of the fabric, except for the LIDs that ports claim, about which
-/// nothing is said. The fabric is any whose nodes have different GUIDs. Other managers may send what `answers_tell`
-/// names, packets may be lost, copied and reordered, and requests may be sent and replies given to the sweep however
-/// often or late.
+/// On a fabric whose nodes have different GUIDs, each fact of a report that a sweep accepts is true of the fabric,
+/// except that a claimed LID may be any. Other managers may send what `answers_tell` names. Packets may be lost, copied
+/// and reordered. Requests may be sent, and replies given to the sweep, however often or late.
 pub fn accepted_facts_are_true()
     ensures { AcceptedFactsAreTrue }
 {}
 
-/// If a part is what an end port of a simulated fabric is joined to, a view with room describes it exactly, and it
-/// holds the view's plan, a ping from each end port of the part, for each LID of the plan, reaches the end port that
-/// owns the LID.
+/// Each ping from an end port of a part, for each LID of a view's plan, reaches the end port that owns the LID, if
+/// three conditions hold: the part is what an end port of a simulated fabric is joined to; the view has room and
+/// describes the part exactly; and the part holds the plan.
 pub fn pings_arrive()
     ensures { PingsArrive }
 {}
 
-/// If each request of a sweep, except those for SMInfo, was answered and none was wanted over a path that is too long,
-/// the facts of its reports describe exactly the part of the fabric that is joined to its seat, as it was when the
-/// sweep began and as it is when the sweep is done. They contain the part's end ports, switches and wires, and no
-/// others. The path that the sweep has for each of these end ports leads there. The fabric is any whose nodes have
-/// different GUIDs. Other managers may send what `manager_laws::laws::answers_tell` names, packets may be lost, copied
-/// and reordered, and requests may be sent and replies given to the sweep however often or late. A manager that is
-/// asked for SMInfo may answer anything, or nothing at all.
+/// On a fabric whose nodes have different GUIDs, the facts of a sweep with every answer describe exactly the part that
+/// is joined to the sweep's seat, as the part was when the sweep began and as it is when the sweep is done. A sweep has
+/// every answer if it is done, each request except those for SMInfo was answered, and no request would have needed a
+/// path of more than 63 ports. The facts contain the part's end ports, switches and wires, and no others. The sweep has
+/// a path to each of these end ports, and the path leads there. Other managers may send what
+/// `manager_laws::laws::answers_tell` names. Packets may be lost, copied and reordered. Requests may be sent, and
+/// replies given to the sweep, however often or late. A manager that is asked for SMInfo may answer anything, or
+/// nothing at all.
 pub fn done_sweeps_are_complete()
     ensures { DoneSweepsAreComplete }
 {}
 
-/// If a sweep has every answer, the LIDs fit, and the part that is joined to the sweep's seat holds the plan of what
-/// the sweep has found, a ping from each end port of the part, for each LID of the plan, reaches the end port that owns
-/// the LID.
+/// Each ping from an end port of the part that is joined to a sweep's seat, for each LID of the plan of what the sweep
+/// has found, reaches the end port that owns the LID, if three conditions hold: the sweep has every answer; there is
+/// room for the LIDs; and the part holds the plan. The fabric is any whose nodes have different GUIDs.
 pub fn swept_pings_arrive()
     ensures { SweptPingsArrive }
 {}
 
-/// Some sweep has every answer: one on an adapter, a switch with a loop in a port, and another adapter, which has a
-/// port without a cable and a manager at its other port. It takes twelve requests and their answers, including that of
-/// the manager.
+/// Some sweep has every answer: a sweep of an adapter, a switch with a loop in a port, and another adapter. The other
+/// adapter has a port without a cable and a manager at its other port. The sweep takes twelve requests and their
+/// answers, including the answer of that manager.
 #[tactic(auto, using(crate::proofs::Example::some_sweep_is_whole))]
 pub fn some_sweep_is_whole()
     ensures { SomeSweepIsWhole }
 {}
 
-/// Some sweep has every answer although a manager is silent: that of `some_sweep_is_whole`, if its last request, for
-/// SMInfo, is lost and given up.
+/// Some sweep has every answer although a manager is silent: the sweep of `some_sweep_is_whole`, if its last request,
+/// for SMInfo, is lost and given up.
 #[tactic(auto, using(crate::proofs::Example::some_manager_is_silent))]
 pub fn some_manager_is_silent()
     ensures { SomeManagerIsSilent }
 {}
 
-/// A new manager waits for nothing and has nothing to send. The runs of other laws can therefore begin with it.
+/// A new manager is at rest: no sweep runs, the manager waits for no answer, and it has nothing to send. The runs of
+/// other laws can therefore begin with a new manager.
 pub fn new_managers_rest()
     ensures { NewManagersRest }
 {}
 
-/// A new manager begins no writing before a sweep, whatever happens to it.
+/// A new manager begins no writing before it begins a sweep, whatever happens to the manager.
 pub fn new_managers_sweep_first()
     ensures { NewManagersSweepFirst }
 {}
 
-/// Once a plan is written, each end port and each usable switch of the plan that the last sweep before the writing
-/// reached holds its LID, its blocks and the greatest LID. The fabric is any whose nodes have different GUIDs, with
-/// agents in any state. Other managers may send from their seats what `manager_laws::laws::answers_tell` names, packets
-/// may be lost, copied and reordered, packets of the manager may be sent or given to it however often or late, and
-/// anything may be asked of it. No cable changes, no other writing of the manager begins, and each Set that an agent
-/// takes after the writing began is one of the writing's own or carries the plan's values.
+/// If the plan counts as written at the end of a writing run, each end port of the plan that the last sweep before the
+/// writing reached holds its LID and LMC, and each usable switch that this sweep reached holds its blocks and, as its
+/// top, the greatest LID. The fabric is any whose nodes have different GUIDs, with agents in any state. Other managers
+/// may send from their seats what `manager_laws::laws::answers_tell` names. Packets may be lost, copied and reordered.
+/// Packets of the manager may be sent, or given to it, however often or late. Anything may be asked of the manager, but
+/// no writing begins before a sweep. No cable changes. Once the writing has begun, the manager begins no other writing,
+/// and each Set that an agent takes is one of the writing's own or carries the plan's values.
 pub fn written_plans_are_held()
     ensures { WrittenPlansAreHeld }
 {}
 
-/// If a manager that held no facts, at whatever floor, has swept with every answer and learned nothing else until its
-/// writing began, and in the end the plan of what it learned is written, each ping from an end port that its seat is
-/// joined to, for each LID of the plan, reaches the end port that owns the LID. Whatever else happens is as in
-/// `written_plans_are_held`.
+/// Each ping from an end port that a manager's seat is joined to, for each LID of the plan that it wrote, reaches the
+/// end port that owns the LID, if four conditions hold: the manager held no facts, at whatever floor, when its sweep
+/// began; the sweep has every answer; the manager learned nothing else until its writing began; and in the end the plan
+/// counts as written. Whatever else happens is as in `written_plans_are_held`.
 pub fn pings_arrive_once_written()
     ensures { PingsArriveOnceWritten }
 {}
 
-/// Some manager brings its subnet up: a new one on an adapter that is wired to a switch. Another adapter is wired to
-/// the switch, and another manager sits there and answers it. LIDs come in pairs (LMC 1). The first request is lost and
-/// sent again, and then copied. After the sweep's ten requests come the plan's five Sets.
+/// Some manager brings its subnet up: a new manager on an adapter that is wired to a switch. Another adapter is wired
+/// to the switch. Another manager sits there and answers the new one. Each adapter port has two LIDs (LMC 1). The first
+/// request is lost and sent again, and then copied. After the sweep's ten requests come the plan's five Sets.
 pub fn some_manager_brings_up()
     ensures { SomeManagerBringsUp }
 {}

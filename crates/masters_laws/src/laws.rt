@@ -4,40 +4,45 @@ ghost use Rattle.masters_laws.specs.InForce.{RestSharesLids, SomeMastersWriteAtO
 ghost use Rattle.masters_laws.specs.Known.{HasSweptMeans, KnowsOneSweepMeans};
 ghost use Rattle.masters_laws.specs.Runs.{EachRunsOnItsOwn, WhatIsGivenOutCanBeSent};
 
-/// If a manager begins no writing before a sweep, each packet that it gives out can be sent from its seat: the packet
-/// is forwarded by LIDs, or is a request over a path that leaves by the seat's port, or answers a request for SMInfo
-/// that was handed up there.
+/// If a manager begins no writing before a sweep, each packet that it gives out can be sent from its seat as a packet
+/// of another manager: the packet is forwarded by LIDs, or is a request over a path that leaves by the seat's port, or
+/// answers a request for SMInfo that was handed up there.
 pub fn what_is_given_out_can_be_sent()
     ensures { WhatIsGivenOutCanBeSent }
 {}
 
-/// One of several managers that had not swept at first has swept exactly if it began a sweep that was not refused.
+/// One of several managers, if it had not swept at the start of a run, has swept at the end exactly if in the run it
+/// began a sweep that was not refused.
 pub fn has_swept_means()
     ensures { HasSweptMeans }
 {}
 
-/// One of several managers that knew no sweep at first knows one sweep exactly if it began that sweep while it held no
-/// facts, and since then began no other, merged no facts of others and did not raise its floor.
+/// One of several managers, if it knew no sweep at the start of a run, knows one sweep at the end exactly if in the run
+/// it began that sweep while it held no facts, and since then began no other sweep, merged no facts of others and was
+/// given no floor above its own.
 pub fn knows_one_sweep_means()
     ensures { KnowsOneSweepMeans }
 {}
 
 /// If no manager begins a writing before a sweep, each of several managers runs like a single manager for which the
-/// others are what happens around it, whatever they do. What `manager_laws` and `takeover_laws` say about one manager
-/// among others therefore holds for each of them.
+/// others are what happens around it, whatever the others do. What `manager_laws` and `takeover_laws` say about one
+/// manager among others therefore holds for each of several managers.
 pub fn each_runs_on_its_own()
     ensures { EachRunsOnItsOwn }
 {}
 
-/// After a cut, if the end ports that are left have the LIDs of an earlier plan and the facts of what is left claim
-/// them, they have the LIDs of the plan of what is left. The other laws of shared LIDs therefore hold after a cut too.
+/// After a cut, the end ports that are left have the LIDs of the plan of what is left, if three conditions hold: they
+/// have the LIDs and the LMC of the plan of earlier facts, which have room and have each of these end ports; the facts
+/// of what is left describe it exactly and have room; and these facts claim the LIDs that the end ports have. The other
+/// laws of shared LIDs therefore hold after a cut too.
 pub fn rest_shares_lids()
     ensures { RestSharesLids }
 {}
 
-/// No port of a subnet whose end ports have the LIDs of a plan gets another LID, however many masters sweep and write
-/// it, if each master plans by the rule, the roots or order and the LMC of that plan, and writes only what it knows
-/// from one sweep that has every answer. Other senders set only SMInfo.
+/// No port of a subnet gets another LID, however many masters sweep and write it, if four conditions hold: the end
+/// ports have the LIDs and the LMC of the plan of some facts with room that describe the subnet exactly; each master
+/// plans by the rule, the roots or order and the LMC of that plan; each master writes only what it knows from one sweep
+/// that has every answer; and other senders set only SMInfo.
 pub fn masters_keep_lids()
     ensures { MastersKeepLids }
 {}
@@ -49,24 +54,24 @@ pub fn masters_write_the_same()
 {}
 
 /// Under the premises of `masters_keep_lids`, once one of several masters has written its plan, the part that is joined
-/// to each seat holds it, whatever the others sweep and write meanwhile. A master has written its plan if a writing of
-/// it began, no other one since, and the plan counts as written.
+/// to each seat holds this plan, whatever the others sweep and write meanwhile. A master has written its plan if it
+/// began a writing, began no other writing since, and the plan counts as written.
 pub fn written_by_one_is_held()
     ensures { WrittenByOneIsHeld }
 {}
 
-/// Under the premises of `masters_keep_lids`, if the part that is joined to each seat of several masters holds the
-/// plan, the plan stays in force, however many sweep and write, in any order: at each moment each end port has its LID,
-/// each switch its blocks and no lower top, and every ping from an end port there, for each LID of the plan, reaches
-/// the owner of the LID.
+/// Under the premises of `masters_keep_lids`, once the part that is joined to each seat holds the plan, the plan stays
+/// in use, however many masters sweep and write, in any order: at each moment each end port has its LID, each switch
+/// has its blocks and no lower top, and each ping from an end port there, for each LID of the plan, reaches the owner
+/// of the LID.
 pub fn masters_change_nothing()
     ensures { MastersChangeNothing }
 {}
 
 /// Some masters write at once: two new managers, each on an adapter that is wired to the same switch. The adapters and
-/// the switch hold LIDs of their own choice, and the switch holds a table. Their sweeps go on at once, and each manager
-/// is silent to the other. Then both are told to write, and their Sets are sent in turn, until each has written its
-/// plan.
+/// the switch hold LIDs of their own choice, and the switch holds a table. The sweeps of the two managers go on at
+/// once, and neither manager answers the other. Then both managers are asked to write, and their Sets are sent in turn,
+/// until each manager has written its plan.
 pub fn some_masters_write_at_once()
     ensures { SomeMastersWriteAtOnce }
 {}

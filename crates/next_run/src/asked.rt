@@ -6,16 +6,16 @@ use attr_codec::Lmc;
 use sm_cli::RuleAsked;
 use smp_bytes::Generation;
 
-/// By which order a step goes if the held tables are not right by the order of the plan's switches.
+/// The order by which a step goes if the held tables are not right by the order of the plan's switches.
 #[derive(Clone, Copy, Debug, PartialEq, Eq)]
 pub enum HeldOrder {
-    /// By none: the step goes by settled entries.
+    /// No order: the step goes by settled entries.
     Ignored,
-    /// By the one of the orders that the held tables imply that is nearest to the order of the plan's switches. If they
-    /// imply none, the step goes by settled entries.
+    /// An order that the held tables imply; of several, the one nearest to the order of the plan's switches. If the
+    /// held tables imply no order, the step goes by settled entries.
     NearPlan,
-    /// By the one of the orders that the held tables imply that is nearest to the order that a text names. If they
-    /// imply none, the step goes by settled entries.
+    /// An order that the held tables imply; of several, the one nearest to the order that a text names. If the held
+    /// tables imply no order, the step goes by settled entries.
     NearNamed,
 }
 
@@ -30,7 +30,7 @@ impl HeldOrder {
         }
     }
 
-    /// Returns whether a text names an order.
+    /// Returns whether the step takes a text that names an order.
     pub fn is_named(self) -> bool
         ensures { result ≡ is_named self }
     {
@@ -47,12 +47,12 @@ pub enum StepLanes {
     /// On one lane.
     One,
     /// Lane by lane, by a text of lanes. If `answers` is true, packets that answer others also have the service level
-    /// of what they answer.
+    /// of the packets that they answer.
     ByText { answers: bool },
 }
 
 impl StepLanes {
-    /// Returns whether there is a text of lanes.
+    /// Returns whether the step takes a text of lanes.
     pub fn has_lanes(self) -> bool
         ensures { result ≡ has_lanes self }
     {
@@ -62,7 +62,8 @@ impl StepLanes {
         }
     }
 
-    /// Returns whether packets that answer others also have the service level of what they answer.
+    /// Returns whether packets that answer others also have the service level of the packets that they answer. Returns
+    /// false on one lane.
     pub fn has_answers(self) -> bool
         ensures { result ≡ has_answers self }
     {
@@ -82,7 +83,7 @@ pub struct StepAsked {
     pub rule: RuleAsked,
     /// The least floor of what is read: older facts are ignored.
     pub floor: Generation,
-    /// By which order the step goes if the held tables are not right by the order of the plan's switches.
+    /// The order by which the step goes if the held tables are not right by the order of the plan's switches.
     pub held_order: HeldOrder,
     /// How credit loops are judged.
     pub lanes: StepLanes,

@@ -1,5 +1,5 @@
 //! The tables to write next, from files. Reads the tables that switches hold and the files that describe the subnet,
-//! writes the step from these tables towards the plan, and says whether channels can wait for each other in it.
+//! writes the step from these tables towards the plan, and says whether channels can wait for each other in the step.
 #![tactic(auto)]
 
 mod asked;

@@ -34,26 +34,29 @@ use tables_file::write_next;
 struct MadeStep {
     /// The tables to write next.
     next: Held,
-    /// The usable switches in the order that the step goes by, if it is one that the held tables imply.
+    /// The usable switches in the order that the step goes by. `None` if the step goes by the order of the plan's
+    /// switches, or by settled entries.
     order: Option<Vec<Guid>>,
 }
 
 /// Reads the inputs in order (`read_inputs`): the text that the rule takes, the text of lanes and the text of an order,
-/// if there are such, the text of the held tables, then the files. Writes to `sink` the tables to write next, towards
-/// the plan of the subnet that the files describe together. There must be an input for each text.
+/// each if it is asked for, then the text of the held tables and the files. There must be an input for each text.
+/// Writes to `sink` the tables to write next, towards the plan of the subnet that the files describe together.
 ///
-/// Writes to `told` what can happen while these tables are written, by any mixture of both tables. On one lane, that is
-/// whether channels can wait for each other, and for which LIDs. Lane by lane, these are the lines of an audit by lane.
-/// If the step goes by an order that the held tables imply, a last line has the switches in this order. Returns whether
-/// no channels can wait for each other and, lane by lane, each packet between joined adapters has a service level and
-/// no packet lacks a lane. A failed write to `told` is no error.
+/// Writes to `told` what can happen while these tables are written, by any mixtures of the held and the next tables. On
+/// one lane, that is a shortest credit loop and its LIDs, or that there is no credit loop. Lane by lane, that is what
+/// an audit by lane finds by lane. If the step goes towards a goal in between, a last line has the switches in the
+/// order that the step goes by. Returns whether there is no credit loop and, lane by lane, each packet between adapter
+/// ports of one component has a service level and no packet is dropped for want of a lane. A failed write to `told` is
+/// no error.
 ///
 /// # Errors
 ///
-/// Returns the fault of the first input that is refused. If none is, returns `NoRoom` if the plan has no room for its
-/// LIDs. If it has room, returns a fault of the held tables' text if the plan gives a LID to an end port while another
-/// one holds it, `Memory` if memory is refused, or `Write` if a write to `sink` fails. Nothing is written to `sink`
-/// unless the error is `Write`; how much is written then is unspecified. Nothing is written to `told`.
+/// Returns the fault of `read_inputs` if an input is refused. Otherwise returns `NoRoom` if the plan has no room for
+/// its LIDs. If the plan has room, returns a fault of the held tables' text if the plan gives a LID to an end port
+/// while another end port holds the LID, `Memory` if memory is refused, or `Write` if a write to `sink` fails. Nothing
+/// is written to `sink` unless the error is `Write`; how much is written then is unspecified. Nothing is written to
+/// `told` if an error is returned.
 pub fn run_next<S: Source, W: Sink, E: Sink>(
     alloc: Global,
     inputs: &mut [S],
@@ -83,15 +86,15 @@ pub fn run_next<S: Source, W: Sink, E: Sink>(
     }
 }
 
-/// Returns the number of texts before the text of the held tables.
+/// Returns the number of texts that come before the text of the held tables.
 fn texts_before(asked: StepAsked) -> usize
     ensures { result ≡ texts_before asked }
 {
     asked.rule.texts() + texts_if(asked.lanes.has_lanes()) + texts_if(asked.held_order.is_named())
 }
 
-/// Writes the step that is asked for from what the inputs say, towards the plan by `rule`. Writes to `told` and returns
-/// what `run_next` does.
+/// Writes to `sink` the step that `asked` asks for, from `found`, what the inputs say, towards the plan by `rule`.
+/// Writes to `told` and returns what `run_next` does.
 fn step<W: Sink, E: Sink>(
     alloc: Global,
     asked: StepAsked,
@@ -138,7 +141,8 @@ fn step<W: Sink, E: Sink>(
     Ok(verdict.is_sound())
 }
 
-/// Returns the rule that spreads in the order of `switches`, which a text names, or `None` if no text names an order.
+/// Returns the rule that spreads in the order of `switches`, which a text names, or `None` if `held_order` is not
+/// `NearNamed`.
 fn named_rule(
     alloc: Global,
     held_order: HeldOrder,
@@ -158,7 +162,7 @@ fn named_rule(
     }
 }
 
-/// Writes to `told` what can happen while the step is written, and the order that it goes by, if `order` is not `None`.
+/// Writes to `told` what can happen while the step is written, and the line of `order`, if `order` is not `None`.
 fn write_told<E: Sink>(
     told: &mut E,
     from: &Network,
@@ -172,9 +176,10 @@ fn write_told<E: Sink>(
     write_step_order(told, order)
 }
 
-/// Makes the step from the tables of the network `from` towards `plan`, by `rule`. `told` says whether the step may go by an order that the tables of `from` imply, of several the one nearest
-/// to the order of `named`, or of `rule` if `named` is `None`. `input` is the index of the held tables' text, for
-/// faults.
+/// Makes the step from the tables of the network `from` towards `plan`, which is meant to be the plan by `rule`. `told`
+/// says whether the step may go by an order that the tables of `from` imply. Of several such orders, the step goes by
+/// the one nearest to the order of `named`, or to the order of `rule` if `named` is `None`. `input` is the index of the
+/// held tables' text, for faults.
 fn made_step(
     alloc: Global,
     input: usize,
@@ -207,9 +212,9 @@ fn made_step(
     Ok(MadeStep { next, order })
 }
 
-/// Returns the tables to write next as `choice` says, from the tables of the network `from`, towards the tables of the
-/// network `plan` if `choice` has no goal. Both networks must have the same facts. `input` is the index of the
-/// held tables' text, for faults.
+/// Returns the tables to write next by the rule of `choice`, from the tables of the network `from`. They lead towards
+/// the goal of `choice`, or towards the tables of the network `plan` if `choice` has no goal. Both networks must have
+/// the same facts. `input` is the index of the held tables' text, for faults.
 fn next_by_choice(
     alloc: Global,
     input: usize,
@@ -249,8 +254,8 @@ fn next_towards_goal(
     next_towards(alloc, input, by, from, &to)
 }
 
-/// Returns the tables to write next by the rule `by`, from the tables of the network `from` towards those of the
-/// network `to`. Both must have the same facts. `input` is the index of the held tables' text, for faults.
+/// Returns the tables to write next by the rule `by`, from the tables of the network `from` towards the tables of the
+/// network `to`. Both networks must have the same facts. `input` is the index of the held tables' text, for faults.
 fn next_towards(
     alloc: Global,
     input: usize,
@@ -270,7 +275,8 @@ fn next_towards(
     }
 }
 
-/// Returns `fault`, why there is no step, as a fault of the run. `input` is the index of the held tables' text.
+/// Returns `fault`, the reason why no step is made, as a fault of the run. `input` is the index of the held tables'
+/// text.
 fn fault_of_step(input: usize, fault: &StepFault) -> Fault
     ensures { result ≡ fault_of_step input fault.now }
 {

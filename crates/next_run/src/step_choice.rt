@@ -25,20 +25,20 @@ use std::alloc::Global;
 pub(crate) struct StepChoice {
     /// The rule by which a switch takes its next entry.
     pub by: StepRule,
-    /// The tables in between towards which the step goes, if it goes by an order that the held tables imply. `None` if
-    /// it goes towards the plan's tables.
+    /// The goal in between towards which the step goes, or `None` if the step goes towards the plan's tables.
     pub goal: Option<Held>,
-    /// The usable switches in the order that the step goes by, if the held tables imply it, otherwise `None`.
+    /// The usable switches in the order that the step goes by. `None` if the step goes by the order of the plan's
+    /// switches, or by settled entries.
     pub order: Option<Vec<Guid>>,
 }
 
 /// Returns how a step from the tables of `from` towards the tables of `plan` chooses entries. Both networks must have
-/// the facts of `store`; `plan` is meant to hold the plan's tables by `rule`.
+/// the same facts. `plan` is meant to have the tables of the plan by `rule`.
 ///
 /// The step goes by the order of the plan's switches if the tables of `from` are right by it. Otherwise, if `told` is
-/// true and these tables imply an order, it goes by that order, towards tables between that order and the plan's. Of
-/// several implied orders it takes the one nearest to the order of `named`, or to the order of `rule` if `named` is
-/// `None`. Otherwise it goes by settled entries.
+/// true and these tables imply an order, the step goes by that order, towards the goal in between. Of several implied
+/// orders, the step takes the one nearest to the order of `named`, or to the order of `rule` if `named` is `None`. If
+/// `told` is false or the tables imply no order, the step goes by settled entries.
 pub(crate) fn step_choice(
     alloc: Global,
     told: bool,
@@ -77,9 +77,10 @@ pub(crate) fn step_choice(
     }
 }
 
-/// Returns the goal of a step by the order that the tables of `from` imply, of several the one nearest to the order of
-/// `named`, or to `positions` if `named` is `None`. Returns `None` if `told` is false or the tables imply no order.
-/// Both networks must have the facts of `store`, and `positions` the position of each usable switch.
+/// Returns the goal in between of a step by an order that the tables of `from` imply. Of several implied orders, the
+/// step takes the one nearest to the order of `named`, or to that of `positions` if `named` is `None`. Returns `None`
+/// if `told` is false or the tables imply no order. Both networks must have the same facts. `positions` must have a
+/// position for each usable switch.
 fn goal_between(
     alloc: Global,
     told: bool,

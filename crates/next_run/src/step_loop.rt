@@ -14,7 +14,7 @@ use smp_bytes::Lid;
 use std::alloc::{AllocError, Global};
 use step_loops::{loop_lids, step_order};
 
-/// A shortest credit loop in a step, and its LIDs. Both lists are empty if there is none.
+/// A shortest credit loop in a step, and its LIDs. Both lists are empty if the step can make no credit loop.
 #[derive(Drop)]
 pub(crate) struct StepLoop {
     pub channels: Vec<usize>,
@@ -23,8 +23,8 @@ pub(crate) struct StepLoop {
 }
 
 impl StepLoop {
-    /// Returns a shortest credit loop that some mixtures of the two tables make, or an empty one if there is none.
-    /// `held` and `next` must have the same facts.
+    /// Returns a shortest credit loop that some mixtures of the two tables make, with its LIDs, or empty lists if no
+    /// mixtures make a credit loop. `held` and `next` must have the same facts.
     pub fn of(alloc: Global, held: &Network, next: &Network) -> Result<Self, AllocError>
         requires { next.now.facts ≡ held.now.facts }
         ensures { IfOk result (λ found. IsLoopInStep (cells_of held.now.facts) held.now.held next.now.held
@@ -42,14 +42,15 @@ impl StepLoop {
         }
     }
 
-    /// Returns whether the credit loop is empty, so that there is none.
+    /// Returns whether the list of channels is empty: there is no credit loop.
     pub fn is_none(&self) -> bool
         ensures { IsTrue result ↔ (self.now.channels.items ≡ []) }
     {
         self.channels.is_empty()
     }
 
-    /// Writes the line of the channels, or that there are none, and then the line of their LIDs, if there are any.
+    /// Writes the line of the channels, or that there is no credit loop. Then writes the line of the LIDs, if there is
+    /// a credit loop.
     pub fn write<W: Sink>(&self, sink: &mut W, network: &Network) -> Result<(), WriteFault>
         ensures { WritesPart W.written W.has_failed result sink.old sink.new
             (loop_text (cells_of network.now.facts) self.now.channels.items self.now.lids.items) }
@@ -59,7 +60,7 @@ impl StepLoop {
     }
 }
 
-/// Writes the line of `lids`, or nothing if there are none.
+/// Writes the line of `lids`, or nothing if `lids` is empty.
 fn write_lids<W: Sink>(sink: &mut W, lids: &[Lid]) -> Result<(), WriteFault>
     ensures { WritesPart W.written W.has_failed result sink.old sink.new (lids_line lids.now) }
 {
@@ -71,7 +72,7 @@ fn write_lids<W: Sink>(sink: &mut W, lids: &[Lid]) -> Result<(), WriteFault>
     sink.write(b"\n")
 }
 
-/// Writes each of `lids`.
+/// Writes each of `lids`, with a space before it.
 fn write_each_lid<W: Sink>(sink: &mut W, lids: &[Lid]) -> Result<(), WriteFault>
     ensures { WritesPart W.written W.has_failed result sink.old sink.new (flat_map lid_word lids.now) }
 {
@@ -81,7 +82,7 @@ fn write_each_lid<W: Sink>(sink: &mut W, lids: &[Lid]) -> Result<(), WriteFault>
     Ok(())
 }
 
-/// Writes a blank and `lid`.
+/// Writes a space and `lid`.
 fn write_lid<W: Sink>(sink: &mut W, lid: Lid) -> Result<(), WriteFault>
     ensures { WritesPart W.written W.has_failed result sink.old sink.new (lid_word lid) }
 {

@@ -13,7 +13,8 @@ use smp_bytes::Guid;
 use std::alloc::{AllocError, Global};
 use two_orders::positions_in;
 
-/// Returns the usable switches in the order of `positions`, which has the position of each switch by rising GUID.
+/// Returns the usable switches in the order of `positions`. `positions` must have the position of each usable switch,
+/// by rising GUID.
 pub(crate) fn switches_by(
     alloc: Global,
     network: &Network,
@@ -28,14 +29,14 @@ pub(crate) fn switches_by(
         .collect(alloc)
 }
 
-/// Returns the GUID of the usable switch at `index`, or 0 if there is none.
+/// Returns the GUID of the usable switch at `index`, or GUID 0 if no usable switch has this index.
 fn switch_at(network: &Network, index: usize) -> Guid
     ensures { result ≡ switch_at (cells_of network.now.facts) index }
 {
     network.switch(index).unwrap_or(Guid::new(0))
 }
 
-/// Writes the line of `order`, by which a step goes, or nothing if it is `None`.
+/// Writes the line of `order`, by which a step goes, or nothing if `order` is `None`.
 pub(crate) fn write_step_order<W: Sink>(
     sink: &mut W,
     order: &Option<Vec<Guid>>,
@@ -49,7 +50,7 @@ pub(crate) fn write_step_order<W: Sink>(
     }
 }
 
-/// Writes the line of an order: the word and each of `switches`.
+/// Writes the line of an order: the word `order` and each of `switches`.
 fn write_order_line<W: Sink>(sink: &mut W, switches: &[Guid]) -> Result<(), WriteFault>
     ensures { WritesPart W.written W.has_failed result sink.old sink.new (step_order_text (Some switches.now)) }
 {
@@ -58,7 +59,7 @@ fn write_order_line<W: Sink>(sink: &mut W, switches: &[Guid]) -> Result<(), Writ
     sink.write(b"\n")
 }
 
-/// Writes each of `switches`, with a blank before it.
+/// Writes each of `switches`, with a space before it.
 fn write_each_switch<W: Sink>(sink: &mut W, switches: &[Guid]) -> Result<(), WriteFault>
     ensures { WritesPart W.written W.has_failed result sink.old sink.new (flat_map switch_word switches.now) }
 {
@@ -68,7 +69,7 @@ fn write_each_switch<W: Sink>(sink: &mut W, switches: &[Guid]) -> Result<(), Wri
     Ok(())
 }
 
-/// Writes a blank and the GUID of `switch`.
+/// Writes a space, `0x` and the GUID `switch`.
 fn write_switch<W: Sink>(sink: &mut W, switch: Guid) -> Result<(), WriteFault>
     ensures { Writes W.written W.has_failed result sink.old sink.new (switch_word switch) }
 {

@@ -22,14 +22,14 @@ pub(crate) enum StepVerdict {
     /// On one lane, a credit loop, or an empty one if there is none.
     OnOneLane(StepLoop),
     /// Lane by lane, packets without a service level, a packet that is dropped for want of a lane, and a credit loop,
-    /// if there are such.
+    /// each if there is one.
     ByLane(LaneFindings),
 }
 
 impl StepVerdict {
-    /// Judges the step from the tables of the network `from` to the tables `next`, by all their mixtures: lane by lane
-    /// if there are `lanes`, otherwise on one lane. If `answers` is true,
-    /// packets that answer others also have the service level of what they answer.
+    /// Judges the step from the tables of the network `from` to the tables `next`, by all their mixtures: on one lane
+    /// if `lanes` is `None`, otherwise lane by lane. If `answers` is true, packets that answer others also have the
+    /// service level of the packets that they answer.
     pub fn of(
         alloc: Global,
         lanes: &Option<Lanes>,
@@ -49,7 +49,8 @@ impl StepVerdict {
         }
     }
 
-    /// Returns whether nothing wrong was found.
+    /// Returns whether no credit loop was found and, lane by lane, no dropped packet and no packet without a service
+    /// level.
     pub fn is_sound(&self) -> bool
         ensures { IsTrue result ↔ IsSound (verdict_of self.now) }
     {
@@ -71,8 +72,9 @@ impl StepVerdict {
     }
 }
 
-/// Finds what can happen lane by lane in the step from the tables of `from` to those of `after`. Both must have the
-/// same facts. Packets without a service level are those of the tables of `after`.
+/// Finds what can happen lane by lane in the step from the tables of `from` to those of `after`. Both networks must
+/// have the same facts. Counts the packets without a service level to LIDs that `after` holds, and keeps the first 20
+/// of them.
 fn lane_findings(
     alloc: Global,
     lanes: &Lanes,
@@ -90,9 +92,9 @@ fn lane_findings(
 }
 
 /// Finds a shortest credit loop of channels by lane, and a packet that is dropped for want of a lane, in the step from
-/// the tables of `from` to those of `after`. Both must have the same facts. Follows packets by lane only if the step
-/// can make a credit loop on one lane, or if some level that packets have lacks a lane below 15. Otherwise there is
-/// neither, whatever lanes packets take.
+/// the tables of `from` to those of `after`. Both networks must have the same facts. Follows packets by lane only if
+/// the step can make a credit loop on one lane, or if some packet with a service level may have no lane below 15.
+/// Otherwise neither a credit loop nor a dropped packet exists.
 fn order_in_step(
     alloc: Global,
     lanes: &Lanes,

@@ -11,9 +11,9 @@ use packet_walks::Network;
 use smp_bytes::{Lid, NO_ENTRY};
 use std::alloc::{AllocError, Global};
 
-/// Returns tables with the plan's LIDs. For each usable switch, they have the greater of its tops in both tables, and
-/// its entries in `columns` up to that top. `columns` has, for each LID, the entries of all usable switches, by rising
-/// GUID. A missing entry is 255. `held` and `plan` must have the same facts.
+/// Returns tables with the plan's LIDs. For each usable switch, they have the greater of its tops in `held` and `plan`,
+/// and its entries in `columns` up to the block of that top. `columns` has, for each LID, the entries of all usable
+/// switches, by rising GUID. A missing entry is 255. `held` and `plan` must have the same facts.
 pub fn tables_with(
     alloc: Global,
     held: &Network,
@@ -30,8 +30,8 @@ pub fn tables_with(
     Ok(Held::of(lids, switches, blocks))
 }
 
-/// Returns how many blocks have all LIDs up to the greatest top in `held` and `plan`, at most 1024. Both must have the
-/// same facts.
+/// Returns the number of blocks that have all LIDs up to the greatest top of a usable switch in `held` or `plan`, at
+/// most 1024. `held` and `plan` must have the same facts.
 pub fn most_blocks(held: &Network, plan: &Network) -> usize
     requires facts { plan.now.facts ≡ held.now.facts }
     ensures few { result ≤ 1024 }
@@ -47,8 +47,8 @@ pub fn greater(lid: Lid, other: Lid) -> Lid
     Lid::new(lid.number().max(other.number()))
 }
 
-/// Returns the usable switches, by rising GUID, each with the greater of its tops in both tables. `held` and `plan`
-/// must have the same facts.
+/// Returns the usable switches, by rising GUID, each with the greater of its tops in `held` and `plan`. `held` and
+/// `plan` must have the same facts.
 fn switches_with(
     alloc: Global,
     held: &Network,
@@ -68,8 +68,8 @@ fn switches_with(
     Ok(made)
 }
 
-/// Returns the blocks of each of `switches` in turn, up to the block that has the entry for its top. `columns` has, for
-/// each LID, the entries of all switches. A missing entry is 255.
+/// Returns the blocks of each of `switches` in turn, up to the block that has the entry for the switch's top. `columns`
+/// has, for each LID, the entries of all switches. A missing entry is 255.
 fn all_blocks(
     alloc: Global,
     columns: &[Vec<u8>],
@@ -86,7 +86,8 @@ fn all_blocks(
     Ok(blocks)
 }
 
-/// Appends the first `count` blocks of the switch at `index`. `count` must be at most 1024.
+/// Appends the first `count` blocks of the switch at `index`, from `columns`. A missing entry is 255. `count` must be
+/// at most 1024.
 fn add_blocks(
     blocks: &mut Vec<HeldBlock>,
     columns: &[Vec<u8>],
@@ -107,7 +108,8 @@ fn add_blocks(
     Ok(())
 }
 
-/// Returns block `number` of the switch at `index`. A missing entry is 255. `number` must be less than 1024.
+/// Returns block `number` of the switch at `index`, from `columns`. A missing entry is 255. `number` must be less than
+/// 1024.
 fn block(columns: &[Vec<u8>], index: usize, number: usize) -> [u8; 64]
     requires { number < 1024 }
     ensures { result ≡ block_in (map (λ column. column.items) columns.now) index number }

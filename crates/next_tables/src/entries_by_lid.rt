@@ -13,8 +13,8 @@ use smp_bytes::{Lid, NO_ENTRY};
 use std::alloc::{AllocError, Global};
 use subnet_view::EndPort;
 
-/// Returns the next entries of all usable switches for each LID of the first `count` blocks. `held` and `plan` must
-/// have the same facts, and `count` must be at most 1024.
+/// Returns the next entries of all usable switches by `rule`, for each LID of the first `count` blocks. `held` and
+/// `plan` must have the same facts, and `count` must be at most 1024.
 pub(crate) fn columns(
     alloc: Global,
     rule: &StepRule,
@@ -60,7 +60,7 @@ fn column(
 }
 
 /// Returns the next entries of all usable switches for the LID of both cursors, by the order `positions`. `held` and
-/// `plan` must be as `column` asks.
+/// `plan` must be at one LID, and have the same facts.
 fn ordered_column(
     alloc: Global,
     positions: &[usize],
@@ -89,7 +89,7 @@ fn ordered_column(
 }
 
 /// Returns the next entries of all usable switches for the LID of both cursors, by settled entries. `held` and `plan`
-/// must be as `column` asks.
+/// must be at one LID, and have the same facts.
 fn settled_column(alloc: Global, held: &LidCursor, plan: &LidCursor) -> Result<Vec<u8>, AllocError>
     requires facts { plan.now.seen.facts ≡ held.now.seen.facts }
     requires lid { plan.now.lid ≡ held.now.lid }
@@ -142,8 +142,8 @@ fn are_same(entries: &[u8], others: &[u8]) -> bool
     entries == others
 }
 
-/// Returns the end port that is the only one in `planned` and in `held`, or `None` if there is none. `planned` and
-/// `held` are a LID's owners in the plan and in the held tables.
+/// Returns the end port that alone owns a LID both in the plan and in the held tables, or `None` if there is none.
+/// `planned` has the LID's owners in the plan, and `held` those in the held tables.
 fn keeper(planned: &[EndPort], held: &[EndPort]) -> Option<EndPort>
     ensures { result ≡ keeper planned.now held.now }
 {

@@ -7,27 +7,27 @@ ghost use Rattle.next_tables.specs.NextText.{NextTextsAreRead, StepTextsAreRead}
 ghost use Rattle.next_tables.specs.StepLaws.{StepsEndInThePlan, StepsHealInTwo};
 ghost use Rattle.next_tables.specs.StepLaws.{NextTablesAreSo, StepsFollowTheRule, StepsLoseNone, StepsSendNoneRound};
 
-/// If a LID has the same owners in the held tables and in the plan, a packet for it that the held tables deliver is
-/// delivered there by any loose mixtures of the held and the next tables, even if the mixture changes while the packet
-/// travels.
+/// A packet that the held tables deliver is delivered at the same end port by any loose mixtures of the held and the
+/// next tables, if its LID has the same owners in the held tables and in the plan. The mixture may change while the
+/// packet travels.
 pub fn none_is_lost()
     ensures law { NoneIsLost }
 {}
 
-/// If a LID has the same owners in the held tables and in the plan, a packet for it that the held tables deliver or
-/// drop does not loop by any mixtures of the held and the next tables.
+/// A packet that the held tables deliver or drop does not loop by any mixtures of the held and the next tables, if its
+/// LID has the same owners in the held tables and in the plan.
 pub fn none_goes_round()
     ensures law { NoneGoesRound }
 {}
 
-/// If a LID has the same owners in the first tables and in the plan, and the plan delivers from a switch over n
-/// switches, that one included, the switch has the plan's entry for the LID after n or more steps.
+/// After n or more steps, a switch has the plan's entry for a LID that has the same owners in the first tables and in
+/// the plan, if the plan delivers from the switch over n switches, that one included.
 pub fn end_in_the_plan()
     ensures law { EndInThePlan }
 {}
 
-/// If a LID has the same owners in the held tables and in the plan, and a step changes none of its entries, each switch
-/// from which the plan delivers has the plan's entry for it.
+/// If a step changes no entry for a LID that has the same owners in the held tables and in the plan, each switch from
+/// which the plan delivers has the plan's entry for the LID.
 pub fn still_is_the_plan()
     ensures law { StillIsThePlan }
 {}
@@ -38,20 +38,21 @@ pub fn heal_in_two()
     ensures law { HealInTwo }
 {}
 
-/// If a LID has the same owners in the held tables and in the plan, each switch delivers packets for it by the next
-/// tables or has no entry for it. So none of these packets loops or leaves by a dead port.
+/// If a LID has the same owners in the held tables and in the plan, each switch delivers packets for the LID by the
+/// next tables or has no entry for it. So none of these packets loops or leaves by a dead port.
 pub fn next_deliver_or_drop()
     ensures law { NextDeliverOrDrop }
 {}
 
-/// If a channel waits for another one in any mixtures, packets take both along two entries, each of the held or of the
-/// next tables.
+/// If a channel waits for another one by any mixtures of the held and the next tables, packets take the two channels by
+/// entries of the held or of the next tables.
 pub fn mixtures_wait_so()
     ensures law { MixturesWaitSo }
 {}
 
-/// Channels never wait in a cycle, whatever the mixtures, if channels can be numbered so that the numbers rise whenever
-/// a packet takes two channels along two entries, each of the held or of the next tables.
+/// Channels never wait in a cycle, whatever the mixtures, if channels have numbers that rise in a step. Numbers rise in
+/// a step if each channel has a lesser number than each channel that a packet takes next. The packet may take each of
+/// the two channels by an entry of the held or of the next tables.
 pub fn no_cycle_in_step()
     ensures law { NoCycleInStep }
 {}
@@ -68,8 +69,9 @@ pub fn steps_follow_the_rule()
     ensures law { StepsFollowTheRule }
 {}
 
-/// A packet that the held tables deliver is delivered by any loose mixtures of the held tables and of what
-/// `next_tables` returns by settled entries, if one end port alone holds its LID in the held tables and in the plan.
+/// A packet that the held tables deliver is delivered at the same end port by any loose mixtures of the held tables and
+/// of what `next_tables` returns by settled entries, if one end port alone holds its LID in the held tables and in the
+/// plan.
 pub fn steps_lose_none()
     ensures law { StepsLoseNone }
 {}
@@ -80,9 +82,9 @@ pub fn steps_send_none_round()
     ensures law { StepsSendNoneRound }
 {}
 
-/// If one end port alone holds a LID in the held tables and in the plan, and the plan delivers from a switch over n
-/// switches, that one included, the switch has the plan's entry after n or more steps of `next_tables` by settled
-/// entries.
+/// After n or more steps of `next_tables` by settled entries, a switch has the plan's entry for a LID that one end port
+/// alone holds in the first tables and in the plan, if the plan delivers from the switch over n switches, that one
+/// included.
 pub fn steps_end_in_the_plan()
     ensures law { StepsEndInThePlan }
 {}
@@ -93,17 +95,18 @@ pub fn steps_heal_in_two()
     ensures law { StepsHealInTwo }
 {}
 
-/// If one end port alone holds a LID in the held tables and in the plan, the facts describe all that is joined to an
-/// end port of a fabric, and the end ports and switches there hold the tables when a change begins, a packet that the
-/// held tables deliver is delivered at the LID's end port while the switches change to what `next_tables` returns by
-/// settled entries, each at its own time. The packet takes at most 2n + 1 wires, for n usable switches.
+/// A packet that the held tables deliver is delivered at the LID's end port while the switches change to what
+/// `next_tables` returns by settled entries, each at its own time, if three conditions hold: that end port alone holds
+/// the LID in the held tables and in the plan; the facts describe a part of the fabric; and the part holds the held
+/// tables when the change begins. The part is all that is joined to some end port, and one of its end ports sends the
+/// packet. The packet takes at most 2n + 1 wires, for n usable switches.
 pub fn packets_arrive_while_tables_change()
     ensures law { PacketsArriveWhileTablesChange }
 {}
 
-/// If the facts describe a part of a fabric that holds the held tables, and then tops and blocks of its switches are
-/// written, in any order, the part is in a change from the held to the next tables. Each switch has the held entry for
-/// a LID or the next one, or drops its packets by the held tables.
+/// If the facts describe a part of a fabric that holds the held tables, the part is in a change from the held to the
+/// next tables while tops and blocks of its switches are written, in any order. In this change each switch has the held
+/// entry for a LID or the next one, or drops the LID's packets by the held tables.
 pub fn written_tables_are_in_change()
     ensures law { WrittenTablesAreInChange }
 {}

@@ -1,6 +1,6 @@
-//! The tables to write next, from the tables that switches hold towards a plan's. If one end port alone holds a LID in
-//! both, no mixture of the held and the next tables loses a packet for it that arrived: by settled entries, or by an
-//! order by which both are right.
+//! The tables to write next, from the tables that switches hold towards a plan's, by settled entries or by an order of
+//! the switches. If one end port alone holds a LID in both tables, no mixture of the held and the next tables loses a
+//! packet for the LID that arrived. By an order, both tables must be right by the order.
 #![tactic(auto)]
 
 mod assembly;

@@ -26,9 +26,9 @@ struct SwitchFlags {
     entered: Vec<bool>,
 }
 
-/// Returns the next entries of the switches towards `port`, from each switch's position and what it does by the held
-/// tables and by the goal's. Takes time linear in the number of switches, times the logarithm of the longest walk's
-/// length.
+/// Returns the next entries of the switches towards `port`. `positions` has each switch's position, and `held` and
+/// `goal` have what each switch does by the held tables and by the goal's. Takes time linear in the number of switches,
+/// times the logarithm of the longest walk's length.
 pub(crate) fn ordered_entries(
     alloc: Global,
     port: &EndPort,
@@ -59,8 +59,8 @@ fn delivered(alloc: Global, port: &EndPort, held: &[SwitchStep]) -> Result<Vec<b
     arrivals(alloc, port, &ends, held)
 }
 
-/// Returns, for each of `steps`, whether the walk that goes on by it arrives at `port`. `ends` has the ends of the
-/// walks from the switches.
+/// Returns, for each of `steps`, whether the walk that goes on by its hop arrives at `port`. `ends` has the end of the
+/// walk from each switch.
 fn arrivals(
     alloc: Global,
     port: &EndPort,
@@ -109,7 +109,7 @@ fn goes_up(positions: &[usize], index: usize, hop: &NextHop) -> bool
     }
 }
 
-/// Returns, for each switch, whether the packet comes down to it by a held entry that is not the goal's.
+/// Returns, for each switch, whether some switch sends the packet down to it by a held entry that is not the goal's.
 fn entered(
     alloc: Global,
     positions: &[usize],
@@ -132,8 +132,8 @@ fn none_entered(alloc: Global, count: usize) -> Result<Vec<bool>, AllocError>
     vec![in alloc; false; count]
 }
 
-/// Sets, in `entered`, the flag of the switch to which the packet comes down from the switch at `index`, if it does so
-/// by a held entry that is not the goal's.
+/// Sets the flag in `entered` of the switch to which the switch at `index` sends the packet down by a held entry that
+/// is not the goal's. Does nothing if there is no such switch or no such flag.
 fn enter(
     entered: &mut [bool],
     positions: &[usize],
@@ -152,7 +152,8 @@ fn enter(
     }
 }
 
-/// Returns the step that each switch tries: the goal's step if it may change to it, otherwise the held step.
+/// Returns the step that each switch tries: the goal's step if the switch may change to that one, otherwise the held
+/// step.
 fn tried(
     alloc: Global,
     port: &EndPort,
@@ -171,7 +172,7 @@ fn tried(
         .collect(alloc)
 }
 
-/// Returns the step that the switch at `index` tries: `goal` if it may change to it, otherwise `held`.
+/// Returns the step that the switch at `index` tries: `goal` if the switch may change to that one, otherwise `held`.
 fn tried_by(
     port: &EndPort,
     positions: &[usize],
@@ -190,9 +191,9 @@ fn tried_by(
     }
 }
 
-/// Returns whether the switch at `index` may take the goal's entry, by which its next hop is `hop`. That must make no
-/// turn from down to up. If the held tables deliver from the switch, it must also lead to `port` or to a switch from
-/// which they deliver.
+/// Returns whether the switch at `index` may take the goal's entry, which gives the next hop `hop`. The hop must make
+/// no turn from down to up. If the held tables deliver from this switch, the hop must also end at `port` or lead to a
+/// switch from which they deliver.
 fn may_change(
     port: &EndPort,
     positions: &[usize],
@@ -207,8 +208,9 @@ fn may_change(
         && (!flag(&flags.delivered, index) || leads_in(port, &flags.delivered, hop))
 }
 
-/// Returns whether `hop`, by which the goal's entry leaves the switch at `index`, makes no turn from down to up. It may
-/// lead up only if the switch is not `entered`, and down only if the next switch is not `going_up`.
+/// Returns whether `hop`, the goal's next hop of the switch at `index`, makes no turn from down to up with held entries
+/// that are not the goal's. The hop may lead up only if the switch is not `entered`, and down only if the next switch
+/// is not `going_up`.
 fn turns_well(positions: &[usize], flags: &SwitchFlags, index: usize, hop: &NextHop) -> bool
     ensures { result ≡ turns_well_by positions.now flags.now.going_up.items flags.now.entered.items index hop.now }
 {
@@ -249,7 +251,7 @@ fn entries_by(alloc: Global, port: &EndPort, tried: &[SwitchStep]) -> Result<Vec
 }
 
 /// Returns, for each switch, the entry of its step if the walk from there arrives at `port`, otherwise 255. `ends` has
-/// the ends of the walks from the switches.
+/// the end of the walk from each switch.
 fn entries_where(
     alloc: Global,
     port: &EndPort,
@@ -267,7 +269,7 @@ fn entries_where(
 }
 
 /// Returns the entry of `step` if the walk from the switch at `index` arrives at `port`, otherwise 255. `ends` has the
-/// ends of the walks from the switches.
+/// end of the walk from each switch.
 fn entry_by(port: &EndPort, ends: &[NextHop], index: usize, step: &SwitchStep) -> u8
     ensures { result ≡ entry_by (arrives_by port.now ends.now) (index, step.now) }
 {

@@ -10,8 +10,9 @@ use packet_walks::{Cause, End, NextHop, SwitchStep, is_at};
 use std::alloc::{AllocError, Global};
 use subnet_view::EndPort;
 
-/// Returns the next entries of the switches, from what each switch does by the held tables and by the plan. Takes time
-/// linear in the number of switches, times the logarithm of the longest walk's length.
+/// Returns the next entries of the switches for a LID of `port`. `held` and `plan` have what each switch does by the
+/// held tables and by the plan. Takes time linear in the number of switches, times the logarithm of the longest walk's
+/// length.
 pub(crate) fn next_entries(
     alloc: Global,
     port: &EndPort,
@@ -31,8 +32,8 @@ pub(crate) fn next_entries(
     entries_by(alloc, port, &settled, &delivered, held, plan)
 }
 
-/// Returns the next entries of the switches. `settled` must have the ends of the walks by entries that are equal in
-/// both tables, and `delivered` those of the walks by the held tables.
+/// Returns the next entries of the switches for a LID of `port`. `settled` must have the end of the walk from each
+/// switch by entries that are equal in both tables, and `delivered` the end of the walk by the held tables.
 fn entries_by(
     alloc: Global,
     port: &EndPort,
@@ -75,8 +76,8 @@ fn is_same_hop(hop: &NextHop, other: &NextHop) -> bool
     *hop == *other
 }
 
-/// Returns, for each switch, its next hop if its entries in both tables are equal, and otherwise that it drops the
-/// packet.
+/// Returns, for each switch, the plan's next hop if the switch's entries in both tables are equal. A switch with
+/// different entries drops the packet.
 fn agreed(
     alloc: Global,
     held: &[SwitchStep],
@@ -90,7 +91,8 @@ fn agreed(
         .collect(alloc)
 }
 
-/// Returns the next hop of a switch if its entries in both tables are equal, and otherwise that it drops the packet.
+/// Returns the plan's next hop of a switch if its entries in both tables are equal. Otherwise returns that the switch
+/// drops the packet.
 fn agreed_by(held: &SwitchStep, plan: &SwitchStep) -> NextHop
     ensures { result ≡ agreed_by (held.now, plan.now) }
 {
@@ -108,8 +110,8 @@ pub(crate) fn hops(alloc: Global, steps: &[SwitchStep]) -> Result<Vec<NextHop>, 
     steps.iter().map(|step| step.hop).collect(alloc)
 }
 
-/// Returns whether, from each switch, the packet arrives at `port` by the plan's next hop and `settled`, or by the held
-/// one and `delivered`.
+/// Returns whether, from each switch, the packet arrives at `port` by the plan's next hop and then by `settled`, or by
+/// the held next hop and then by `delivered`.
 fn is_whole(
     port: &EndPort,
     settled: &[NextHop],
@@ -124,7 +126,8 @@ fn is_whole(
         || arrives_by(port, delivered, held.hop))
 }
 
-/// Returns the next hop of each switch while mending. `delivered` has the ends of the walks by the held tables.
+/// Returns the next hop of each switch while mending. `delivered` has the end of the walk from each switch by the held
+/// tables.
 fn mending(
     alloc: Global,
     port: &EndPort,
@@ -141,8 +144,9 @@ fn mending(
         .collect(alloc)
 }
 
-/// Returns the next hop of a switch while mending: delivery at `port` if the held tables deliver from there, otherwise
-/// the held hop if it leads to a switch, otherwise the plan's hop.
+/// Returns the next hop of a switch while mending: delivery at `port` if the held tables deliver from the switch,
+/// otherwise the held hop if it leads to a switch, otherwise the plan's hop. `delivered` has the end of the walk from
+/// each switch by the held tables.
 fn mending_by(
     port: &EndPort,
     delivered: &[NextHop],
@@ -176,8 +180,8 @@ fn patch_entry_by(held: &SwitchStep, plan: &SwitchStep) -> u8
     }
 }
 
-/// Returns the next entry of each switch. `settled`, `delivered` and `mended` have the ends of the walks by entries in
-/// both tables, by the held tables, and by mending.
+/// Returns the next entry of each switch. `settled`, `delivered` and `mended` have the end of the walk from each
+/// switch: by entries that are equal in both tables, by the held tables, and while mending.
 fn chosen(
     alloc: Global,
     port: &EndPort,
@@ -196,8 +200,9 @@ fn chosen(
         .collect(alloc)
 }
 
-/// Returns the next entry of a switch: the plan's if it arrives by `settled`, otherwise the held one if it arrives by
-/// `delivered`, otherwise the mending one if it arrives by `mended`, otherwise 255.
+/// Returns the next entry of a switch, the first of these that applies: the plan's entry if the plan's hop arrives by
+/// `settled`; the held entry if the held hop arrives by `delivered`; the entry while mending if the hop while mending
+/// arrives by `mended`; 255.
 fn next_by(
     port: &EndPort,
     settled: &[NextHop],
@@ -220,8 +225,8 @@ fn next_by(
     }
 }
 
-/// Returns whether the walk that goes on from `step` arrives at `port`. `ends` has the ends of the walks from the
-/// switches.
+/// Returns whether the walk that goes on from `step` arrives at `port`. `ends` has the end of the walk from each
+/// switch.
 pub(crate) fn arrives_by(port: &EndPort, ends: &[NextHop], step: NextHop) -> bool
     ensures { result ≡ arrives_by port.now ends.now step }
 {

@@ -14,13 +14,8 @@ use smp_bytes::Lid;
 use std::alloc::{AllocError, Global};
 
 /// Returns the tables to write next by `rule`, from the held tables towards a plan's. `held` and `plan` must have the
-/// same facts. The tables have the plan's LIDs. For each usable switch they have the greater of its tops, and the next
-/// entry for each LID up to that top.
-///
-/// # Errors
-///
-/// Returns `Moves` with the first LID that the plan gives to an end port and the held tables give to another. If there
-/// is none, returns `Memory` if memory is refused.
+/// same facts. The tables have the plan's LIDs. For each usable switch they have the greater of its tops in `held` and
+/// `plan`, and its next entries up to the block of that top.
 pub fn next_tables(
     alloc: Global,
     rule: &StepRule,
@@ -50,7 +45,7 @@ fn first_moved(held: &Network, plan: &Network) -> Option<Lid>
         .map(|line| line.lid)
 }
 
-/// Returns whether an end port other than that of `line` holds its LID in the held tables.
+/// Returns whether an end port other than that of `line` holds the LID of `line` in the held tables.
 fn moves(held: &Network, line: &HeldLid) -> bool
     ensures { result ≡ moves held.now.held line.now }
 {

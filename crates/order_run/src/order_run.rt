@@ -19,9 +19,9 @@ use smp_bytes::{Generation, Guid};
 use std::alloc::{AllocError, Global};
 use told_order::told_order;
 
-/// Reads the tables from the first input, which there must be, then the files in order. Writes the usable switches in
-/// an order by which these tables send no packet, for any LID, down and then up again: for each switch, a line with
-/// `0x` and its GUID. Writes nothing if there is no such order. Returns whether there is one.
+/// Reads the tables from the first input, and then the files in order. There must be at least one input. Writes the
+/// usable switches in an order by which these tables send no packet, for any LID, down and then up, and flushes. Each
+/// switch has a line with `0x` and its GUID. Writes nothing if no such order exists. Returns whether one exists.
 ///
 /// # Errors
 ///
@@ -48,8 +48,8 @@ pub fn run_order_of<S: Source, W: Sink>(
     }
 }
 
-/// Writes the order that the tables `held` imply in the subnet of `store`, or nothing if they imply none, and flushes.
-/// Returns whether they imply an order.
+/// Writes the order of the switches that `held` implies in the subnet of `store`, or nothing if `held` implies no
+/// order, and flushes. Returns whether `held` implies an order.
 fn answer<W: Sink>(alloc: Global, sink: &mut W, store: &Store, held: &Held) -> Result<bool, Fault>
     ensures told { IfOk result (IsTelling store.now held.now
         (Appends (W.written sink.old) (W.written sink.new))) }
@@ -74,8 +74,9 @@ fn answer<W: Sink>(alloc: Global, sink: &mut W, store: &Store, held: &Held) -> R
     Ok(order.is_some())
 }
 
-/// Returns the order that the network's tables imply, as indices of switches, the last switch first, or `None` if they
-/// imply no order. If several switches may be taken, the switch with the greatest GUID is taken.
+/// Returns the order that the tables of `network` imply, or `None` if these tables imply no order. The order has the
+/// indices of the switches, the last switch first. Whenever several switches may be the last of those left, the one
+/// with the greatest GUID is taken.
 fn order_of(alloc: Global, network: &Network) -> Result<Option<Vec<usize>>, AllocError>
     ensures { IfOk result (λ order. IsTold (cells_of network.now.facts) network.now.held
         (range_with_len 0 (length (switches (cells_of network.now.facts)))) (option_map (λ taken. taken.items) order)) }
@@ -84,7 +85,7 @@ fn order_of(alloc: Global, network: &Network) -> Result<Option<Vec<usize>>, Allo
     told_order(alloc, network, &indices)
 }
 
-/// Returns the numbers from 0 to `count` - 1.
+/// Returns the first `count` numbers, from 0 on.
 fn indices(alloc: Global, count: usize) -> Result<Vec<usize>, AllocError>
     ensures { IfOk result (λ indices. indices.items ≡ range_with_len 0 count) }
 {
@@ -92,7 +93,7 @@ fn indices(alloc: Global, count: usize) -> Result<Vec<usize>, AllocError>
 }
 
 /// Returns the GUIDs of the switches of `order` from the first one on, or an empty list if `order` is `None`. `order`
-/// has the switches' indices, the last switch first.
+/// has the indices of the switches, the last switch first.
 fn told_switches(
     alloc: Global,
     network: &Network,
@@ -107,7 +108,7 @@ fn told_switches(
     }
 }
 
-/// Returns the GUIDs of the switches at the indices `taken`, from the last of these to the first.
+/// Returns the GUIDs of the switches at the indices `taken`, from the last index to the first.
 fn switches_at(alloc: Global, network: &Network, taken: &[usize]) -> Result<Vec<Guid>, AllocError>
     ensures { IfOk result (λ switches. switches.items
         ≡ map (switch_at (cells_of network.now.facts)) (reverse taken.now)) }
@@ -119,7 +120,7 @@ fn switches_at(alloc: Global, network: &Network, taken: &[usize]) -> Result<Vec<
         .collect(alloc)
 }
 
-/// Returns the GUID of the usable switch at `index`, or 0 if there is none.
+/// Returns the GUID of the usable switch at `index`, or GUID 0 if no usable switch has this index.
 fn switch_at(network: &Network, index: usize) -> Guid
     ensures { result ≡ switch_at (cells_of network.now.facts) index }
 {

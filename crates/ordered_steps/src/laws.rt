@@ -34,51 +34,51 @@ pub fn rule_is_choice()
     ensures law { RuleIsChoice }
 {}
 
-/// Each next entry is the tried one, or 255 if that does not deliver.
+/// Each next entry is the tried one, or 255 if the packet does not arrive from the switch by the tried entries.
 pub fn rule_is_tried()
     ensures law { RuleIsTried }
 {}
 
-/// If the held tables and the goal are right by the order for a LID and have the same owners of it, a packet for it
-/// that the held tables deliver is delivered there by any loose mixtures of the held and the next tables, even if the
-/// mixture changes while the packet travels.
+/// A packet that the held tables deliver is delivered at the same end port by any loose mixtures of the held and the
+/// next tables, if the held tables and the goal are right by the order for its LID and have the same owners of the LID.
+/// The mixture may change while the packet travels.
 pub fn none_is_lost_by_order()
     ensures law { NoneIsLostByOrder }
 {}
 
-/// In steps by an order (`AreStepsByOrder`), after as many steps as its depth, and from then on, a switch from which
-/// the goal delivers has the goal's entry, and the tables deliver from it.
+/// In steps by an order (`AreStepsByOrder`), a switch from which the goal delivers has the goal's entry from as many
+/// steps on as its depth, and the tables then deliver from it.
 pub fn end_in_the_goal()
     ensures law { EndInTheGoal }
 {}
 
-/// In steps by an order (`AreStepsByOrder`), each switch from which the goal delivers has the goal's entry after twice
-/// as many steps as there are switches, and the tables deliver from it.
+/// In steps by an order (`AreStepsByOrder`), each switch from which the goal delivers has the goal's entry after 2n or
+/// more steps, for n switches, and the tables then deliver from it.
 pub fn end_in_twice_as_many()
     ensures law { EndInTwiceAsMany }
 {}
 
-/// In steps by an order (`AreStepsByOrder`), each packet that arrives by the goal arrives after twice as many steps as
-/// there are switches.
+/// In steps by an order (`AreStepsByOrder`), each packet that arrives by the goal arrives after 2n or more steps, for n
+/// switches.
 pub fn heal_by_order()
     ensures law { HealByOrder }
 {}
 
-/// In steps by an order (`AreStepsByOrder`), after `2n` steps among `n` switches, or one step if `n` is 0, the tables
-/// are right by every order by which the goal is right, if the goal delivers from each switch that sends packets
-/// straight to the end port by the first tables.
+/// In steps by an order (`AreStepsByOrder`), each to exactly the next entries, the tables are right by every order that
+/// the goal is right by, after 2n or more steps, for n switches, and at least one, if the goal delivers from each
+/// switch that sends packets straight to the end port by the first tables.
 pub fn end_right_by_any()
     ensures law { EndRightByAny }
 {}
 
-/// If the held tables and the goal are right by the order, every packet, wherever it is sent, ends by any mixtures of
-/// the held and the next tables: none loops.
+/// If the held tables and the goal are right by the order for a LID, every packet for the LID, wherever it is sent,
+/// ends by any mixtures of the held and the next tables: none loops.
 pub fn all_end_by_order()
     ensures law { AllEndByOrder }
 {}
 
-/// If a LID has the same owners in the held tables and in the goal, each switch delivers packets for it by the next
-/// tables or has no entry for it.
+/// If a LID has the same owners in the held tables and in the goal, each switch delivers packets for the LID by the
+/// next tables or has no entry for it.
 pub fn next_deliver_or_drop_by_order()
     ensures law { NextDeliverOrDropByOrder }
 {}
@@ -95,7 +95,7 @@ pub fn ordered_tables_are_next()
     ensures law { OrderedTablesAreNext }
 {}
 
-/// `are_right` computes exactly whether tables are right by an order for every LID.
+/// `are_right` is true exactly if tables are right by an order for every LID.
 pub fn rightness_is_told()
     ensures law { RightnessIsTold }
 {}
@@ -106,11 +106,11 @@ pub fn all_follow_the_rule()
     ensures law { AllFollowTheRule }
 {}
 
-/// If the facts describe all that is joined to an end port, the end ports and switches there hold the tables when a
-/// change begins, and the held tables and the goal are right by the order for the LID of a line and have the same
-/// owners of it, a packet that the held tables deliver at the line's end port is delivered there while the fabric's
-/// switches change to the next tables, each at its own time. The packet takes at most 2n + 1 wires, for n usable
-/// switches.
+/// A packet that the held tables deliver is delivered at the same end port while the fabric's switches change to the
+/// next tables, each at its own time, if three conditions hold: the held tables and the goal are right by the order for
+/// the packet's LID and have the same owners of the LID; the facts describe a part of the fabric; and the part holds
+/// the held tables when the change begins. The part is all that is joined to some end port, and one of its end ports
+/// sends the packet. The packet takes at most 2n + 1 wires, for n usable switches.
 pub fn packets_arrive_by_order()
     ensures law { PacketsArriveByOrder }
 {}

@@ -29,8 +29,8 @@ pub fn are_right(alloc: Global, held: &Network, positions: &[usize]) -> Result<b
     Ok(true)
 }
 
-/// Returns whether packets for a LID never go down and then up again. `edges` has the edge by which they leave each
-/// switch.
+/// Returns whether packets for a LID never go down and then up again. `edges` has the edge by which these packets leave
+/// each switch, if there is one.
 fn is_right_column(positions: &[usize], edges: &[Option<Edge>]) -> bool
     ensures { result ≡ is_right_column (position_at positions.now) edges.now }
 {

@@ -1,5 +1,4 @@
-//! The LIDs of a block whose packets arrive from every switch, by walks of the packets for all LIDs of the block at
-//! once.
+//! The LIDs of a block whose packets arrive from every switch, found for all LIDs of the block at once.
 ghost use Rattle.std.specs.Prelude.{◌≡◌, ◌<◌, ◌+◌, ◌*◌, [], IfOk, IfSome, OnOk, length, replicate, slice_set};
 ghost use Rattle.packet_walks.specs.BlockDeliveries.{AreAfterRounds, AreDelivered, AreSeenBy, IsExit, IsWithExit, IsWithHop};
 ghost use Rattle.packet_walks.specs.BlockDeliveries.{arrived_more, back_by, from_each, lids_at};
@@ -15,10 +14,11 @@ use smp_bytes::Lid;
 use std::alloc::{AllocError, Global};
 use subnet_view::EndPort;
 
-/// The LIDs of a block that exactly one end port holds, if their packets are seen to reach it from every usable switch.
+/// LIDs of a block. Exactly one end port holds each of these LIDs, and packets for the LID are seen to reach this end
+/// port from every usable switch.
 #[derive(Clone, Copy, Debug, PartialEq, Eq)]
 pub(crate) struct Deliveries {
-    /// The block's number.
+    /// The number of the block.
     pub(crate) number: u16,
     pub(crate) lids: LidSet,
 }
@@ -32,7 +32,7 @@ impl Deliveries {
     }
 }
 
-/// The LIDs of a block for which one switch forwards packets to another.
+/// LIDs of a block for which the switch at index `from` forwards packets to the switch at index `to`.
 #[derive(Clone, Copy)]
 pub(crate) struct Exit {
     pub(crate) from: usize,
@@ -40,26 +40,28 @@ pub(crate) struct Exit {
     pub(crate) lids: LidSet,
 }
 
-/// What is known so far about the packets for the LIDs of a block that exactly one end port holds.
+/// What is known so far about packets for the LIDs of a block.
 #[derive(Drop)]
 pub(crate) struct BlockWalks {
-    /// For each switch, the LIDs whose packets are seen to reach their end port from there.
+    /// For each switch, a set of LIDs. One end port alone holds each of these LIDs, and packets for the LID are seen to
+    /// reach this end port from the switch.
     pub(crate) arrived: Vec<LidSet>,
-    /// Which switches forward to which, and for which LIDs.
+    /// The switches that forward packets to a next switch, with the LIDs of these packets.
     pub(crate) exits: Vec<Exit>,
-    /// For each switch, the index of the last exit that leads there, or 0 if there is none.
+    /// For each switch, the index of the last exit that leads to it, or 0 if there is none.
     slots: Vec<usize>,
 }
 
 /// Blocks from this number on have no LIDs.
 const NUMBERS: u16 = 0x400;
 
-/// The maximum number of rounds in which arrivals are carried back. On a walk over more switches, arrivals may be
-/// missed if its exits are listed in the wrong order.
+/// The maximum number of rounds in which arrivals are carried back. If a walk has more switches, arrivals may be
+/// missed, depending on the order of its exits.
 const MOST_ROUNDS: usize = 64;
 
-/// Returns the LIDs of the block `number` that exactly one end port holds, if their packets are seen to reach it from
-/// every switch. They may not be seen to if a walk has over 64 switches.
+/// Returns the LIDs of the block `number` that exactly one end port holds, if packets for the LID are seen to reach
+/// this end port from every switch. Can miss LIDs if a walk has over 64 switches. Returns none if there is no switch.
+/// `rows` are the blocks `number`, and `owners` says who holds each LID.
 pub(crate) fn delivered(
     alloc: Global,
     nodes: &[AuditedSwitch],
@@ -94,7 +96,8 @@ impl BlockWalks {
     }
 
     /// Adds what the switch at index `switch` does with packets for each LID of the block `number`. `switch` must be
-    /// the index of one of `nodes`, and `number` be below 1024.
+    /// the index of one of `nodes`, and `number` must be below 1024. What `self` has must already be right by `nodes`,
+    /// `owners`, `rows` and `number`.
     fn add_switch(
         &mut self,
         nodes: &[AuditedSwitch],
@@ -120,9 +123,10 @@ impl BlockWalks {
         Ok(())
     }
 
-    /// Adds what the switch at index `switch` does with packets for the LID at `index` of the block `number`, if
-    /// exactly one end port holds the LID, and otherwise nothing. `switch` must be the index of one of `nodes`,
-    /// `number` be below 1024, and `index` below 64.
+    /// Adds what the switch at index `switch` does with packets for the LID at `index` of the block `number`. Adds
+    /// nothing unless exactly one end port holds the LID. `switch` must be the index of one of `nodes`, `number` must
+    /// be below 1024, and `index` below 64. What `self` has must already be right by `nodes`, `owners`, `rows` and
+    /// `number`.
     fn add_last(
         &mut self,
         nodes: &[AuditedSwitch],
@@ -147,8 +151,8 @@ impl BlockWalks {
         Ok(())
     }
 
-    /// Adds `hop`, the next hop of `switch` for the LID at `index`, which must be below 64. `port` is the only end port
-    /// that holds the LID.
+    /// Adds `hop`, the next hop of `switch` for the LID at `index`. A hop to a switch is added as an exit, and a
+    /// delivery at `port` as an arrival. Any other end adds nothing. `index` must be below 64.
     fn add_hop(
         &mut self,
         switch: usize,
@@ -181,7 +185,7 @@ fn lid_at(number: u16, index: usize) -> Lid
     Lid::new(64 * number + index as u16)
 }
 
-/// Records that the switch `from` forwards packets for the LID at `index`, which must be below 64, to the switch `to`.
+/// Records that the switch `from` forwards packets for the LID at `index` to the switch `to`. `index` must be below 64.
 fn add_exit(
     exits: &mut Vec<Exit>,
     slots: &mut Vec<usize>,
@@ -210,7 +214,8 @@ fn add_exit(
     Ok(())
 }
 
-/// Returns the LIDs of the exit at `slot`, or `None` if there is no such exit, or it does not lead from `from` to `to`.
+/// Returns the LIDs of the exit at `slot`. Returns `None` if there is no such exit, or if it does not lead from `from`
+/// to `to`.
 fn lids_of(exits: &[Exit], slot: usize, from: usize, to: usize) -> Option<LidSet>
     ensures { IfSome result (IsExit exits.now slot from to) }
 {
@@ -222,7 +227,7 @@ fn lids_of(exits: &[Exit], slot: usize, from: usize, to: usize) -> Option<LidSet
     }
 }
 
-/// Returns the slot of `switch`, or 0 if there is no such switch.
+/// Returns the item of `slots` at `switch`, or 0 if there is no such item.
 fn slot_at(slots: &[usize], switch: usize) -> usize {
     match slots.get(switch) {
         Some(slot) => *slot,
@@ -230,15 +235,15 @@ fn slot_at(slots: &[usize], switch: usize) -> usize {
     }
 }
 
-/// Sets the slot of `switch`, if there is such a switch.
+/// Sets the item of `slots` at `switch` to `slot`. Does nothing if there is no such item.
 fn put_slot(slots: &mut Vec<usize>, switch: usize, slot: usize) {
     if switch < slots.len() {
         slots[switch] = slot;
     }
 }
 
-/// Records that packets from `switch` for the LID at `index`, which must be below 64, reach the LID's end port. Does
-/// nothing if there is no such switch.
+/// Records in `arrived` that packets for the LID at `index` reach the LID's end port from `switch`. Does nothing if
+/// there is no such switch. `index` must be below 64.
 fn add_lid(arrived: &mut Vec<LidSet>, switch: usize, index: usize)
     requires { index < 64 }
     ensures { arrived.new.items ≡ arrived_more arrived.old.items switch index }
@@ -247,7 +252,7 @@ fn add_lid(arrived: &mut Vec<LidSet>, switch: usize, index: usize)
     put_lids(arrived, switch, lids);
 }
 
-/// Returns the LIDs whose packets are seen to arrive from `switch`; none if there is no such switch.
+/// Returns the LIDs whose packets are seen to arrive from `switch`, or no LIDs if there is no such switch.
 fn lids_at(arrived: &[LidSet], switch: usize) -> LidSet
     ensures { result ≡ lids_at arrived.now switch }
 {
@@ -257,7 +262,7 @@ fn lids_at(arrived: &[LidSet], switch: usize) -> LidSet
     }
 }
 
-/// Sets the LIDs whose packets are seen to arrive from `switch`, if there is such a switch.
+/// Sets the LIDs whose packets are seen to arrive from `switch` to `lids`. Does nothing if there is no such switch.
 fn put_lids(arrived: &mut Vec<LidSet>, switch: usize, lids: LidSet)
     ensures { arrived.new.items ≡ slice_set arrived.old.items switch lids }
 {
@@ -294,7 +299,7 @@ fn go_back_once(arrived: &mut Vec<LidSet>, exits: &[Exit]) -> bool
     more
 }
 
-/// Returns the LIDs whose packets arrive from every switch, or none if there is no switch.
+/// Returns the LIDs that are in each set of `arrived`, or no LIDs if there is no set.
 fn from_each(arrived: &[LidSet]) -> LidSet
     ensures { result ≡ from_each arrived.now }
 {

@@ -15,17 +15,17 @@ use std::alloc::{AllocError, Global};
 use std::marker::Model;
 use subnet_view::EndPort;
 
-/// For each end port, in order, where its packet for the LID of `port` ends.
+/// For each source in order, the end of its packet for one LID.
 #[derive(Drop)]
 pub struct Ends<'a> {
-    /// The end port whose LID the packets are for.
+    /// The end port that the packets should reach.
     port: EndPort,
     sources: &'a [Sender],
-    /// For each source, the index of the first switch that its packet reaches, or `None` if it reaches none.
+    /// For each source, the index of the first switch that its packet reaches, or `None` if there is none.
     firsts: &'a [Option<usize>],
     /// The end ports that hold the LID.
     owners: Vec<EndPort>,
-    /// The ends of the walks from the switches.
+    /// For each switch, the end of the walk from there, or a hop to a switch if the walk goes on forever.
     walks: Vec<NextHop>,
     /// For each switch, whether the walk from there ends at `port`.
     arrive: Vec<bool>,
@@ -49,9 +49,9 @@ impl<'a> Model for Ends<'a> {
 }
 
 impl<'a> Ends<'a> {
-    /// Builds the ends from `owners`, the end ports that hold the LID, and from `walks`, the ends of the walks from the
-    /// switches. `firsts` must have the first switch of each source, and `begin` be whether each of these is the index
-    /// of a walk.
+    /// Builds the ends of the packets of `sources`. `owners` are the end ports that hold the LID, and `walks` has the
+    /// end of the walk from each switch. `firsts` must have, for each source, the index of the first switch that its
+    /// packet reaches, if there is one. `begin` must be whether each of `firsts` is the index of one of `walks`.
     pub(crate) fn new(
         alloc: Global,
         port: EndPort,
@@ -81,16 +81,17 @@ impl<'a> Ends<'a> {
         })
     }
 
-    /// Returns where the packet of the end port at `index` ends, or `None` if it loops forever or there is no such end
-    /// port. Takes time linear in the number of owners of the LID.
+    /// Returns the end of the packet of the source at `index`, or `None` if the packet loops forever or there is no
+    /// such source. Takes time linear in the number of owners of the LID.
     pub fn at(&self, index: usize) -> Option<End>
         ensures { result ≡ slice_index_or self.now.ends index None }
     {
         end_at(&self.owners, &self.walks, self.sources, index)
     }
 
-    /// Returns whether the packet of the end port at `index` is delivered at the port whose LID it is for. Takes
-    /// constant time if the packet arrives by way of a switch and no other end port holds the LID.
+    /// Returns whether the packet of the source at `index` is delivered at `self.port`. Returns false if there is no
+    /// such source. Takes constant time if the packet is delivered there over a switch and no other end port holds the
+    /// LID.
     pub fn arrives(&self, index: usize) -> bool
         ensures { result ≡ is_at self.now.port (slice_index_or self.now.ends index None) }
     {
@@ -100,9 +101,9 @@ impl<'a> Ends<'a> {
         is_at(&self.port, &self.at(index))
     }
 
-    /// Returns the index of the first end port whose packet is not delivered at the port whose LID it is for, or `None`
-    /// if all are. Takes constant time if all packets first reach a switch, each walk from a switch ends at the port,
-    /// and no other end port holds the LID.
+    /// Returns the index of the first source whose packet is not delivered at `self.port`, or `None` if there is none.
+    /// Takes constant time if all packets first reach a switch, each walk from a switch ends at `self.port`, and no
+    /// other end port holds the LID.
     pub fn first_elsewhere(&self) -> Option<usize>
         ensures { result ≡ position (λ end. not (is_at self.now.port end)) self.now.ends }
     {
@@ -112,8 +113,8 @@ impl<'a> Ends<'a> {
         self.look_elsewhere()
     }
 
-    /// Returns the index of the first end port whose packet is not delivered at the port whose LID it is for, or `None`
-    /// if all are. Asks `arrives` of each end port up to that one.
+    /// Returns the index of the first source whose packet is not delivered at `self.port`, or `None` if there is none.
+    /// Calls `arrives` for each source up to that one.
     fn look_elsewhere(&self) -> Option<usize>
         ensures { result ≡ position (λ end. not (is_at self.now.port end)) self.now.ends }
     {
@@ -125,7 +126,7 @@ impl<'a> Ends<'a> {
         None
     }
 
-    /// Returns the number of end ports.
+    /// Returns the number of sources.
     fn count(&self) -> usize
         ensures { result ≡ length self.now.ends }
     {
@@ -133,7 +134,8 @@ impl<'a> Ends<'a> {
     }
 }
 
-/// Returns where the packet of the source at `index` ends, or `None` if it loops forever or there is no such source.
+/// Returns the end of the packet of the source at `index`, or `None` if the packet loops forever or there is no such
+/// source. `walks` has the end of the walk from each switch.
 #[tactic(auto, using(crate::proofs::Arrivals::found_there, crate::proofs::Arrivals::none_there))]
 fn end_at(owners: &[EndPort], walks: &[NextHop], sources: &[Sender], index: usize) -> Option<End>
     ensures { result ≡ slice_index_or (map (end_from owners.now walks.now) sources.now) index None }
@@ -145,29 +147,31 @@ fn end_at(owners: &[EndPort], walks: &[NextHop], sources: &[Sender], index: usiz
     }
 }
 
-/// Returns where the packet of `source` ends, or `None` if it loops forever.
+/// Returns the end of the packet of `source`, or `None` if the packet loops forever. `walks` has the end of the walk
+/// from each switch.
 fn end_from(owners: &[EndPort], walks: &[NextHop], source: &Sender) -> Option<End>
     ensures { result ≡ end_from owners.now walks.now source.now }
 {
     end_of(onward(walks, first_hop(owners, source)))
 }
 
-/// Returns whether `sole` is true, and the walk from the first switch of the source at `index` ends at the port.
+/// Returns whether `sole` is true and, by `arrive`, the walk from the first switch of the source at `index` ends at the
+/// port.
 fn comes_there(sole: bool, firsts: &[Option<usize>], arrive: &[bool], index: usize) -> bool
     ensures { result ≡ (sole && comes_by (slice_index_or firsts.now index None) arrive.now) }
 {
     sole && comes_by(first_at(firsts, index), arrive)
 }
 
-/// Returns the index of the first switch that the packet of the source at `index` reaches, or `None` if it reaches none
-/// or there is no such source.
+/// Returns the item of `firsts` at `index`, or `None` if there is no such item.
 fn first_at(firsts: &[Option<usize>], index: usize) -> Option<usize>
     ensures { result ≡ slice_index_or firsts.now index None }
 {
     firsts.get(index).copied().flatten()
 }
 
-/// Returns whether the walk from the switch `first` ends at the port, or false if there is no such switch.
+/// Returns whether, by `arrive`, the walk from the switch at index `first` ends at the port. Returns false if `first`
+/// is `None` or `arrive` has no such item.
 fn comes_by(first: Option<usize>, arrive: &[bool]) -> bool
     ensures { result ≡ comes_by first arrive.now }
 {
@@ -177,7 +181,7 @@ fn comes_by(first: Option<usize>, arrive: &[bool]) -> bool
     }
 }
 
-/// Returns, for each walk, whether it ends at `port`.
+/// Returns, for each of `walks`, whether it has ended at `port`.
 fn arrivals(alloc: Global, port: &EndPort, walks: &[NextHop]) -> Result<Vec<bool>, AllocError>
     ensures { IfOk result (λ arrive. arrive.items ≡ arrivals port.now walks.now) }
 {
@@ -187,14 +191,14 @@ fn arrivals(alloc: Global, port: &EndPort, walks: &[NextHop]) -> Result<Vec<bool
         .collect(alloc)
 }
 
-/// Returns whether all `owners` are `port`, as they are if there are none.
+/// Returns whether each of `owners` is `port`, which is true if there are none.
 fn is_sole(port: &EndPort, owners: &[EndPort]) -> bool
     ensures { result ≡ is_sole port.now owners.now }
 {
     owners.iter().all(|owner| is_same_end(port, owner))
 }
 
-/// Returns whether `begin` and `sole` are true and all walks end at the port, so that all packets do.
+/// Returns whether `begin` and `sole` are true and, by `arrive`, all walks end at the port.
 fn all_come(begin: bool, arrive: &[bool], sole: bool) -> bool
     ensures { result ≡ all_come begin arrive.now sole }
 {

@@ -1,13 +1,14 @@
-//! The ends of walks from switch to switch, found in rounds. In each round every walk goes on from where it is.
+//! The ends of walks from switch to switch, found in rounds. In each round every walk goes on from the switch that it
+//! has reached.
 ghost use Rattle.std.specs.Prelude.{◌≡◌, count_by};
 ghost use Rattle.packet_walks.specs.EndsBySwitch.{AreFurther, HaveEnded, end_of, is_to, onward};
 
 use crate::next_hop::NextHop;
 use crate::packet_end::End;
 
-/// Returns where the walks from the switches end. A walk that leads to a switch in the result goes on forever. Each
-/// round takes time linear in the number of switches. There are at most as many rounds as the longest walk's length has
-/// binary digits, and one more if some walk loops forever.
+/// Returns, for each switch, the end of the walk from there by `steps`, or a hop to a switch if the walk goes on
+/// forever. Each round takes time linear in the number of switches. There are at most as many rounds as the longest
+/// walk's length has binary digits, and one more if some walk goes on forever.
 pub fn ends(steps: Vec<NextHop>) -> Vec<NextHop>
     ensures { HaveEnded steps.items result.items }
 {
@@ -23,7 +24,7 @@ pub fn ends(steps: Vec<NextHop>) -> Vec<NextHop>
     jumps
 }
 
-/// Takes each walk further, one after the other. Returns the number of walks that have not ended then.
+/// Takes each walk further, one after the other. Returns the number of walks that have not ended yet.
 fn go_further(jumps: &mut Vec<NextHop>) -> usize
     ensures further { AreFurther jumps.old.items jumps.new.items }
     ensures left { result ≡ count_by is_to jumps.new.items }
@@ -46,8 +47,8 @@ pub fn is_to(step: &NextHop) -> bool
     matches!(step, NextHop::To(_))
 }
 
-/// Returns the step after `step`, by the steps of the switches. Returns `step` itself if it is an end, or if `steps`
-/// has none for its switch.
+/// Returns the step after `step`: that of `steps` for the switch that `step` leads to. Returns `step` itself if it is
+/// an end, or if `steps` has no step for that switch.
 pub fn onward(steps: &[NextHop], step: NextHop) -> NextHop
     ensures { result ≡ onward steps.now step }
 {
@@ -57,7 +58,7 @@ pub fn onward(steps: &[NextHop], step: NextHop) -> NextHop
     }
 }
 
-/// Returns the end of a walk that has reached `step`, or `None` if it has reached a switch.
+/// Returns the end of a walk that has reached `step`, or `None` if `step` leads to a switch.
 pub fn end_of(step: NextHop) -> Option<End>
     ensures { result ≡ end_of step }
 {

@@ -1,4 +1,4 @@
-//! A network at one LID: what its switches do with packets for it, and where these packets end.
+//! A network at one LID: what its switches do with packets for the LID, and where these packets end.
 ghost use Rattle.std.specs.Prelude.{◌≡◌, IfOk, OnErr, OnOk, map, true};
 ghost use Rattle.fact_store.specs.View.{cells_of};
 ghost use Rattle.subnet_view.specs.Reading.{switches};
@@ -28,7 +28,7 @@ pub struct LidCursor<'n> {
     lid: Lid,
     /// The blocks that have the entries for the LID.
     blocks: Blocks,
-    /// The deliveries of these blocks, or `None` if the cursor does not look for deliveries.
+    /// The deliveries of `blocks`, or `None` if the cursor does not look for deliveries.
     deliveries: Option<Deliveries>,
 }
 
@@ -72,9 +72,9 @@ impl<'n> LidCursor<'n> {
         })
     }
 
-    /// Goes to `lid`. Takes constant time if the cursor is at a LID of the same block. Otherwise takes time linear in
-    /// the number of held switches, and of held blocks with this number, and the time to look for their deliveries. Stays
-    /// at its LID if memory is refused.
+    /// Moves the cursor to `lid`, or leaves it as it is if memory is refused. Takes constant time if the cursor is at a
+    /// LID of the same block. Otherwise takes time linear in the number of held switches, plus that of held blocks with
+    /// the block's number, plus the time to look for deliveries if the cursor does so.
     pub fn go_to(&mut self, alloc: Global, lid: Lid) -> Result<(), AllocError>
         ensures seen { self.new.seen ≡ self.old.seen }
         ensures lid { OnOk result (self.new.lid ≡ lid) }
@@ -102,22 +102,22 @@ impl<'n> LidCursor<'n> {
         self.network
     }
 
-    /// Returns the LID.
+    /// Returns the LID that the cursor is at.
     pub fn lid(&self) -> Lid
         ensures { result ≡ self.now.lid }
     {
         self.lid
     }
 
-    /// Returns the end ports that hold the LID. Takes constant time if at most one does, and otherwise time linear in the
-    /// number of held LIDs.
+    /// Returns the end ports that hold the LID. Takes constant time if the LID is below 49,152 and at most one end port
+    /// holds the LID. Otherwise takes time linear in the number of held LIDs.
     pub fn owners(&self, alloc: Global) -> Result<Vec<EndPort>, AllocError>
         ensures { IfOk result (λ owners. owners.items ≡ owners_of self.now.seen.held self.now.lid) }
     {
         self.network.owners(alloc, self.lid)
     }
 
-    /// Returns the entry of each usable switch for the LID, by rising GUID; 255 means no entry.
+    /// Returns the effective entry of each usable switch for the LID, by rising GUID. 255 means no entry.
     pub fn entries(&self, alloc: Global) -> Result<Vec<u8>, AllocError>
         ensures { IfOk result (λ entries. entries.items
             ≡ map (entry_for self.now.seen.held self.now.lid) (switches (cells_of self.now.seen.facts))) }
@@ -125,8 +125,8 @@ impl<'n> LidCursor<'n> {
         self.network.entries(alloc, &self.blocks, self.lid)
     }
 
-    /// Returns, for each usable switch by rising GUID, the port by which it forwards packets for the LID to a usable
-    /// switch, possibly itself, and the index of that switch; `None` if it forwards them to none.
+    /// Returns, for each usable switch by rising GUID, the edge along which it forwards packets for the LID to a usable
+    /// switch, possibly itself. The edge is `None` for a switch that forwards these packets to no usable switch.
     pub fn edges(&self, alloc: Global) -> Result<Vec<Option<Edge>>, AllocError>
         ensures { IfOk result (λ edges.
             edges.items ≡ edges_of (cells_of self.now.seen.facts) self.now.seen.held self.now.lid) }
@@ -134,8 +134,7 @@ impl<'n> LidCursor<'n> {
         self.network.edges(alloc, &self.blocks, self.lid)
     }
 
-    /// Returns, for each usable switch by rising GUID, its entry for the LID and what it does with packets by this
-    /// entry.
+    /// Returns, for each usable switch by rising GUID, its effective entry for the LID and its next hop by this entry.
     pub fn switch_steps(&self, alloc: Global) -> Result<Vec<SwitchStep>, AllocError>
         ensures { IfOk result (λ steps. steps.items
             ≡ map (switch_step (cells_of self.now.seen.facts) self.now.seen.held self.now.lid)
@@ -144,8 +143,8 @@ impl<'n> LidCursor<'n> {
         self.network.switch_steps(alloc, &self.blocks, self.lid)
     }
 
-    /// Returns where packets for the LID end, for each end port that sends one, in order, or `None` if the packet loops
-    /// forever. Says which of them end at `port`.
+    /// Returns, for each end port in order, the end of the packet that it sends for the LID, or `None` if the packet
+    /// loops forever. The result also says which of these packets are delivered at `port`.
     pub fn ends(&self, alloc: Global, port: EndPort) -> Result<Ends<'n>, AllocError>
         ensures { IfOk result (λ ended.
             AreBrought (cells_of self.now.seen.facts) self.now.seen.held self.now.lid ended.ends
@@ -154,9 +153,9 @@ impl<'n> LidCursor<'n> {
         self.network.ends(alloc, &self.blocks, self.lid, port)
     }
 
-    /// Returns whether packets for the LID are seen to reach the only end port that holds it from every usable switch.
-    /// If it returns false, they may reach it too: if the cursor does not look for deliveries, or if a walk has over 64
-    /// switches. Takes constant time.
+    /// Returns true only if packets for the LID, from every usable switch, reach the only end port that holds the LID.
+    /// Can return false although these packets arrive: if the cursor does not look for deliveries, or if a walk has
+    /// over 64 switches. Takes constant time.
     pub fn is_delivered(&self) -> bool
         ensures { result ≡ true
             → ComeToOwner (cells_of self.now.seen.facts) self.now.seen.held self.now.lid }
@@ -167,9 +166,9 @@ impl<'n> LidCursor<'n> {
         }
     }
 
-    /// Returns whether all packets that end ports send to the LID of `line` are seen to be delivered at its port. The
-    /// LID must be that of the cursor. If it returns false, they may be delivered there too. Takes constant time, unless
-    /// several end ports hold the LID.
+    /// Returns true only if each packet that an end port sends to the LID of `line` is delivered at the port of `line`.
+    /// Can return false although all these packets arrive. The LID of `line` must be that of the cursor. Takes constant
+    /// time.
     pub fn all_arrive(&self, line: &HeldLid) -> bool
         requires { self.now.lid ≡ line.now.lid }
         ensures { result ≡ true → LineArrives (cells_of self.now.seen.facts) self.now.seen.held line.now }
@@ -181,7 +180,7 @@ impl<'n> LidCursor<'n> {
     }
 }
 
-/// Returns the deliveries of `blocks` if `asked`, otherwise `None`. `blocks` must be of `network`.
+/// Returns the deliveries of `blocks` if `asked`, and otherwise `None`. `blocks` must be held blocks of `network`.
 fn deliveries_if(
     alloc: Global,
     asked: bool,

@@ -2,7 +2,7 @@
 ghost use Rattle.std.specs.Prelude.{◌≡◌, ◌<◌};
 ghost use Rattle.packet_walks.specs.LidSets.{both, either, has, no_lids, with_lid};
 
-/// A set of the 64 LIDs of a block. Each has the bit at its index in the block.
+/// A set of LIDs of one block. The bit at a LID's index in the block is 1 if the set has the LID.
 #[derive(Clone, Copy, Debug, PartialEq, Eq)]
 pub(crate) struct LidSet {
     pub(crate) bits: u64,
@@ -16,7 +16,7 @@ impl LidSet {
         LidSet { bits: 0 }
     }
 
-    /// Returns the set with the LID at `index` added. `index` must be below 64.
+    /// Returns `self` with the LID at `index` added. `index` must be below 64.
     pub(crate) fn with(self, index: usize) -> Self
         requires { index < 64 }
         ensures { result ≡ with_lid self index }
@@ -26,7 +26,7 @@ impl LidSet {
         }
     }
 
-    /// Returns the LIDs that are in either set.
+    /// Returns the LIDs that are in `self` or `other`.
     pub(crate) fn or(self, other: LidSet) -> Self
         ensures { result ≡ either self other }
     {
@@ -35,7 +35,7 @@ impl LidSet {
         }
     }
 
-    /// Returns the LIDs that are in both sets.
+    /// Returns the LIDs that are in `self` and `other`.
     pub(crate) fn and(self, other: LidSet) -> Self
         ensures { result ≡ both self other }
     {
@@ -44,7 +44,7 @@ impl LidSet {
         }
     }
 
-    /// Returns whether the set has the LID at `index`. `index` must be below 64.
+    /// Returns whether `self` has the LID at `index`. `index` must be below 64.
     pub(crate) fn has(self, index: usize) -> bool
         requires { index < 64 }
         ensures { result ≡ has self index }

@@ -35,7 +35,7 @@ pub struct Network<'a> {
     held: &'a Held,
     /// The usable switches, by rising GUID.
     nodes: Vec<AuditedSwitch>,
-    /// For each held block, the index of the next one with its number.
+    /// The chains of the held blocks' numbers.
     chains: Chains,
     /// The held LIDs; each pair of a LID and an end port that holds it occurs once.
     lines: Vec<HeldLid>,
@@ -61,7 +61,7 @@ impl<'a> Model for Network<'a> {
 #[derive(Drop)]
 pub(crate) struct Blocks {
     pub(crate) number: u16,
-    /// For each held switch in order, the entries of its block.
+    /// For each held switch in order, the entries of its block `number`.
     pub(crate) rows: Vec<[u8; 64]>,
 }
 
@@ -85,7 +85,7 @@ impl<'a> Network<'a> {
     }
 
     /// Returns the blocks `number`, which have the entries for the 64 LIDs from 64 * `number` on. Takes time linear in
-    /// the number of held switches, and of held blocks with the number `number`.
+    /// the number of held switches, plus that of held blocks with the number `number`.
     pub(crate) fn blocks(&self, alloc: Global, number: u16) -> Result<Blocks, AllocError>
         ensures { IfOk result (λ blocks. AreBlocks self.now.held blocks.number blocks.rows.items
             × (blocks.number ≡ number)) }
@@ -94,8 +94,9 @@ impl<'a> Network<'a> {
         Ok(Blocks { number, rows })
     }
 
-    /// Returns where packets for `lid` end, for each end port that sends one, in order, or `None` if the packet loops
-    /// forever. Says which of them end at `port`. `blocks` must be those of this network for `lid`.
+    /// Returns, for each end port in order, the end of the packet that it sends for `lid`, or `None` if the packet
+    /// loops forever. The result also says which of these packets are delivered at `port`. `blocks` must be this
+    /// network's blocks with the entries for `lid`.
     pub(crate) fn ends(
         &self,
         alloc: Global,
@@ -122,8 +123,8 @@ impl<'a> Network<'a> {
         )
     }
 
-    /// Returns, for each usable switch by rising GUID, its entry for `lid` and what it does with packets by this entry.
-    /// `blocks` must be those of this network for `lid`.
+    /// Returns, for each usable switch by rising GUID, its effective entry for `lid` and its next hop by this entry.
+    /// `blocks` must be this network's blocks with the entries for `lid`.
     pub(crate) fn switch_steps(
         &self,
         alloc: Global,
@@ -139,8 +140,8 @@ impl<'a> Network<'a> {
         switch_steps(alloc, &self.nodes, &owners, &blocks.rows, lid)
     }
 
-    /// Returns the entry of each usable switch for `lid`, by rising GUID; 255 means no entry. `blocks` must be those of
-    /// this network for `lid`.
+    /// Returns the effective entry of each usable switch for `lid`, by rising GUID. 255 means no entry. `blocks` must
+    /// be this network's blocks with the entries for `lid`.
     pub(crate) fn entries(
         &self,
         alloc: Global,
@@ -155,8 +156,9 @@ impl<'a> Network<'a> {
         entries(alloc, &self.nodes, &blocks.rows, lid)
     }
 
-    /// Returns the LIDs of a block that exactly one end port holds, if their packets are seen to reach it from every
-    /// usable switch. They may not be seen to if a walk has over 64 switches. `blocks` must be those of this network.
+    /// Returns LIDs of the block of `blocks` that exactly one end port holds, if packets for the LID are seen to reach
+    /// this end port from every usable switch. Can miss LIDs if a walk has over 64 switches. `blocks` must be held
+    /// blocks of this network.
     pub(crate) fn deliveries(
         &self,
         alloc: Global,
@@ -178,9 +180,8 @@ impl<'a> Network<'a> {
         })
     }
 
-    /// Returns whether all packets that end ports send to the line's LID are seen to be delivered at the line's port.
-    /// If it returns false, they may be delivered there too. `deliveries` must be of this network. Takes constant time,
-    /// unless several end ports hold the LID.
+    /// Returns true only if each packet that an end port sends to the LID of `line` is delivered at the port of `line`.
+    /// Can return false although all these packets arrive. `deliveries` must be of this network. Takes constant time.
     pub(crate) fn all_arrive(&self, deliveries: &Deliveries, line: &HeldLid) -> bool
         requires { AreDeliveries (cells_of self.now.facts) self.now.held deliveries.now }
         ensures { result ≡ true → LineArrives (cells_of self.now.facts) self.now.held line.now }
@@ -188,16 +189,17 @@ impl<'a> Network<'a> {
         self.subnet.all_begin() && deliveries.has(line.lid) && self.is_sole_owner(line)
     }
 
-    /// Returns the end ports that hold `lid`. Takes constant time if at most one does, and otherwise time linear in the
-    /// number of held LIDs.
+    /// Returns the end ports that hold `lid`. Takes constant time if `lid` is below 49,152 and at most one end port
+    /// holds it. Otherwise takes time linear in the number of held LIDs.
     pub fn owners(&self, alloc: Global, lid: Lid) -> Result<Vec<EndPort>, AllocError>
         ensures { IfOk result (λ owners. owners.items ≡ owners_of self.now.held lid) }
     {
         owners_of(alloc, &self.lines, &self.owners, lid)
     }
 
-    /// Returns whether no end port other than the line's holds the line's LID. Takes constant time if at most one end
-    /// port holds it, and otherwise time linear in the number of held LIDs. Does not allocate.
+    /// Returns whether no end port other than that of `line` holds the LID of `line`. Takes constant time if the LID is
+    /// below 49,152 and at most one end port holds it. Otherwise takes time linear in the number of held LIDs. Does not
+    /// allocate.
     pub fn is_sole_owner(&self, line: &HeldLid) -> bool
         ensures { result ≡ is_sole line.now.port (owners_of self.now.held line.now.lid) }
     {
@@ -238,9 +240,9 @@ impl<'a> Network<'a> {
         }
     }
 
-    /// Returns, for each usable switch by rising GUID, the port by which it forwards packets for `lid` to a usable
-    /// switch, possibly itself, and the index of that switch; `None` if it forwards them to none. `blocks` must be
-    /// those of this network for `lid`.
+    /// Returns, for each usable switch by rising GUID, the edge along which it forwards packets for `lid` to a usable
+    /// switch, possibly itself. The edge is `None` for a switch that forwards these packets to no usable switch.
+    /// `blocks` must be this network's blocks with the entries for `lid`.
     pub(crate) fn edges(
         &self,
         alloc: Global,
@@ -261,8 +263,8 @@ impl<'a> Network<'a> {
         self.nodes.len()
     }
 
-    /// Returns the greatest top of a usable switch, or 0 if there is none. No switch forwards packets for a LID above
-    /// it to another switch. Takes time linear in the number of switches.
+    /// Returns the greatest top of a usable switch, or 0 if there is no usable switch. No usable switch forwards
+    /// packets for a LID above this top to another switch. Takes time linear in the number of usable switches.
     pub fn greatest_top(&self) -> Lid
         ensures { result ≡ greatest_top (cells_of self.now.facts) self.now.held }
     {
@@ -278,7 +280,8 @@ impl<'a> Network<'a> {
         Some(node.guid)
     }
 
-    /// Returns where the wire in a port of a usable switch leads, as `Subnet::far` does.
+    /// Returns the far end of the wire in port `number` % 256 of the usable switch at index `number` / 256, by rising
+    /// GUID. Returns `Nothing` if there is no such wire or no such switch.
     pub fn far(&self, number: usize) -> Far
         ensures { result ≡ far_by (cells_of self.now.facts) number }
     {
@@ -299,8 +302,8 @@ impl<'a> Network<'a> {
         &self.lines
     }
 
-    /// Returns the entry by which the usable switch `node` forwards packets for `lid` (255 means no entry), or `None`
-    /// if `node` is no usable switch. Takes time linear in the number of held switches and blocks.
+    /// Returns the effective entry of `node` for `lid`, 255 for no entry, or `None` if `node` is no usable switch.
+    /// Takes time linear in the number of held switches and blocks.
     pub fn entry(&self, node: Guid, lid: Lid) -> Option<u8>
         ensures { result ≡ entry_by (cells_of self.now.facts) self.now.held node lid }
     {

@@ -15,6 +15,6 @@ pub struct SwitchStep {
     pub switch: Guid,
     /// The effective entry; 255 means no entry.
     pub entry: u8,
-    /// What becomes of a packet there.
+    /// What becomes of a packet for the LID at the switch.
     pub hop: NextHop,
 }

@@ -16,12 +16,12 @@ pub enum End {
 pub enum Cause {
     /// The LID is above the switch's top.
     AboveTop,
-    /// The entry is 255, as it is too if no block is held.
+    /// The effective entry is 255, as it is for LID 0 and for a LID whose block is not held.
     NoEntry,
     /// The entry is above the number of the switch's ports.
     NoPort,
-    /// No wire is in the port.
+    /// The outgoing port has no wire.
     NoLink,
-    /// The packet came over a wire to a port that does not hold the LID.
+    /// The packet reached a port that does not hold the packet's LID, of a node that is no usable switch.
     Foreign,
 }

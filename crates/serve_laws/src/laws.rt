@@ -6,8 +6,9 @@ ghost use Rattle.serve_laws.specs.Framed.{AnswersEndOnce};
 ghost use Rattle.serve_laws.specs.Live.{ServedIsManaging};
 ghost use Rattle.serve_laws.specs.LivePings.{LivePingsArrive, SomeProcessServes};
 
-/// What is printed for bytes is what is printed for any beginning of them, followed by what the manager at that moment
-/// prints for the rest, with the line that has begun in front of it.
+/// If bytes are split in two, what is printed for all of them is what is printed for the first part, followed by what
+/// the manager at that moment prints for the second part. If the first part ends within a line, the second part
+/// completes this line.
 #[tactic(auto, using(crate::proofs::Behind::earlier_answers_stay))]
 pub fn earlier_answers_stay()
     ensures { EarlierAnswersStay }
@@ -18,53 +19,57 @@ pub fn answers_end_once()
     ensures { AnswersEndOnce }
 {}
 
-/// After any lines, the manager of a process is the one that the calls of these lines leave.
+/// After any lines, the manager of a process is the manager that the calls of these lines leave.
 #[tactic(auto, using(crate::proofs::Lived::served_lives))]
 pub fn served_lives()
     ensures { ServedLives }
 {}
 
-/// A process knows the view of the sightings of the reports that it accepted, at the greatest floor that it was given.
+/// After any lines, a new process knows the view of the sightings of the reports that it accepted, at the greatest
+/// floor that it was given, or 1.
 #[tactic(auto, using(crate::proofs::Alike::knows_what_it_was_told))]
 pub fn knows_what_it_was_told()
     ensures { KnowsWhatItWasTold }
 {}
 
-/// If two processes plan alike, took in the same and have the same greatest floor, they answer `facts` and `plan` with
-/// the same bytes, whatever else they were given.
+/// Two new processes answer `facts` and `plan` with the same bytes, whatever else they were given, if three conditions
+/// hold: they plan by the same rule and LMC; they took in the same sightings, in any order and however often; and they
+/// have the same greatest floor.
 pub fn same_told_same_texts()
     ensures { SameToldSameTexts }
 {}
 
 /// A process at its seat on a fabric, behind a faithful shell, is a manager there: any live events are events of
-/// `Managing` that can be, the manager at the seat is then the one that the lines of the process leave, and it has
-/// given out, in order, the packets that the process prints.
+/// `Managing` that can be; the manager at the seat is then the manager that the lines of the process leave; and the
+/// manager has given out, in order, the packets that the process printed.
 pub fn served_is_managing()
     ensures { ServedIsManaging }
 {}
 
-/// If a new process was given `sweep` while it held no facts, and later `write`, and the plan is written in the end,
-/// each ping from an end port that its seat is joined to, for each LID of the plan, reaches the end port that owns the
-/// LID, as long as no `sweep` and no `floor` is given between them and no `write` after them, the sweep has every
-/// answer at `write` and nothing is out of its reach, the shell is faithful, no cable moves, and each Set that an agent
-/// takes after `write` is one of the writing's own or carries the plan's values.
+/// Once a new process was given `sweep` and later `write`, and neither line was refused, each ping from an end port
+/// that its seat is joined to, for each LID of the plan, reaches the end port that owns the LID, if seven conditions
+/// hold: the process held no facts at `sweep`; no `sweep` and no `floor` is given between the two lines, and no `write`
+/// after them; the sweep has every answer at `write`; the plan counts as written in the end; the shell is faithful; no
+/// cable moves; and each Set that an agent takes after `write` is one of the writing's own or carries the plan's
+/// values.
 pub fn live_pings_arrive()
     ensures { LivePingsArrive }
 {}
 
-/// Some process serves: a new one on an adapter that is wired to a switch. Another adapter is wired to the switch, and
-/// another manager sits there and answers it.
+/// Some process serves: a new process on an adapter that is wired to a switch. Another adapter is wired to the switch.
+/// Another manager sits there and answers the process.
 pub fn some_process_serves()
     ensures { SomeProcessServes }
 {}
 
-/// An answer has the text of what the line does, then each packet that is sent by it, and then the end.
+/// An answer has the text that the line itself prints, then a line for each packet that is sent, in order, and then the
+/// line of a dot.
 #[tactic(auto, using(crate::proofs::Said::packets_are_printed))]
 pub fn packets_are_printed()
     ensures { PacketsArePrinted }
 {}
 
-/// The line `written` prints `written yes` exactly if the plan is written.
+/// The line `written` prints `written yes` exactly if the manager's plan counts as written.
 #[tactic(auto, using(crate::proofs::Said::written_says_yes))]
 pub fn written_says_yes()
     ensures { WrittenSaysYes }

@@ -9,7 +9,7 @@ use packet_walks::LidCursor;
 use port_graph::Edge;
 use std::alloc::{AllocError, Global};
 
-/// The edges by which packets for one LID leave the switches, by the held tables and by the next ones.
+/// The edges along which packets for one LID leave the switches, by the held tables and by the next ones.
 #[derive(Drop)]
 pub(crate) struct Columns {
     pub held: Vec<Option<Edge>>,
@@ -49,10 +49,11 @@ pub(crate) fn columns_of(
     })
 }
 
-/// Records that a channel follows another if packets for the LID of `columns` take them in this order, each by either
-/// table. What `before`, the columns of the previous LID, says must be in `waits` already; equal columns are not added
-/// again. `waits` must have 256 channels for each vertex. Takes time linear in the number of switches and, where the
-/// next channel is not known to follow the switch's channel, in the number of channels that follow it.
+/// Records in `waits` that a channel follows another if packets for the LID of `columns` take the two in this order,
+/// each by either table. `before` has the columns of an earlier LID, whose channels must be recorded already. Equal
+/// columns are not added again. `waits` must have 256 channels for each vertex, fewer than 2^64 in all. Takes time
+/// linear in the number of switches. If a switch's next channel is not known to follow its channel, also takes time
+/// linear in the number of channels that follow its channel.
 pub(crate) fn add_step(
     waits: &mut Waits,
     before: &Columns,
@@ -73,8 +74,8 @@ pub(crate) fn add_step(
     add_all(waits, &columns.held, &columns.next)
 }
 
-/// Records which channels follow each other if packets take each of them by either of two columns. `waits` must have
-/// 256 channels for each vertex of either column.
+/// Records in `waits` that a channel follows another if packets take the two in this order, each by `held` or by
+/// `next`. `waits` must have 256 channels for each vertex of either column, fewer than 2^64 in all.
 fn add_all(
     waits: &mut Waits,
     held: &[Option<Edge>],

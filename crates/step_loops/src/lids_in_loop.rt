@@ -13,10 +13,10 @@ use port_graph::Edge;
 use smp_bytes::Lid;
 use std::alloc::{AllocError, Global};
 
-/// Returns, for each channel of a credit loop in a step, the least LID for which packets that hold it wait for the next
-/// channel. The first channel follows the last. At each of the two switches, the entry may be of either table. `held`
-/// and `next` must have the same facts, and `cycle` must be a credit loop of the step. For each LID, until each channel
-/// has one, takes time linear in the numbers of switches and of channels.
+/// Returns, for each channel of the credit loop `cycle` of a step, the least LID for which packets that hold the
+/// channel wait for the next one. After the last channel comes the first. Packets may take each of the two channels by
+/// either table. `held` and `next` must have the same facts, and `cycle` must be a credit loop of the step. For each
+/// LID, until each channel has one, takes time linear in the numbers of switches and of channels.
 pub fn loop_lids(
     alloc: Global,
     held: &Network,
@@ -64,7 +64,7 @@ fn none_known(alloc: Global, count: usize) -> Result<Vec<Lid>, AllocError>
     vec![in alloc; Lid::NONE; count]
 }
 
-/// Returns whether all `lids` are known, so that none of them is 0.
+/// Returns whether all `lids` are known: none of them is 0.
 fn are_known(lids: &[Lid]) -> bool
     ensures { result ≡ are_known lids.now }
 {
@@ -72,7 +72,8 @@ fn are_known(lids: &[Lid]) -> bool
 }
 
 /// Sets `lid`, in `lids`, for each channel of `cycle` that has no LID yet, if packets for `lid` hold the channel and
-/// wait for the one in `after`, by the edges of either column. There must be as many entries in all three lists.
+/// wait for the channel at the same index of `after`. Packets may take each of the two channels by the edges of either
+/// column. `lids`, `cycle` and `after` must have the same length.
 fn note_lid(
     lids: &mut [Lid],
     cycle: &[usize],
@@ -90,7 +91,7 @@ fn note_lid(
     }
 }
 
-/// Returns `lid` if `known` is 0 and packets for `lid` hold `channel` and wait for `other`, by the edges of either
+/// Returns `lid` if `known` is 0 and packets for `lid` hold `channel` and wait for `other`, each by the edges of either
 /// column. Otherwise returns `known`.
 fn noted(
     channel: usize,

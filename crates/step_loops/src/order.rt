@@ -27,8 +27,8 @@ pub fn step_order(alloc: Global, held: &Network, next: &Network) -> Result<Chann
     Ok(found)
 }
 
-/// Returns, for each channel, the channels that packets take next by either table. `held` and `next` must have the same
-/// facts.
+/// Returns, for each channel, the channels that packets take next, each of the two by either table. `held` and `next`
+/// must have the same facts.
 fn waits(alloc: Global, held: &Network, next: &Network) -> Result<Waits, AllocError>
     requires facts { next.now.facts ≡ held.now.facts }
     ensures { IfOk result (λ waits.

@@ -6,8 +6,8 @@ ghost use Rattle.told_order.specs.Turns.{lists_of};
 
 use crate::turns::SwitchTurn;
 
-/// Returns the last switch in `preferred` that may be the last of the switches left, by the turns at each switch, or
-/// `None` if there is none.
+/// Returns the last switch in `preferred` that may be the last of the switches left, or `None` if there is none.
+/// `turns` has the turns at each switch.
 pub(crate) fn last_of(
     turns: &[Vec<SwitchTurn>],
     preferred: &[usize],
@@ -24,8 +24,7 @@ pub(crate) fn last_of(
     None
 }
 
-/// Returns whether `switch` is left and no packet comes to it from a switch that is left and leaves it for a switch
-/// that is left.
+/// Returns whether `switch` is left and none of its turns leads from a switch that is left to a switch that is left.
 fn may_be_last(turns: &[Vec<SwitchTurn>], left: &[bool], switch: usize) -> bool
     ensures { result ≡ may_be_last (lists_of turns.now) left.now switch }
 {

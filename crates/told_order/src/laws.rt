@@ -6,7 +6,7 @@ ghost use Rattle.told_order.specs.ToldLaws.{
   ToldOrdersAreStable,
 };
 
-/// If tables imply an order, they are right for every LID by it, and no two switches that a wire joins have the same
+/// Tables that imply an order are right by it for every LID, and no two switches that a wire joins have the same
 /// position in it.
 pub fn told_orders_are_right()
     ensures law { ToldOrdersAreRight }
@@ -19,7 +19,7 @@ pub fn some_order_is_told()
 {}
 
 /// If tables are right by an order that agrees with the preferences on their first switches, the order that the tables
-/// imply also agrees with the preferences on these switches. The preferences have each usable switch once.
+/// imply also agrees with the preferences, which have each usable switch once, on these switches.
 pub fn told_orders_agree()
     ensures law { ToldOrdersAgree }
 {}

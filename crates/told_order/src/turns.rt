@@ -10,8 +10,8 @@ use held_tables::Far;
 use packet_walks::Network;
 use std::alloc::{AllocError, Global};
 
-/// A turn at a switch: packets for some LID come from one switch and leave for another, which may be the switch that
-/// they came from.
+/// A turn at a switch: packets for some LID come from the switch `from` and leave for the switch `to`, which may be
+/// `from`.
 #[derive(Clone, Copy, Debug, PartialEq, Eq)]
 pub(crate) struct SwitchTurn {
     /// The index of the switch from which the packets come.
@@ -20,8 +20,8 @@ pub(crate) struct SwitchTurn {
     pub to: usize,
 }
 
-/// Returns the turns that packets make at each usable switch, by rising GUID, by the tables of `network`. Costs what
-/// `channel_waits` takes, and time linear in the number of channels and of what follows each.
+/// Returns the turns that packets make at each usable switch, by rising GUID, by the tables of `network`. Takes what
+/// `channel_waits` takes, and time linear in the number of channels, plus that of the channels that follow each.
 pub(crate) fn turns(alloc: Global, network: &Network) -> Result<Vec<Vec<SwitchTurn>>, AllocError>
     ensures { IfOk result (λ turns.
         AreTurns (cells_of network.now.facts) network.now.held (lists_of turns.items)) }
@@ -30,8 +30,8 @@ pub(crate) fn turns(alloc: Global, network: &Network) -> Result<Vec<Vec<SwitchTu
     turns_over(alloc, network, &waits)
 }
 
-/// Returns, for each usable switch, the turns from channels to it into the channels that follow them. `waits` must have
-/// the channels that packets take next by the tables of `network`.
+/// Returns, for each usable switch, the turns there: from each channel to the switch into each channel that follows
+/// that one. `waits` must have the channels that packets take next by the tables of `network`.
 fn turns_over(
     alloc: Global,
     network: &Network,
@@ -59,7 +59,8 @@ fn no_turns(alloc: Global, count: usize) -> Result<Vec<Vec<SwitchTurn>>, AllocEr
     Ok(turns)
 }
 
-/// Adds the turns from `channel` into each channel of `following`. `turns` must have a list for each usable switch.
+/// Adds the turn from `channel` into each channel of `following` whose wire leads to a usable switch. `turns` must have
+/// a list for each usable switch.
 fn add_turns(
     turns: &mut [Vec<SwitchTurn>],
     network: &Network,
