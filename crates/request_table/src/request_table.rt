@@ -75,11 +75,12 @@ impl<T: Numbered + Drop> RequestTable<T> {
         count as u64 <= 0x1_0000_0000 - self.next
     }
 
-    /// Reserves memory for `count` more requests.
+    /// Reserves memory for `count` more requests. Keeps the room that there was if memory runs out.
     pub fn reserve(&mut self, count: usize) -> Result<(), AllocError>
         ensures next { self.new.next ≡ self.old.next }
         ensures requests { self.new.requests ≡ self.old.requests }
         ensures room { OnOk result (count ≤ self.new.room) }
+        ensures kept { self.old.room ≤ self.new.room }
     {
         self.requests.reserve(count)
     }
