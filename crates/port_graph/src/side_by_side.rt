@@ -1,7 +1,7 @@
-ghost use Rattle.std.specs.Prelude.{◌≡◌, ◌==◌, ◌<◌, true, All, IfOk, IfSome, length, map, slice_index};
+ghost use Rattle.std.specs.Prelude.{◌≡◌, ◌==◌, ◌<◌, true, All, IfOk, MatchOption, length, map, slice_index};
 ghost use Rattle.std.specs.Prelude.{slice_index_or};
 ghost use Rattle.port_graph.specs.Indexed.{AreSlopes, indexed, ports_between};
-ghost use Rattle.port_graph.specs.Lanes.{EachLane, AreRouted, IsBlock, IsStepDown, IsStepUp, at, nearest_by};
+ghost use Rattle.port_graph.specs.Lanes.{AnyLane, EachLane, AreRouted, IsBlock, IsStepDown, IsStepUp, at, nearest_by};
 ghost use Rattle.port_graph.specs.Lanes.{port_in, target_in};
 ghost use Rattle.port_graph.specs.Slopes.{next_port};
 
@@ -173,7 +173,7 @@ fn route_in_lanes(
 }
 
 /// Returns the down distances of `vertex` and its ports down, given the numbers of the vertices down from it, or `None`
-/// if a distance is too great for a lane.
+/// if the least of these is 254 in a lane, so that one more is too great for it.
 fn down_from(
     downs: &[Edge],
     numbers: &[[u8; LANES]],
@@ -181,7 +181,8 @@ fn down_from(
     vertex: usize,
 ) -> Option<Hops>
     requires { All (λ edge. edge.to < length numbers.now) downs.now }
-    ensures { IfSome result (λ hops. EachLane (λ k. IsStepDown (slice_index targets.now k == vertex)
+    ensures { MatchOption result (AnyLane (λ k. (nearest_by (λ a. at numbers.now a k) downs.now).0 ≡ 254))
+        (λ hops. EachLane (λ k. IsStepDown (slice_index targets.now k == vertex)
         (nearest_by (λ a. at numbers.now a k) downs.now) (slice_index hops.numbers k) (slice_index hops.ports k))) }
 {
     let nearest = nearest(downs, numbers);
@@ -194,10 +195,12 @@ fn down_from(
 }
 
 /// Returns the hops of a vertex whose hops `down` are known: where a lane has no down distance, its cost and its port
-/// up, given the costs of the vertices up from it. Returns `None` if a cost is too great for a lane.
+/// up, given the costs of the vertices up from it. Returns `None` if the least of these is 254 in a lane, so that one
+/// more is too great for it.
 fn up_from(ups: &[Edge], numbers: &[[u8; LANES]], down: Hops) -> Option<Hops>
     requires { All (λ edge. edge.to < length numbers.now) ups.now }
-    ensures { IfSome result (λ hops. EachLane (λ k. IsStepUp (slice_index down.numbers k) (slice_index down.ports k)
+    ensures { MatchOption result (AnyLane (λ k. (nearest_by (λ a. at numbers.now a k) ups.now).0 ≡ 254))
+        (λ hops. EachLane (λ k. IsStepUp (slice_index down.numbers k) (slice_index down.ports k)
         (nearest_by (λ a. at numbers.now a k) ups.now) (slice_index hops.numbers k) (slice_index hops.ports k))) }
 {
     let nearest = nearest(ups, numbers);
