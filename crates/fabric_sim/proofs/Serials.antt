@@ -124,9 +124,20 @@ at_index flights i serial h = by (slice_get flights i) refl h
     by None e h = cc
     by (Some f) e h = record { flight = f; at = e; within = slice_get_within flights i f e; number = cc }
 
+-- no packet before it has its number
+none_before : (flights : List Flight) (i : ℕ) (f : Flight) → AreRising flights → slice_get flights i ≡ Some f
+    → (j : ℕ) → j < i → IsFlightAt flights j f.serial → ⊥
+none_before flights i f rising at j before same =
+    let there = at_index flights j f.serial same in
+    let within : i < length flights = slice_get_within flights i f at in
+    let mine : get_or flights i f ≡ f = get_or_from_slice_get flights i f f at in
+    let its : get_or flights j f ≡ there.flight = get_or_from_slice_get flights j there.flight f there.at in
+    let below : (get_or flights j f).serial < (get_or flights i f).serial = rising j i f before within in
+    omega (arith, below, there.number, ap (λ (y : Flight). y.serial) mine, ap (λ (y : Flight). y.serial) its)
+
 -- an index has the packet of its number
 pub finds_at : (flights : List Flight) (i : ℕ) (f : Flight) → AreRising flights → slice_get flights i ≡ Some f → Finds flights f.serial (Some i)
-finds_at flights i f rising at = (ap (option_map (λ y. y.serial)) at, at ∙ sym (found_at flights i f rising at))
+finds_at flights i f rising at = (ap (option_map (λ y. y.serial)) at, at ∙ sym (found_at flights i f rising at), none_before flights i f rising at)
 
 -- a search -----------------------------------------------------------------------------
 

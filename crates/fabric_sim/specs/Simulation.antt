@@ -109,10 +109,11 @@ flight_with flights serial = find (is_numbered serial) flights
 abbrev pub IsFlightAt : List Flight → ℕ → ℕ → Type 0
 IsFlightAt flights i serial = option_map (λ flight. flight.serial) (slice_get flights i) ≡ Some serial
 
--- the packet at the given index is the one with the number `serial`; for None, no packet has this number
+-- the given index is the first at which a packet has the number `serial`; for None, no packet has this number
 abbrev pub Finds : List Flight → ℕ → Option ℕ → Type 0
 Finds flights serial None = flight_with flights serial ≡ None
 Finds flights serial (Some i) = IsFlightAt flights i serial × (slice_get flights i ≡ flight_with flights serial)
+    × ((j : ℕ) → j < i → IsFlightAt flights j serial → ⊥)
 
 -- the packets in flight without the one that has the number `serial`
 abbrev pub without_flight : List Flight → ℕ → List Flight

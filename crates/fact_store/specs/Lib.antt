@@ -1,6 +1,7 @@
 pub mod Cells
 pub mod Coded
 pub mod Comparisons
+pub mod Fingers
 pub mod Floor
 pub mod Ingest
 pub mod Merge

@@ -1,4 +1,5 @@
-ghost use Rattle.std.specs.Prelude.{◌<◌};
+ghost use Rattle.std.specs.Prelude.{◌≡◌, ◌<◌, Some};
+ghost use Rattle.fact_store.specs.Fingers.{after_put, by_guid, by_kind, hash_of};
 
 use page_list::Slot;
 use reply_facts::Key;
@@ -45,8 +46,10 @@ impl Fingers {
         }
     }
 
-    /// Returns the slot where `key` is looked for first.
-    pub(crate) fn by_kind(&self, key: &Key) -> Slot {
+    /// Returns the slot where `key` is looked for first: the last one of its kind, or the last but one for a link.
+    pub(crate) fn by_kind(&self, key: &Key) -> Slot
+        ensures { Some result ≡ by_kind self.now key.now }
+    {
         match key {
             Key::Node(_) => self.node,
             Key::PortGuid(..) => self.port_guid,
@@ -58,7 +61,9 @@ impl Fingers {
     }
 
     /// Returns the slot where `key` is looked for next, or `None` if its kind has no slots by GUID.
-    pub(crate) fn by_guid(&self, key: &Key) -> Option<Slot> {
+    pub(crate) fn by_guid(&self, key: &Key) -> Option<Slot>
+        ensures { result ≡ by_guid self.now key.now }
+    {
         match key {
             Key::Node(node) => Some(self.nodes[hash(*node)]),
             Key::PortGuid(node, _) => Some(self.port_guids[hash(*node)]),
@@ -68,7 +73,9 @@ impl Fingers {
     }
 
     /// Notes that the cell of `key` was put at `slot`.
-    pub(crate) fn put(&mut self, key: &Key, slot: Slot) {
+    pub(crate) fn put(&mut self, key: &Key, slot: Slot)
+        ensures { self.new ≡ after_put self.old key.now slot }
+    {
         match key {
             Key::Node(node) => {
                 self.node = slot;
@@ -89,9 +96,10 @@ impl Fingers {
     }
 }
 
-/// Returns a hash of `guid`, less than 256.
+/// Returns a hash of `guid`, less than 256: bits 32 to 39 of its product with a fixed number.
 fn hash(guid: Guid) -> usize
-    ensures { result < 256 }
+    ensures is { result ≡ hash_of guid }
+    ensures small { result < 256 }
 {
     let mixed = guid.number().wrapping_mul(0x9E37_79B9_7F4A_7C15) >> 32;
     mixed as usize % GUIDS

@@ -231,8 +231,13 @@ impl<T: Copy> PageList<T> {
     }
 }
 
-/// Returns the slot of an item that was inserted at `at` into a full page, after the page was halved.
-fn slot_in_halves(at: Slot) -> Slot {
+/// Returns the slot of an item that was inserted at `at` into a full page, after the page was halved: `at` itself, or
+/// the slot in the next page if the offset is over 128.
+fn slot_in_halves(at: Slot) -> Slot
+    ensures first { at.offset ≤ 128 → result ≡ at }
+    ensures page { 128 < at.offset → at.page + 1 < 2 ^ 64 → result.page ≡ at.page + 1 }
+    ensures offset { 128 < at.offset → result.offset + 128 ≡ at.offset }
+{
     if at.offset <= PAGE / 2 {
         return at;
     }

@@ -1,4 +1,4 @@
-ghost use Rattle.std.specs.Prelude.{◌≡◌, ◌+◌, ◌-◌, ◌*◌, ◌<◌, ◌≤◌, ◌^◌, [], ◌∷◌, ◌++◌, OnOk, false, ℕ, List};
+ghost use Rattle.std.specs.Prelude.{◌≡◌, ◌+◌, ◌-◌, ◌*◌, ◌<◌, ◌≤◌, ◌^◌, [], ◌∷◌, ◌++◌, OnOk, false, true, ℕ, List};
 ghost use Rattle.std.specs.Prelude.{length, map, take, drop, insert, All, slice_index};
 ghost use Rattle.std.specs.Vec.{vec_capacity, vec_len};
 ghost use Rattle.page_list.specs.Starts.{raised};
@@ -179,7 +179,8 @@ fn settle(numbers: &mut Vec<usize>, added: &mut Vec<usize>)
 
 /// Returns whether any number is not 0.
 fn has_any(numbers: &[usize]) -> bool
-    ensures { result ≡ false → (i : ℕ) → slice_index numbers.now i ≡ 0 }
+    ensures { (result ≡ false → (i : ℕ) → slice_index numbers.now i ≡ 0)
+        × (result ≡ true → (i : ℕ) × (0 < slice_index numbers.now i)) }
 {
     for i in 0..numbers.len() {
         if numbers[i] > 0 {

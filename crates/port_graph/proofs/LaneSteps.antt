@@ -62,6 +62,12 @@ one_more_lane xs more lane v false h is so_far fits k below =
     less : (k lane : ℕ) → k < lane + 1 → (k ≡ lane → ⊥) → k < lane
     less k lane below other = grind arith
 
+-- one of the lanes up to this one is too great
+pub too_great_lane : (xs : List ℕ) (lane : ℕ) (great : Bool) → (great ≡ true → (k : ℕ) × (k < lane) × (slice_index xs k ≡ 254))
+    → (great || (slice_index xs lane == 254)) ≡ true → (k : ℕ) × (k < lane + 1) × (slice_index xs k ≡ 254)
+too_great_lane xs lane true so_far e = let found = so_far refl in (found.0, omega (arith, found.1), found.2)
+too_great_lane xs lane false so_far e = (lane, omega arith, eqb-true (slice_index xs lane) 254 e)
+
 -- edge by edge ------------------------------------------------------------------------------
 
 -- the lesser of two numbers in a lane

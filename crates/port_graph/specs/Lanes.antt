@@ -8,6 +8,10 @@ use Rattle.port_graph.specs.Indexed.{indexed}
 abbrev pub EachLane : (ℕ → Type 0) → Type 0
 EachLane P = (k : ℕ) → k < 16 → P k
 
+-- `P` holds for one of the 16 lanes
+abbrev pub AnyLane : (ℕ → Type 0) → Type 0
+AnyLane P = (k : ℕ) × (k < 16) × P k
+
 -- the number in lane `k` of the row of vertex `a`
 abbrev pub at : List (List ℕ) → ℕ → ℕ → ℕ
 at rows a k = slice_index (slice_index_or rows a []) k

@@ -1,5 +1,5 @@
-ghost use Rattle.std.specs.Prelude.{◌≡◌, ◌<◌, All, IfSome, cond, length, nat_lt, slice_index, ◌==◌};
-ghost use Rattle.port_graph.specs.Lanes.{EachLane, IsOneMore, at, nearer, nearest_by, port_in};
+ghost use Rattle.std.specs.Prelude.{◌≡◌, ◌<◌, All, MatchOption, cond, length, nat_lt, slice_index, ◌==◌};
+ghost use Rattle.port_graph.specs.Lanes.{AnyLane, EachLane, IsOneMore, at, nearer, nearest_by, port_in};
 
 use crate::edge::Edge;
 use smp_bytes::PortNum;
@@ -53,9 +53,11 @@ fn take_nearer(found: &mut Hops, numbers: &[u8; LANES], port: u8)
     }
 }
 
-/// Returns `numbers` with 1 added in each lane that has a number, or `None` if a sum is too great for a lane.
+/// Returns `numbers` with 1 added in each lane that has a number, or `None` if a number is 254, so that the
+/// sum is too great for a lane.
 pub(crate) fn one_more(numbers: &[u8; LANES]) -> Option<[u8; LANES]>
-    ensures { IfSome result (λ more. EachLane (λ k. IsOneMore (slice_index numbers.now k) (slice_index more k))) }
+    ensures { MatchOption result (AnyLane (λ k. slice_index numbers.now k ≡ 254))
+        (λ more. EachLane (λ k. IsOneMore (slice_index numbers.now k) (slice_index more k))) }
 {
     let mut more = [NONE; LANES];
     let mut is_too_great = false;

@@ -1,7 +1,7 @@
-ghost use Rattle.std.specs.Prelude.{◌≡◌, ◌==◌, ◌<◌, true, All, IfOk, IfSome, length, map, slice_index};
+ghost use Rattle.std.specs.Prelude.{◌≡◌, ◌==◌, ◌<◌, true, All, IfOk, MatchOption, length, map, slice_index};
 ghost use Rattle.std.specs.Prelude.{slice_index_or};
 ghost use Rattle.port_graph.specs.Indexed.{AreSlopes, indexed, ports_between};
-ghost use Rattle.port_graph.specs.Lanes.{EachLane, AreRouted, IsBlock, IsStepDown, IsStepUp, at, nearest_by};
+ghost use Rattle.port_graph.specs.Lanes.{AnyLane, EachLane, AreRouted, IsBlock, IsStepDown, IsStepUp, at, nearest_by};
 ghost use Rattle.port_graph.specs.Lanes.{port_in, target_in};
 ghost use Rattle.port_graph.specs.Slopes.{next_port};
 
@@ -175,8 +175,8 @@ fn route_in_lanes(
     true
 }
 
-/// Returns the down distances of `vertex` and its ports down, or `None` if a distance is too great for a lane.
-/// `numbers` has the down distances of the vertices down from `vertex`.
+/// Returns the down distances of `vertex` and its ports down. `numbers` has the down distances of the vertices down
+/// from `vertex`. Returns `None` if the least of these is 254 in a lane, since one more is too great for a lane.
 fn down_from(
     downs: &[Edge],
     numbers: &[[u8; LANES]],
@@ -184,7 +184,8 @@ fn down_from(
     vertex: usize,
 ) -> Option<Hops>
     requires { All (λ edge. edge.to < length numbers.now) downs.now }
-    ensures { IfSome result (λ hops. EachLane (λ k. IsStepDown (slice_index targets.now k == vertex)
+    ensures { MatchOption result (AnyLane (λ k. (nearest_by (λ a. at numbers.now a k) downs.now).0 ≡ 254))
+        (λ hops. EachLane (λ k. IsStepDown (slice_index targets.now k == vertex)
         (nearest_by (λ a. at numbers.now a k) downs.now) (slice_index hops.numbers k) (slice_index hops.ports k))) }
 {
     let nearest = nearest(downs, numbers);
@@ -198,11 +199,12 @@ fn down_from(
 
 /// Returns the hops of a vertex with the edges `ups`. A lane in which `down` has a down distance keeps this distance
 /// and its port. Any other lane gets one more than the least cost of the vertices up from the vertex. Its port is that
-/// of the first edge to a vertex of that cost. `numbers` has the costs of these vertices. Returns `None` if a sum is
-/// too great for a lane.
+/// of the first edge to a vertex of that cost. `numbers` has the costs of these vertices. Returns `None` if the least
+/// of these is 254 in a lane, since one more is too great for a lane.
 fn up_from(ups: &[Edge], numbers: &[[u8; LANES]], down: Hops) -> Option<Hops>
     requires { All (λ edge. edge.to < length numbers.now) ups.now }
-    ensures { IfSome result (λ hops. EachLane (λ k. IsStepUp (slice_index down.numbers k) (slice_index down.ports k)
+    ensures { MatchOption result (AnyLane (λ k. (nearest_by (λ a. at numbers.now a k) ups.now).0 ≡ 254))
+        (λ hops. EachLane (λ k. IsStepUp (slice_index down.numbers k) (slice_index down.ports k)
         (nearest_by (λ a. at numbers.now a k) ups.now) (slice_index hops.numbers k) (slice_index hops.ports k))) }
 {
     let nearest = nearest(ups, numbers);

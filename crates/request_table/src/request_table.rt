@@ -75,12 +75,13 @@ impl<T: Numbered + Drop> RequestTable<T> {
         count as u64 <= 0x1_0000_0000 - self.next
     }
 
-    /// Reserves memory for `count` more requests. Returns an error if memory runs out. The requests stay in either
-    /// case.
+    /// Reserves memory for `count` more requests. Returns an error if memory runs out. The requests, and the room that
+    /// there was, stay in either case.
     pub fn reserve(&mut self, count: usize) -> Result<(), AllocError>
         ensures next { self.new.next ≡ self.old.next }
         ensures requests { self.new.requests ≡ self.old.requests }
         ensures room { OnOk result (count ≤ self.new.room) }
+        ensures kept { self.old.room ≤ self.new.room }
     {
         self.requests.reserve(count)
     }

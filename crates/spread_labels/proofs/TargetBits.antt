@@ -1,10 +1,10 @@
 -- Sets of targets by their bits.
-use Rattle.std.proofs.Common.{◌≡◌, ◌≢◌, ◌<◌, ◌≤◌, ◌-◌, ◌*◌, ◌%◌, ◌^◌, ◌==◌, ◌&&◌, ◌||◌, ℕ, zero, suc, inl, inr, refl, sym, ap, ◌∙◌, arith, true, false, not, Bool, min, max, bit_and, bit_or, w64}
+use Rattle.std.proofs.Common.{◌≡◌, ◌≢◌, ◌<◌, ◌≤◌, ◌-◌, ◌*◌, ◌%◌, ◌^◌, ◌==◌, ◌&&◌, ◌||◌, ℕ, zero, suc, inl, inr, refl, sym, ap, ◌∙◌, arith, lit<, true, false, not, Bool, min, max, bit_and, bit_or, w64}
 use Rattle.std.proofs.lemmas.Bool.{cases_eq, eq-eqb, eqb-true}
 use Rattle.std.specs.Int.{bit_at, bit_not, trailing_zeros}
 use Rattle.std.proofs.lemmas.Nat.{and_le_l}
 use Rattle.spread_labels.specs.TargetSets.{has, no_targets}
-use Rattle.std.proofs.lemmas.Nat.Bits.{bit_at-lt, bit_at_or, bit_at_and, bit_at_not, bit_at_set_same, bit_at_set_other, bit_at_clear_same, bit_at_clear_other, bit_at-trailing_zeros, bit_at-zero}
+use Rattle.std.proofs.lemmas.Nat.Bits.{bit_at-lt, bit_at_or, bit_at_and, bit_at_not, bit_at_set_same, bit_at_set_other, bit_at_clear_same, bit_at_clear_other, bit_at-trailing_zeros, bit_at-zero, same_from_bits_below}
 
 module _ where
   max_flag : (x y : ℕ) → x < 2 → y < 2 → (max x y == 1) ≡ ((x == 1) || (y == 1))
@@ -93,6 +93,22 @@ first_bit a some small =
 
 pub no_bit : (a k : ℕ) → a ≡ 0 → (bit_at a k == 1) ≡ false
 no_bit a k is = ap (λ n. n == 1) (ap (λ x. bit_at x k) is ∙ bit_at-zero k)
+
+pub same_bits : (a b : ℕ) → a < 2 ^ 64 → b < 2 ^ 64 → ((k : ℕ) → k < 64 → (bit_at a k == 1) ≡ (bit_at b k == 1)) → a ≡ b
+same_bits a b small smaller same =
+    same_from_bits_below 64 a b small smaller (λ k h. flags (bit_at a k) (bit_at b k) (bit_at-lt a k) (bit_at-lt b k) (same k h))
+  where
+    flags : (x y : ℕ) → x < 2 → y < 2 → (x == 1) ≡ (y == 1) → x ≡ y
+    flags zero zero h j e = refl
+    flags zero (suc zero) h j e = cc
+    flags (suc zero) zero h j e = cc
+    flags (suc zero) (suc zero) h j e = refl
+    flags (suc (suc x)) y h j e = absurd (omega (arith, h))
+    flags zero (suc (suc y)) h j e = absurd (omega (arith, j))
+    flags (suc zero) (suc (suc y)) h j e = absurd (omega (arith, j))
+
+pub no_bits : (a : ℕ) → a < 2 ^ 64 → ((k : ℕ) → k < 64 → (bit_at a k == 1) ≡ false) → a ≡ 0
+no_bits a small none = same_bits a 0 small (lit< tt) (λ k h. none k h ∙ sym (no_bit 0 k refl))
 
 pub none_has : (k : ℕ) → k < 64 → has no_targets k ≡ false
 unfolding has

@@ -28,7 +28,9 @@ impl Model for CandidateLists {
 
 impl CandidateLists {
     /// Creates lists without ports.
-    pub fn new(alloc: Global) -> Result<Self, AllocError> {
+    pub fn new(alloc: Global) -> Result<Self, AllocError>
+        ensures { IfOk result (λ lists. EachTarget (λ k. slice_index_or lists k [] ≡ [])) }
+    {
         let mut lists = Vec::with_capacity(alloc, TARGETS)?;
         for _ in 0..TARGETS {
             lists.push(Vec::new(alloc))?;

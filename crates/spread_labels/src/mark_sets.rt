@@ -1,5 +1,5 @@
 //! Marks towards many targets at once, in rounds.
-ghost use Rattle.std.specs.Prelude.{◌≡◌, ◌<◌, ◌≤◌, ◌&&◌, ◌||◌, true, length, map, nat_lt, All, IfOk};
+ghost use Rattle.std.specs.Prelude.{◌≡◌, ◌↔◌, ◌<◌, ◌≤◌, ◌&&◌, ◌||◌, length, map, nat_lt, All, IfOk, IsTrue};
 ghost use Rattle.std.specs.List.{list_any};
 ghost use Rattle.port_graph.specs.Heads.{LeadToVertices};
 ghost use Rattle.spread_labels.specs.TargetSets.{EachTarget, has};
@@ -165,7 +165,7 @@ fn at_targets(alloc: Global, count: usize, targets: &[usize]) -> Result<Vec<Targ
 /// vertices.
 pub(crate) fn are_same(old: &MarkSets, new: &MarkSets) -> bool
     requires { length old.now.marked.items ≡ length new.now.marked.items }
-    ensures { result ≡ true → AreSame old.now.marked.items new.now.marked.items (length old.now.marked.items) }
+    ensures { IsTrue result ↔ AreSame old.now.marked.items new.now.marked.items (length old.now.marked.items) }
 {
     for vertex in 0..old.marked.len() {
         if !old.marked[vertex].is_same(new.marked[vertex]) {

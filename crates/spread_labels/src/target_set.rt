@@ -1,5 +1,5 @@
 //! Sets of targets.
-ghost use Rattle.std.specs.Prelude.{◌≡◌, ◌<◌, ◌&&◌, ◌||◌, ◌==◌, true, false, not, MatchOption};
+ghost use Rattle.std.specs.Prelude.{◌≡◌, ◌↔◌, ◌<◌, ◌&&◌, ◌||◌, ◌==◌, true, false, not, IsTrue, MatchOption};
 ghost use Rattle.spread_labels.specs.TargetSets.{EachTarget, has, no_targets};
 
 /// The greatest number of targets in a set.
@@ -59,14 +59,14 @@ impl TargetSet {
 
     /// Returns whether the set is empty.
     pub(crate) fn is_empty(self) -> bool
-        ensures { result ≡ true → EachTarget (λ k. has self k ≡ false) }
+        ensures { IsTrue result ↔ EachTarget (λ k. has self k ≡ false) }
     {
         self.bits == 0
     }
 
     /// Returns whether this set and `other` are equal.
     pub(crate) fn is_same(self, other: TargetSet) -> bool
-        ensures { result ≡ true → EachTarget (λ k. has self k ≡ has other k) }
+        ensures { IsTrue result ↔ EachTarget (λ k. has self k ≡ has other k) }
     {
         self.bits == other.bits
     }

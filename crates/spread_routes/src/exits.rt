@@ -1,5 +1,5 @@
 //! The ports by which packets leave a switch towards others.
-ghost use Rattle.std.specs.Prelude.{◌≡◌, ◌<◌, ◌^◌, [], All, IsTrue, None, OnOk, is_some};
+ghost use Rattle.std.specs.Prelude.{◌≡◌, ◌<◌, ◌^◌, [], All, IfOk, IsTrue, None, OnOk, is_some};
 ghost use Rattle.std.specs.Prelude.{length, map, slice_index, slice_index_or};
 ghost use Rattle.std.specs.Prelude.{unwrap_or};
 ghost use Rattle.spread_labels.specs.TargetSets.{EachTarget};
@@ -52,8 +52,12 @@ impl<'s> Model for Exits<'s> {
 }
 
 impl<'s> Exits<'s> {
-    /// Creates exits without ports.
-    pub fn new(alloc: Global) -> Result<Self, AllocError> {
+    /// Creates exits without ports, choices and targets.
+    pub fn new(alloc: Global) -> Result<Self, AllocError>
+        ensures ports { IfOk result (λ exits. EachTarget (λ k. slice_index_or exits.ports k [] ≡ [])) }
+        ensures choices { IfOk result (λ exits. exits.choices ≡ None) }
+        ensures targets { IfOk result (λ exits. exits.targets ≡ []) }
+    {
         Ok(Exits {
             lists: CandidateLists::new(alloc)?,
             higher: TargetSet::none(),

@@ -68,7 +68,7 @@ returns c = elim c.loop-round-test.branch [
       let more = sets_more edges targets n marks.marked.items marks.downs.items rows next.marked.items next.downs.items new c.requires.lead c.requires.few
       c.loop-round.invariant steps in
       let same = subst (λ (k : ℕ). AreSame marks.marked.items next.marked.items k) c.loop-round.invariant.all_marked
-      (w.are_same-is_last.ensures w.if-is_last.true) in
+      (w.are_same-is_last.ensures.0 w.if-is_last.true) in
       let all = all_stays edges targets n (length edges) marks.marked.items marks.downs.items next.marked.items next.downs.items rows new c.requires.lead
       (omega (arith, w.loop-round-test.true, c.len-round-end.ensures)) c.requires.few c.loop-round.invariant more same in
       subst (λ (xs : List (Vec TargetSet Global)). AreCandidateSets edges targets (map row_items xs))
