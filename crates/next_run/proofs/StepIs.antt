@@ -16,12 +16,13 @@ use Rattle.held_tables.specs.PlanTables.{held_plan}
 use Rattle.tables_file.specs.TablesText.{next_text}
 use Rattle.next_tables.specs.NextTables.{first_moved}
 use Rattle.sm_cli.specs.declared.fault.Fault.{Fault}
-use Rattle.sm_cli.specs.declared.fault.Fault.TheVariants.{Write}
+use Rattle.sm_cli.specs.declared.fault.Fault.TheVariants.{Memory, Text, Write}
+use Rattle.sm_cli.specs.declared.text_fault.TextFault.TheVariants.{Moves}
 use Rattle.sm_cli.proofs.Plans.{has_room}
 use Rattle.step_loops.specs.StepOrder.{NoneShorter, WaitInCycle}
 use Rattle.lanes_file.specs.Lanes.{LanesSaid}
 use Rattle.next_run.specs.StepVerdict.{IsSound, IsVerdict, Verdict, verdict_text}
-use Rattle.next_run.specs.RunNext.{IsMade, IsSaid, IsStep, planned}
+use Rattle.next_run.specs.RunNext.{IsMade, IsSaid, IsStep, StopsBy, StopsStep, planned}
 use Rattle.next_run.specs.StepLoops.{IsCycleInStep}
 use Rattle.next_run.specs.StepOrderText.{step_order_text}
 
@@ -76,3 +77,11 @@ module _ (lmc : ℕ) (told : Bool) (rule preferred : RuleValue) (lanes : Option 
         subst Said made_is.order_is (subst (λ (f : Facts). says (verdict_text (cells_of f) verdict ++ step_order_text order)) is_known said);
     judged = judged;
   }
+
+-- why there are no next tables towards the plan is why there is no step
+pub stops_by : (lmc : ℕ) (rule : RuleValue) (facts : Facts) (held : HeldPlan) (sink_failed : Bool) (at : ℕ) (moved : Option ℕ) (fault : Fault)
+    → lid_fault (no_room lmc (cells_of facts)) ≡ None → moved ≡ first_moved held (planned lmc rule facts) → StopsBy at moved fault
+    → StopsStep at lmc rule facts held sink_failed fault
+stops_by lmc rule facts held sink_failed at moved (Text input (Moves lid)) room is h = (h.0, sym is ∙ h.1)
+stops_by lmc rule facts held sink_failed at moved Memory room is h = has_room lmc facts room
+stops_by lmc rule facts held sink_failed at moved fault room is h = absurd h
