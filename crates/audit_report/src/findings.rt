@@ -64,9 +64,9 @@ impl<'a> Audit<'a> {
     /// of the LID's owner. Counts the wires and channels that packets between adapter ports take, and looks for a
     /// shortest credit loop. Keeps the first `most` lines of each kind.
     ///
-    /// Costs what `Network::deliveries` takes for each 64 LIDs, and twice what `Network::edges` takes for each LID. A
-    /// LID also costs what `Network::ends` takes if the deliveries do not show that all its packets arrive, and twice
-    /// that if some packet is not delivered at the port of its line.
+    /// Costs what `LidCursor::go_to` takes for each LID, and twice what `LidCursor::edges` takes. A LID also costs what
+    /// `LidCursor::ends` takes if the deliveries do not show that all its packets arrive, and twice this if not all of
+    /// them are delivered at its port.
     pub fn of(
         alloc: Global,
         most: usize,
