@@ -16,7 +16,7 @@ abbrev pub KeepsFirstBytes : {V : Type 0} → ℕ → (List ℕ → V) → (V �
 KeepsFirstBytes count value_in bytes_of =
     (bytes : List ℕ) → Are64Bytes bytes → bytes_of (value_in bytes) ≡ take count bytes ++ replicate (64 - count) 0
 
--- `bytes` are 64, spell `value`, and are 0 after the first `count`
+-- there are 64 `bytes`, which spell `value`; those after the first `count` are 0
 pub record Spells {V : Type 0} (count : ℕ) (value_in : List ℕ → V) (value : V) (bytes : List ℕ) : Type 0 where
   pub whole : length bytes ≡ 64
   pub fields : value_in bytes ≡ value

@@ -7,7 +7,8 @@ pub trait Attribute: Sized {
 
     ghost ID: { ℕ };
 
-    /// Each part of the value fits its field. This holds for every value of the type.
+    /// Each part of the value fits its field. Code can hold no other value. In contracts, whose numbers have no bound,
+    /// it is a premise.
     ghost is_value: { Self → Type 0 };
 
     /// The value that 64 bytes spell.

@@ -43,7 +43,7 @@ impl NodeTypeNumber {
     }
 }
 
-/// All node types, by rising number.
+/// All node types, in ascending order of number.
 const NODE_TYPES: [NodeType; 3] = [NodeType::ChannelAdapter, NodeType::Switch, NodeType::Router];
 
 impl From<NodeType> for NodeTypeNumber {

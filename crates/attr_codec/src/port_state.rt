@@ -11,7 +11,7 @@ pub enum PortState {
     Active,
 }
 
-/// All port states, by rising number.
+/// All port states, in ascending order of number.
 const STATES: [PortState; 5] = [
     PortState::NoChange,
     PortState::Down,

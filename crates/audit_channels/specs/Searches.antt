@@ -28,8 +28,8 @@ pub record AreWays (waits : List (List ℕ)) (first : ℕ) (reached : List Visit
   pub one : (at_index reached 0).count ≡ 1
   pub steps : (i : ℕ) → 0 < i → i < length reached → IsStep waits reached (at_index reached i) i
 
--- `reached` has the channels that a search from `first` has reached, by rising length of their paths, and `marks` marks
--- only such channels. No path to a reached channel has more than `count` channels
+-- `reached` has the channels that a search from `first` has reached, in ascending order of length of their paths, and
+-- `marks` marks only such channels. No path to a reached channel has more than `count` channels
 pub record IsSearch (waits : List (List ℕ)) (first count : ℕ) (reached : List Visited) (marks : List ℕ) : Type 0 where
   pub ways : AreWays waits first reached
   pub rises : (i k : ℕ) → i ≤ k → k < length reached → (at_index reached i).count ≤ (at_index reached k).count

@@ -29,8 +29,8 @@ use subnet_view::EndPort;
 /// - how many packets there are and how many arrive: of all packets, of packets between adapter ports, and of packets
 ///   to or from a switch;
 /// - how many packets are lost for each cause, are misdelivered, and loop;
-/// - the first packets of each kind that do not arrive, by rising LID and then in the order of the end ports, and how
-///   many more there are;
+/// - the first packets of each kind that do not arrive, in ascending order of LID and then in the order of the end
+///   ports, and how many more there are;
 /// - the first differences of each kind between tables and facts, the first gaps of each kind in the facts, and how
 ///   many more there are;
 /// - how many facts are disputed, if any are;

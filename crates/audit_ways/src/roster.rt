@@ -35,7 +35,7 @@ fn port_of(source: &Sender) -> (Guid, PortNum)
 }
 
 /// Returns the far end of the wire in `port`, or `None` if `port` is no adapter port or not in `roster`. `roster` must
-/// be sorted by node and port. Takes a binary search.
+/// be sorted by node and port. Does a binary search.
 pub(crate) fn target_among(roster: &[Sender], port: &EndPort) -> Option<Far>
     requires { AreByPort roster.now }
     ensures { IsTargetAmong roster.now port.now result }

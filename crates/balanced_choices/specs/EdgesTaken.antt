@@ -18,7 +18,7 @@ way_by taken p = way (λ q. slice_index_or taken q None) (length taken) p
 abbrev pub peak_by : List (Option Edge) → List ℕ → ℕ → Edge → ℕ
 peak_by taken loads p e = greatest 0 (map (λ c. slice_index loads c) (channel_by p e ∷ way_by taken e.to))
 
--- the number of the candidate of position `p` whose way has the least peak, the first of equals, given the edge that
+-- the number of the candidate of position `p` whose way has the least peak (ties go to the first), given the edge that
 -- each position takes; 0 if `p` has no candidate. Peaks are at most 2^64 - 1
 abbrev pub lightest_by : List (List Edge) → List (Option Edge) → List ℕ → ℕ → ℕ
 lightest_by ways taken loads p = first_least (map (peak_by taken loads p) (candidates_at ways p))

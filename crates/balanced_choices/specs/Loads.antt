@@ -53,7 +53,7 @@ least_from best least k (n ∷ ns) = if nat_lt n least then least_from k n (suc 
 abbrev pub first_least : List ℕ → ℕ
 first_least ns = least_from 0 (2 ^ 64 - 1) 0 ns
 
--- the number of the candidate of position `p` whose way has the least peak, the first of equals; 0 if `p` has no
+-- the number of the candidate of position `p` whose way has the least peak; ties go to the first; 0 if `p` has no
 -- candidate. Peaks are at most 2^64 - 1
 abbrev pub lightest : List (List Edge) → List ℕ → List ℕ → ℕ → ℕ
 lightest ways choices loads p = first_least (map (peak ways choices loads p) (candidates_at ways p))

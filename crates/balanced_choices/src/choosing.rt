@@ -163,7 +163,7 @@ fn in_turn(count: usize, number: usize) -> u8
 }
 
 /// Makes new choices for an end, at each position of `order` in turn. Each position takes the candidate whose way has
-/// the least peak load, the first of equals.
+/// the least peak load. Ties go to the first.
 fn choose_lightest(
     ways: &Adjacency,
     order: &[usize],

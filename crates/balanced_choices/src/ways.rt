@@ -54,7 +54,7 @@ fn edge_at(taken: &[Option<Edge>], position: usize) -> Option<Edge>
     }
 }
 
-/// Returns the number of the candidate of `position` whose way has the least peak load, the first of equals. Returns 0
+/// Returns the number of the candidate of `position` whose way has the least peak load; ties go to the first. Returns 0
 /// if `position` has no candidate. Only the first 256 candidates count.
 pub(crate) fn lightest(
     ways: &Adjacency,

@@ -86,9 +86,9 @@ GoalsFollowTheRule =
     → IsGoal (cells_of facts) held plan by preferred (Some goal) → IsKept held plan line → 1 ≤ line.lid
     → IsLineStep (cells_of facts) (position_at goal.positions) held goal.tables line (next_towards facts held goal)
 
--- a step of a line towards the tables between two orders leaves these tables as they are for its LID: they have the
--- same entries from the next tables as from the held ones. Two conditions are to hold: the facts are in range; and each
--- held entry for the goal line is 255 or delivers
+-- a step of a goal line towards the tables between two orders leaves these tables as they are for its LID: they have
+-- the same entries from the next tables as from the held ones. Premises: the facts are in range; and each held entry
+-- for the LID is 255 or delivers
 abbrev pub GoalStandsStill : Type 0
 GoalStandsStill =
     (facts : Facts) → AreInRange facts → (orders : TwoOrders) (held plan next : HeldPlan) (line : HeldLid)
@@ -135,8 +135,8 @@ GoalIsReached =
     × DeliverFrom (cells_of facts) (tables m) line i
 
 -- in steps towards the tables between two orders that grow (`AreGoalSteps`), the tables are right by the second order
--- for the LID from 2n steps on, for n switches, and at least one. Two conditions are to hold: the facts are in range;
--- and the first goal delivers from each switch that sends packets straight to the end port by the first tables
+-- for the LID from 2n steps on, for n switches, and at least one. Premises: the facts are in range; and the first goal
+-- delivers from each switch that sends packets straight to the end port by the first tables
 abbrev pub GoalEndsRight : Type 0
 GoalEndsRight =
     (facts : Facts) → AreInRange facts → (told by : List ℕ) (plan : HeldPlan) (line : HeldLid) (tables : ℕ → HeldPlan)

@@ -117,8 +117,8 @@ pub record IsStage (facts : Facts) (by : List ℕ) (plan start end : HeldPlan) :
   pub ends : tables count ≡ end
 
 -- if packets get by the tables at the beginning of a stage from each switch to all switches that wires join to it, they
--- do so by the tables at its end. Two conditions are to hold: the facts are in range; and the stage goes towards a
--- whole plan in which each usable switch has a LID
+-- do so by the tables at its end. Premises: the facts are in range; and the stage goes towards a whole plan in which
+-- each usable switch has a LID
 abbrev pub StagesStayWhole : Type 0
 StagesStayWhole =
     (facts : Facts) → AreInRange facts → (by : List ℕ) (plan start end : HeldPlan) → IsWholePlan (cells_of facts) plan

@@ -16,7 +16,7 @@ use subnet_view::SwitchGraph;
 /// The goal of a step from tables that imply an order.
 #[derive(Drop)]
 pub struct StepGoal {
-    /// The position of each usable switch in the first of the goal's two orders, by rising GUID.
+    /// The position of each usable switch in the first of the goal's two orders, in ascending order of GUID.
     pub positions: Vec<usize>,
     /// The tables between the two orders.
     pub tables: Held,
@@ -26,8 +26,8 @@ pub struct StepGoal {
 /// then down by two orders. The first is the order that the held tables imply, or the order that grows by it. The
 /// second is the next order on the way to the plan's. Returns `None` if the held tables imply no order. If they imply
 /// several, takes the one nearest to the order that grows by `preferred`. `held` and `plan` must have the same facts.
-/// `positions` must have the position of each usable switch in the plan's order, by rising GUID, and `preferred` that
-/// in the preferred order.
+/// `positions` must have the position of each usable switch in the plan's order, in ascending order of GUID, and
+/// `preferred` that in the preferred order.
 pub fn between(
     alloc: Global,
     held: &Network,

@@ -12,8 +12,9 @@ use Rattle.fabric_sim.specs.declared.flight.Flight.{Flight}
 use Rattle.fabric_sim.specs.Traps.{Traps}
 
 -- a simulated fabric: `agents` has the agents by the ids of their nodes. `peers` has for each node the other ends of
--- the cables in its ports, from port 0 on, which never has a cable. `flights` has the packets in flight, by rising
--- serial number. `next` is the next serial number, 2 ^ 64 if none is left. `traps` has the traps that wait at switches
+-- the cables in its ports, from port 0 on, which never has a cable. `flights` has the packets in flight, in ascending
+-- order of serial number. `next` is the next serial number, 2 ^ 64 if none is left. `traps` has the traps that wait at
+-- switches
 pub record Simulation : Type 0 where
   pub agents : List Agent
   pub peers : List (List (Option NodePort))

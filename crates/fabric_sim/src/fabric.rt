@@ -18,7 +18,7 @@ pub struct Fabric {
     pub(crate) agents: Vec<Agent>,
     /// For each node, the other ends of the cables in its ports.
     pub(crate) peers: Vec<Peers>,
-    /// The packets in flight, by rising serial number.
+    /// The packets in flight, in ascending order of serial number.
     pub(crate) flights: VecDeque<Flight>,
     /// The next serial number, or `None` if no serial number is left.
     pub(crate) next: Option<u64>,
@@ -72,8 +72,8 @@ impl Fabric {
         self.flights.len()
     }
 
-    /// Returns the packet at index `i` among the packets in flight, by rising serial number, or `None` if no more than
-    /// `i` packets are in flight. Takes constant time.
+    /// Returns the packet at index `i` among the packets in flight, in ascending order of serial number, or `None` if
+    /// no more than `i` packets are in flight. Takes constant time.
     pub fn in_flight(&self, i: usize) -> Option<&Flight>
         ensures { option_copied result ≡ slice_get self.now.flights i }
     {

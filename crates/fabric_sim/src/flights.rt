@@ -23,7 +23,7 @@ impl Fabric {
     }
 
     /// Returns the index of the packet with the serial number `serial` among the packets in flight, or `None` if no
-    /// packet in flight has this number. Takes a binary search.
+    /// packet in flight has this number. Does a binary search.
     fn search(&self, serial: u64) -> Option<usize>
         ensures { Finds self.now.flights serial result }
     {

@@ -114,7 +114,7 @@ impl Fabric {
         }
     }
 
-    /// Returns the packet of the trap of `node` with the TransactionID `number`, from the node's LID to the manager's.
+    /// Returns the trap of `node` as a packet from the node's LID to the manager's. Its TransactionID is `number`.
     fn trap_packet(&self, node: NodeId, number: u64) -> Packet
         ensures { result ≡ trap_packet self.now node number }
     {

@@ -23,7 +23,7 @@ is_known_type node room = option_map_or (λ n. not (is_switch n.0) || room) node
 abbrev pub is_known_node : Cells → ℕ → Bool
 is_known_node cells g = is_known_type (node_of cells g) (is_some (cap_of cells g))
 
--- the named nodes that are not known, each once, by rising GUID
+-- the named nodes that are not known, each once, in ascending order of GUID
 abbrev pub unusable_nodes : Cells → List ℕ
 unusable_nodes cells = each_once nat_cmp (filter (λ g. not (is_known_node cells g)) (named_nodes cells))
 
@@ -78,7 +78,8 @@ IsWired cells g p = (h q : ℕ) × IsWire cells g p h q
 abbrev pub IsKnownPort : Cells → ℕ → ℕ → Type 0
 IsKnownPort cells g p = IsManagementPort cells g p ⊎ IsDown cells g p ⊎ IsWired cells g p
 
--- each named node is known or listed; a node is listed only if it is named and not known, and only once, by rising GUID
+-- each named node is known or listed; a node is listed only if it is named and not known, and only once, in ascending
+-- order of GUID
 pub record ListsNodes (cells : Cells) (guids : List ℕ) : Type 0 where
   pub each : (g : ℕ) → IsNamedNode cells g → IsKnownNode cells g ⊎ Contains guids g
   pub only : (g : ℕ) → Contains guids g → IsNamedNode cells g × ¬ (IsKnownNode cells g)
@@ -92,7 +93,7 @@ pub record ListsPorts (cells : Cells) (ports : List EndPort) : Type 0 where
       → IsNamedPort cells (e.node, e.port) × ¬ (IsKnownPort cells e.node e.port)
   pub rises : AllPairs (λ a b. port_cmp (a.node, a.port) (b.node, b.port) ≡ Less) ports
 
--- `unusable_nodes` lists exactly the named nodes that are not known, each once, by rising GUID
+-- `unusable_nodes` lists exactly the named nodes that are not known, each once, in ascending order of GUID
 abbrev pub NodesLaw : Type 0
 NodesLaw = (cells : Cells) → ListsNodes cells (unusable_nodes cells)
 

@@ -1,8 +1,8 @@
 //! The laws of the lists of gaps.
 ghost use Rattle.fact_gaps.specs.Gaps.{NodesLaw, PortsLaw};
 
-/// Each node that facts name is listed once, by rising GUID, unless its type, its number of ports and, for a switch,
-/// its table room are known. No other node is listed.
+/// Each node that facts name is listed once, in ascending order of GUID, unless its type, its number of ports and, for
+/// a switch, its table room are known. No other node is listed.
 pub fn unusable_nodes_are_listed()
     ensures { NodesLaw }
 {}

@@ -11,9 +11,9 @@ use fact_store::{Key, Sighting, Store, Value};
 use smp_bytes::{Guid, NodeType, PortNum};
 use std::alloc::{AllocError, Global};
 
-/// Returns the unusable nodes that the cells of `store` name, each once, by rising GUID. A node is unusable if its type
-/// is unknown, or if it is a switch whose table room is unknown. A cell names the node of its key. The cell of a link
-/// also names the node at the far end, if the cell says where the link leads.
+/// Returns the unusable nodes that the cells of `store` name, each once, in ascending order of GUID. A node is unusable
+/// if its type is unknown, or if it is a switch whose table room is unknown. A cell names the node of its key. The cell
+/// of a link also names the node at the far end, if the cell says where the link leads.
 pub fn unusable_nodes(alloc: Global, store: &Store) -> Result<Vec<Guid>, AllocError>
     ensures { IfOk result (λ guids. guids.items ≡ unusable_nodes (cells_of store.now)) }
 {
@@ -25,7 +25,7 @@ pub fn unusable_nodes(alloc: Global, store: &Store) -> Result<Vec<Guid>, AllocEr
     Ok(guids)
 }
 
-/// Returns the known nodes among those for which `store` has a node cell, by rising GUID.
+/// Returns the known nodes among those for which `store` has a node cell, in ascending order of GUID.
 fn known_nodes(alloc: Global, store: &Store) -> Result<Vec<Guid>, AllocError>
     ensures { IfOk result (λ known. known.items
         ≡ filter_map (kept (is_known_node (cells_of store.now)) node_key) (cells_of store.now)) }
@@ -101,8 +101,8 @@ fn if_unusable(store: &Store, known: &[Guid], node: Guid) -> Option<Guid>
     }
 }
 
-/// Returns whether `node` is known. Each node in `known` must be known. Takes a binary search among `known`, and at
-/// most two searches of `store` if `known` lacks the node.
+/// Returns whether `node` is known. Each node in `known` must be known. Does a binary search among `known`, and at most
+/// two searches of `store` if `known` lacks the node.
 fn is_known_by(store: &Store, known: &[Guid], node: Guid) -> bool
     requires { AreKnownNodes (cells_of store.now) known.now }
     ensures { result ≡ is_known_node (cells_of store.now) node }

@@ -154,7 +154,7 @@ fn if_unjoined(
     }
 }
 
-/// Returns whether `port` of `node` is not unjoined. No port in `known` may be unjoined. Takes a binary search among
+/// Returns whether `port` of `node` is not unjoined. No port in `known` may be unjoined. Does a binary search among
 /// `known`, and what `is_known_port` takes if `known` lacks the port.
 fn is_known_by(wires: &Wires, known: &[(Guid, PortNum)], node: Guid, port: PortNum) -> bool
     requires { AreKnownPorts (cells_of wires.now) known.now }

@@ -93,7 +93,7 @@ impl Store {
     }
 
     /// Adds `sighting`, unless it is below the floor. Looks for its key first at the slots where cells of its kind were
-    /// put last, and then at the end. This takes at most five comparisons. If this does not give the index, takes a
+    /// put last, and then at the end. This takes at most five comparisons. If this does not give the index, does a
     /// binary search. If memory runs out, returns an error, and nothing changes.
     pub fn add(&mut self, sighting: Sighting) -> Result<(), Refused>
         ensures ok { OnOk result (self.new ≡ merge self.old (view (sighting ∷ []))) }
@@ -202,7 +202,7 @@ impl Store {
         Ok(store)
     }
 
-    /// Returns the cell of `key`, or `None` if `key` has no cell. Takes a binary search.
+    /// Returns the cell of `key`, or `None` if `key` has no cell. Does a binary search.
     pub fn get(&self, key: Key) -> Option<Cell<Value>>
         ensures found { result ≡ cell_for self.now key }
         ensures in_range { AreInRange self.now }
@@ -239,7 +239,7 @@ impl Store {
     }
 
     /// Returns the cell at index `i` with its key, or `None` if the store has at most `i` cells. Cells are in the order
-    /// of keys, and counted from 0. Takes a binary search among the pages.
+    /// of keys, and counted from 0. Does a binary search among the pages.
     pub fn cell(&self, i: usize) -> Option<Sighting>
         ensures exact { result ≡ slice_get (cells_of self.now) i }
         ensures in_range { AreInRange self.now }

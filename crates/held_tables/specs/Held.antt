@@ -24,6 +24,6 @@ pub record LidRange : Type 0 where
 abbrev pub lid_at : HeldLid → ℕ → HeldLid
 lid_at first step = record { lid = first.lid + step; port = first.port }
 
--- the LIDs of a range, by rising number, each with its end port
+-- the LIDs of a range, in ascending order of number, each with its end port
 abbrev pub lids_of : LidRange → List HeldLid
 lids_of range = map (lid_at range.first) (range_with_len 0 (2 ^ range.lmc))

@@ -19,7 +19,7 @@ range_from given lid port = record { first = record { lid = lid; port = port }; 
 abbrev pub owned_range : Given → ℕ → Option LidRange
 owned_range given lid = option_map (range_from given lid) (owner_of given lid)
 
--- each LID of each end port with a LID, by rising first LID, with its end port
+-- each LID of each end port with a LID, in ascending order of first LID, with its end port
 abbrev pub owned_lids : Given → List HeldLid
 owned_lids given = flat_map lids_of (filter_map (owned_range given) (rising_lids given))
 

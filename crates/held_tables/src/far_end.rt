@@ -12,15 +12,15 @@ use subnet_view::{EndPort, Wires};
 pub enum Far {
     /// The port has no wire.
     Nothing,
-    /// The wire leads to the usable switch with this index, by rising GUID.
+    /// The wire leads to the usable switch with this index, in ascending order of GUID.
     Switch(usize),
     /// The wire leads to this port. Its node is no usable switch.
     Port(EndPort),
 }
 
 /// Returns the far end of the wire in `port` of `node`, or `Nothing` if there is no wire. `guids` must list the GUIDs
-/// of the usable switches in rising order. `ports` must be the port count of `node`. Takes constant time if `port` is
-/// above `ports`.
+/// of the usable switches in ascending order. `ports` must be the port count of `node`. Takes constant time if `port`
+/// is above `ports`.
 pub(crate) fn far_within(wires: &Wires, guids: &[Guid], node: Guid, ports: u8, port: PortNum) -> Far
     requires guids { guids.now ≡ switches (cells_of wires.now) }
     requires ports { ports ≡ port_count_of (cells_of wires.now) node }
@@ -34,7 +34,7 @@ pub(crate) fn far_within(wires: &Wires, guids: &[Guid], node: Guid, ports: u8, p
 }
 
 /// Returns the far end of the wire in `port` of `node`, or `Nothing` if there is no wire. `guids` must list the GUIDs
-/// of the usable switches in rising order.
+/// of the usable switches in ascending order.
 pub(crate) fn far_of(wires: &Wires, guids: &[Guid], node: Guid, port: PortNum) -> Far
     requires { guids.now ≡ switches (cells_of wires.now) }
     ensures { result ≡ far_of (cells_of wires.now) node port }
@@ -48,7 +48,7 @@ pub(crate) fn far_of(wires: &Wires, guids: &[Guid], node: Guid, port: PortNum) -
     }
 }
 
-/// Returns the index of `guid` in `guids`, or `None` if `guid` is not there. `guids` must rise strictly. Takes a binary
+/// Returns the index of `guid` in `guids`, or `None` if `guid` is not there. `guids` must rise strictly. Does a binary
 /// search.
 pub(crate) fn index(guids: &[Guid], guid: Guid) -> Option<usize>
     requires { IsStrictlyIncreasing guids.now }

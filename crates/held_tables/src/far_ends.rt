@@ -74,7 +74,7 @@ fn switch_at(fars: &[Far], port: u8) -> Option<usize>
 }
 
 /// Returns the far ends of the wires in the ports of `node`. `guids` must list the GUIDs of the usable switches in
-/// rising order.
+/// ascending order.
 pub(crate) fn row_of(
     alloc: Global,
     wires: &Wires,
@@ -90,7 +90,7 @@ pub(crate) fn row_of(
 }
 
 /// Returns the far ends of the wires in ports 0 to 254 of `node`, by port. `guids` must list the GUIDs of the usable
-/// switches in rising order.
+/// switches in ascending order.
 fn all_fars(
     alloc: Global,
     wires: &Wires,

@@ -116,7 +116,8 @@ impl Held {
         &self.lids
     }
 
-    /// Returns the switches in the order of their lines, which is by rising GUID in the tables of a text or a plan.
+    /// Returns the switches in the order of their lines, which is in ascending order of GUID in the tables of a text or
+    /// a plan.
     pub fn switches(&self) -> &[HeldSwitch]
         ensures { result.now ≡ self.now.switches }
     {

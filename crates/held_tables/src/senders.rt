@@ -19,7 +19,7 @@ pub struct Sender {
     pub far: Far,
 }
 
-/// Returns `ports` as senders, in order. `guids` must list the GUIDs of the usable switches in rising order.
+/// Returns `ports` as senders, in order. `guids` must list the GUIDs of the usable switches in ascending order.
 pub(crate) fn sources(
     alloc: Global,
     wires: &Wires,

@@ -19,9 +19,9 @@ use subnet_view::{EndPort, Wires, end_ports, switches};
 #[derive(Drop)]
 pub struct Subnet<'s> {
     wires: Wires<'s>,
-    /// The GUIDs of the usable switches, in rising order.
+    /// The GUIDs of the usable switches, in ascending order.
     guids: Vec<Guid>,
-    /// The usable switches, by rising GUID.
+    /// The usable switches, in ascending order of GUID.
     switches: Vec<WiredSwitch>,
     /// The end ports, in their order.
     ports: Vec<EndPort>,
@@ -85,7 +85,7 @@ impl<'s> Subnet<'s> {
         &self.wires
     }
 
-    /// Returns the GUIDs of the usable switches, in rising order.
+    /// Returns the GUIDs of the usable switches, in ascending order.
     pub fn switches(&self) -> &[Guid]
         ensures { result.now ≡ switches (cells_of self.now) }
     {
@@ -123,8 +123,8 @@ impl<'s> Subnet<'s> {
         self.begin
     }
 
-    /// Returns the far end of the wire in port `number` % 256 of the usable switch at index `number` / 256, by rising
-    /// GUID. Returns `Nothing` if there is no such wire or no such switch. Takes constant time.
+    /// Returns the far end of the wire in port `number` % 256 of the usable switch at index `number` / 256, in
+    /// ascending order of GUID. Returns `Nothing` if there is no such wire or no such switch. Takes constant time.
     pub fn far(&self, number: usize) -> Far
         ensures { result ≡ far_by (cells_of self.now) number }
     {
@@ -134,7 +134,7 @@ impl<'s> Subnet<'s> {
         }
     }
 
-    /// Returns the usable switches by rising GUID, each with what `held` says of it.
+    /// Returns the usable switches in ascending order of GUID, each with what `held` says of it.
     pub fn audited(&self, alloc: Global, held: &Held) -> Result<Vec<AuditedSwitch>, AllocError>
         ensures { IfOk result (λ nodes.
             nodes.items ≡ map (node_of (cells_of self.now) held.now) (switches (cells_of self.now))) }

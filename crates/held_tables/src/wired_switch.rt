@@ -20,7 +20,7 @@ pub struct WiredSwitch {
 }
 
 /// Returns the switches `guids`, in order, with the far ends of their wires. `guids` must list the GUIDs of the usable
-/// switches in rising order.
+/// switches in ascending order.
 pub(crate) fn wired_switches(
     alloc: Global,
     wires: &Wires,
@@ -37,7 +37,7 @@ pub(crate) fn wired_switches(
 }
 
 /// Returns the switch `guid` with the far ends of its wires. `guids` must list the GUIDs of the usable switches in
-/// rising order.
+/// ascending order.
 fn wired_switch(
     alloc: Global,
     wires: &Wires,

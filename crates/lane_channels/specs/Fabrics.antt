@@ -68,9 +68,9 @@ pub record TravelsAt (s : SeenByLane) (answers : Bool) (part : Part) (f : Fabric
     pub goes : Goes f lid (sent_from source) hops end
 
 -- of two channels by lane that a packet takes one right after the other, without being dropped, the second has the
--- greater number. An end port that is joined to the end port `origin` sends the packet, at a level that it has. Three
--- conditions are to hold: numbers rise by facts, tables and lanes; the facts describe all that is joined to `origin`;
--- and the end ports and switches there hold the tables and the lanes
+-- greater number. An end port that is joined to the end port `origin` sends the packet, at a level that it has.
+-- Premises: numbers rise by facts, tables and lanes; the facts describe all that is joined to `origin`; and the end
+-- ports and switches there hold the tables and the lanes
 abbrev pub LaneChannelsRise : Type 0
 LaneChannelsRise =
     (s : SeenByLane) (answers : Bool) (f : Fabric) (origin : NodePort) (vl : LaneMaps) → IsEndPort f origin
@@ -84,9 +84,8 @@ LaneChannelsRise =
 
 -- in a step, of two channels by lane that a packet takes one right after the other, without being dropped, the second
 -- has the greater number. An end port that is joined to the end port `origin` sends the packet, at a level that it has.
--- Three conditions are to hold: numbers rise by the tables of `s` and by those of `next_held`; the facts describe all
--- that is joined to `origin`; and this part holds the lanes, and tables that for the packet's LID are a mixture of the
--- two
+-- Premises: numbers rise by the tables of `s` and by those of `next_held`; the facts describe all that is joined to
+-- `origin`; and this part holds the lanes, and tables that are a mixture of both for the packet's LID
 abbrev pub StepLaneChannelsRise : Type 0
 StepLaneChannelsRise =
     (s : SeenByLane) (next_held : HeldPlan) (answers : Bool) (f : Fabric) (origin : NodePort) (vl : LaneMaps)

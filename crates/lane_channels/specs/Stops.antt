@@ -79,7 +79,7 @@ carried said cells level stop edge =
     if nat_lt edge.to (length (switches cells)) && nat_lt (lane_by said cells level stop edge) 15
     then Some (stop_at edge.to (port_across cells (stop / 256) edge.port)) else None
 
--- for each of several tables a column, which has the edge of each usable switch for a LID, by rising GUID
+-- for each of several tables a column, which has the edge of each usable switch for a LID, in ascending order of GUID
 abbrev pub Columns : Type 0
 Columns = List (List (Option Edge))
 

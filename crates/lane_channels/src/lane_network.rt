@@ -77,7 +77,7 @@ impl<'a> LaneNetwork<'a> {
     }
 
     /// Returns the lane of packets of `level` that come in at the switch at `index` by port `into` and leave it by port
-    /// `out`, or `None` if they are dropped there. Takes a binary search among the maps.
+    /// `out`, or `None` if they are dropped there. Does a binary search among the maps.
     pub(crate) fn lane(&self, level: u8, index: usize, into: PortNum, out: PortNum) -> Option<u8>
         ensures { result
             ≡ lane_if_carried (lane_between self.now.said (cells_of self.now.seen.facts) level index into out) }

@@ -1,7 +1,8 @@
 //! Where packets come in at switches, and what becomes of them there.
 //!
 //! A *stop* is a port of a usable switch at which packets come in. Its number is 256 times the index of the switch
-//! among the usable switches, by rising GUID, plus the port. The port is 0 for packets that the switch itself sends.
+//! among the usable switches, in ascending order of GUID, plus the port. The port is 0 for packets that the switch
+//! itself sends.
 use smp_bytes::{Lid, PortNum};
 
 /// A packet that is dropped at a switch, since its service level has no lane there.

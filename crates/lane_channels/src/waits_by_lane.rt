@@ -224,7 +224,7 @@ fn follow_answers(
     Ok(())
 }
 
-/// Returns the service level of packets from `port` to `lid`, or `None` if the text gives them none. Takes a binary
+/// Returns the service level of packets from `port` to `lid`, or `None` if the text gives them none. Does a binary
 /// search among the blocks of levels.
 fn level_from(lanes: &Lanes, port: &EndPort, lid: Lid) -> Option<u8>
     ensures is { result ≡ level_of lanes.now port.now.node port.now.port lid }

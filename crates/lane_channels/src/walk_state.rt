@@ -25,8 +25,8 @@ pub(crate) struct Walks {
 #[derive(Drop)]
 pub(crate) struct LidColumns {
     pub(crate) lid: Lid,
-    /// For each table, a column that has, for each usable switch by rising GUID, the edge along which it forwards
-    /// packets for the LID to a usable switch. The edge is `None` if there is none.
+    /// For each table, a column that has, for each usable switch in ascending order of GUID, the edge along which it
+    /// forwards packets for the LID to a usable switch. The edge is `None` if there is none.
     pub(crate) columns: Vec<Vec<Option<Edge>>>,
 }
 

@@ -7,11 +7,11 @@ use Rattle.lanes_file.specs.declared.lanes.LevelBlock.{LevelBlock}
 pub record LanesSaid : Type 0 where
   -- for each service level the lane of packets that no map is for; [] without a line `lanes`
   pub lanes : List ℕ
-  -- the maps, by rising node, then by the port that packets come in by, then by the port that they leave by
+  -- the maps, in ascending order of node, then of incoming port, then of outgoing port
   pub maps : List LaneMap
   -- the service level of packets that no block gives one; None without a line `level`
   pub level : Option ℕ
-  -- the blocks of levels, by rising node, then by port, then by number
+  -- the blocks of levels, in ascending order of node, then of port, then of number
   pub levels : List LevelBlock
 
 -- the lanes of a line `lanes`; [] without one

@@ -81,7 +81,7 @@ impl Lanes {
     }
 
     /// Returns the lane of packets of service level `level` that come into the switch `node` by port `into` and leave
-    /// by port `out`. Returns 15 if the text gives no lane. Takes a binary search among the maps.
+    /// by port `out`. Returns 15 if the text gives no lane. Does a binary search among the maps.
     pub fn lane(&self, node: Guid, into: PortNum, out: PortNum, level: u8) -> u8
         ensures is { result ≡ lane_of self.now node into out level }
         ensures within { result < 16 }
@@ -89,7 +89,7 @@ impl Lanes {
         lane_at(self.lanes_between(node, into, out), level)
     }
 
-    /// Returns the service level of packets from `port` of `node` to `lid`, or `None` if the text gives no level. Takes
+    /// Returns the service level of packets from `port` of `node` to `lid`, or `None` if the text gives no level. Does
     /// a binary search among the blocks.
     pub fn level(&self, node: Guid, port: PortNum, lid: Lid) -> Option<u8>
         ensures is { result ≡ level_of self.now node port lid }
@@ -117,7 +117,7 @@ impl Lanes {
     }
 
     /// Returns the levels of packets from `port` of `node` to the 64 LIDs from 64 times `number` on, or `None` if the
-    /// text has no such block. Takes a binary search among the blocks.
+    /// text has no such block. Does a binary search among the blocks.
     pub fn block(&self, node: Guid, port: PortNum, number: u16) -> Option<&LevelBlock>
         ensures { option_copied result ≡ find (is_block node port number) self.now.levels }
     {
@@ -176,7 +176,7 @@ impl Lanes {
         }
     }
 
-    /// Returns the map for packets from port `into` to port `out` of `node`, or `None` if there is no such map. Takes a
+    /// Returns the map for packets from port `into` to port `out` of `node`, or `None` if there is no such map. Does a
     /// binary search.
     fn map(&self, node: Guid, into: PortNum, out: PortNum) -> Option<&LaneMap>
         ensures is { option_copied result ≡ find (is_map node into out) self.now.maps }

@@ -14,7 +14,7 @@ pub record SwitchTable : Type 0 where
   pub guid : ℕ
   pub blocks : List (List ℕ)
 
--- a plan: the LIDs of the end ports in their order, and the tables of the usable switches by rising GUID
+-- a plan: the LIDs of the end ports in their order, and the tables of the usable switches in ascending order of GUID
 pub record PlanValue : Type 0 where
   pub given : Given
   pub tables : List SwitchTable

@@ -20,7 +20,7 @@ lid_line x = codes "lid " ++ decimal x.0 ++ codes " " ++ port_text x.2.node x.2.
 abbrev pub owner_line : Given → ℕ → List ℕ
 owner_line given lid = option_map_or (λ port. lid_line (lid, lmc_of given port, port)) (owner_of given lid) []
 
--- the lines of all LIDs, in rising order
+-- the lines of all LIDs, in ascending order
 abbrev pub lids_text : Given → List ℕ
 lids_text given = flat_map (owner_line given) (rising_lids given)
 

@@ -15,15 +15,15 @@ use subnet_view::{EndPort, Wires, is_usable};
 /// The switch and its port at which an end port is attached.
 #[derive(Clone, Copy)]
 pub(crate) struct Attachment {
-    /// The index of the switch among the usable ones, by rising GUID.
+    /// The index of the switch among the usable ones, in ascending order of GUID.
     pub(crate) switch: usize,
     /// The port of the switch.
     pub(crate) port: PortNum,
 }
 
 /// Returns, for each LID with an entry in the first `count` blocks, the LID's attachment, or `None` if the LID has
-/// none. The index of an item is its LID. `guids` must be the usable switches, by rising GUID. `count` must be the
-/// number of blocks that hold all LIDs.
+/// none. The index of an item is its LID. `guids` must be the usable switches, in ascending order of GUID. `count` must
+/// be the number of blocks that hold all LIDs.
 pub(crate) fn attachments(
     alloc: Global,
     wires: &Wires,
@@ -46,7 +46,7 @@ pub(crate) fn attachments(
 }
 
 /// Returns the attachment of `lid`. Returns `None` if no end port has `lid`, or its owner is not attached to a usable
-/// switch. `guids` must be the usable switches by rising GUID.
+/// switch. `guids` must be the usable switches in ascending order of GUID.
 fn attachment_of_lid(wires: &Wires, guids: &[Guid], lids: &LidMap, lid: Lid) -> Option<Attachment>
     requires { guids.now ≡ switches (cells_of wires.now) }
     ensures { IsIndexed guids.now (attachment_of_lid (cells_of wires.now) lids.now lid) result }
@@ -68,8 +68,8 @@ fn attachment_of(wires: &Wires, port: EndPort) -> Option<(Guid, PortNum)>
     }
 }
 
-/// Returns the index of `guid` among `guids`, which must rise strictly, or `None` if `guid` is not there. Takes a
-/// binary search.
+/// Returns the index of `guid` among `guids`, which must rise strictly, or `None` if `guid` is not there. Does a binary
+/// search.
 pub(crate) fn index_of(guids: &[Guid], guid: Guid) -> Option<usize>
     requires { IsStrictlyIncreasing guids.now }
     ensures { IsIndexIn guids.now guid result }

@@ -14,7 +14,7 @@ use subnet_view::SwitchGraph;
 #[derive(Drop)]
 pub(crate) struct Numbering {
     pub(crate) lmc: Lmc,
-    /// The leaf number of each switch, by rising GUID.
+    /// The leaf number of each switch, in ascending order of GUID.
     pub(crate) leaf_numbers: Vec<u16>,
     /// The most adapters that one switch has.
     pub(crate) most: u16,
@@ -29,7 +29,7 @@ impl Model for Numbering {
 }
 
 /// Returns the values that the numbers of LIDs are computed from. `adapters` must have the number of adapters at each
-/// switch, by rising GUID.
+/// switch, in ascending order of GUID.
 pub(crate) fn find_numbering(
     alloc: Global,
     graph: &SwitchGraph,

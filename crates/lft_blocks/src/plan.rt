@@ -36,9 +36,9 @@ use updown_routes::{Graph, Routes};
 #[derive(Drop)]
 pub struct Plan {
     lids: LidMap,
-    /// The usable switches, by rising GUID.
+    /// The usable switches, in ascending order of GUID.
     switches: Vec<Guid>,
-    /// The table of each switch, by rising GUID.
+    /// The table of each switch, in ascending order of GUID.
     tables: Vec<Table>,
 }
 
@@ -90,7 +90,7 @@ impl Plan {
         self.lids.top()
     }
 
-    /// Returns the usable switches, by rising GUID.
+    /// Returns the usable switches, in ascending order of GUID.
     pub fn switches(&self) -> &[Guid]
         ensures { result.now ≡ switches_of self.now }
     {
@@ -100,7 +100,7 @@ impl Plan {
     /// Returns block `b` of the switch `guid`. Entry `i` is the port by which packets for the LID `64 * b + i` leave.
     /// It is 0 if the switch has that LID itself, and 255 if nobody has the LID or no way leads to its owner. Returns
     /// `None` exactly if `guid` is not the GUID of a usable switch, or `b` is greater than the number of the greatest
-    /// LID's block. Takes a binary search among the switches.
+    /// LID's block. Does a binary search among the switches.
     pub fn block(&self, guid: Guid, b: usize) -> Option<&[u8; 64]>
         ensures { option_copied result ≡ block_at self.now guid b }
     {
@@ -108,7 +108,7 @@ impl Plan {
         self.tables[index].block(b)
     }
 
-    /// Returns the table of each usable switch, by rising GUID.
+    /// Returns the table of each usable switch, in ascending order of GUID.
     pub fn tables(&self) -> &[Table]
         ensures { result.now ≡ self.now.tables }
     {
@@ -116,7 +116,7 @@ impl Plan {
     }
 }
 
-/// Returns the usable switches, by rising GUID, and the table of each by `rule`.
+/// Returns the usable switches, in ascending order of GUID, and the table of each by `rule`.
 fn tables_of(
     alloc: Global,
     wires: &Wires,
@@ -135,7 +135,7 @@ fn tables_of(
     }
 }
 
-/// Returns the usable switches, by rising GUID, and the table of each by the rule that spreads by `order`.
+/// Returns the usable switches, in ascending order of GUID, and the table of each by the rule that spreads by `order`.
 fn by_spread(
     alloc: Global,
     wires: &Wires,
@@ -155,7 +155,7 @@ fn by_spread(
     Ok((graph.into_switches(), tables))
 }
 
-/// Returns the usable switches, by rising GUID, and the table of each by routes that go up and then down.
+/// Returns the usable switches, in ascending order of GUID, and the table of each by routes that go up and then down.
 fn by_updown(
     alloc: Global,
     wires: &Wires,

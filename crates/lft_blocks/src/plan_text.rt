@@ -16,9 +16,9 @@ use lid_assign::LidMap;
 use smp_bytes::{Guid, Lid};
 use subnet_view::EndPort;
 
-/// Writes a line for each LID, in rising order. Then writes, for each usable switch by rising GUID, a line with the
-/// greatest LID and a line for each block. Flushes at the end. Without end ports there are no lines. Returns an error
-/// only if `sink` has failed. Does not allocate.
+/// Writes a line for each LID, in ascending order. Then writes, for each usable switch in ascending order of GUID, a
+/// line with the greatest LID and a line for each block. Flushes at the end. Without end ports there are no lines.
+/// Returns an error only if `sink` has failed. Does not allocate.
 pub fn write_plan<W: Sink>(sink: &mut W, plan: &Plan) -> Result<(), WriteFault>
     ensures writes { Writes W.written W.has_failed result sink.old sink.new (plan_text plan.now) }
     ensures flushed { OnOk result (IsTrue (W.is_flushed sink.new)) }
@@ -28,7 +28,7 @@ pub fn write_plan<W: Sink>(sink: &mut W, plan: &Plan) -> Result<(), WriteFault>
     sink.flush()
 }
 
-/// Writes a line for each LID, in rising order. Writes nothing if there is no end port.
+/// Writes a line for each LID, in ascending order. Writes nothing if there is no end port.
 pub fn write_lids<W: Sink>(sink: &mut W, lids: &LidMap) -> Result<(), WriteFault>
     ensures { WritesPart W.written W.has_failed result sink.old sink.new (lids_text lids.now) }
 {

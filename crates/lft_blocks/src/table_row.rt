@@ -122,8 +122,8 @@ fn own_entry(attachments: &[Option<Attachment>], lid: Lid) -> u8
     }
 }
 
-/// Returns, for each of `switches` switches, the LIDs that are attached to the switch, in rising order. `attachments`
-/// must have at most 65536 items, with attachments at these switches.
+/// Returns, for each of `switches` switches, the LIDs that are attached to the switch, in ascending order.
+/// `attachments` must have at most 65536 items, with attachments at these switches.
 pub(crate) fn lids_by_switch(
     alloc: Global,
     attachments: &[Option<Attachment>],

@@ -40,7 +40,7 @@ pub(crate) fn keep_claims(
     Ok(keepers)
 }
 
-/// Returns the LID that `port` claims, or `None` if no claim is known. Takes a binary search among the cells.
+/// Returns the LID that `port` claims, or `None` if no claim is known. Does a binary search among the cells.
 pub(crate) fn claim(store: &Store, port: EndPort) -> Option<Lid>
     ensures { result ≡ claim_of (cells_of store.now) port.node port.port }
 {

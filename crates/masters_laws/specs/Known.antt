@@ -29,7 +29,7 @@ LearnNothingElse which [] t = Unit {0}
 LearnNothingElse which (event ∷ events) t =
     LearnsNothingElse which t event × LearnNothingElse which events (after_masters_event t event)
 
--- the manager at index `which` began a sweep of the run when it held no facts. Since then it began no other sweep,
+-- in the run, the manager at index `which` began a sweep while it held no facts. After that, it began no other sweep,
 -- merged no facts of others, and was given no floor above its own
 pub record LearntFromOne (t : Masters) (events : List MastersEvent) (which : ℕ) : Type 0 where
   pub swept : BeganSweep t events which

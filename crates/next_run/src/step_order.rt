@@ -14,7 +14,7 @@ use std::alloc::{AllocError, Global};
 use two_orders::positions_in;
 
 /// Returns the usable switches in the order of `positions`. `positions` must have the position of each usable switch,
-/// by rising GUID.
+/// in ascending order of GUID.
 pub(crate) fn switches_by(
     alloc: Global,
     network: &Network,

@@ -91,11 +91,11 @@ pub record ArrivesMeanwhile (fabrics : ℕ → Fabric) (lid : ℕ) (source : Nod
   pub nowhere_else : (others : List Hop) (other : NodePort) → IsDeliveredMeanwhile fabrics lid source others other
       → other ≡ target
 
--- a packet that the held tables deliver is delivered while the switches change, each at its own time, to the next
--- tables by the rule of settled entries. Three conditions are to hold: one end port alone holds the LID in the held
--- tables and in the plan; the facts describe all that is joined to the end port `origin`; and at first the end ports
--- and switches there hold the tables. The packet takes at most twice as many wires as there are usable switches, and
--- one more
+-- while switches change, each at its own time, to the next tables by the rule of settled entries, a packet that the
+-- held tables deliver is delivered over at most 2n + 1 wires, for n usable switches. Its sender is an end port that is
+-- joined to the end port `origin`. Premises: the LID is not 0, and one end port alone holds it in the held tables and
+-- in the plan; the facts describe all that is joined to `origin`; and at first the end ports and switches there hold
+-- the tables
 abbrev pub PacketsArriveWhileTablesChange : Type 0
 PacketsArriveWhileTablesChange =
     (facts : Facts) (held plan : HeldPlan) (line : HeldLid) (before : Fabric) (origin : NodePort)

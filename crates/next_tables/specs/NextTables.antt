@@ -52,8 +52,8 @@ next_for cells held plan lid planned None g = if_owned planned (entry_for plan l
 next_for cells held plan lid planned (Some port) g = next_entry cells held plan (record { lid = lid; port = port }) g
 
 -- a rule by which a step chooses entries: a switch takes the plan's entry once each switch on the plan's route has it
--- (`settled_first`); or entries are chosen by an order, given as the position of each switch, by rising GUID
--- (`by_order`)
+-- (`settled_first`); or entries are chosen by an order, given as the position of each switch, in ascending order of
+-- GUID (`by_order`)
 pub data StepRuleValue : Type 0 where
   settled_first : StepRuleValue
   by_order : List ℕ → StepRuleValue

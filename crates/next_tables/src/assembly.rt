@@ -13,7 +13,7 @@ use std::alloc::{AllocError, Global};
 
 /// Returns tables with the plan's LIDs. For each usable switch, they have the greater of its tops in `held` and `plan`,
 /// and its entries in `columns` up to the block of that top. `columns` has, for each LID, the entries of all usable
-/// switches, by rising GUID. A missing entry is 255. `held` and `plan` must have the same facts.
+/// switches, in ascending order of GUID. A missing entry is 255. `held` and `plan` must have the same facts.
 pub fn tables_with(
     alloc: Global,
     held: &Network,
@@ -47,8 +47,8 @@ pub fn greater(lid: Lid, other: Lid) -> Lid
     Lid::new(lid.number().max(other.number()))
 }
 
-/// Returns the usable switches, by rising GUID, each with the greater of its tops in `held` and `plan`. `held` and
-/// `plan` must have the same facts.
+/// Returns the usable switches, in ascending order of GUID, each with the greater of its tops in `held` and `plan`.
+/// `held` and `plan` must have the same facts.
 fn switches_with(
     alloc: Global,
     held: &Network,

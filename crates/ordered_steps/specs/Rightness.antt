@@ -17,11 +17,11 @@ abbrev pub goes_well : (ℕ → ℕ) → List (Option Edge) → ℕ → Bool
 goes_well q edges i =
     option_map_or (λ e. not (is_down q i e.to && leaves_up q edges e.to)) (slice_index_or edges i None) true
 
--- by `edges`, packets for a LID never go down and then up
+-- by `edges`, no packet for the LID goes down and then up in the order `q`
 abbrev pub is_right_column : (ℕ → ℕ) → List (Option Edge) → Bool
 is_right_column q edges = list_all (goes_well q edges) (range_with_len 0 (length edges))
 
--- by `tables`, packets for each LID up to the greatest top never go down and then up
+-- by `tables`, no packet for a LID from 1 to the greatest top goes down and then up in the order `q`
 abbrev pub are_right : Cells → (ℕ → ℕ) → HeldPlan → Bool
 are_right cells q tables =
     list_all (λ lid. is_right_column q (edges_of cells tables lid)) (range_with_len 1 (greatest_top cells tables))

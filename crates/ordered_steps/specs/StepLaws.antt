@@ -202,9 +202,10 @@ AllFollowTheRule =
     (cells : Cells) (q : ℕ → ℕ) (held goal next : HeldPlan) (line : HeldLid) → AreNextByOrder cells q held goal next
     → IsKept held goal line → IsNextByOrder cells q held goal line next
 
--- in a step of a line by an order, a packet that the held tables deliver is delivered while switches change to the next
--- tables, each at its own time, over at most 2n + 1 wires, for n usable switches. Two conditions are to hold: the facts
--- describe all that is joined to the end port `origin`; and at first the end ports and switches there hold the tables
+-- in a step of a line by an order, while switches change to the next tables, each at its own time, a packet that the
+-- held tables deliver is delivered over at most 2n + 1 wires, for n usable switches. Its sender is an end port that is
+-- joined to the end port `origin`. Premises: the LID is not 0; the facts describe all that is joined to `origin`; and
+-- at first the end ports and switches there hold the tables
 abbrev pub PacketsArriveByOrder : Type 0
 PacketsArriveByOrder =
     (facts : Facts) (q : ℕ → ℕ) (held goal next : HeldPlan) (line : HeldLid) (before : Fabric) (origin : NodePort)

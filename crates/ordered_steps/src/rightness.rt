@@ -12,7 +12,7 @@ use smp_bytes::Lid;
 use std::alloc::{AllocError, Global};
 
 /// Returns whether no packet, for any LID, goes down and then up again by the tables of `held`, in the order that
-/// `positions` gives. `positions` has the position of each usable switch, by rising GUID. Takes what
+/// `positions` gives. `positions` has the position of each usable switch, in ascending order of GUID. Takes what
 /// `LidCursor::go_to` and `LidCursor::edges` take for each LID up to the greatest top.
 pub fn are_right(alloc: Global, held: &Network, positions: &[usize]) -> Result<bool, AllocError>
     ensures { IfOk result (λ right.

@@ -26,8 +26,8 @@ switch_by row entry = if entry == 0 then None else switch_over (slice_index_or r
 abbrev pub edge_by : List Far → ℕ → Option Edge
 edge_by row entry = if entry == 0 then None else edge_to entry (slice_index_or row entry Nothing)
 
--- for each usable switch, by rising GUID, the edge by which it forwards packets for `lid`; None if it forwards them to
--- no usable switch
+-- for each usable switch, in ascending order of GUID, the edge by which it forwards packets for `lid`; None if it
+-- forwards them to no usable switch
 abbrev pub edges_of : Cells → HeldPlan → ℕ → List (Option Edge)
 edges_of cells held lid = map (λ g. edge_by (row_of cells g) (entry_for held lid g)) (switches cells)
 

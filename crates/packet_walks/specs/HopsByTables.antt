@@ -52,7 +52,7 @@ by_entry owners g cause row entry =
     if entry == 0 then Ends (Taken (record { node = g; port = 0 })) else over owners g cause
     (slice_index_or row entry Nothing)
 
--- the next hop of each usable switch, by rising GUID, for packets for `lid`
+-- the next hop of each usable switch, in ascending order of GUID, for packets for `lid`
 abbrev pub next_hops_of : Cells → HeldPlan → ℕ → List NextHop
 next_hops_of cells held lid =
     map (λ g. by_entry (owners_of held lid) g (cause_of cells held lid g) (row_of cells g) (entry_for held lid g))

@@ -117,7 +117,7 @@ impl<'n> LidCursor<'n> {
         self.network.owners(alloc, self.lid)
     }
 
-    /// Returns the effective entry of each usable switch for the LID, by rising GUID. 255 means no entry.
+    /// Returns the effective entry of each usable switch for the LID, in ascending order of GUID. 255 means no entry.
     pub fn entries(&self, alloc: Global) -> Result<Vec<u8>, AllocError>
         ensures { IfOk result (λ entries. entries.items
             ≡ map (entry_for self.now.seen.held self.now.lid) (switches (cells_of self.now.seen.facts))) }
@@ -125,8 +125,9 @@ impl<'n> LidCursor<'n> {
         self.network.entries(alloc, &self.blocks, self.lid)
     }
 
-    /// Returns, for each usable switch by rising GUID, the edge along which it forwards packets for the LID to a usable
-    /// switch, possibly itself. The edge is `None` for a switch that forwards these packets to no usable switch.
+    /// Returns, for each usable switch in ascending order of GUID, the edge along which it forwards packets for the LID
+    /// to a usable switch, possibly itself. The edge is `None` for a switch that forwards these packets to no usable
+    /// switch.
     pub fn edges(&self, alloc: Global) -> Result<Vec<Option<Edge>>, AllocError>
         ensures { IfOk result (λ edges.
             edges.items ≡ edges_of (cells_of self.now.seen.facts) self.now.seen.held self.now.lid) }
@@ -134,7 +135,8 @@ impl<'n> LidCursor<'n> {
         self.network.edges(alloc, &self.blocks, self.lid)
     }
 
-    /// Returns, for each usable switch by rising GUID, its effective entry for the LID and its next hop by this entry.
+    /// Returns, for each usable switch in ascending order of GUID, its effective entry for the LID and its next hop by
+    /// this entry.
     pub fn switch_steps(&self, alloc: Global) -> Result<Vec<SwitchStep>, AllocError>
         ensures { IfOk result (λ steps. steps.items
             ≡ map (switch_step (cells_of self.now.seen.facts) self.now.seen.held self.now.lid)

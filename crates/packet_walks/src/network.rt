@@ -33,7 +33,7 @@ use subnet_view::{EndPort, is_usable};
 pub struct Network<'a> {
     subnet: &'a Subnet<'a>,
     held: &'a Held,
-    /// The usable switches, by rising GUID.
+    /// The usable switches, in ascending order of GUID.
     nodes: Vec<AuditedSwitch>,
     /// The chains of the held blocks' numbers.
     chains: Chains,
@@ -123,8 +123,8 @@ impl<'a> Network<'a> {
         )
     }
 
-    /// Returns, for each usable switch by rising GUID, its effective entry for `lid` and its next hop by this entry.
-    /// `blocks` must be this network's blocks with the entries for `lid`.
+    /// Returns, for each usable switch in ascending order of GUID, its effective entry for `lid` and its next hop by
+    /// this entry. `blocks` must be this network's blocks with the entries for `lid`.
     pub(crate) fn switch_steps(
         &self,
         alloc: Global,
@@ -140,8 +140,8 @@ impl<'a> Network<'a> {
         switch_steps(alloc, &self.nodes, &owners, &blocks.rows, lid)
     }
 
-    /// Returns the effective entry of each usable switch for `lid`, by rising GUID. 255 means no entry. `blocks` must
-    /// be this network's blocks with the entries for `lid`.
+    /// Returns the effective entry of each usable switch for `lid`, in ascending order of GUID. 255 means no entry.
+    /// `blocks` must be this network's blocks with the entries for `lid`.
     pub(crate) fn entries(
         &self,
         alloc: Global,
@@ -228,8 +228,8 @@ impl<'a> Network<'a> {
         self.held
     }
 
-    /// Returns the top of the usable switch at `index`, counted by rising GUID, or 0 if there is no such switch or no
-    /// top is held. Takes constant time.
+    /// Returns the top of the usable switch at `index`, counted in ascending order of GUID, or 0 if there is no such
+    /// switch or no top is held. Takes constant time.
     pub fn top(&self, index: usize) -> Lid
         ensures { result
             ≡ option_map_or (top_of self.now.held) (slice_get (switches (cells_of self.now.facts)) index) 0 }
@@ -240,9 +240,9 @@ impl<'a> Network<'a> {
         }
     }
 
-    /// Returns, for each usable switch by rising GUID, the edge along which it forwards packets for `lid` to a usable
-    /// switch, possibly itself. The edge is `None` for a switch that forwards these packets to no usable switch.
-    /// `blocks` must be this network's blocks with the entries for `lid`.
+    /// Returns, for each usable switch in ascending order of GUID, the edge along which it forwards packets for `lid`
+    /// to a usable switch, possibly itself. The edge is `None` for a switch that forwards these packets to no usable
+    /// switch. `blocks` must be this network's blocks with the entries for `lid`.
     pub(crate) fn edges(
         &self,
         alloc: Global,
@@ -271,8 +271,8 @@ impl<'a> Network<'a> {
         greatest_top(&self.nodes)
     }
 
-    /// Returns the GUID of the usable switch at `index`, counted by rising GUID, or `None` if there is none. Takes
-    /// constant time.
+    /// Returns the GUID of the usable switch at `index`, counted in ascending order of GUID, or `None` if there is
+    /// none. Takes constant time.
     pub fn switch(&self, index: usize) -> Option<Guid>
         ensures { result ≡ slice_get (switches (cells_of self.now.facts)) index }
     {
@@ -280,8 +280,8 @@ impl<'a> Network<'a> {
         Some(node.guid)
     }
 
-    /// Returns the far end of the wire in port `number` % 256 of the usable switch at index `number` / 256, by rising
-    /// GUID. Returns `Nothing` if there is no such wire or no such switch.
+    /// Returns the far end of the wire in port `number` % 256 of the usable switch at index `number` / 256, in
+    /// ascending order of GUID. Returns `Nothing` if there is no such wire or no such switch.
     pub fn far(&self, number: usize) -> Far
         ensures { result ≡ far_by (cells_of self.now.facts) number }
     {

@@ -20,8 +20,8 @@ ranked graph g = (unwrap_or (rank_of graph g) 0, g)
 abbrev pub comes_before : ℕ × ℕ → ℕ × ℕ → Bool
 comes_before a b = nat_lt a.0 b.0 || (a.0 == b.0 && nat_lt a.1 b.1)
 
--- the position of each usable switch, by rising GUID, in the order by which a rule plans: by rank for up/down routing;
--- in the order of the rule if it spreads
+-- the position of each usable switch, in ascending order of GUID, in the order by which a rule plans: by rank for
+-- up/down routing; in the order of the rule if it spreads
 abbrev pub positions_by : RuleValue → Cells → List ℕ
 positions_by up_and_down cells = map (rank_position (graph_of cells)) (guids_of (graph_of cells))
 positions_by (spread_in order) cells =

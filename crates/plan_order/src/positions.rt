@@ -15,8 +15,8 @@ use std::alloc::{AllocError, Global};
 use subnet_view::{SwitchGraph, Wires};
 use updown_routes::Graph;
 
-/// Returns the position of each usable switch of `store`, by rising GUID, in the order that `rule` plans by. A rule
-/// that goes up and down plans by rank and then by GUID. A rule that spreads plans by its order.
+/// Returns the position of each usable switch of `store`, in ascending order of GUID, in the order that `rule` plans
+/// by. A rule that goes up and down plans by rank and then by GUID. A rule that spreads plans by its order.
 pub fn plan_positions(alloc: Global, store: &Store, rule: &Rule) -> Result<Vec<usize>, Refused>
     ensures { IfOk result (λ positions.
         positions.items ≡ positions_by (value_of rule.now) (cells_of store.now)) }
@@ -28,7 +28,7 @@ pub fn plan_positions(alloc: Global, store: &Store, rule: &Rule) -> Result<Vec<u
     }
 }
 
-/// Returns the position of each usable switch, by rising GUID, in the order by rank and then by GUID.
+/// Returns the position of each usable switch, in ascending order of GUID, in the order by rank and then by GUID.
 fn by_rank(alloc: Global, wires: &Wires) -> Result<Vec<usize>, Refused>
     ensures { IfOk result (λ positions.
         positions.items ≡ positions_by up_and_down (cells_of wires.now)) }
@@ -37,7 +37,8 @@ fn by_rank(alloc: Global, wires: &Wires) -> Result<Vec<usize>, Refused>
     Ok(rank_positions(alloc, &graph)?)
 }
 
-/// Returns the position of each usable switch, by rising GUID, in the order of the rule that spreads by `order`.
+/// Returns the position of each usable switch, in ascending order of GUID, in the order of the rule that spreads by
+/// `order`.
 fn by_spread(alloc: Global, wires: &Wires, order: &SwitchOrder) -> Result<Vec<usize>, Refused>
     ensures { IfOk result (λ positions.
         positions.items ≡ positions_by (spread_in (order_value_of order.now)) (cells_of wires.now)) }

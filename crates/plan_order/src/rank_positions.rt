@@ -7,8 +7,8 @@ use smp_bytes::Guid;
 use std::alloc::{AllocError, Global};
 use updown_routes::Graph;
 
-/// Returns, for each switch by rising GUID, how many switches come before the switch by rank and then by GUID. Takes
-/// time quadratic in the number of switches, besides the time to look up their ranks.
+/// Returns, for each switch in ascending order of GUID, how many switches come before the switch by rank and then by
+/// GUID. Takes time quadratic in the number of switches, besides the time to look up their ranks.
 pub(crate) fn rank_positions(alloc: Global, graph: &Graph) -> Result<Vec<usize>, AllocError>
     ensures { IfOk result (λ positions.
         positions.items ≡ map (rank_position graph.now) (guids_of graph.now)) }
@@ -28,7 +28,7 @@ fn counts_before(alloc: Global, ranked: &[(usize, Guid)]) -> Result<Vec<usize>, 
         .collect(alloc)
 }
 
-/// Returns the pair of rank and GUID for each switch, by rising GUID. A missing rank counts as 0.
+/// Returns the pair of rank and GUID for each switch, in ascending order of GUID. A missing rank counts as 0.
 fn ranked(alloc: Global, graph: &Graph) -> Result<Vec<(usize, Guid)>, AllocError>
     ensures { IfOk result (λ found. found.items ≡ map (ranked graph.now) (guids_of graph.now)) }
 {

@@ -46,7 +46,7 @@ abbrev pub owner_step : Cells → Sweep → ℕ → Given → ℕ → Option Ste
 owner_step cells sweep master given lid =
     option_and_then (λ e. lid_step cells sweep master (lid, lmc_of given e) e) (owner_of given lid)
 
--- the steps that set the LID and the LMC of each end port that the sweep reached, by rising LIDs
+-- the steps that set the LID and the LMC of each end port that the sweep reached, in ascending order of LID
 abbrev pub lid_steps : Cells → Sweep → ℕ → Given → List Step
 lid_steps cells sweep master given = filter_map (owner_step cells sweep master given) (rising_lids given)
 

@@ -31,8 +31,8 @@ wired_port cells (_, c) = None
 abbrev pub wired_ports : Cells → List (ℕ × ℕ)
 wired_ports cells = filter_map (wired_port cells) cells
 
--- whether a port that was seen in the second state is to get the first: Armed or Active after Initialize, or Active
--- after Armed
+-- whether a port that was seen in a state, the second argument, is due to be set to another, the first: from Initialize
+-- to Armed or Active, or from Armed to Active
 abbrev pub is_due : PortState → PortState → Bool
 is_due Armed Initialize = true
 is_due Active Initialize = true

@@ -25,7 +25,7 @@ abbrev pub switch_steps : Sweep → PlanValue → ℕ → List Step
 switch_steps sweep plan guid =
     filter_map (block_step sweep plan guid) (range_with_len 0 (block_count (top_of plan.given)))
 
--- the steps that set the blocks of each usable switch that the sweep reached, by rising GUID
+-- the steps that set the blocks of each usable switch that the sweep reached, in ascending order of GUID
 abbrev pub block_steps : Sweep → PlanValue → List Step
 block_steps sweep plan = flat_map (switch_steps sweep plan) (switches_of plan)
 
@@ -37,7 +37,7 @@ top_data read top = with_number linear_fdb_top top (carried_switch read)
 abbrev pub top_step : Sweep → ℕ → ℕ → Option Step
 top_step sweep top guid = step_at sweep guid 0 switch_info 0 (top_data (switch_image sweep guid) top)
 
--- the steps that set the top of each usable switch that the sweep reached to the greatest LID, by rising GUID; none if
--- there is no LID
+-- the steps that set the top of each usable switch that the sweep reached to the greatest LID, in ascending order of
+-- GUID; none if there is no LID
 abbrev pub top_steps : Sweep → PlanValue → List Step
 top_steps sweep plan = option_map_or (λ top. filter_map (top_step sweep top) (switches_of plan)) (top_of plan.given) []

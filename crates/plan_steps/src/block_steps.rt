@@ -12,7 +12,7 @@ use smp_bytes::{AttributeId, Guid, Lid, PortNum};
 use std::alloc::{AllocError, Global};
 use sweep::Sweep;
 
-/// Builds the step of each block of each usable switch that the sweep reached, by rising GUID.
+/// Builds the step of each block of each usable switch that the sweep reached, in ascending order of GUID.
 pub(crate) fn block_steps(
     alloc: Global,
     sweep: &Sweep,
@@ -63,8 +63,8 @@ fn block_step(sweep: &Sweep, plan: &Plan, guid: Guid, b: usize) -> Option<Step>
     )
 }
 
-/// Builds the step of the greatest LID for each usable switch that the sweep reached, by rising GUID. Builds none if
-/// the plan has no LID.
+/// Builds the step of the greatest LID for each usable switch that the sweep reached, in ascending order of GUID.
+/// Builds none if the plan has no LID.
 pub(crate) fn top_steps(alloc: Global, sweep: &Sweep, plan: &Plan) -> Result<Vec<Step>, AllocError>
     ensures { IfOk result (λ steps. steps.items ≡ top_steps sweep.now plan.now) }
 {
@@ -74,7 +74,8 @@ pub(crate) fn top_steps(alloc: Global, sweep: &Sweep, plan: &Plan) -> Result<Vec
     }
 }
 
-/// Builds the step that sets `top` as the greatest LID for each usable switch that the sweep reached, by rising GUID.
+/// Builds the step that sets `top` as the greatest LID for each usable switch that the sweep reached, in ascending
+/// order of GUID.
 #[tactic(auto, using(crate::proofs::Walked::walked_some, crate::proofs::Walked::walked_none))]
 fn steps_with_top(
     alloc: Global,

@@ -34,7 +34,7 @@ fn is_own_port(store: &Store, end: EndPort, own_guid: Guid, port: PortNum) -> bo
 }
 
 /// Builds the step that sets the LID, the LMC and the manager's LID `master` at each end port that the sweep reached,
-/// by rising LIDs.
+/// in ascending order of LID.
 pub(crate) fn lid_steps(
     alloc: Global,
     store: &Store,

@@ -108,7 +108,7 @@ impl<T: Numbered + Drop> RequestTable<T> {
     }
 
     /// Returns the number of requests whose numbers are below `number`. If a request has the number `number`, this is
-    /// its index. Takes a binary search.
+    /// its index. Does a binary search.
     pub fn count_below(&self, number: u64) -> usize
         ensures index { IsIndex (λ r. nat_lt (T.number r) number) self.now.requests result }
         ensures numbered { AreNumbered T.number self.now.requests self.now.next }
@@ -117,7 +117,7 @@ impl<T: Numbered + Drop> RequestTable<T> {
             .partition_point(|request| u64::from(request.number()) < number)
     }
 
-    /// Returns the index of the request with the number `number`, or `None` if no request has this number. Takes a
+    /// Returns the index of the request with the number `number`, or `None` if no request has this number. Does a
     /// binary search.
     pub fn index_of(&self, number: u64) -> Option<usize>
         ensures { IsIndexFor (with_number T.number number self.now.requests)

@@ -24,8 +24,8 @@ pub fn ask_manager(manager: &mut Manager, what: Ask) -> Result<(), ManagerFault>
     }
 }
 
-/// Returns the TransactionIDs of the requests whose answers `manager` waits for, in rising order. Returns an error if
-/// memory runs out.
+/// Returns the TransactionIDs of the requests whose answers `manager` waits for, in ascending order. Returns an error
+/// if memory runs out.
 pub fn waiting(alloc: Global, manager: &Manager) -> Result<Vec<u64>, AllocError>
     ensures { IfOk result (λ waiting. waiting.items ≡ outstanding manager.now) }
 {

@@ -48,7 +48,7 @@ impl World<'_> {
         }
     }
 
-    /// Prints the packets in flight, by rising serial number.
+    /// Prints the packets in flight, in ascending order of serial number.
     pub(crate) fn show_flight<W: Sink>(
         &self,
         topology: &Topology,

@@ -119,8 +119,8 @@ fn time_out<W: Sink>(manager: &mut Manager, transaction: u64, sink: &mut W) -> R
     }
 }
 
-/// Times out each request whose answer `manager` waits for when the call begins, by rising TransactionID. Prints a line
-/// for each timeout that the manager refuses.
+/// Times out each request whose answer `manager` waits for when the call begins, in ascending order of TransactionID.
+/// Prints a line for each timeout that the manager refuses.
 fn give_up<W: Sink>(alloc: Global, manager: &mut Manager, sink: &mut W) -> Result<(), RunFault>
     ensures does { Lives W.written W.has_failed manager.new result sink.old sink.new
         (after_giving_up manager.old (outstanding manager.old)) }

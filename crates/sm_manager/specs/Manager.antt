@@ -31,8 +31,8 @@ pub record Writing : Type 0 where
 -- how it plans. `store` is the view of all facts that it took in. `sweep` is its last sweep, and None if it began none;
 -- `seen` has the managers that this sweep saw, in the order in which it saw them. `writing` is its last writing, and
 -- None if it began none. `counter` is the number of its next request outside sweeps. `pending` has the requests outside
--- sweeps that wait for their answers, by rising numbers. `outgoing` has the packets that it has queued, first in, first
--- out
+-- sweeps that wait for their answers, in ascending order of number. `outgoing` has the packets that it has queued,
+-- first in, first out
 pub record Manager : Type 0 where
   pub standing : Standing
   pub port : ℕ

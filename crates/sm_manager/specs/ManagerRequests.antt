@@ -1,4 +1,4 @@
--- The requests of a manager outside its sweeps, by rising numbers.
+-- The requests of a manager outside its sweeps, in ascending order of number.
 use Rattle.std.specs.Prelude.{◌≡◌, ℕ, Bool, true, false, List, filter, length, ◌==◌, Option}
 use Rattle.request_table.specs.Numbers as numbers
 use Rattle.sm_manager.specs.declared.pending.Pending.{Pending}

@@ -44,8 +44,8 @@ pub(crate) fn end_sweep(standing: &mut Standing, seen: &[SeenManager])
 impl Manager {
     /// Queues a poll to the manager at `lid` or, if `lid` is `None`, to a manager that the last sweep saw. That is the
     /// first master that this manager hears. If this manager hears no master, it is the greatest manager that outranks
-    /// this one, the first of equals. A poll without `lid` goes over the path by which the sweep asked that manager for
-    /// SMInfo. The poll counts as answered or lost once its answer or its timeout comes.
+    /// this one; ties go to the first. A poll without `lid` goes over the path by which the sweep asked that manager
+    /// for SMInfo. The poll counts as answered or lost once its answer or its timeout comes.
     ///
     /// # Errors
     ///

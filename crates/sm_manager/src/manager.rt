@@ -176,8 +176,8 @@ impl Manager {
         }
     }
 
-    /// Returns the `i`-th of the TransactionIDs of the requests that wait, in rising order and counted from 0. Returns
-    /// `None` if fewer requests wait.
+    /// Returns the `i`-th of the TransactionIDs of the requests that wait, in ascending order and counted from 0.
+    /// Returns `None` if fewer requests wait.
     pub fn outstanding(&self, i: usize) -> Option<u64>
         ensures { result ≡ slice_get (outstanding self.now) i }
     {

@@ -175,7 +175,7 @@ impl ManagerRequests {
         packet
     }
 
-    /// Returns the request at `index`, by rising number, or `None` if no more than `index` requests wait.
+    /// Returns the request at `index`, in ascending order of number, or `None` if no more than `index` requests wait.
     pub(crate) fn get(&self, index: usize) -> Option<&Pending>
         ensures { option_copied result ≡ slice_get self.now.pending index }
     {
@@ -198,7 +198,7 @@ impl ManagerRequests {
         self.counting == 0
     }
 
-    /// Returns the index of the request with the TransactionID `transaction`, or `None` if no such request waits. Takes
+    /// Returns the index of the request with the TransactionID `transaction`, or `None` if no such request waits. Does
     /// a binary search among the requests that wait.
     pub(crate) fn index_of(&self, transaction: u64) -> Option<usize>
         ensures { IsIndexFor (with_number transaction self.now.pending) self.now.pending result }
@@ -206,7 +206,7 @@ impl ManagerRequests {
         self.table.index_of(transaction)
     }
 
-    /// Returns the index of the waiting request that `smp` answers, or `None` if `smp` answers none. Takes a binary
+    /// Returns the index of the waiting request that `smp` answers, or `None` if `smp` answers none. Does a binary
     /// search among the requests that wait.
     pub(crate) fn index_for(&self, smp: &Smp) -> Option<usize>
         ensures { IsIndexFor (find (answers smp.now) self.now.pending) self.now.pending result }

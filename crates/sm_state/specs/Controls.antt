@@ -14,7 +14,7 @@ modifier_of_control Disable = 3
 modifier_of_control Standby = 4
 modifier_of_control Discover = 5
 
--- all controls, by rising modifiers
+-- all controls, in ascending order of modifier
 abbrev pub controls : List Control
 controls = Handover ∷ Acknowledge ∷ Disable ∷ Standby ∷ Discover ∷ []
 

@@ -49,17 +49,17 @@ better (Some best) s = if wins s.info best.info then s else best
 abbrev pub next_best : Bool → Option SeenManager → SeenManager → Option SeenManager
 next_best passes best s = if passes then Some (better best s) else best
 
--- the greatest of `best` and the managers of a list that pass the test, the first of equals; None if `best` is None and
--- no manager passes
+-- the greatest of `best` and the managers of a list that pass the test; ties go to the first; None if `best` is None
+-- and no manager passes
 abbrev pub best_with : (SeenManager → Bool) → List SeenManager → Option SeenManager → Option SeenManager
 best_with test [] best = best
 best_with test (s ∷ seen) best = best_with test seen (next_best (test s) best s)
 
--- the greatest of the managers that pass the test, the first of equals; None if none passes
+-- the greatest of the managers that pass the test; ties go to the first; None if none passes
 abbrev pub greatest_of : (SeenManager → Bool) → List SeenManager → Option SeenManager
 greatest_of test seen = best_with test seen None
 
--- the greatest of the managers that may succeed `own`, the first of equals; None if no manager may
+-- the greatest of the managers that may succeed `own`; ties go to the first; None if no manager may
 abbrev pub successor_of : SmInfo → List SeenManager → Option SeenManager
 successor_of own seen = greatest_of (is_candidate own) seen
 
@@ -92,7 +92,7 @@ abbrev pub is_above : SmInfo → SeenManager → Bool
 is_above own s = outranks own s.info
 
 -- the manager that `own` polls: the first master that `own` hears. If it hears no master, it polls the greatest of
--- those that outrank it, the first of equals; None if no manager outranks it
+-- those that outrank it; ties go to the first; None if no manager outranks it
 abbrev pub polled_of : SmInfo → List SeenManager → Option SeenManager
 polled_of own seen = option_or (find (is_heard_master own) seen) (greatest_of (is_above own) seen)
 

@@ -11,7 +11,7 @@ number_of_state Discovering = 1
 number_of_state Standby = 2
 number_of_state Master = 3
 
--- all states, by rising numbers
+-- all states, in ascending order of number
 abbrev pub states : List SmState
 states = NotActive ∷ Discovering ∷ Standby ∷ Master ∷ []
 

@@ -13,7 +13,7 @@ pub enum Control {
     Discover,
 }
 
-/// All controls, by rising modifier.
+/// All controls, in ascending order of modifier.
 const CONTROLS: [Control; 5] = [
     Control::Handover,
     Control::Acknowledge,

@@ -50,8 +50,8 @@ pub fn successor(own: &SmInfo, seen: &[SeenManager]) -> Option<SeenManager>
 }
 
 /// Returns the manager to poll: the first master in `seen` that `own` hears. If `own` hears no master, returns the
-/// greatest manager in `seen` that outranks `own`, the first of equals. Returns `None` if no manager in `seen` outranks
-/// `own`. Takes time linear in the length of `seen`.
+/// greatest manager in `seen` that outranks `own`; ties go to the first. Returns `None` if no manager in `seen`
+/// outranks `own`. Takes time linear in the length of `seen`.
 pub fn polled(own: &SmInfo, seen: &[SeenManager]) -> Option<SeenManager>
     ensures { result ≡ polled_of own.now seen.now }
 {
@@ -67,7 +67,7 @@ fn first_master(own: &SmInfo, seen: &[SeenManager]) -> Option<SeenManager>
         .find(|other| is_heard_master(own, other))
 }
 
-/// Returns the greatest manager in `seen` that outranks `own`, the first of equals, or `None` if none outranks `own`.
+/// Returns the greatest manager in `seen` that outranks `own` (ties go to the first), or `None` if none outranks `own`.
 fn greatest_above(own: &SmInfo, seen: &[SeenManager]) -> Option<SeenManager>
     ensures { result ≡ greatest_of (is_above own.now) seen.now }
 {

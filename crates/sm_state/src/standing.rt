@@ -123,7 +123,7 @@ impl Standing {
     }
 }
 
-/// Returns whether `control` is an acknowledgement.
+/// Returns whether `control` is ACKNOWLEDGE.
 fn is_acknowledge(control: Control) -> bool
     ensures { result ≡ is_acknowledge control }
 {

@@ -12,7 +12,7 @@ pub enum SmState {
     Master,
 }
 
-/// All states, by rising number.
+/// All states, in ascending order of number.
 const STATES: [SmState; 4] = [
     SmState::NotActive,
     SmState::Discovering,

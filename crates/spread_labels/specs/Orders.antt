@@ -13,7 +13,7 @@ abbrev pub numbers_from : ℕ → ℕ → List ℕ
 numbers_from k zero = []
 numbers_from k (suc n) = k ∷ numbers_from (suc k) n
 
--- the earliest of `x` and the vertices of a list, by the test `before`; the first of equals
+-- the earliest of `x` and the vertices of a list, by the test `before`; ties go to the first
 abbrev pub earliest : (ℕ → ℕ → Bool) → ℕ → List ℕ → ℕ
 earliest before x [] = x
 earliest before x (y ∷ ys) = earliest before (if before y x then y else x) ys

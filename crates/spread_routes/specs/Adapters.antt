@@ -14,6 +14,6 @@ has_adapter_at cells g p = option_map_or (λ q. not (is_usable cells q.0)) (acro
 abbrev pub adapters_at : Cells → ℕ → ℕ
 adapters_at cells g = length (filter (has_adapter_at cells g) (range_with_len 1 (port_count_of cells g)))
 
--- the number of adapters of each usable switch, counted by ports, by rising GUID
+-- the number of adapters of each usable switch, counted by ports, in ascending order of GUID
 abbrev pub adapters_of : Cells → List ℕ
 adapters_of cells = map (adapters_at cells) (switches cells)

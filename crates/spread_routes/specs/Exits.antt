@@ -19,8 +19,8 @@ use Rattle.spread_routes.specs.Spread.{Grading, number_by, number_with, lid_digi
 abbrev pub no_lid_digit : LidDigit
 no_lid_digit = record { level = 0; digit_weight = 1; offset = 0 }
 
--- `edges` are those of the graph by positions, `positions` has the position of each switch, and `lid_digits` the LID
--- digit at each position
+-- in the order that grows by the keys of `by`, `edges` has the graph's edges from position to position, `positions` the
+-- position of each switch, and `lid_digits` the LID digit of the switch at each position
 pub record IsByPositions (by : Grading) (edges : List (List Edge)) (positions : List ℕ) (lid_digits : List LidDigit) :
     Type 0 where
   pub is_graph : IsGraph by.graph

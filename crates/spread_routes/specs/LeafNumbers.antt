@@ -30,7 +30,7 @@ goes_first neighbors a b =
 abbrev pub leaf_number : List ℕ → List ℕ → ℕ → ℕ
 leaf_number neighbors leaves s = length (filter (λ leaf. goes_first neighbors leaf s) leaves) % 2 ^ 16
 
--- the leaf number of each switch, by rising GUID; `adapters` has the number of adapters of each switch
+-- the leaf number of each switch, in ascending order of GUID; `adapters` has the number of adapters of each switch
 abbrev pub leaf_numbers : List SwitchEdges → List ℕ → List ℕ
 leaf_numbers graph adapters =
     map (leaf_number (least_neighbors (by_index graph)) (leaf_vertices adapters)) (numbers_from 0 (length graph))

@@ -14,8 +14,8 @@ use Rattle.subnet_view.specs.Graph.{guids_of}
 use Rattle.subnet_view.specs.GraphLaws.{IsGraph}
 use Rattle.subnet_view.specs.Routing.{Routing, IsRouting}
 
--- what the spread rule needs: the key of each switch, by rising GUID; and the number by which a packet for a LID
--- chooses among edges at one position towards another
+-- what the spread rule needs: the key of each switch, in ascending order of GUID; and the number by which a packet for
+-- a LID chooses among edges at one position towards another
 pub record Spreading : Type 0 where
   pub keys : List VertexKey
   pub number : ℕ → ℕ → ℕ → List Edge → ℕ

@@ -21,8 +21,8 @@ use Rattle.spread_routes.specs.LeafNumbers.{leaf_numbers}
 use Rattle.spread_routes.specs.Rule.{by_index, by_positions, order_by_keys, spread}
 use Rattle.spread_routes.specs.SwitchOrders.{OrderValue, as_named, balanced_as, from_roots, least_loaded, keys_as_named, named_in, switches_by_keys}
 
--- what a spread rule is made from: the graph; the key and the level of each switch, by rising GUID; and the choices for
--- adapters, None unless loads are balanced
+-- what a spread rule is made from: the graph; the key and the level of each switch, in ascending order of GUID; and the
+-- choices for adapters, None unless loads are balanced
 pub record Grading : Type 0 where
   pub graph : List SwitchEdges
   pub keys : List VertexKey
@@ -74,7 +74,7 @@ abbrev pub indices_of : List SwitchEdges → List ℕ → List ℕ
 indices_of graph guids = filter (λ i. nat_lt i (length graph)) (map (position_of (guids_of graph)) guids)
 
 -- the keys of switches by distance class, from the roots that are in the graph and from the leaf switches; `adapters`
--- has the number of adapters of each switch, by rising GUID
+-- has the number of adapters of each switch, in ascending order of GUID
 abbrev pub keys_from_roots : List SwitchEdges → List ℕ → List ℕ → List VertexKey
 keys_from_roots graph adapters roots =
     keys_of (by_index graph) (distance_classes_of (by_index graph) (leaf_vertices adapters) (indices_of graph roots))

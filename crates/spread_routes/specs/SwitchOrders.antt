@@ -42,8 +42,8 @@ named_in least_loaded switches = balanced_as switches
 abbrev pub key_as_named : List ℕ → ℕ → VertexKey
 key_as_named switches g = record { distance_class = 0; distance = position_of switches g }
 
--- the key of each switch of the graph, by rising GUID, by a list; of equal keys the one of the lesser GUID is earlier,
--- so GUIDs decide between switches that are not named
+-- the key of each switch of the graph, in ascending order of GUID, by a list; of equal keys the one of the lesser GUID
+-- is earlier, so GUIDs decide between switches that are not named
 abbrev pub keys_as_named : List SwitchEdges → List ℕ → List VertexKey
 keys_as_named graph switches = map (key_as_named switches) (guids_of graph)
 

@@ -9,8 +9,9 @@ use smp_bytes::{Guid, PortNum};
 use std::alloc::{AllocError, Global};
 use subnet_view::{Wires, is_usable, port_count};
 
-/// Returns the number of adapter ports that are wired to each usable switch, by rising GUID. `guids` must be the usable
-/// switches. Takes a binary search among the cells for each switch, and at most four for each of its ports.
+/// Returns the number of adapter ports that are wired to each usable switch, in ascending order of GUID. `guids` must
+/// be the usable switches. Does a binary search among the cells for each switch, and at most four for each of its
+/// ports.
 pub fn adapters_of(alloc: Global, wires: &Wires, guids: &[Guid]) -> Result<Vec<u16>, AllocError>
     requires { guids.now ≡ switches (cells_of wires.now) }
     ensures { IfOk result (λ adapters. adapters.items ≡ adapters_of (cells_of wires.now)) }

@@ -7,7 +7,7 @@ use smp_bytes::Guid;
 use std::alloc::{AllocError, Global};
 use subnet_view::SwitchGraph;
 
-/// Returns the index of each of `guids` that is a switch of `graph`. Ignores other GUIDs. Takes a binary search among
+/// Returns the index of each of `guids` that is a switch of `graph`. Ignores other GUIDs. Does a binary search among
 /// the switches for each GUID.
 pub(crate) fn indices(
     alloc: Global,

@@ -7,10 +7,11 @@ use spread_labels::leaf_vertices;
 use std::alloc::{AllocError, Global};
 use subnet_view::SwitchGraph;
 
-/// Returns the leaf number of each switch, for switches by rising GUID: the number of leaf switches that come before
-/// the switch, modulo 2^16. Leaf switches come in the order of their least neighbors, and then of their GUIDs. So those
-/// with a common least neighbor come one after the other. `adapters` must have the number of adapters at each switch,
-/// by rising GUID. Takes time linear in the number of edges, and for each switch in the number of leaf switches.
+/// Returns the leaf number of each switch, for switches in ascending order of GUID: the number of leaf switches that
+/// come before the switch, modulo 2^16. Leaf switches come in the order of their least neighbors, and then of their
+/// GUIDs. So those with a common least neighbor come one after the other. `adapters` must have the number of adapters
+/// at each switch, in ascending order of GUID. Takes time linear in the number of edges, and for each switch in the
+/// number of leaf switches.
 pub fn leaf_numbers(
     alloc: Global,
     graph: &SwitchGraph,

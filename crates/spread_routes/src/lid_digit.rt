@@ -53,8 +53,8 @@ pub(crate) fn weights_of(alloc: Global, lid_digits: &[LidDigit]) -> Result<Vec<u
         .collect(alloc)
 }
 
-/// Returns the LID digit of the switch at each position of `order`. `levels` must have the level of each switch, by
-/// rising GUID.
+/// Returns the LID digit of the switch at each position of `order`. `levels` must have the level of each switch, in
+/// ascending order of GUID.
 pub(crate) fn lid_digits(
     alloc: Global,
     graph: &SwitchGraph,

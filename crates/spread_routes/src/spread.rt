@@ -58,11 +58,11 @@ impl Towards {
 #[derive(Drop)]
 pub struct Spread<'g> {
     graph: &'g SwitchGraph,
-    /// The key of each switch, by rising GUID.
+    /// The key of each switch, in ascending order of GUID.
     keys: Vec<VertexKey>,
-    /// The level of each switch, by rising GUID.
+    /// The level of each switch, in ascending order of GUID.
     levels: Vec<usize>,
-    /// The position of each switch in the order, by rising GUID.
+    /// The position of each switch in the order, in ascending order of GUID.
     positions: Vec<usize>,
     /// The edges of the switch at each position. Each edge leads to a position.
     edges: Adjacency,
@@ -91,11 +91,11 @@ impl<'g> Model for Spread<'g> {
 }
 
 impl<'g> Spread<'g> {
-    /// Computes the routes. `adapters` must have the number of adapters at each switch, by rising GUID. `order` says
-    /// what the order of switches grows by. Ignores GUIDs in `order` that are not switches of `graph`. Takes a
-    /// breadth-first search from each leaf switch and each root. Unless `order` names switches, takes two more for each
-    /// component. Also takes trials if the order is that of the least trial load, and balances loads if `order` asks
-    /// for it.
+    /// Computes the routes. `adapters` must have the number of adapters at each switch, in ascending order of GUID.
+    /// `order` says what the order of switches grows by. Ignores GUIDs in `order` that are not switches of `graph`.
+    /// Takes a breadth-first search from each leaf switch and each root. Unless `order` names switches, takes two more
+    /// for each component. Also takes trials if the order is that of the least trial load, and balances loads if
+    /// `order` asks for it.
     pub fn of(
         alloc: Global,
         graph: &'g SwitchGraph,
@@ -142,7 +142,7 @@ impl<'g> Spread<'g> {
     }
 
     /// Computes the routes without balancing loads. `keys` and `levels` must have the key and the level of each switch,
-    /// by rising GUID. `vertices` must have the indices of the switches in the order that grows by `keys`.
+    /// in ascending order of GUID. `vertices` must have the indices of the switches in the order that grows by `keys`.
     fn by_keys(
         alloc: Global,
         graph: &'g SwitchGraph,

@@ -20,14 +20,14 @@ use trial_loads::least_loaded_keys;
 /// The keys that order switches, and the levels of the switches.
 #[derive(Drop)]
 pub(crate) struct SwitchKeys {
-    /// The key of each switch, by rising GUID.
+    /// The key of each switch, in ascending order of GUID.
     pub(crate) keys: Vec<VertexKey>,
-    /// The level of each switch, by rising GUID.
+    /// The level of each switch, in ascending order of GUID.
     pub(crate) levels: Vec<usize>,
 }
 
 /// Returns the switches of `graph` in the order of the rule that spreads by `order`. `adapters` must have the number of
-/// adapters at each switch, by rising GUID. Takes no longer than `Spread::of`.
+/// adapters at each switch, in ascending order of GUID. Takes no longer than `Spread::of`.
 pub fn switches_in_order(
     alloc: Global,
     graph: &SwitchGraph,
@@ -138,7 +138,7 @@ fn least_loaded(
     Ok(SwitchKeys { keys, levels })
 }
 
-/// Returns the keys of the switches of `graph` by the list `switches`, which may name only some of them. Takes a binary
+/// Returns the keys of the switches of `graph` by the list `switches`, which may name only some of them. Does a binary
 /// search among the switches of the graph for each switch of the list.
 fn keys_as_named(
     alloc: Global,

@@ -15,8 +15,8 @@ pub enum SwitchOrder {
     },
     /// A list that names switches.
     AsNamed {
-        /// The named switches, earlier keys first. Switches that are not named have later keys, by rising GUID. GUIDs
-        /// that are not switches are ignored.
+        /// The named switches, earlier keys first. Switches that are not named have later keys, in ascending order of
+        /// GUID. GUIDs that are not switches are ignored.
         switches: Vec<Guid>,
     },
     /// A list that names switches, with loads balanced.

@@ -12,11 +12,11 @@ edge_at cells g p =
     option_and_then (λ q. if is_switch_node cells q.0 then Some (record { port = p; to = q.0 }) else None)
     (across cells g p)
 
--- the edges of node `g`: its wires to usable switches, itself among them, by rising port
+-- the edges of node `g`: its wires to usable switches, itself among them, in ascending order of port
 abbrev pub edges_of : Cells → ℕ → List Edge
 edges_of cells g = filter_map (edge_at cells g) (range_with_len 1 (port_count_of cells g))
 
--- the usable switches, by rising GUID, each with its edges
+-- the usable switches, in ascending order of GUID, each with its edges
 abbrev pub graph_of : Cells → List SwitchEdges
 graph_of cells = map (λ g. record { guid = g; edges = edges_of cells g }) (switches cells)
 

@@ -11,8 +11,8 @@ use Rattle.subnet_view.specs.Graph.{guids_of, edges_at, neighbors, graph_of}
 abbrev pub IsSwitch : List SwitchEdges → ℕ → Type 0
 IsSwitch graph a = Contains (guids_of graph) a
 
--- the switches are listed by rising GUID, and the edges of each by rising port; each edge leads to a switch that has an
--- edge back
+-- the switches are listed in ascending order of GUID, and the edges of each in ascending order of port; each edge leads
+-- to a switch that has an edge back
 pub record IsGraph (graph : List SwitchEdges) : Type 0 where
   pub rising : IsStrictlyIncreasing (guids_of graph)
   pub ports_rise : (a : ℕ) → IsStrictlyIncreasing (map (λ e. e.port) (edges_at graph a))

@@ -46,7 +46,7 @@ abbrev pub usable_guid : Cells → Key × Cell Value → Option ℕ
 usable_guid cells ((Node g), c) = if is_usable cells g then Some g else None
 usable_guid cells (_, c) = None
 
--- the usable switches of facts, by rising GUID
+-- the usable switches of facts, in ascending order of GUID
 abbrev pub switches : Cells → List ℕ
 switches cells = filter_map (usable_guid cells) cells
 
@@ -64,7 +64,7 @@ UsableLaw = (cells : Cells) (g : ℕ) → IsTrue (is_usable cells g) ↔ IsUsabl
 abbrev pub HasSwitches : Cells → List ℕ → Type 0
 HasSwitches cells guids = (g : ℕ) → Contains guids g ↔ IsUsable cells g
 
--- `switches` has exactly the usable switches as members, each once, by rising GUID
+-- `switches` has exactly the usable switches as members, each once, in ascending order of GUID
 abbrev pub SwitchesLaw : Type 0
 SwitchesLaw = (facts : Facts) → HasSwitches (cells_of facts) (switches (cells_of facts))
     × AllPairs (λ a b. a < b) (switches (cells_of facts))

@@ -31,7 +31,8 @@ by_guid guids e = record { port = e.port; to = slice_index guids e.to }
 abbrev pub AreEdgesAt : List SwitchEdges → ℕ → List Edge → Type 0
 AreEdgesAt graph i edges = map (by_guid (guids_of graph)) edges ≡ edges_at graph (switch_at graph i)
 
--- the distance from the switch at index `i` to each switch, by rising GUID; None for a switch to which no walk leads
+-- the distance from the switch at index `i` to each switch, in ascending order of GUID; None for a switch to which no
+-- walk leads
 abbrev pub distances_from : List SwitchEdges → ℕ → List (Option ℕ)
 distances_from graph i = map (distance graph (switch_at graph i)) (guids_of graph)
 
@@ -52,7 +53,7 @@ pub record IsSwitchGraph (guids : List ℕ) (edges : List (List Edge)) : Type 0 
   pub to_switches : LeadToVertices edges
   pub is_graph : IsGraph (named guids edges)
 
--- `edges` has the edges of each switch of the graph, by rising GUID, and they lead to indices
+-- `edges` has the edges of each switch of the graph, in ascending order of GUID, and they lead to indices
 pub record AreEdgesByIndex (graph : List SwitchEdges) (edges : List (List Edge)) : Type 0 where
   pub as_many : length edges ≡ length graph
   pub to_switches : LeadToVertices edges

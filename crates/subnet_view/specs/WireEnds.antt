@@ -26,7 +26,8 @@ abbrev pub wire_end : Cells → Key × Cell Value → Option ((ℕ × ℕ) × (�
 wire_end cells ((Link g p), c) = option_map (λ q. ((g, p), q)) (end_link cells g p)
 wire_end cells (_, c) = None
 
--- all ports that can have a wire and whose links are known, each with the far end of its link, by rising GUID and port
+-- all ports that can have a wire and whose links are known, each with the far end of its link, in ascending order of
+-- GUID and port
 abbrev pub wire_ends : Cells → List ((ℕ × ℕ) × (ℕ × ℕ))
 wire_ends cells = filter_map (wire_end cells) cells
 

@@ -20,7 +20,7 @@ pub struct EndPort {
 }
 
 /// Returns whether `port` of `node` is an end port: port 0 of a switch, or a port of another node, with a known GUID.
-/// Takes at most two binary searches among the cells.
+/// Does at most two binary searches among the cells.
 pub fn is_end_port(store: &Store, node: Guid, port: PortNum) -> bool
     ensures { result ≡ is_end_port (cells_of store.now) node port }
 {
@@ -99,7 +99,7 @@ pub(crate) fn sort_key(end: &(Guid, EndPort)) -> [u64; 3]
 }
 
 /// Returns the end port of a cell with its port GUID, or `None` if the cell does not give the GUID of an end port.
-/// `sighting` must be a cell of `store`. Takes a binary search among the cells if the key of `sighting` is that of a
+/// `sighting` must be a cell of `store`. Does a binary search among the cells if the key of `sighting` is that of a
 /// port GUID.
 pub(crate) fn guid_and_port(store: &Store, sighting: &Sighting) -> Option<(Guid, EndPort)>
     requires { cell_for store.now sighting.now.0 ≡ Some sighting.now.1 }
@@ -119,7 +119,7 @@ pub(crate) fn guid_and_port(store: &Store, sighting: &Sighting) -> Option<(Guid,
 }
 
 /// Returns whether `port` is port 0 of a switch, or from 1 to the number of ports of another node. Returns `false` if
-/// the type of `node` is not known. Takes a binary search among the cells.
+/// the type of `node` is not known. Does a binary search among the cells.
 fn is_end_port_number(store: &Store, node: Guid, port: PortNum) -> bool
     ensures { result ≡ is_end_port_number (cells_of store.now) node port }
 {

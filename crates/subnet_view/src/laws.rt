@@ -9,7 +9,7 @@ pub fn usable_is_in_words()
     ensures { UsableLaw }
 {}
 
-/// The list of switches has each usable switch once, by rising GUID, and nothing else.
+/// The list of switches has each usable switch once, in ascending order of GUID, and nothing else.
 pub fn switches_are_listed_by_guid()
     ensures { SwitchesLaw }
 {}
@@ -41,8 +41,8 @@ pub fn attachment_is_in_words()
     ensures { AttachedLaw }
 {}
 
-/// Facts give a graph: switches by rising GUID, the edges of each by rising port, and each edge leads to a switch with
-/// an edge back.
+/// Facts give a graph: switches in ascending order of GUID, the edges of each in ascending order of port, and each edge
+/// leads to a switch with an edge back.
 pub fn facts_give_a_graph()
     ensures { GraphLaw }
 {}

@@ -6,7 +6,7 @@ ghost use Rattle.subnet_view.specs.Reading.{port_count_of, is_up, is_switch_in, 
 use fact_store::{Sighting, Store, Value};
 use smp_bytes::{Guid, NodeType, PortNum};
 
-/// Returns the number of ports of the node `guid`, or 0 if it is not known. Takes a binary search among the cells.
+/// Returns the number of ports of the node `guid`, or 0 if it is not known. Does a binary search among the cells.
 pub fn port_count(store: &Store, guid: Guid) -> u8
     ensures { result ≡ port_count_of (cells_of store.now) guid }
 {
@@ -16,14 +16,14 @@ pub fn port_count(store: &Store, guid: Guid) -> u8
     }
 }
 
-/// Returns whether `port` of `node` is known to be up. Takes a binary search among the cells.
+/// Returns whether `port` of `node` is known to be up. Does a binary search among the cells.
 pub(crate) fn is_up(store: &Store, node: Guid, port: PortNum) -> bool
     ensures { result ≡ is_up (cells_of store.now) node port }
 {
     store.is_up(node, port).unwrap_or(false)
 }
 
-/// Returns whether `node` is known to be a switch. Takes a binary search among the cells.
+/// Returns whether `node` is known to be a switch. Does a binary search among the cells.
 pub(crate) fn is_switch(store: &Store, node: Guid) -> bool
     ensures { result ≡ is_switch_node (cells_of store.now) node }
 {

@@ -8,15 +8,15 @@ use fact_store::{Key, Refused, Sighting, Store};
 use smp_bytes::Guid;
 use std::alloc::{AllocError, Global};
 
-/// Returns whether `node` is a usable switch: it is known to be a switch, and its table room is known. Takes at most
-/// two binary searches among the cells.
+/// Returns whether `node` is a usable switch: it is known to be a switch, and its table room is known. Does at most two
+/// binary searches among the cells.
 pub fn is_usable(store: &Store, node: Guid) -> bool
     ensures { result ≡ is_usable (cells_of store.now) node }
 {
     is_switch(store, node) && store.cap(node).is_some()
 }
 
-/// Returns the usable switches, by rising GUID. Walks the cells, with a binary search for each switch.
+/// Returns the usable switches, in ascending order of GUID. Walks the cells, with a binary search for each switch.
 pub fn switches(alloc: Global, store: &Store) -> Result<Vec<Guid>, Refused>
     ensures { IfOk result (λ found. found.items ≡ switches (cells_of store.now)) }
 {
@@ -37,7 +37,7 @@ fn listed_switches(alloc: Global, store: &Store) -> Result<Vec<Guid>, AllocError
 }
 
 /// Returns the node whose type `sighting` reports, if this node is a usable switch. Returns `None` for any other node,
-/// and if `sighting` is not of a node. `sighting` must be a cell of `store`. Takes a binary search among the cells if
+/// and if `sighting` is not of a node. `sighting` must be a cell of `store`. Does a binary search among the cells if
 /// the node is a switch.
 pub fn usable_guid(store: &Store, sighting: &Sighting) -> Option<Guid>
     requires { cell_for store.now sighting.now.0 ≡ Some sighting.now.1 }

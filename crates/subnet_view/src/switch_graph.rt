@@ -22,9 +22,9 @@ use std::marker::Model;
 /// The usable switches and the wires between them, as a graph.
 #[derive(Drop)]
 pub struct SwitchGraph {
-    /// The switches by rising GUID. An edge leads to an index in this list.
+    /// The switches in ascending order of GUID. An edge leads to an index in this list.
     guids: Vec<Guid>,
-    /// The edges of each switch, by rising port.
+    /// The edges of each switch, in ascending order of port.
     edges: Adjacency,
 }
 
@@ -42,8 +42,8 @@ impl Model for SwitchGraph {
 
 impl SwitchGraph {
     /// Builds the graph of the view's usable switches and the wires between them. Walks the cells, with at most two
-    /// binary searches among them for each switch. For each port of a switch takes at most two binary searches among
-    /// the ports that can have a wire. For each wire takes one among the switches.
+    /// binary searches among them for each switch. For each port of a switch does at most two binary searches among the
+    /// ports that can have a wire. For each wire takes one among the switches.
     pub fn of(alloc: Global, wires: &Wires) -> Result<Self, Refused>
         ensures { IfOk result (λ graph. graph ≡ graph_of (cells_of wires.now)) }
     {
@@ -60,14 +60,14 @@ impl SwitchGraph {
         self.guids.len()
     }
 
-    /// Returns the switches, by rising GUID.
+    /// Returns the switches, in ascending order of GUID.
     pub fn switches(&self) -> &[Guid]
         ensures { result.now ≡ guids_of self.now }
     {
         &self.guids
     }
 
-    /// Returns the switches, by rising GUID, and frees the edges.
+    /// Returns the switches, in ascending order of GUID, and frees the edges.
     pub fn into_switches(self) -> Vec<Guid>
         ensures { result.items ≡ guids_of self }
     {
@@ -81,7 +81,7 @@ impl SwitchGraph {
         self.guids.get(index).copied()
     }
 
-    /// Returns the index of `switch`, or `None` if it is not in the graph. Takes a binary search among the switches.
+    /// Returns the index of `switch`, or `None` if it is not in the graph. Does a binary search among the switches.
     pub fn index_of(&self, switch: Guid) -> Option<usize>
         ensures { IsIndexIn (guids_of self.now) switch result }
     {
@@ -106,8 +106,8 @@ impl SwitchGraph {
         &self.edges
     }
 
-    /// Returns for each switch, by rising GUID, its distance from the switch at index `from`, which must exist. The
-    /// distance is `None` if no walk leads to the switch. Takes a breadth-first search.
+    /// Returns for each switch, in ascending order of GUID, its distance from the switch at index `from`, which must
+    /// exist. The distance is `None` if no walk leads to the switch. Takes a breadth-first search.
     pub fn distances(&self, alloc: Global, from: usize) -> Result<Vec<Option<usize>>, AllocError>
         requires { from < length self.now }
         ensures { IfOk result (λ found. found.items ≡ distances_from self.now from) }
@@ -115,8 +115,8 @@ impl SwitchGraph {
         port_graph::distances(alloc, &self.edges, from)
     }
 
-    /// Returns for each switch, by rising GUID, the root of its component, which is the least GUID in the component.
-    /// Takes a breadth-first search for each component.
+    /// Returns for each switch, in ascending order of GUID, the root of its component, which is the least GUID in the
+    /// component. Takes a breadth-first search for each component.
     pub fn roots(&self, alloc: Global) -> Result<Vec<Option<Guid>>, AllocError>
         ensures { IfOk result (λ roots. roots.items ≡ map (root_of self.now) (guids_of self.now)) }
     {
@@ -139,7 +139,7 @@ fn edges(alloc: Global, wires: &Wires, guids: &[Guid]) -> Result<Adjacency, Allo
     Ok(edges)
 }
 
-/// Returns the edges of the switch `guid`, by rising port. `guids` must be the usable switches.
+/// Returns the edges of the switch `guid`, in ascending order of port. `guids` must be the usable switches.
 fn edges_of(
     alloc: Global,
     wires: &Wires,
@@ -161,7 +161,7 @@ fn edges_of(
 }
 
 /// Returns the edge of the wire in `port` of `guid`, or `None` if no wire leads from `port` to a switch. `guids` must
-/// be the usable switches. Takes at most two binary searches among the ports that can have a wire, and one among the
+/// be the usable switches. Does at most two binary searches among the ports that can have a wire, and one among the
 /// switches if a wire is in `port`.
 fn edge_at(wires: &Wires, guids: &[Guid], guid: Guid, port: PortNum) -> Option<Edge>
     requires { guids.now ≡ switches (cells_of wires.now) }
@@ -173,7 +173,7 @@ fn edge_at(wires: &Wires, guids: &[Guid], guid: Guid, port: PortNum) -> Option<E
     Some(Edge { port, to })
 }
 
-/// Returns the index of `guid` among `guids`, which must rise, or `None` if `guids` do not contain `guid`. Takes a
+/// Returns the index of `guid` among `guids`, which must rise, or `None` if `guids` do not contain `guid`. Does a
 /// binary search.
 fn index_of(guids: &[Guid], guid: Guid) -> Option<usize>
     requires { IsStrictlyIncreasing guids.now }

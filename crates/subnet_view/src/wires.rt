@@ -14,7 +14,8 @@ use std::marker::Model;
 #[derive(Drop)]
 pub struct Wires<'s> {
     store: &'s Store,
-    /// The ports that can have a wire and whose links are known, each with the far end, by rising GUID and port.
+    /// The ports that can have a wire and whose links are known, each with the far end, in ascending order of GUID and
+    /// port.
     ends: Vec<((Guid, PortNum), (Guid, PortNum))>,
 }
 
@@ -49,8 +50,8 @@ impl<'s> Wires<'s> {
         self.store
     }
 
-    /// Returns the node and the port at the other end of the wire in `port` of `node`, as `wire` does. Takes at most
-    /// two binary searches among the ports that can have a wire.
+    /// Returns the node and the port at the other end of the wire in `port` of `node`, as `wire` does. Does at most two
+    /// binary searches among the ports that can have a wire.
     pub fn across(&self, node: Guid, port: PortNum) -> Option<(Guid, PortNum)>
         ensures { result ≡ across (cells_of self.now) node port }
     {
@@ -63,8 +64,8 @@ impl<'s> Wires<'s> {
         }
     }
 
-    /// Returns the switch and its port that the wire in `port` of `node` leads to, as `attached` does. Takes at most
-    /// two binary searches among the cells, and two among the ports that can have a wire.
+    /// Returns the switch and its port that the wire in `port` of `node` leads to, as `attached` does. Does at most two
+    /// binary searches among the cells, and two among the ports that can have a wire.
     pub fn attached(&self, node: Guid, port: PortNum) -> Option<(Guid, PortNum)>
         ensures { result ≡ attached (cells_of self.now) node port }
     {
@@ -80,7 +81,7 @@ impl<'s> Wires<'s> {
     }
 
     /// Returns the far end of the link of `port` of `node`, or `None` if the port cannot have a wire or the link is not
-    /// known. Takes a binary search among the ports that can have a wire.
+    /// known. Does a binary search among the ports that can have a wire.
     fn end_link(&self, node: Guid, port: PortNum) -> Option<(Guid, PortNum)>
         ensures { result ≡ end_link (cells_of self.now) node port }
     {
@@ -99,7 +100,8 @@ fn is_pair(near: (Guid, PortNum), far: (Guid, PortNum), back: Option<(Guid, Port
     near != far && back == Some(near)
 }
 
-/// Returns the ports that can have a wire and whose links are known, each with the far end, by rising GUID and port.
+/// Returns the ports that can have a wire and whose links are known, each with the far end, in ascending order of GUID
+/// and port.
 fn wire_ends(
     alloc: Global,
     store: &Store,

@@ -18,9 +18,9 @@ use Rattle.sweep.specs.Images.{Images, image_at, no_images}
 use Rattle.sweep.specs.Order.{AreInOrder, found_at}
 
 -- the port that the sweep starts from, and its generation; the number of its next request; the requests that are queued
--- and those that wait, each list by rising number; the vertices that were reached and the states of ports that were
--- seen, in the order of GUIDs and ports; the images; the number of requests that timed out, and of those among them
--- that were for SMInfo; and the number of ports that lead too far
+-- and those that wait, each list in ascending order of number; the vertices that were reached and the states of ports
+-- that were seen, in the order of GUIDs and ports; the images; the number of requests that timed out, and of those
+-- among them that were for SMInfo; and the number of ports that lead too far
 pub record Sweep : Type 0 where
   pub origin : ℕ
   pub generation : ℕ

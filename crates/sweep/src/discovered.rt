@@ -19,7 +19,7 @@ use std::marker::Model;
 /// the numbers of further vertices and states for which there is memory.
 #[derive(Drop)]
 pub(crate) struct Discovered {
-    /// The vertices, by rising GUID and port. The states in `seen` have the same order.
+    /// The vertices, in ascending order of GUID and port. The states in `seen` have the same order.
     vertices: Vec<Vertex>,
     seen: PageList<SeenState>,
     too_far: u64,
@@ -42,7 +42,7 @@ impl Model for Discovered {
 }
 
 /// Returns the index of the vertex with `guid` and `port`, or the index at which that vertex would be inserted.
-/// `vertices` must be in order. Takes a binary search.
+/// `vertices` must be in order. Does a binary search.
 fn vertex_index(vertices: &[Vertex], guid: Guid, port: PortNum) -> usize
     requires { AreInOrder vertex_key vertices.now }
     ensures { IsIndexFor vertex_key (guid, port) vertices.now result }
@@ -147,7 +147,7 @@ impl Discovered {
         self.seen.reserve(1)
     }
 
-    /// Returns the first vertex of the node `guid`, or `None` if the node was not reached. Takes a binary search.
+    /// Returns the first vertex of the node `guid`, or `None` if the node was not reached. Does a binary search.
     pub(crate) fn first_of(&self, guid: Guid) -> Option<&Vertex>
         requires { AreInOrder vertex_key self.now.reached }
         ensures { option_copied result ≡ first_vertex self.now.reached guid }
@@ -155,7 +155,7 @@ impl Discovered {
         first_of(&self.vertices, guid)
     }
 
-    /// Returns the vertex with `guid` and `port`, or `None` if the vertex was not reached. Takes a binary search.
+    /// Returns the vertex with `guid` and `port`, or `None` if the vertex was not reached. Does a binary search.
     pub(crate) fn vertex(&self, guid: Guid, port: PortNum) -> Option<&Vertex>
         requires { AreInOrder vertex_key self.now.reached }
         ensures { option_copied result ≡ vertex_at self.now.reached guid port }
@@ -163,7 +163,7 @@ impl Discovered {
         vertex_at(&self.vertices, guid, port)
     }
 
-    /// Returns the state of `port` of the node `guid`, or `None` if no state of the port was seen. Takes a binary
+    /// Returns the state of `port` of the node `guid`, or `None` if no state of the port was seen. Does a binary
     /// search.
     pub(crate) fn state(&self, guid: Guid, port: PortNum) -> Option<PortState>
         requires { AreInOrder state_key self.now.states }

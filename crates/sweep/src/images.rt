@@ -114,14 +114,14 @@ impl Images {
         }
     }
 
-    /// Returns the PortInfo of `port` of the node `guid`, or `None` if it is not kept. Takes a binary search.
+    /// Returns the PortInfo of `port` of the node `guid`, or `None` if it is not kept. Does a binary search.
     pub(crate) fn of_port(&self, guid: Guid, port: PortNum) -> Option<SeenImage>
         ensures { result ≡ found_at image_key guid port self.now.kept.ports }
     {
         item_at(&self.ports, guid, port)
     }
 
-    /// Returns the SwitchInfo of the switch `guid`, or `None` if it is not kept. Takes a binary search.
+    /// Returns the SwitchInfo of the switch `guid`, or `None` if it is not kept. Does a binary search.
     pub(crate) fn of_switch(&self, guid: Guid) -> Option<SeenImage>
         ensures { result ≡ found_at image_key guid 0 self.now.kept.switches }
     {

@@ -22,7 +22,7 @@ pub(crate) fn is_before(a: (Guid, PortNum), b: (Guid, PortNum)) -> bool
 }
 
 /// Returns the index of the item with `guid` and `port`, or the index at which that item would be inserted. `items`
-/// must be in order. Takes a binary search.
+/// must be in order. Does a binary search.
 fn index_for<T: OfPort>(items: &PageList<T>, guid: Guid, port: PortNum) -> usize
     requires { AreInOrder T.key items.now.items }
     ensures { IsIndexFor T.key (guid, port) items.now.items result }
@@ -54,8 +54,7 @@ fn is_at<T: OfPort>(items: &PageList<T>, index: usize, guid: Guid, port: PortNum
     }
 }
 
-/// Returns the item with `guid` and `port`, or `None` if there is none. `items` must be in order. Takes a binary
-/// search.
+/// Returns the item with `guid` and `port`, or `None` if there is none. `items` must be in order. Does a binary search.
 pub(crate) fn item_at<T: OfPort>(items: &PageList<T>, guid: Guid, port: PortNum) -> Option<T>
     requires { AreInOrder T.key items.now.items }
     ensures { result ≡ found_at T.key guid port items.now.items }

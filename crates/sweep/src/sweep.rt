@@ -136,8 +136,8 @@ impl Sweep {
         self.generation
     }
 
-    /// Returns the TransactionID of the waiting request at index `i`, by rising number, or `None` if no more than `i`
-    /// requests wait.
+    /// Returns the TransactionID of the waiting request at index `i`, in ascending order of number, or `None` if no
+    /// more than `i` requests wait.
     pub fn outstanding(&self, i: usize) -> Option<u64>
         ensures { result ≡ outstanding_at self.now i }
     {
@@ -167,8 +167,8 @@ impl Sweep {
         self.found.too_far()
     }
 
-    /// Returns the vertices that were reached, by rising GUID and port: a switch with port 0, an adapter with each port
-    /// that was reached.
+    /// Returns the vertices that were reached, in ascending order of GUID and port: a switch with port 0, an adapter
+    /// with each port that was reached.
     pub fn reached(&self) -> &[Vertex]
         ensures { result.now ≡ self.now.reached }
     {
@@ -176,7 +176,7 @@ impl Sweep {
     }
 
     /// Returns the path that first reached the vertex of the node `guid` with the port `port`, which is 0 for a switch.
-    /// Returns `None` if the vertex was not reached. Takes a binary search among the vertices.
+    /// Returns `None` if the vertex was not reached. Does a binary search among the vertices.
     pub fn path_to(&self, guid: Guid, port: PortNum) -> Option<&Path<63>>
         ensures { option_copied result ≡ path_to self.now guid port }
     {
@@ -185,14 +185,14 @@ impl Sweep {
     }
 
     /// Returns the state of a port in the first reply about the port with a state that is not reserved. Returns `None`
-    /// if there was no such reply. Takes a binary search among the states.
+    /// if there was no such reply. Does a binary search among the states.
     pub fn seen_state(&self, guid: Guid, port: PortNum) -> Option<PortState>
         ensures { result ≡ seen_state self.now guid port }
     {
         self.found.state(guid, port)
     }
 
-    /// Returns the PortInfo in the first reply about a port, or `None` if the port's PortInfo is not kept. Takes a
+    /// Returns the PortInfo in the first reply about a port, or `None` if the port's PortInfo is not kept. Does a
     /// binary search.
     pub fn port_image(&self, guid: Guid, port: PortNum) -> Option<PortInfo>
         ensures { result ≡ port_image self.now guid port }
@@ -202,7 +202,7 @@ impl Sweep {
     }
 
     /// Returns the SwitchInfo in the first reply of the switch `guid`, or `None` if the switch's SwitchInfo is not
-    /// kept. Takes a binary search.
+    /// kept. Does a binary search.
     pub fn switch_image(&self, guid: Guid) -> Option<SwitchInfo>
         ensures { result ≡ switch_image self.now guid }
     {

@@ -106,7 +106,8 @@ impl SweepRequests {
         self.sent += 1;
     }
 
-    /// Returns the waiting request at `index`, by rising number, or `None` if no more than `index` requests wait.
+    /// Returns the waiting request at `index`, in ascending order of number, or `None` if no more than `index` requests
+    /// wait.
     pub(crate) fn get(&self, index: usize) -> Option<&Request>
         ensures { option_copied result ≡ slice_get self.now.outstanding index }
     {
@@ -117,8 +118,7 @@ impl SweepRequests {
         }
     }
 
-    /// Returns the number of requests whose TransactionID in `generation` is below `transaction`. Takes a binary
-    /// search.
+    /// Returns the number of requests whose TransactionID in `generation` is below `transaction`. Does a binary search.
     fn count_below(&self, generation: Generation, transaction: u64) -> usize
         ensures index { IsIndex (λ r. nat_lt r.number (transaction - generation * 2 ^ 32))
             (self.now.outstanding ++ self.now.queued) result }
@@ -129,7 +129,7 @@ impl SweepRequests {
     }
 
     /// Returns the index of the waiting request with the TransactionID `transaction`, or `None` if no such request
-    /// waits. Takes a binary search.
+    /// waits. Does a binary search.
     pub(crate) fn index_of(&self, generation: Generation, transaction: u64) -> Option<usize>
         ensures { IsIndexFor (request_with generation transaction self.now.outstanding)
             self.now.outstanding result }
@@ -143,7 +143,7 @@ impl SweepRequests {
         }
     }
 
-    /// Returns the index of the waiting request that `smp` answers, or `None` if no such request waits. Takes a binary
+    /// Returns the index of the waiting request that `smp` answers, or `None` if no such request waits. Does a binary
     /// search.
     pub(crate) fn index_for(&self, generation: Generation, smp: &Smp) -> Option<usize>
         ensures { IsIndexFor (find (belongs generation smp.now) self.now.outstanding)

@@ -12,8 +12,8 @@ use held_tables::{Held, HeldBlock, HeldSwitch};
 use lft_blocks::{write_block, write_lids, write_switch};
 use lid_assign::LidMap;
 
-/// Writes a line for each end port of `lids`, by rising LID, and then the tables `next`, and flushes. Blocks are
-/// written as by `write_tables`. Does not allocate.
+/// Writes a line for each end port of `lids`, in ascending order of LID, and then the tables `next`, and flushes.
+/// Blocks are written as by `write_tables`. Does not allocate.
 pub fn write_next<W: Sink>(sink: &mut W, lids: &LidMap, next: &Held) -> Result<(), WriteFault>
     ensures writes { Writes W.written W.has_failed result sink.old sink.new (next_text lids.now next.now) }
     ensures flushed { OnOk result (IsTrue (W.is_flushed sink.new)) }

@@ -10,9 +10,10 @@ use held_tables::Held;
 use std::alloc::Global;
 use text_words::{LinesFault, split_line};
 
-/// Parses a text of tables, such as a plan's. The text has a line for each end port, by rising first LID, which may
-/// give the port's LMC. For each switch, by rising GUID, the text has a line for the switch and lines for its blocks,
-/// by rising number. Lines end with LF or CR LF, empty lines are skipped, and `#` begins a comment:
+/// Parses a text of tables, such as a plan's. The text has a line for each end port, in ascending order of first LID,
+/// which may give the port's LMC. For each switch, in ascending order of GUID, the text has a line for the switch and
+/// lines for its blocks, in ascending order of number. Lines end with LF or CR LF, empty lines are skipped, and `#`
+/// begins a comment:
 ///
 /// ```text
 /// lid 1 0000000000000010/0

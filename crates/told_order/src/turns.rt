@@ -20,8 +20,9 @@ pub(crate) struct SwitchTurn {
     pub to: usize,
 }
 
-/// Returns the turns that packets make at each usable switch, by rising GUID, by the tables of `network`. Takes what
-/// `channel_waits` takes, and time linear in the number of channels, plus that of the channels that follow each.
+/// Returns the turns that packets make at each usable switch, in ascending order of GUID, by the tables of `network`.
+/// Takes what `channel_waits` takes, and time linear in the number of channels, plus that of the channels that follow
+/// each.
 pub(crate) fn turns(alloc: Global, network: &Network) -> Result<Vec<Vec<SwitchTurn>>, AllocError>
     ensures { IfOk result (λ turns.
         AreTurns (cells_of network.now.facts) network.now.held (lists_of turns.items)) }

@@ -52,8 +52,8 @@ pub fn least_loaded_keys(
     Ok(best.keys)
 }
 
-/// Tries the orders by depth in `direction` from each of the first eight vertices, or from all if there are fewer.
-/// Returns the trial of least load among `first` and these trials, the first of equals.
+/// Tries the order by depth in `direction` from each of the first eight vertices, or from all if there are fewer.
+/// Returns whichever of `first` and these trials has the least load. Ties go to the earliest.
 fn try_by_depth(
     alloc: Global,
     edges: &Adjacency,

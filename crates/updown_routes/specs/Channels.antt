@@ -25,7 +25,7 @@ channel_number graph a b =
     if is_before graph b a then component_size graph b - position_of graph b else component_size graph b
     + position_of graph b
 
--- channel numbers rise along each way up and then down from a switch of `graph`
+-- along each way that goes up and then down from a switch of `graph`, the numbers of channels rise
 abbrev pub ChannelLaw : Type 0
 ChannelLaw = (graph : List SwitchEdges) → IsGraph graph → (s t n : ℕ) → IsSwitch graph s
     → (w : Way (slopes_of graph) s t n)

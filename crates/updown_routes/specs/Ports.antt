@@ -1,4 +1,4 @@
--- The next ports between the switches of a graph, by rising GUID.
+-- The next ports between the switches of a graph, in ascending order of GUID.
 use Rattle.std.specs.Prelude.{◌≡◌, ℕ, List, map, Option, option_and_then, slice_get}
 use Rattle.port_graph.specs.declared.edge.Edge.{Edge}
 use Rattle.port_graph.specs.Indexed.{indexed}
@@ -8,16 +8,16 @@ use Rattle.subnet_view.specs.Graph.{guids_of}
 use Rattle.subnet_view.specs.GraphLaws.{IsGraph}
 use Rattle.updown_routes.specs.Ranks.{slopes_of}
 
--- the next port of each switch, by rising GUID, towards switch `t`; None for a switch without one
+-- the next port of each switch, in ascending order of GUID, towards switch `t`; None for a switch without one
 abbrev pub ports_to : List SwitchEdges → ℕ → List (Option ℕ)
 ports_to graph t = map (λ s. next_port (slopes_of graph) s t) (guids_of graph)
 
--- for each switch as a target, by rising GUID, the next ports towards it (`ports_to`)
+-- for each switch as a target, in ascending order of GUID, the next ports towards it (`ports_to`)
 abbrev pub ports_of : List SwitchEdges → List (List (Option ℕ))
 ports_of graph = map (ports_to graph) (guids_of graph)
 
--- the next port from the switch at index `i` towards the switch at index `j`, by rising GUID; None if there is no next
--- port, or no switch at one of the indices
+-- the next port from the switch at index `i` towards the switch at index `j`, in ascending order of GUID; None if there
+-- is no next port, or no switch at one of the indices
 abbrev pub next_port_at : List SwitchEdges → ℕ → ℕ → Option ℕ
 next_port_at graph i j =
     option_and_then (λ t. option_and_then (λ s. next_port (slopes_of graph) s t) (slice_get (guids_of graph) i))

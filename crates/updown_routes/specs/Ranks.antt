@@ -29,7 +29,7 @@ slope_of graph c = record {
 abbrev pub slopes_of : List SwitchEdges → List Slope
 slopes_of graph = map (slope_of graph) graph
 
--- `graph` is a graph, and `ranks` has the rank of each of its switches, by rising GUID
+-- `graph` is a graph, and `ranks` has the rank of each of its switches, in ascending order of GUID
 pub record IsRanked (graph : List SwitchEdges) (ranks : List (Option ℕ)) : Type 0 where
   pub is_graph : IsGraph graph
   pub are_ranks : ranks ≡ map (rank_of graph) (guids_of graph)

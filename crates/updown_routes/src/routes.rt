@@ -17,8 +17,8 @@ use std::marker::Model;
 #[derive(Drop)]
 pub struct Routes<'g> {
     graph: &'g Graph,
-    /// For each target, by rising GUID, the next port of each switch, by rising GUID. `None` for the target itself, and
-    /// for a switch of another component.
+    /// For each target, in ascending order of GUID, the next port of each switch, in ascending order of GUID. `None`
+    /// for the target itself, and for a switch of another component.
     towards: Vec<Vec<Option<PortNum>>>,
 }
 
@@ -48,7 +48,7 @@ impl<'g> Routes<'g> {
 
     /// Returns the port by which a packet leaves `switch` for `target`. The port leads down if a walk down leads to
     /// `target`, and otherwise up. Returns `None` if `switch` is `target`, if the two are in different components, or
-    /// if the graph lacks one of the two. Takes two binary searches among the switches.
+    /// if the graph lacks one of the two. Does two binary searches among the switches.
     pub fn next_port(&self, switch: Guid, target: Guid) -> Option<PortNum>
         ensures { result ≡ next_port (slopes_of self.now) switch target }
     {
