@@ -14,7 +14,7 @@ use Rattle.spread_labels.specs.Keys.{before_by}
 use Rattle.spread_labels.specs.Orders.{numbers_from, position_of}
 use Rattle.spread_labels.proofs.ByPositions.{position_less}
 use Rattle.spread_routes.proofs.Indices.{leads_below}
-use Rattle.next_tables.specs.EntriesByOrder.{AreRight, is_bad, is_down, is_up, position_at}
+use Rattle.next_tables.specs.SwitchPositions.{AreRight, is_bad, is_down, is_up, position_at}
 use Rattle.next_tables.proofs.Hops.{leads_within, to_within}
 use Rattle.ordered_steps.specs.Rightness.{are_right}
 use Rattle.ordered_steps.proofs.ToldRight.{rightness_is_told}

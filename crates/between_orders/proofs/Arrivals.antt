@@ -35,8 +35,8 @@ use Rattle.packet_walks.specs.HopsByTables.{cause_of, next_hops_of, over}
 use Rattle.packet_walks.specs.EndsBySwitch.{after}
 use Rattle.packet_walks.proofs.Ended.{after_ended}
 use Rattle.packet_walks.proofs.PlanSteps.{contains_at, leaves}
-use Rattle.next_tables.specs.EntriesByOrder.{Leads, switch_at}
-use Rattle.next_tables.specs.Next.{step_at}
+use Rattle.next_tables.specs.SwitchPositions.{Leads, switch_at}
+use Rattle.next_tables.specs.SettledRule.{step_at}
 use Rattle.next_tables.proofs.Entries.{at_mapped, member}
 use Rattle.next_tables.proofs.Hops.{edge_at, leads_from, leads_within, placed, to_within}
 use Rattle.next_tables.proofs.Mixtures.{at}

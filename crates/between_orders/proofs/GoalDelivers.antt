@@ -38,14 +38,14 @@ use Rattle.packet_walks.specs.EndsBySwitch.{after}
 use Rattle.packet_walks.proofs.Judged.{at_is}
 use Rattle.packet_walks.proofs.PlanSteps.{contains_at, no_wire_at_0}
 use Rattle.next_tables.specs.Assembled.{most_blocks}
-use Rattle.next_tables.specs.EntriesByOrder.{IsOrder, position_at, switch_at}
-use Rattle.next_tables.specs.Next.{step_at}
+use Rattle.next_tables.specs.SwitchPositions.{IsOrder, position_at, switch_at}
+use Rattle.next_tables.specs.SettledRule.{step_at}
 use Rattle.next_tables.proofs.Assembled.{greatest_at}
 use Rattle.next_tables.proofs.ByLid.{first_of}
 use Rattle.next_tables.proofs.Entries.{at_mapped}
 use Rattle.next_tables.proofs.Hops.{placed, taken_same, to_same}
 use Rattle.next_tables.proofs.Mixtures.{at}
-use Rattle.ordered_steps.specs.StepLaws.{DeliverFrom}
+use Rattle.ordered_steps.specs.OrderedStepLaws.{DeliverFrom}
 use Rattle.two_orders.specs.declared.labels.Sides.{Sides}
 use Rattle.two_orders.specs.Labels.{both_down, goes_on, is_side, label_at, leads, leads_on, may_follow}
 use Rattle.two_orders.specs.TwoOrders.{TwoOrders}

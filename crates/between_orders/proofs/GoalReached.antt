@@ -17,10 +17,10 @@ use Rattle.packet_walks.specs.declared.next_hop.NextHop.TheVariants.{To, Ends}
 use Rattle.packet_walks.specs.HopsByTables.{by_entry, cause_of}
 use Rattle.packet_walks.proofs.PlanSteps.{contains_at}
 use Rattle.subnet_view.specs.Reading.{port_count_of}
-use Rattle.next_tables.specs.EntriesByOrder.{AreRight, IsOrder, Leads, position_at, switch_at}
-use Rattle.next_tables.specs.Next.{step_at}
+use Rattle.next_tables.specs.SwitchPositions.{AreRight, IsOrder, Leads, position_at, switch_at}
+use Rattle.next_tables.specs.SettledRule.{step_at}
 use Rattle.next_tables.proofs.Hops.{none_taken, placed, to_within}
-use Rattle.ordered_steps.specs.StepLaws.{AreStepsByOrder, DeliverFrom, IsLineStep}
+use Rattle.ordered_steps.specs.OrderedStepLaws.{AreStepsByOrder, DeliverFrom, IsLineStep}
 use Rattle.ordered_steps.proofs.EndRight.{end_right_by_any}
 use Rattle.ordered_steps.proofs.Goal.{end_in_twice_as_many}
 use Rattle.ordered_steps.proofs.Lost.{rule_is_tried, tried_is_choice}

@@ -14,8 +14,8 @@ use Rattle.held_tables.specs.Held.{HeldPlan}
 use Rattle.packet_walks.specs.declared.next_hop.SwitchStep.{SwitchStep}
 use Rattle.packet_walks.specs.HopsByTables.{switch_step}
 use Rattle.packet_walks.proofs.Judged.{same_itself}
-use Rattle.next_tables.specs.EntriesByOrder.{switch_at}
-use Rattle.next_tables.specs.Next.{step_at}
+use Rattle.next_tables.specs.SwitchPositions.{switch_at}
+use Rattle.next_tables.specs.SettledRule.{step_at}
 use Rattle.next_tables.proofs.Entries.{at_mapped}
 use Rattle.two_orders.specs.declared.labels.Sides.{Sides}
 use Rattle.two_orders.specs.LabelLaws.{AreTargets, grown_twice}

@@ -29,8 +29,8 @@ use Rattle.packet_walks.specs.HopsByTables.{switch_step}
 use Rattle.held_tables.proofs.HeldTables.{within_length}
 use Rattle.next_tables.proofs.Steps.{at_index}
 use Rattle.next_tables.specs.Assembled.{most_blocks, tables_with}
-use Rattle.next_tables.specs.EntriesByOrder.{AreRight, Leads, is_bad, is_down, is_up, position_at, switch_at}
-use Rattle.next_tables.specs.Next.{step_at}
+use Rattle.next_tables.specs.SwitchPositions.{AreRight, Leads, is_bad, is_down, is_up, position_at, switch_at}
+use Rattle.next_tables.specs.SettledRule.{step_at}
 use Rattle.next_tables.proofs.Hops.{edge_at, leads_at, leads_within, none_to, placed, to_same}
 use Rattle.two_orders.specs.declared.labels.Sides.{Sides}
 use Rattle.two_orders.specs.Labels.{goes_on, is_side, label_at, leads, leads_on}

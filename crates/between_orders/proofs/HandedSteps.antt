@@ -12,10 +12,11 @@ use Rattle.spread_routes.proofs.Indices.{leads_below}
 use Rattle.held_tables.specs.Held.{HeldPlan}
 use Rattle.held_tables.specs.declared.held.HeldLid.{HeldLid}
 use Rattle.held_tables.specs.Tables.{entry_for, owners_of}
-use Rattle.next_tables.specs.EntriesByOrder.{IsNextByOrder, Leads, position_at}
+use Rattle.next_tables.specs.OrderRule.{IsNextByOrder}
+use Rattle.next_tables.specs.SwitchPositions.{Leads, position_at}
 use Rattle.next_tables.specs.NextTables.{IsKept, ordered_for}
 use Rattle.next_tables.proofs.Hops.{none_to}
-use Rattle.ordered_steps.specs.StepLaws.{AreNextByOrder, DeliverFrom}
+use Rattle.ordered_steps.specs.OrderedStepLaws.{AreNextByOrder, DeliverFrom}
 use Rattle.ordered_steps.proofs.OrderedTables.{ordered_tables_are_next}
 use Rattle.ordered_steps.proofs.Round.{all_are_step, all_follow_the_rule}
 use Rattle.ordered_steps.proofs.ToldRight.{rightness_is_told}
@@ -29,7 +30,7 @@ use Rattle.two_orders.proofs.Agreement.{grows_again}
 use Rattle.between_orders.specs.Agreement.{AreRightBy, IsRightByGrown, TellsPositions}
 use Rattle.between_orders.specs.Between.{Goal, IsGoalBetween, goal_between}
 use Rattle.between_orders.specs.BetweenLaws.{AreGoalSteps, IsGoalLine, next_towards}
-use Rattle.between_orders.specs.HandedSteps.{AreHandedSteps, HandedOrdersStay, HandedStepsAreGoalSteps, RightTablesHaveGoals}
+use Rattle.between_orders.specs.HandedStages.{AreHandedSteps, HandedOrdersStay, HandedStepsAreGoalSteps, RightTablesHaveGoals}
 use Rattle.between_orders.specs.Orders.{AreOrders, edges_in, orders_from}
 use Rattle.between_orders.specs.TablesBetween.{tables_between}
 use Rattle.between_orders.proofs.Agreement.{are, orders_stay}

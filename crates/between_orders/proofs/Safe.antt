@@ -21,7 +21,7 @@ use Rattle.spread_routes.proofs.Indices.{as_many, index_of_switch}
 use Rattle.spread_routes.proofs.Names.{all_positioned, position_within}
 use Rattle.held_tables.specs.Tables.{owners_of}
 use Rattle.next_tables.specs.NextTables.{IsKept}
-use Rattle.next_tables.specs.EntriesByOrder.{AreRight, IsOrder, position_at}
+use Rattle.next_tables.specs.SwitchPositions.{AreRight, IsOrder, position_at}
 use Rattle.ordered_steps.specs.Rightness.{are_right}
 use Rattle.ordered_steps.proofs.OrderedTables.{ordered_tables_are_next}
 use Rattle.ordered_steps.proofs.ToldRight.{rightness_is_told}

@@ -12,10 +12,12 @@ use Rattle.held_tables.specs.Tables.{entry_for}
 use Rattle.held_tables.proofs.HeldTables.{within_length}
 use Rattle.packet_walks.specs.declared.next_hop.NextHop.{NextHop}
 use Rattle.packet_walks.specs.declared.next_hop.NextHop.TheVariants.{To, Ends}
-use Rattle.next_tables.specs.EntriesByOrder.{IsNextByOrder, IsTriedByOrder, comes_down, goes_up, is_down, is_up, leads_in, may_change, none_comes_down}
-use Rattle.next_tables.specs.EntriesByOrder.{none_goes_up, switch_at}
-use Rattle.next_tables.specs.EntriesByOrder.{tried, tried_at, tried_entry, turns_well}
-use Rattle.next_tables.specs.Next.{comes_to, delivers, step_at}
+use Rattle.next_tables.specs.OrderRule.{IsNextByOrder, IsTriedByOrder, comes_down, goes_up, leads_in, may_change, none_comes_down}
+use Rattle.next_tables.specs.SwitchPositions.{is_down, is_up}
+use Rattle.next_tables.specs.OrderRule.{none_goes_up}
+use Rattle.next_tables.specs.SwitchPositions.{switch_at}
+use Rattle.next_tables.specs.OrderRule.{tried, tried_at, tried_entry, turns_well}
+use Rattle.next_tables.specs.SettledRule.{comes_to, delivers, step_at}
 use Rattle.next_tables.proofs.Hops.{to_within}
 use Rattle.next_tables.proofs.Steps.{at_index}
 use Rattle.ordered_steps.proofs.Turns.{below_at}

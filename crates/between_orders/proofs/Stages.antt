@@ -11,13 +11,13 @@ use Rattle.held_tables.proofs.HeldTables.{within_length}
 use Rattle.packet_walks.specs.declared.packet_end.End.TheVariants.{Taken}
 use Rattle.packet_walks.specs.declared.next_hop.NextHop.TheVariants.{To, Ends}
 use Rattle.packet_walks.proofs.PlanSteps.{contains_at}
-use Rattle.next_tables.specs.EntriesByOrder.{AreRight, position_at, switch_at}
-use Rattle.next_tables.specs.Next.{step_at}
+use Rattle.next_tables.specs.SwitchPositions.{AreRight, position_at, switch_at}
+use Rattle.next_tables.specs.SettledRule.{step_at}
 use Rattle.next_tables.specs.NextTables.{IsKept, StepRuleValue, by_order, next_at, next_top}
 use Rattle.next_tables.proofs.Entries.{at_mapped}
 use Rattle.next_tables.proofs.Hops.{leads_within, placed}
 use Rattle.next_tables.proofs.Whole.{entry_next, top_next}
-use Rattle.ordered_steps.specs.StepLaws.{DeliverFrom}
+use Rattle.ordered_steps.specs.OrderedStepLaws.{DeliverFrom}
 use Rattle.ordered_steps.proofs.Round.{next_deliver_or_drop_by_order}
 use Rattle.two_orders.specs.Growth.{grown_by, positions_in}
 use Rattle.two_orders.specs.LabelLaws.{grown_twice}
@@ -26,7 +26,7 @@ use Rattle.between_orders.specs.Agreement.{AgreeTo, AreRightBy, ComeEverywhere, 
 use Rattle.between_orders.specs.Agreement.IsOnward.{goal}
 use Rattle.between_orders.specs.Between.{IsGoalBetween}
 use Rattle.between_orders.specs.BetweenLaws.{AreGoalSteps, IsGoalLine}
-use Rattle.between_orders.specs.HandedSteps.{HandedStepsEnd, HaveOwnLids, IsOwnLid, IsStage, IsWholePlan, StagesAreFew, StagesStayWhole}
+use Rattle.between_orders.specs.HandedStages.{HandedStepsEnd, HaveOwnLids, IsOwnLid, IsStage, IsWholePlan, StagesAreFew, StagesStayWhole}
 use Rattle.between_orders.specs.Orders.{edges_in, orders_from, told_positions}
 use Rattle.between_orders.specs.TablesBetween.{tables_between}
 use Rattle.between_orders.proofs.Agreement.{begins, goals_go_further, reached_right_by_plan, told_right_by_plan}

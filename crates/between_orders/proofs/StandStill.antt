@@ -11,11 +11,12 @@ use Rattle.std.specs.List.{find}
 use Rattle.held_tables.specs.Tables.{entry_for}
 use Rattle.held_tables.proofs.HeldTables.{within_length}
 use Rattle.packet_walks.specs.declared.next_hop.NextHop.TheVariants.{To}
-use Rattle.next_tables.specs.EntriesByOrder.{position_at, switch_at, tried}
-use Rattle.next_tables.specs.Next.{comes_to, step_at}
+use Rattle.next_tables.specs.OrderRule.{tried}
+use Rattle.next_tables.specs.SwitchPositions.{position_at, switch_at}
+use Rattle.next_tables.specs.SettledRule.{comes_to, step_at}
 use Rattle.next_tables.proofs.Hops.{none_to, to_same}
 use Rattle.next_tables.proofs.Steps.{at_index}
-use Rattle.ordered_steps.specs.StepLaws.{DeliverFrom, IsLineStep}
+use Rattle.ordered_steps.specs.OrderedStepLaws.{DeliverFrom, IsLineStep}
 use Rattle.ordered_steps.proofs.Lost.{tried_choice, tried_delivers}
 use Rattle.ordered_steps.proofs.Turns.{not_true}
 use Rattle.two_orders.specs.declared.labels.Sides.{Sides}

@@ -7,7 +7,7 @@ use Rattle.std.proofs.lemmas.List.{get_or_past, length-set}
 use Rattle.std.proofs.lemmas.List.FromFn.{get_or-map-range_with_len, length-map-range_with_len}
 use Rattle.subnet_view.specs.Reading.{Cells}
 use Rattle.held_tables.specs.Held.{HeldPlan}
-use Rattle.next_tables.specs.EntriesByOrder.{position_at}
+use Rattle.next_tables.specs.SwitchPositions.{position_at}
 use Rattle.told_order.specs.ToldOrder.{AreTaken, is_left, position_in}
 use Rattle.between_orders.specs.Orders.{told_positions}
 

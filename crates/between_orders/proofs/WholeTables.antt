@@ -14,7 +14,7 @@ use Rattle.subnet_view.proofs.Graphs.{graph_law}
 use Rattle.held_tables.specs.Held.{HeldPlan}
 use Rattle.spread_labels.specs.LabelLaws.{IsSymmetric}
 use Rattle.spread_routes.proofs.Indices.{leads_below, there_and_back}
-use Rattle.next_tables.specs.EntriesByOrder.{AreRight, Leads, is_bad, is_down, is_up}
+use Rattle.next_tables.specs.SwitchPositions.{AreRight, Leads, is_bad, is_down, is_up}
 use Rattle.next_tables.proofs.Hops.{leads_within, to_within}
 use Rattle.ordered_steps.proofs.ToldRight.{rightness_is_told}
 use Rattle.ordered_steps.proofs.Turns.{not_true}

@@ -5,7 +5,7 @@ use Rattle.port_graph.specs.Heads.{heads}
 use Rattle.port_graph.specs.Walks.{Walk}
 use Rattle.subnet_view.specs.Reading.{Cells, switches}
 use Rattle.held_tables.specs.Held.{HeldPlan}
-use Rattle.next_tables.specs.EntriesByOrder.{AreRight, Leads, position_at}
+use Rattle.next_tables.specs.SwitchPositions.{AreRight, Leads, position_at}
 use Rattle.ordered_steps.specs.Rightness.{are_right}
 use Rattle.told_order.specs.ToldOrder.{IsTold, position_in}
 use Rattle.two_orders.specs.Agreement.{AgreesUpTo}

@@ -10,10 +10,11 @@ use Rattle.held_tables.specs.Tables.{entry_for, owners_of, top_of}
 use Rattle.packet_walks.specs.declared.packet_end.End.TheVariants.{Taken}
 use Rattle.packet_walks.specs.declared.next_hop.NextHop.TheVariants.{Ends}
 use Rattle.packet_walks.specs.HopsByTables.{switch_step}
-use Rattle.next_tables.specs.EntriesByOrder.{AreRight, IsNextByOrder, IsOrder, position_at, switch_at}
-use Rattle.next_tables.specs.Next.{step_at}
+use Rattle.next_tables.specs.OrderRule.{IsNextByOrder}
+use Rattle.next_tables.specs.SwitchPositions.{AreRight, IsOrder, position_at, switch_at}
+use Rattle.next_tables.specs.SettledRule.{step_at}
 use Rattle.next_tables.specs.NextTables.{IsKept, by_order, next_tables}
-use Rattle.ordered_steps.specs.StepLaws.{DeliverFrom, IsLineStep, IsStep}
+use Rattle.ordered_steps.specs.OrderedStepLaws.{DeliverFrom, IsLineStep, IsStep}
 use Rattle.two_orders.specs.declared.labels.Sides.{Sides}
 use Rattle.two_orders.specs.LabelLaws.{grown_twice}
 use Rattle.two_orders.specs.Labels.{label_at}

@@ -12,7 +12,7 @@ use Rattle.packet_walks.specs.declared.next_hop.NextHop.TheVariants.{To, Ends}
 use Rattle.packet_walks.specs.declared.next_hop.SwitchStep.{SwitchStep}
 use Rattle.packet_walks.specs.HopsByTables.{is_at, switch_step}
 use Rattle.next_tables.specs.Assembled.{most_blocks, tables_with}
-use Rattle.next_tables.specs.SettledEntries.{Both}
+use Rattle.next_tables.specs.SettledComputed.{Both}
 use Rattle.two_orders.specs.declared.labels.Sides.{Sides}
 use Rattle.two_orders.specs.Labels.{both_down, label_at, labels_from, leads_on}
 use Rattle.two_orders.specs.TwoOrders.{TwoOrders}

@@ -15,7 +15,7 @@ ghost use Rattle.between_orders.specs.BetweenLaws.{
   GoalTurnsWell,
 };
 ghost use Rattle.between_orders.specs.BetweenLaws.{GoalsAreSafe, GoalsFollowTheRule};
-ghost use Rattle.between_orders.specs.HandedSteps.{
+ghost use Rattle.between_orders.specs.HandedStages.{
   HandedOrdersStay,
   HandedStepsAreGoalSteps,
   HandedStepsEnd,

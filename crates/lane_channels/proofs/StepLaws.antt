@@ -11,7 +11,7 @@ use Rattle.lanes_file.specs.Lanes.{LanesSaid}
 use Rattle.lane_channels.specs.AnyTables.{WaitsByAny}
 use Rattle.lane_channels.specs.LaneTurns.{TakesByLane}
 use Rattle.lane_channels.specs.Stops.{ComesAfter, HasEdge, lane_between, lane_by, port_across}
-use Rattle.lane_channels.specs.StepLaws.{HeldRiseInStep, NeverBothByLaneInStep, OneLaneSufficesInStep}
+use Rattle.lane_channels.specs.LaneStepLaws.{HeldRiseInStep, NeverBothByLaneInStep, OneLaneSufficesInStep}
 use Rattle.lane_channels.proofs.LaneLaws.{never_both_by_any, without_lane}
 use Rattle.lane_channels.proofs.Visits.{no_column}
 

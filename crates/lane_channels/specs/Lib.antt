@@ -5,7 +5,7 @@ pub mod LaneNetwork
 pub mod LaneTurns
 pub mod Levels
 pub mod Senders
-pub mod StepLaws
+pub mod LaneStepLaws
 pub mod Stops
 pub mod Visits
 pub mod Waiting

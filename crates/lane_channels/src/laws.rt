@@ -1,7 +1,7 @@
 //! The laws of channels by lane.
 ghost use Rattle.lane_channels.specs.Fabrics.{LaneChannelsRise, StepLaneChannelsRise};
 ghost use Rattle.lane_channels.specs.LaneLaws.{AllCarried, NeverBothByLane, OneLaneSuffices};
-ghost use Rattle.lane_channels.specs.StepLaws.{HeldRiseInStep, NeverBothByLaneInStep, OneLaneSufficesInStep};
+ghost use Rattle.lane_channels.specs.LaneStepLaws.{HeldRiseInStep, NeverBothByLaneInStep, OneLaneSufficesInStep};
 
 /// If numbers of channels rise on one lane by the held tables, numbers of channels by lane rise, whatever the lanes and
 /// service levels are.

@@ -11,7 +11,7 @@ use Rattle.lft_blocks.specs.Rules.{RuleValue}
 use Rattle.held_tables.specs.Held.{HeldPlan}
 use Rattle.held_tables.specs.PlanTables.{held_plan}
 use Rattle.tables_file.specs.TablesText.{next_text}
-use Rattle.next_tables.specs.EntriesByOrder.{position_at}
+use Rattle.next_tables.specs.SwitchPositions.{position_at}
 use Rattle.between_orders.specs.Between.{Goal, IsGoal}
 use Rattle.next_tables.specs.NextTables.{StepRuleValue, by_order, first_moved, next_tables, settled_first, value_of}
 use Rattle.ordered_steps.specs.Rightness.{are_right}

@@ -5,7 +5,7 @@ use Rattle.std.specs.declared.alloc.Global.{Global}
 use Rattle.smp_bytes.specs.Text.{guid_text}
 use Rattle.subnet_view.specs.Reading.{Cells}
 use Rattle.two_orders.specs.Growth.{positions_in}
-use Rattle.next_tables.specs.EntriesByOrder.{switch_at}
+use Rattle.next_tables.specs.SwitchPositions.{switch_at}
 use Rattle.between_orders.specs.Between.{Goal}
 
 -- the GUIDs of the usable switches in the order of their positions

@@ -23,7 +23,7 @@ use Rattle.held_tables.specs.Switches.{far_of, row_of}
 use Rattle.packet_walks.specs.HopsByTables.{by_entry, cause_of, over}
 use Rattle.held_tables.specs.Tables.{owners_of, counted, entry_for, entry_of, top_of}
 use Rattle.packet_walks.proofs.FabricParts.{usable}
-use Rattle.next_tables.specs.Next.{step_at}
+use Rattle.next_tables.specs.SettledRule.{step_at}
 use Rattle.next_tables.specs.NextTables.{StepRuleValue, next_tables, next_top}
 use Rattle.next_tables.specs.ChangingFabric.{entry_now, IsLooseEntry, IsBeingWritten, IsInChange, WrittenTablesAreInChange}
 use Rattle.next_tables.proofs.Whole.{top_next}

@@ -13,7 +13,7 @@ use Rattle.packet_walks.specs.declared.next_hop.NextHop.TheVariants.{To}
 use Rattle.packet_walks.specs.Fabrics.{IsSeenIn}
 use Rattle.packet_walks.specs.HopsByTables.{next_hops_of}
 use Rattle.packet_walks.proofs.Told.{IsClosed, joined_closed}
-use Rattle.next_tables.specs.Next.{IsNext}
+use Rattle.next_tables.specs.SettledRule.{IsNext}
 use Rattle.next_tables.specs.NextTables.{next_tables, settled_first}
 use Rattle.next_tables.specs.ChangingFabric.{PacketsArriveWhileTablesChange}
 use Rattle.next_tables.proofs.Changing.{in_time, held_arrives}

@@ -20,7 +20,7 @@ use Rattle.packet_walks.specs.EndsBySwitch.{after, end_of, is_to}
 use Rattle.packet_walks.specs.HopsByTables.{by_entry, cause_of, is_at, next_hops_of}
 use Rattle.packet_walks.proofs.InTime.{one_end, ends_in_time}
 use Rattle.packet_walks.proofs.Judged.{at_is, same_itself}
-use Rattle.next_tables.specs.Next.{step_at, comes_to, agreed_at, agreed, leads_on, delivers, patch_entry, patch_at, mending_at, mending, mends, next_entry, IsNext}
+use Rattle.next_tables.specs.SettledRule.{step_at, comes_to, agreed_at, agreed, leads_on, delivers, patch_entry, patch_at, mending_at, mending, mends, next_entry, IsNext}
 use Rattle.next_tables.specs.Mixtures.{IsMixed, IsLoose}
 use Rattle.next_tables.proofs.Mixtures.{at, Comes, patch, Agreed, Emptied, Choice, Mending, Mix, Loose}
 use Rattle.next_tables.proofs.Plain.{dropped, plain, plain_at, plain_after, plain_by_entry, plain_cond, plain_is_to, plain_lost, plain_none, plain_taken}

@@ -23,10 +23,10 @@ use Rattle.packet_walks.specs.HopsByTables.{by_entry, over, cause_of}
 use Rattle.packet_walks.specs.Edges.{edge_by, edge_to, edges_of}
 use Rattle.audit_channels.specs.Columns.{number_of}
 use Rattle.held_tables.proofs.HeldTables.{within_length}
-use Rattle.next_tables.specs.Next.{step_at}
+use Rattle.next_tables.specs.SettledRule.{step_at}
 use Rattle.next_tables.proofs.Entries.{at_mapped, past_mapped}
 use Rattle.next_tables.proofs.Steps.{at_index}
-use Rattle.next_tables.specs.EntriesByOrder.{Leads, switch_at}
+use Rattle.next_tables.specs.SwitchPositions.{Leads, switch_at}
 
 -- to a switch an entry leads whoever owns the LID
 over_to : (owners others : List EndPort) (g : ℕ) (cause other : Cause) (far : Far) (j : ℕ) → over owners g cause far ≡ To j → over others g other far ≡ To j

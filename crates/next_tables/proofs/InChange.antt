@@ -36,7 +36,7 @@ use Rattle.packet_walks.proofs.FabricParts.{as_part, vertex_part, switch_end, li
 use Rattle.packet_walks.proofs.FarRows.{has, lacks, no_far, no_port, row_at}
 use Rattle.held_tables.proofs.HeldTables.{within_length}
 use Rattle.packet_walks.proofs.Told.{IsClosed}
-use Rattle.next_tables.specs.Next.{step_at}
+use Rattle.next_tables.specs.SettledRule.{step_at}
 use Rattle.next_tables.specs.ChangingFabric.{entry_now, IsLooseEntry, IsInChange, ChangesMeanwhile, GoesMeanwhile, ArrivesMeanwhile}
 use Rattle.next_tables.proofs.Changing.{MayDo, IsOnItsWay}
 use Rattle.next_tables.proofs.Entries.{at_mapped}

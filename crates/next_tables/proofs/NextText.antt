@@ -21,17 +21,18 @@ use Rattle.held_tables.specs.declared.held.HeldSwitch.{HeldSwitch}
 use Rattle.held_tables.specs.Held.{HeldPlan}
 use Rattle.held_tables.specs.PlanRanges.{IsBlock, IsPlanInRange, IsTableInRange}
 use Rattle.held_tables.specs.PlanTables.{blocks_from, blocks_of, held_plan, owned_lids, with_top}
-use Rattle.tables_file.specs.PrintedTables.{AreTops, IsHeldInRange, Says, held_under, with_own_top}
+use Rattle.tables_file.specs.PrintedTextIsRead.{AreTops, IsHeldInRange, Says, held_under, with_own_top}
 use Rattle.tables_file.specs.TablesText.{next_text}
 use Rattle.held_tables.proofs.PlanRanges.{plans_in_range, switch_small}
 use Rattle.tables_file.proofs.Printed.{tables_are_read}
 use Rattle.tables_file.proofs.ReadRanges.{texts_are_in_range}
 use Rattle.held_tables.specs.Tables.{block_at, entry_at, entry_for, entry_in, entry_of, index_of, is_block_of, top_at, top_of}
 use Rattle.packet_walks.specs.declared.next_hop.NextHop.TheVariants.{To}
-use Rattle.next_tables.specs.EntriesByOrder.{may_change, position_at, tried}
-use Rattle.next_tables.specs.Next.{comes_to, delivers, leads_on, mends, next_entry, step_at}
+use Rattle.next_tables.specs.OrderRule.{may_change, tried}
+use Rattle.next_tables.specs.SwitchPositions.{position_at}
+use Rattle.next_tables.specs.SettledRule.{comes_to, delivers, leads_on, mends, next_entry, step_at}
 use Rattle.next_tables.specs.NextTables.{StepRuleValue, by_order, if_owned, index_at, keeper, next_at, next_block, next_for, next_switch, next_table, next_tables, next_top, ordered_for, settled_first}
-use Rattle.next_tables.specs.NextText.{NextTextsAreRead, StepTextsAreRead}
+use Rattle.next_tables.specs.NextTextIsRead.{NextTextsAreRead, StepTextsAreRead}
 use Rattle.held_tables.specs.Tables.{owners_of}
 use Rattle.packet_walks.specs.EndsBySwitch.{is_to}
 

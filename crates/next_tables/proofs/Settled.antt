@@ -22,8 +22,9 @@ use Rattle.packet_walks.specs.EndsBySwitch.{after, end_of, onward}
 use Rattle.packet_walks.proofs.Ended.{after_ended}
 use Rattle.packet_walks.proofs.InTime.{ends_in_time, one_end}
 use Rattle.packet_walks.proofs.Judged.{same_itself}
-use Rattle.next_tables.specs.Next.{agreed, agreed_at, comes_to, delivers, leads_on, mends, next_entry, patch_entry, step_at}
-use Rattle.next_tables.specs.EntriesByOrder.{leads_in, may_change, next_by_order, position_at, switch_at, tried, tried_at, tried_entry, turns_well}
+use Rattle.next_tables.specs.SettledRule.{agreed, agreed_at, comes_to, delivers, leads_on, mends, next_entry, patch_entry, step_at}
+use Rattle.next_tables.specs.OrderRule.{leads_in, may_change, next_by_order, tried, tried_at, tried_entry, turns_well}
+use Rattle.next_tables.specs.SwitchPositions.{position_at, switch_at}
 use Rattle.next_tables.specs.NextTables.{index_at, keeper, kept_by, ordered_for}
 use Rattle.next_tables.proofs.Entries.{at_mapped}
 use Rattle.next_tables.proofs.Hops.{to_same}

@@ -5,7 +5,7 @@ use Rattle.held_tables.specs.declared.held.HeldLid.{HeldLid}
 use Rattle.held_tables.specs.Held.{HeldPlan}
 use Rattle.next_tables.specs.Mixtures.{AreSteps}
 use Rattle.next_tables.specs.NextTables.{IsKept, next_tables, settled_first}
-use Rattle.next_tables.specs.StepLaws.{stepped, NextTablesAreSo, StepsFollowTheRule, StepsLoseNone, StepsSendNoneRound, StepsEndInThePlan, StepsHealInTwo}
+use Rattle.next_tables.specs.SettledStepLaws.{stepped, NextTablesAreSo, StepsFollowTheRule, StepsLoseNone, StepsSendNoneRound, StepsEndInThePlan, StepsHealInTwo}
 use Rattle.next_tables.proofs.Steps.{none_is_lost, none_goes_round, end_in_the_plan, heal_in_two}
 use Rattle.next_tables.proofs.Whole.{entry_next, is_next, kept_owners, owners_next, top_next}
 

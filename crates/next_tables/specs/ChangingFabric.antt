@@ -20,7 +20,7 @@ use Rattle.packet_walks.specs.declared.next_hop.NextHop.TheVariants.{Ends}
 use Rattle.packet_walks.specs.Fabrics.{IsSeenIn}
 use Rattle.packet_walks.specs.HopsByTables.{IsBrought}
 use Rattle.held_tables.specs.Tables.{counted, entry_for, entry_of, top_of}
-use Rattle.next_tables.specs.Next.{step_at}
+use Rattle.next_tables.specs.SettledRule.{step_at}
 use Rattle.next_tables.specs.NextTables.{IsKept, StepRuleValue, next_tables, settled_first}
 
 -- the effective entry of the node `number` for `lid`, by the top and the table of its agent in the fabric `now`

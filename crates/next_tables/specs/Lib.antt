@@ -1,10 +1,11 @@
-pub mod EntriesByOrder
+pub mod SwitchPositions
+pub mod OrderRule
 pub mod Assembled
 pub mod ChangingFabric
 pub mod Mixtures
-pub mod Next
+pub mod SettledRule
 pub mod NextTables
-pub mod NextText
-pub mod OrderedEntries
-pub mod StepLaws
-pub mod SettledEntries
+pub mod NextTextIsRead
+pub mod OrderComputed
+pub mod SettledStepLaws
+pub mod SettledComputed

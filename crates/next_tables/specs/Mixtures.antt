@@ -16,7 +16,7 @@ use Rattle.held_tables.specs.Switches.{sender_of}
 use Rattle.held_tables.specs.Tables.{owners_of, entry_for}
 use Rattle.packet_walks.specs.EndsBySwitch.{IsEndOf, after, onward}
 use Rattle.packet_walks.specs.HopsByTables.{IsBrought, first_hop, next_hops_of}
-use Rattle.next_tables.specs.Next.{step_at, IsNext}
+use Rattle.next_tables.specs.SettledRule.{step_at, IsNext}
 
 -- `mixed` has for `lid`, at each usable switch, the effective entry of `held` or of `next`, and the owners of `held`
 pub record IsMixed (cells : Cells) (held next : HeldPlan) (lid : ℕ) (mixed : HeldPlan) : Type 0 where

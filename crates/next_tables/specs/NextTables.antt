@@ -16,8 +16,9 @@ use Rattle.next_tables.specs.declared.fault.StepFault.{StepFault}
 use Rattle.next_tables.specs.declared.fault.StepFault.TheVariants.{Moves, Memory}
 use Rattle.next_tables.specs.declared.step_rule.StepRule.{StepRule}
 use Rattle.next_tables.specs.declared.step_rule.StepRule.TheVariants.{SettledFirst, ByOrder}
-use Rattle.next_tables.specs.EntriesByOrder.{next_by_order, position_at}
-use Rattle.next_tables.specs.Next.{next_entry}
+use Rattle.next_tables.specs.OrderRule.{next_by_order}
+use Rattle.next_tables.specs.SwitchPositions.{position_at}
+use Rattle.next_tables.specs.SettledRule.{next_entry}
 
 -- an end port other than the port of `line` holds the LID of `line` in the held tables
 abbrev pub moves : HeldPlan → HeldLid → Bool

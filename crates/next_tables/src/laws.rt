@@ -3,9 +3,9 @@ ghost use Rattle.next_tables.specs.ChangingFabric.{PacketsArriveWhileTablesChang
 ghost use Rattle.next_tables.specs.Mixtures.{NoneIsLost, NoneGoesRound, EndInThePlan, StillIsThePlan};
 ghost use Rattle.next_tables.specs.Mixtures.{HealInTwo, NextDeliverOrDrop};
 ghost use Rattle.next_tables.specs.Mixtures.{MixturesWaitSo, NoCycleInStep};
-ghost use Rattle.next_tables.specs.NextText.{NextTextsAreRead, StepTextsAreRead};
-ghost use Rattle.next_tables.specs.StepLaws.{StepsEndInThePlan, StepsHealInTwo};
-ghost use Rattle.next_tables.specs.StepLaws.{NextTablesAreSo, StepsFollowTheRule, StepsLoseNone, StepsSendNoneRound};
+ghost use Rattle.next_tables.specs.NextTextIsRead.{NextTextsAreRead, StepTextsAreRead};
+ghost use Rattle.next_tables.specs.SettledStepLaws.{StepsEndInThePlan, StepsHealInTwo};
+ghost use Rattle.next_tables.specs.SettledStepLaws.{NextTablesAreSo, StepsFollowTheRule, StepsLoseNone, StepsSendNoneRound};
 
 /// A packet that the held tables deliver is delivered at the same end port by any loose mixtures of the held and the
 /// next tables, if its LID has the same owners in the held tables and in the plan. The mixture may change while the

@@ -1,12 +1,13 @@
 //! The next entries of the switches for a LID, by an order of the switches.
 ghost use Rattle.std.specs.Prelude.{◌≡◌, ◌<◌, ◌||◌, ℕ, IfOk, false, length, map, replicate};
 ghost use Rattle.std.specs.List.{enumerate_from};
-ghost use Rattle.next_tables.specs.EntriesByOrder.{goes_up, position_at};
-ghost use Rattle.next_tables.specs.SettledEntries.{arrives_by};
-ghost use Rattle.next_tables.specs.OrderedEntries.{delivered_of, entered_of, flag, is_differing, leads_in};
-ghost use Rattle.next_tables.specs.OrderedEntries.{may_change_by};
-ghost use Rattle.next_tables.specs.OrderedEntries.{entries_by, entry_by, enters, going_up_of, ordered_of, tried_by};
-ghost use Rattle.next_tables.specs.OrderedEntries.{tried_of, turns_well_by};
+ghost use Rattle.next_tables.specs.OrderRule.{goes_up};
+ghost use Rattle.next_tables.specs.SwitchPositions.{position_at};
+ghost use Rattle.next_tables.specs.SettledComputed.{arrives_by};
+ghost use Rattle.next_tables.specs.OrderComputed.{delivered_of, entered_of, flag, is_differing, leads_in};
+ghost use Rattle.next_tables.specs.OrderComputed.{may_change_by};
+ghost use Rattle.next_tables.specs.OrderComputed.{entries_by, entry_by, enters, going_up_of, ordered_of, tried_by};
+ghost use Rattle.next_tables.specs.OrderComputed.{tried_of, turns_well_by};
 
 use crate::settled_entries::{arrives_by, hops};
 use crate::up_down::{is_down, is_up};

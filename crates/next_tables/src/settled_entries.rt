@@ -1,9 +1,9 @@
 //! The next entries of the switches for a LID that one end port alone holds, both in the held tables and in the plan.
 ghost use Rattle.std.specs.Prelude.{◌≡◌, ◌↔◌, IfOk, IsTrue};
 ghost use Rattle.packet_walks.specs.EndsBySwitch.{HaveEnded};
-ghost use Rattle.next_tables.specs.SettledEntries.{agreed_by, agreed_of, arrives_by, chosen_by, hops_of};
-ghost use Rattle.next_tables.specs.SettledEntries.{mending_by, mending_of};
-ghost use Rattle.next_tables.specs.SettledEntries.{is_whole, next_by, next_of, patch_by, patch_entry_by};
+ghost use Rattle.next_tables.specs.SettledComputed.{agreed_by, agreed_of, arrives_by, chosen_by, hops_of};
+ghost use Rattle.next_tables.specs.SettledComputed.{mending_by, mending_of};
+ghost use Rattle.next_tables.specs.SettledComputed.{is_whole, next_by, next_of, patch_by, patch_entry_by};
 
 use packet_walks::ends_by_switch::{end_of, ends, is_to, onward};
 use packet_walks::{Cause, End, NextHop, SwitchStep, is_at};

@@ -1,6 +1,6 @@
 //! Which channels lead up and which lead down, by the positions of switches in an order.
 ghost use Rattle.std.specs.Prelude.{◌≡◌};
-ghost use Rattle.next_tables.specs.EntriesByOrder.{is_down, is_up, position_at};
+ghost use Rattle.next_tables.specs.SwitchPositions.{is_down, is_up, position_at};
 
 /// Returns whether a channel from the switch at `from` to the switch at `to` leads up: to a position that is no later.
 pub fn is_up(positions: &[usize], from: usize, to: usize) -> bool

@@ -5,9 +5,9 @@ ghost use Rattle.node_agents.specs.Agent.{after_set_seat};
 ghost use Rattle.node_agents.specs.Answers.{after_answer};
 
 use crate::agent_node::AgentNode;
+use crate::handle::handle;
 use crate::lft_block::BLOCK;
 use crate::port::Port;
-use crate::request::handle;
 use attr_codec::{Lmc, PortState};
 use smp_bytes::{Guid, Lid, NO_ENTRY, NodeType, PortNum, Smp, Status};
 use std::alloc::{AllocError, Global};

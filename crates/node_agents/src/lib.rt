@@ -3,6 +3,7 @@
 
 mod agent;
 mod agent_node;
+mod handle;
 pub mod laws;
 mod lft_block;
 mod node_description;
@@ -10,7 +11,6 @@ mod node_info;
 mod port;
 mod port_info;
 mod refusal;
-mod request;
 mod switch_info;
 
 pub use agent::Agent;

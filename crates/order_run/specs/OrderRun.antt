@@ -6,7 +6,7 @@ use Rattle.byte_io.specs.Source.{SourceState}
 use Rattle.fact_store.specs.View.{Facts, cells_of}
 use Rattle.subnet_view.specs.Reading.{Cells, switches}
 use Rattle.held_tables.specs.Held.{HeldPlan}
-use Rattle.next_tables.specs.EntriesByOrder.{switch_at}
+use Rattle.next_tables.specs.SwitchPositions.{switch_at}
 use Rattle.told_order.specs.ToldOrder.{IsTold}
 use Rattle.sm_cli.specs.OrderText.{order_text}
 use Rattle.sm_cli.specs.InputTables.{AreNoTablesAndFiles, AreTablesAndFiles}

@@ -6,7 +6,7 @@ ghost use Rattle.std.specs.Option.{option_map};
 ghost use Rattle.fact_store.specs.View.{cells_of};
 ghost use Rattle.subnet_view.specs.Reading.{switches};
 ghost use Rattle.audit_report.specs.RunAudit.{IsAnswerFault};
-ghost use Rattle.next_tables.specs.EntriesByOrder.{switch_at};
+ghost use Rattle.next_tables.specs.SwitchPositions.{switch_at};
 ghost use Rattle.told_order.specs.ToldOrder.{IsTold};
 ghost use Rattle.order_run.specs.OrderRun.{HasTold, IsOrderFault, IsTelling, told_switches};
 

@@ -14,14 +14,15 @@ use Rattle.packet_walks.specs.declared.next_hop.NextHop.TheVariants.{To}
 use Rattle.packet_walks.specs.Fabrics.{IsSeenIn}
 use Rattle.packet_walks.specs.HopsByTables.{next_hops_of}
 use Rattle.packet_walks.proofs.Told.{IsClosed, joined_closed}
-use Rattle.next_tables.specs.EntriesByOrder.{switch_at, channel_number}
-use Rattle.next_tables.specs.Next.{step_at}
+use Rattle.next_tables.specs.OrderRule.{channel_number}
+use Rattle.next_tables.specs.SwitchPositions.{switch_at}
+use Rattle.next_tables.specs.SettledRule.{step_at}
 use Rattle.next_tables.proofs.Changing.{MayDo, IsOnItsWay}
 use Rattle.next_tables.proofs.InChange.{arrives_in, by_at}
 use Rattle.next_tables.proofs.InChange as changing
 use Rattle.next_tables.proofs.Mixtures.{at, Comes, in_range}
 use Rattle.next_tables.proofs.Plain.{dropped, plain}
-use Rattle.ordered_steps.specs.StepLaws.{IsLineStep, PacketsArriveByOrder}
+use Rattle.ordered_steps.specs.OrderedStepLaws.{IsLineStep, PacketsArriveByOrder}
 use Rattle.ordered_steps.proofs.Arrivals.{Brings}
 use Rattle.ordered_steps.proofs.Lost.{D, M, N, held_brings, next_brings, rise, small}
 

@@ -11,11 +11,12 @@ use Rattle.held_tables.specs.Tables.{owners_of, entry_for}
 use Rattle.packet_walks.specs.EndsBySwitch.{after}
 use Rattle.packet_walks.specs.HopsByTables.{next_hops_of}
 use Rattle.packet_walks.proofs.Ended.{after_ended}
-use Rattle.next_tables.specs.Next.{step_at, comes_to}
+use Rattle.next_tables.specs.SettledRule.{step_at, comes_to}
 use Rattle.next_tables.proofs.Entries.{at_mapped}
 use Rattle.next_tables.proofs.Mixtures.{at}
-use Rattle.next_tables.specs.EntriesByOrder.{IsNextByOrder, Leads, switch_at, may_change, tried_entry, tried_at, tried}
-use Rattle.ordered_steps.specs.StepLaws.{AreStepsByOrder, DeliverFrom, EndRightByAny}
+use Rattle.next_tables.specs.OrderRule.{IsNextByOrder, may_change, tried_entry, tried_at, tried}
+use Rattle.next_tables.specs.SwitchPositions.{Leads, switch_at}
+use Rattle.ordered_steps.specs.OrderedStepLaws.{AreStepsByOrder, DeliverFrom, EndRightByAny}
 use Rattle.next_tables.proofs.Hops.{leads_from, leads_same_at, leads_within, leads_at, none_taken, none_to, placed, taken_same, to_within}
 use Rattle.ordered_steps.proofs.Lost.{comes_made, comes_true, tried_is_choice}
 use Rattle.ordered_steps.proofs.Goal.{covers, end_in_twice_as_many, goal_on, owned}

@@ -16,13 +16,14 @@ use Rattle.packet_walks.specs.EndsBySwitch.{after}
 use Rattle.packet_walks.specs.HopsByTables.{next_hops_of}
 use Rattle.packet_walks.proofs.Ended.{after_ended}
 use Rattle.packet_walks.proofs.Judged.{same_itself}
-use Rattle.next_tables.specs.Next.{step_at, comes_to, delivers}
+use Rattle.next_tables.specs.SettledRule.{step_at, comes_to, delivers}
 use Rattle.next_tables.proofs.Entries.{at_mapped}
 use Rattle.next_tables.proofs.Mixtures.{at, Comes}
 use Rattle.next_tables.proofs.Steps.{at_index}
 use Rattle.held_tables.proofs.HeldTables.{within_length}
-use Rattle.next_tables.specs.EntriesByOrder.{is_up, is_down, Leads, AreRight, switch_at, is_same, comes_down, none_comes_down, goes_up, none_goes_up, turns_well, leads_in, may_change, tried_entry, tried}
-use Rattle.ordered_steps.specs.StepLaws.{IsLineStep, DeliverFrom, AreStepsByOrder, IsDepth, EndInTheGoal, EndInTwiceAsMany}
+use Rattle.next_tables.specs.OrderRule.{is_same, comes_down, none_comes_down, goes_up, none_goes_up, turns_well, leads_in, may_change, tried_entry, tried}
+use Rattle.next_tables.specs.SwitchPositions.{is_up, is_down, Leads, AreRight, switch_at}
+use Rattle.ordered_steps.specs.OrderedStepLaws.{IsLineStep, DeliverFrom, AreStepsByOrder, IsDepth, EndInTheGoal, EndInTwiceAsMany}
 use Rattle.next_tables.proofs.Hops.{leads_at, leads_from, leads_same, leads_within, none_to, placed, taken_same, to_same, to_within, to_wired}
 use Rattle.ordered_steps.proofs.Lost.{comes_made, tried_is_choice, steps_at, tried_is}
 use Rattle.ordered_steps.proofs.Turns.{next_are_right}

@@ -12,10 +12,10 @@ use Rattle.held_tables.specs.Tables.{owners_of}
 use Rattle.packet_walks.specs.EndsBySwitch.{after}
 use Rattle.packet_walks.specs.HopsByTables.{first_hop, next_hops_of}
 use Rattle.packet_walks.proofs.Ended.{after_ended}
-use Rattle.next_tables.specs.Next.{step_at}
+use Rattle.next_tables.specs.SettledRule.{step_at}
 use Rattle.next_tables.proofs.Mixtures.{Comes, in_range}
-use Rattle.next_tables.specs.EntriesByOrder.{switch_at}
-use Rattle.ordered_steps.specs.StepLaws.{AreStepsByOrder, HealByOrder}
+use Rattle.next_tables.specs.SwitchPositions.{switch_at}
+use Rattle.ordered_steps.specs.OrderedStepLaws.{AreStepsByOrder, HealByOrder}
 use Rattle.ordered_steps.proofs.Goal.{end_in_twice_as_many, owned}
 use Rattle.next_tables.proofs.Hops.{placed}
 

@@ -22,11 +22,12 @@ use Rattle.packet_walks.proofs.Ended.{after_ended}
 use Rattle.packet_walks.proofs.InTime.{one_end, ends_in_time}
 use Rattle.packet_walks.proofs.Judged.{at_is, same_itself}
 use Rattle.next_tables.specs.Mixtures.{IsLoose, after_by}
-use Rattle.next_tables.specs.Next.{step_at, comes_to, delivers}
+use Rattle.next_tables.specs.SettledRule.{step_at, comes_to, delivers}
 use Rattle.next_tables.proofs.Entries.{at_mapped, member}
 use Rattle.next_tables.proofs.Mixtures.{at, Comes, ComesBy, by_one, in_range}
-use Rattle.next_tables.specs.EntriesByOrder.{is_bad, IsChoice, IsTriedByOrder, switch_at, turns_well, leads_in, may_change, tried_entry, tried_at, tried, channel_number}
-use Rattle.ordered_steps.specs.StepLaws.{IsLineStep, RuleIsChoice, RuleIsTried, NoneIsLostByOrder}
+use Rattle.next_tables.specs.OrderRule.{IsChoice, IsTriedByOrder, turns_well, leads_in, may_change, tried_entry, tried_at, tried, channel_number}
+use Rattle.next_tables.specs.SwitchPositions.{is_bad, switch_at}
+use Rattle.ordered_steps.specs.OrderedStepLaws.{IsLineStep, RuleIsChoice, RuleIsTried, NoneIsLostByOrder}
 use Rattle.ordered_steps.proofs.Arrivals.{Brings, arrives}
 use Rattle.next_tables.proofs.Hops.{leads_from, leads_within, placed, taken_same, to_same, to_within}
 use Rattle.ordered_steps.proofs.Turns.{Goes, goes_well, known, not_true}

@@ -9,12 +9,12 @@ use Rattle.held_tables.specs.Switches.{index_in}
 use Rattle.held_tables.specs.Tables.{owners_of}
 use Rattle.held_tables.proofs.HeldTables.{within_length}
 use Rattle.packet_walks.proofs.PlanSteps.{contains_at}
-use Rattle.next_tables.specs.EntriesByOrder.{position_at}
+use Rattle.next_tables.specs.SwitchPositions.{position_at}
 use Rattle.next_tables.specs.NextTables.{by_order, index_at, next_at, ordered_for}
 use Rattle.next_tables.proofs.Ordered.{index_own}
 use Rattle.next_tables.proofs.Steps.{at_index}
 use Rattle.next_tables.proofs.Whole.{entry_next, owners_next}
-use Rattle.ordered_steps.specs.StepLaws.{OrderedTablesAreNext}
+use Rattle.ordered_steps.specs.OrderedStepLaws.{OrderedTablesAreNext}
 
 module _ (facts : Facts) (positions : List ℕ) (held goal : HeldPlan) where
   index_is : (i g : ℕ) → slice_get (switches (cells_of facts)) i ≡ Some g → index_at (cells_of facts) g ≡ i

@@ -18,11 +18,12 @@ use Rattle.packet_walks.specs.EndsBySwitch.{after}
 use Rattle.packet_walks.specs.HopsByTables.{first_hop, next_hops_of, over, sent}
 use Rattle.packet_walks.proofs.Ended.{after_ended}
 use Rattle.next_tables.specs.Mixtures.{IsMixed, after_by}
-use Rattle.next_tables.specs.Next.{step_at, comes_to}
+use Rattle.next_tables.specs.SettledRule.{step_at, comes_to}
 use Rattle.next_tables.proofs.Entries.{at_mapped}
 use Rattle.next_tables.proofs.Mixtures.{at, Comes, EndsBy, in_range}
-use Rattle.next_tables.specs.EntriesByOrder.{is_bad, AreRight, IsChoice, IsOrder, IsNextByOrder, switch_at, may_change, tried_entry, tried_at, tried, channel_number, turns_well}
-use Rattle.ordered_steps.specs.StepLaws.{AllEndByOrder, NextDeliverOrDropByOrder, AllAreStep, AllFollowTheRule, DeliverFrom}
+use Rattle.next_tables.specs.OrderRule.{IsChoice, IsNextByOrder, may_change, tried_entry, tried_at, tried, channel_number, turns_well}
+use Rattle.next_tables.specs.SwitchPositions.{is_bad, AreRight, IsOrder, switch_at}
+use Rattle.ordered_steps.specs.OrderedStepLaws.{AllEndByOrder, NextDeliverOrDropByOrder, AllAreStep, AllFollowTheRule, DeliverFrom}
 use Rattle.next_tables.specs.NextTables.{ordered_for}
 use Rattle.next_tables.proofs.Hops.{far_within, leads_from, leads_within, over_switch, placed, taken_same, to_same, to_within}
 use Rattle.ordered_steps.proofs.Lost.{chosen, comes_made, comes_true}

@@ -12,7 +12,7 @@ use Rattle.held_tables.specs.Switches.{row_of}
 use Rattle.held_tables.specs.Tables.{entry_for}
 use Rattle.packet_walks.specs.Edges.{edge_by, edges_of, greatest_top}
 use Rattle.packet_walks.proofs.Tops.{none_above}
-use Rattle.next_tables.specs.EntriesByOrder.{AreRight, is_bad, is_down, is_up}
+use Rattle.next_tables.specs.SwitchPositions.{AreRight, is_bad, is_down, is_up}
 use Rattle.next_tables.proofs.Hops.{column_at, edge_is, leads_within}
 use Rattle.ordered_steps.specs.Rightness.{RightnessIsTold, are_right, goes_well, is_right_column, leaves_up}
 

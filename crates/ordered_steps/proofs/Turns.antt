@@ -11,11 +11,12 @@ use Rattle.packet_walks.specs.declared.next_hop.NextHop.{NextHop}
 use Rattle.packet_walks.specs.declared.next_hop.NextHop.TheVariants.{To}
 use Rattle.held_tables.specs.Tables.{entry_for}
 use Rattle.next_tables.specs.Mixtures.{IsMixed}
-use Rattle.next_tables.specs.Next.{step_at}
+use Rattle.next_tables.specs.SettledRule.{step_at}
 use Rattle.next_tables.proofs.Entries.{member}
 use Rattle.next_tables.proofs.Steps.{at_index}
-use Rattle.next_tables.specs.EntriesByOrder.{is_down, is_up, is_bad, Leads, AreRight, IsChoice, switch_at, is_same, comes_down, none_comes_down, goes_up, none_goes_up, turns_well}
-use Rattle.ordered_steps.specs.StepLaws.{NoBadTurn, NextAreRight}
+use Rattle.next_tables.specs.OrderRule.{IsChoice, is_same, comes_down, none_comes_down, goes_up, none_goes_up, turns_well}
+use Rattle.next_tables.specs.SwitchPositions.{is_down, is_up, is_bad, Leads, AreRight, switch_at}
+use Rattle.ordered_steps.specs.OrderedStepLaws.{NoBadTurn, NextAreRight}
 use Rattle.next_tables.proofs.Hops.{leads_same, leads_same_at, leads_at, leads_within, none_to, to_same}
 
 -- tests

@@ -10,8 +10,9 @@ use Rattle.packet_walks.specs.Edges.{edges_of}
 use Rattle.audit_channels.specs.Columns.{number_of}
 use Rattle.next_tables.specs.Mixtures.{TakesBy, WaitsInStep}
 use Rattle.next_tables.proofs.Waits.{no_cycle_in_step}
-use Rattle.next_tables.specs.EntriesByOrder.{is_bad, Leads, channel_number, number_over, numbers_by}
-use Rattle.ordered_steps.specs.StepLaws.{IsStep, NumbersRiseByOrder, NoCycleByOrder}
+use Rattle.next_tables.specs.OrderRule.{channel_number, number_over, numbers_by}
+use Rattle.next_tables.specs.SwitchPositions.{is_bad, Leads}
+use Rattle.ordered_steps.specs.OrderedStepLaws.{IsStep, NumbersRiseByOrder, NoCycleByOrder}
 use Rattle.next_tables.proofs.Hops.{channel_leads, edge_is, leads_within}
 use Rattle.ordered_steps.proofs.Turns.{not_true, goes_well, next_goes, Goes}
 

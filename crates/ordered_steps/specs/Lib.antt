@@ -1,2 +1,2 @@
 pub mod Rightness
-pub mod StepLaws
+pub mod OrderedStepLaws

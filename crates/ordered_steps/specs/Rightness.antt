@@ -6,7 +6,7 @@ use Rattle.port_graph.specs.declared.edge.Edge.{Edge}
 use Rattle.subnet_view.specs.Reading.{Cells}
 use Rattle.held_tables.specs.Held.{HeldPlan}
 use Rattle.packet_walks.specs.Edges.{edges_of, greatest_top}
-use Rattle.next_tables.specs.EntriesByOrder.{AreRight, is_down, is_up}
+use Rattle.next_tables.specs.SwitchPositions.{AreRight, is_down, is_up}
 
 -- by `edges`, packets leave the switch at index `j` by a channel up
 abbrev pub leaves_up : (ℕ → ℕ) → List (Option Edge) → ℕ → Bool

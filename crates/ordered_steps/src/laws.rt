@@ -1,10 +1,10 @@
 //! The laws of a step by an order of switches.
-ghost use Rattle.ordered_steps.specs.StepLaws.{AllAreStep, AllEndByOrder, AllFollowTheRule, EndInTheGoal};
-ghost use Rattle.ordered_steps.specs.StepLaws.{EndInTwiceAsMany, EndRightByAny, HealByOrder, NextAreRight};
-ghost use Rattle.ordered_steps.specs.StepLaws.{NextDeliverOrDropByOrder, NoBadTurn, NoCycleByOrder, NoneIsLostByOrder};
+ghost use Rattle.ordered_steps.specs.OrderedStepLaws.{AllAreStep, AllEndByOrder, AllFollowTheRule, EndInTheGoal};
+ghost use Rattle.ordered_steps.specs.OrderedStepLaws.{EndInTwiceAsMany, EndRightByAny, HealByOrder, NextAreRight};
+ghost use Rattle.ordered_steps.specs.OrderedStepLaws.{NextDeliverOrDropByOrder, NoBadTurn, NoCycleByOrder, NoneIsLostByOrder};
 ghost use Rattle.ordered_steps.specs.Rightness.{RightnessIsTold};
-ghost use Rattle.ordered_steps.specs.StepLaws.{NumbersRiseByOrder, OrderedTablesAreNext, PacketsArriveByOrder};
-ghost use Rattle.ordered_steps.specs.StepLaws.{RuleIsChoice, RuleIsTried};
+ghost use Rattle.ordered_steps.specs.OrderedStepLaws.{NumbersRiseByOrder, OrderedTablesAreNext, PacketsArriveByOrder};
+ghost use Rattle.ordered_steps.specs.OrderedStepLaws.{RuleIsChoice, RuleIsTried};
 
 /// No packet goes down and then up again, by any mixtures of the held and the next tables, if the held tables and the
 /// goal are right by the order.

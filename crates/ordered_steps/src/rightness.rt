@@ -1,7 +1,7 @@
 //! Whether tables are right by an order of the switches.
 ghost use Rattle.std.specs.Prelude.{◌≡◌, IfOk};
 ghost use Rattle.fact_store.specs.View.{cells_of};
-ghost use Rattle.next_tables.specs.EntriesByOrder.{position_at};
+ghost use Rattle.next_tables.specs.SwitchPositions.{position_at};
 ghost use Rattle.ordered_steps.specs.Rightness.{are_right, goes_well, is_right_column, leaves_up};
 
 use audit_channels::edge_of;

@@ -33,7 +33,7 @@ use Rattle.held_tables.specs.Switches.{far_at, far_of, far_to, index_in, row_of}
 use Rattle.packet_walks.proofs.PlanSteps.{index_is}
 use Rattle.next_tables.proofs.Entries.{member}
 use Rattle.next_tables.proofs.Steps.{at_index}
-use Rattle.next_tables.specs.EntriesByOrder.{AreApart, IsOrder, IsWired, switch_at}
+use Rattle.next_tables.specs.SwitchPositions.{AreApart, IsOrder, IsWired, switch_at}
 use Rattle.plan_order.specs.PlanOrder.{rank_position}
 use Rattle.plan_order_laws.proofs.PlanRight.{keys, spread_position}
 use Rattle.plan_order_laws.proofs.UpdownRight.{counted_less, differs, rank_at, rank_less, same_component}

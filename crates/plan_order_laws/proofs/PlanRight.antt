@@ -27,7 +27,7 @@ use Rattle.packet_walks.proofs.Tops.{none_above}
 use Rattle.audit_channels.specs.Waiting.{WaitsFor}
 use Rattle.audit_laws.proofs.PlansRise.{rise_in_turn}
 use Rattle.next_tables.proofs.Steps.{at_index}
-use Rattle.next_tables.specs.EntriesByOrder.{AreRight, Leads, is_bad, switch_at}
+use Rattle.next_tables.specs.SwitchPositions.{AreRight, Leads, is_bad, switch_at}
 use Rattle.plan_order_laws.specs.PlanLaws.{PlanTurnsRise}
 use Rattle.next_tables.proofs.Hops.{column_at, edge_at, leads_within}
 use Rattle.ordered_steps.proofs.Turns.{not_true}

@@ -14,7 +14,7 @@ use Rattle.lft_blocks.specs.Rules.{order_of, spread_in, up_and_down}
 use Rattle.plan_order.specs.PlanOrder.{rank_position}
 use Rattle.held_tables.specs.Held.{HeldPlan}
 use Rattle.held_tables.specs.PlanTables.{held_plan}
-use Rattle.next_tables.specs.EntriesByOrder.{AreApart, AreRight, IsOrder, switch_at}
+use Rattle.next_tables.specs.SwitchPositions.{AreApart, AreRight, IsOrder, switch_at}
 use Rattle.next_tables.proofs.Entries.{at_mapped, member}
 use Rattle.next_tables.proofs.Hops.{leads_at, leads_within, to_within, to_wired}
 use Rattle.ordered_steps.proofs.Goal.{end_in_twice_as_many}

@@ -31,12 +31,12 @@ use Rattle.packet_walks.specs.declared.next_hop.NextHop.TheVariants.{To, Ends}
 use Rattle.packet_walks.specs.HopsByTables.{next_hops_of}
 use Rattle.packet_walks.specs.EndsBySwitch.{after}
 use Rattle.packet_walks.proofs.Ended.{after_ended}
-use Rattle.next_tables.specs.Next.{step_at}
+use Rattle.next_tables.specs.SettledRule.{step_at}
 use Rattle.next_tables.proofs.Entries.{at_mapped, member}
 use Rattle.next_tables.proofs.Mixtures.{in_range}
 use Rattle.std.proofs.lemmas.List.{length-map}
-use Rattle.next_tables.specs.EntriesByOrder.{IsWired, switch_at}
-use Rattle.ordered_steps.specs.StepLaws.{DeliverFrom}
+use Rattle.next_tables.specs.SwitchPositions.{IsWired, switch_at}
+use Rattle.ordered_steps.specs.OrderedStepLaws.{DeliverFrom}
 use Rattle.plan_order_laws.specs.PlanLaws.{PlansCover}
 use Rattle.next_tables.proofs.Hops.{none_taken, none_to, placed}
 use Rattle.plan_order_laws.proofs.PlanOrders.{in_one, is_switch}

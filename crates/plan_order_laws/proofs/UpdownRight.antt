@@ -29,7 +29,7 @@ use Rattle.packet_walks.proofs.PlanSteps.{leaves}
 use Rattle.held_tables.specs.Tables.{entry_for}
 use Rattle.next_tables.proofs.Entries.{member}
 use Rattle.next_tables.proofs.Steps.{at_index}
-use Rattle.next_tables.specs.EntriesByOrder.{AreRight, Leads, is_bad, is_down, is_up, switch_at}
+use Rattle.next_tables.specs.SwitchPositions.{AreRight, Leads, is_bad, is_down, is_up, switch_at}
 use Rattle.next_tables.proofs.Hops.{edge_at, leads_at, leads_within, to_within}
 use Rattle.plan_order_laws.proofs.PlanRight.{plan_turns_rise}
 use Rattle.ordered_steps.proofs.Turns.{not_true}

@@ -12,9 +12,10 @@ use Rattle.held_tables.specs.declared.held.HeldLid.{HeldLid}
 use Rattle.held_tables.specs.Held.{HeldPlan}
 use Rattle.held_tables.specs.PlanTables.{held_plan}
 use Rattle.held_tables.specs.Tables.{entry_for, owners_of}
-use Rattle.next_tables.specs.EntriesByOrder.{AreApart, AreRight, IsNextByOrder, IsOrder, IsWired, Leads, numbers_by, position_at, switch_at}
+use Rattle.next_tables.specs.OrderRule.{IsNextByOrder, numbers_by}
+use Rattle.next_tables.specs.SwitchPositions.{AreApart, AreRight, IsOrder, IsWired, Leads, position_at, switch_at}
 use Rattle.next_tables.specs.Mixtures.{RiseInStep}
-use Rattle.ordered_steps.specs.StepLaws.{AreNextByOrder, DeliverFrom}
+use Rattle.ordered_steps.specs.OrderedStepLaws.{AreNextByOrder, DeliverFrom}
 
 -- if facts are in range and have room, and their plan sends packets for a LID over two channels one after the other,
 -- the rule's number of the second is greater than that of the first

@@ -19,9 +19,9 @@ use Rattle.packet_walks.specs.EndsBySwitch.{after}
 use Rattle.packet_walks.proofs.Ended.{after_ended}
 use Rattle.packet_walks.proofs.Judged.{same_ends}
 use Rattle.packet_walks.proofs.PlanSteps.{contains_at}
-use Rattle.next_tables.specs.Next.{agreed, agreed_at, comes_to, step_at}
+use Rattle.next_tables.specs.SettledRule.{agreed, agreed_at, comes_to, step_at}
 use Rattle.next_tables.specs.NextTables.{IsKept, keeper, kept_by, next_at, next_for, next_tables, settled_first}
-use Rattle.next_tables.specs.StepLaws.{stepped}
+use Rattle.next_tables.specs.SettledStepLaws.{stepped}
 use Rattle.next_tables.proofs.Entries.{comes_false, comes_true, plain_mapped, steps_at, steps_long}
 use Rattle.next_tables.proofs.Mixtures.{at, in_range}
 use Rattle.next_tables.proofs.Plain.{dropped, plain, plain_after, plain_taken}

@@ -10,9 +10,9 @@ use Rattle.packet_walks.specs.declared.next_hop.NextHop.TheVariants.{To, Ends}
 use Rattle.packet_walks.specs.HopsByTables.{next_hops_of}
 use Rattle.packet_walks.specs.EndsBySwitch.{after}
 use Rattle.packet_walks.proofs.PlanSteps.{contains_at}
-use Rattle.next_tables.specs.Next.{comes_to}
+use Rattle.next_tables.specs.SettledRule.{comes_to}
 use Rattle.next_tables.specs.NextTables.{keeper, next_at, next_for, settled_first}
-use Rattle.next_tables.specs.StepLaws.{stepped}
+use Rattle.next_tables.specs.SettledStepLaws.{stepped}
 use Rattle.next_tables.proofs.Entries.{comes_false, comes_true}
 use Rattle.next_tables.proofs.Plain.{plain, plain_after, plain_taken}
 use Rattle.next_tables.proofs.Whole.{entry_next}

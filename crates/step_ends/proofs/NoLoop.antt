@@ -6,7 +6,8 @@ use Rattle.subnet_view.specs.Reading.{Cells}
 use Rattle.held_tables.specs.Held.{HeldPlan}
 use Rattle.plan_order.specs.PlanOrder.{positions_by}
 use Rattle.next_tables.specs.Mixtures.{RiseInStep}
-use Rattle.next_tables.specs.EntriesByOrder.{numbers_by, position_at}
+use Rattle.next_tables.specs.OrderRule.{numbers_by}
+use Rattle.next_tables.specs.SwitchPositions.{position_at}
 use Rattle.next_tables.specs.NextTables.{by_order, next_tables, settled_first}
 use Rattle.step_loops.specs.StepOrder.{WaitOn, WaitsFor}
 use Rattle.ordered_steps.specs.Rightness.{are_right}

@@ -13,7 +13,8 @@ use Rattle.held_tables.specs.Held.{HeldPlan}
 use Rattle.held_tables.specs.PlanTables.{held_plan}
 use Rattle.held_tables.specs.Tables.{entry_for, owners_of}
 use Rattle.packet_walks.proofs.PlanSteps.{contains_at}
-use Rattle.next_tables.specs.EntriesByOrder.{AreRight, IsNextByOrder, position_at}
+use Rattle.next_tables.specs.OrderRule.{IsNextByOrder}
+use Rattle.next_tables.specs.SwitchPositions.{AreRight, position_at}
 use Rattle.next_tables.specs.NextTables.{IsKept, by_order, index_at, next_at, next_tables, ordered_for}
 use Rattle.next_tables.proofs.Whole.{entry_next, owners_next}
 use Rattle.ordered_steps.proofs.OrderedTables.{ordered_tables_are_next}

@@ -54,7 +54,7 @@ use Rattle.packet_walks.proofs.OwnerLines.{owner_line}
 use Rattle.packet_walks.proofs.PlanPackets.{from_switch}
 use Rattle.held_tables.proofs.OwnedLids.{line_owned}
 use Rattle.packet_walks.proofs.PlanSteps.{contains_at, index_is}
-use Rattle.next_tables.specs.Next.{step_at}
+use Rattle.next_tables.specs.SettledRule.{step_at}
 use Rattle.next_tables.proofs.Entries.{at_mapped, member}
 use Rattle.next_tables.proofs.Mixtures.{in_range}
 use Rattle.next_tables.proofs.Steps.{at_index}

@@ -11,7 +11,7 @@ use Rattle.held_tables.specs.Held.{HeldPlan}
 use Rattle.held_tables.specs.Tables.{top_of}
 use Rattle.packet_walks.proofs.PlanSteps.{contains_at}
 use Rattle.next_tables.specs.NextTables.{by_order, next_tables, settled_first}
-use Rattle.next_tables.specs.StepLaws.{stepped as settled}
+use Rattle.next_tables.specs.SettledStepLaws.{stepped as settled}
 use Rattle.next_tables.proofs.Whole.{entry_next, top_next}
 use Rattle.ordered_steps.specs.Rightness.{are_right}
 use Rattle.ordered_steps.proofs.ToldRight.{rightness_is_told}

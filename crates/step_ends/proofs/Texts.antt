@@ -15,7 +15,7 @@ use Rattle.packet_walks.specs.declared.next_hop.NextHop.TheVariants.{To, Ends}
 use Rattle.packet_walks.specs.HopsByTables.{next_hops_of}
 use Rattle.packet_walks.specs.EndsBySwitch.{after, end_of}
 use Rattle.packet_walks.proofs.InTime.{ends_in_time, one_end}
-use Rattle.next_tables.specs.Next.{step_at}
+use Rattle.next_tables.specs.SettledRule.{step_at}
 use Rattle.next_tables.proofs.NextText.{step_texts_are_read}
 use Rattle.next_run.specs.RunNext.{step_rule, stepped}
 use Rattle.step_ends.specs.StepEnds.{AreEnough, PrintedStepsEnd, WaysMeetAtMostAll, printed}

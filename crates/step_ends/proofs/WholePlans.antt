@@ -31,14 +31,14 @@ use Rattle.packet_walks.specs.declared.packet_end.End.TheVariants.{Taken}
 use Rattle.packet_walks.specs.declared.next_hop.NextHop.TheVariants.{Ends}
 use Rattle.packet_walks.proofs.OwnerLines.{line_owner}
 use Rattle.packet_walks.proofs.PlanPackets.{from_switch}
-use Rattle.next_tables.specs.EntriesByOrder.{switch_at}
-use Rattle.next_tables.specs.Next.{step_at}
+use Rattle.next_tables.specs.SwitchPositions.{switch_at}
+use Rattle.next_tables.specs.SettledRule.{step_at}
 use Rattle.next_tables.proofs.Entries.{member}
 use Rattle.next_tables.proofs.Hops.{placed}
 use Rattle.between_orders.specs.BetweenLaws.{IsGoalLine}
-use Rattle.between_orders.specs.HandedSteps.{IsOwnLid}
+use Rattle.between_orders.specs.HandedStages.{IsOwnLid}
 use Rattle.between_orders.proofs.Arrivals.{arrives_at, own_switch}
-use Rattle.step_ends.specs.Stages.{PlansAreWhole, PlansGiveOwnLids}
+use Rattle.step_ends.specs.WholePlans.{PlansAreWhole, PlansGiveOwnLids}
 use Rattle.step_ends.proofs.Alone.{each_alone, given as given_line, line_there}
 use Rattle.step_ends.proofs.Reached.{plans_deliver_what_tables_can}
 

@@ -1,2 +1,2 @@
 pub mod StepEnds
-pub mod Stages
+pub mod WholePlans

@@ -16,11 +16,11 @@ use Rattle.packet_walks.specs.declared.next_hop.NextHop.TheVariants.{To, Ends}
 use Rattle.packet_walks.specs.HopsByTables.{next_hops_of}
 use Rattle.packet_walks.specs.EndsBySwitch.{after}
 use Rattle.next_tables.specs.NextTables.{IsKept}
-use Rattle.next_tables.specs.StepLaws.{stepped as settled}
+use Rattle.next_tables.specs.SettledStepLaws.{stepped as settled}
 use Rattle.ordered_steps.specs.Rightness.{are_right}
 use Rattle.plan_order_laws.specs.PlanLaws.{plan_position}
 use Rattle.between_orders.specs.Between.{Goal}
-use Rattle.next_tables.specs.EntriesByOrder.{position_at}
+use Rattle.next_tables.specs.SwitchPositions.{position_at}
 use Rattle.next_run.specs.StepLoops.{IsLoopInStep}
 use Rattle.next_run.specs.RunNext.{IsGoalOf, IsNextStep, next_towards, planned, step_text, stepped}
 

@@ -2,7 +2,7 @@
 ghost use Rattle.step_ends.specs.StepEnds.{LastTextIsThePlans, PlansDeliverWhatTablesCan, PrintedStepsEnd};
 ghost use Rattle.step_ends.specs.StepEnds.{RightTablesMakeNoLoop, StepsEnd, StepsHaveOneResult};
 ghost use Rattle.step_ends.specs.StepEnds.{ToldStepsMakeNoLoop, WaysMeetAtMostAll};
-ghost use Rattle.step_ends.specs.Stages.{PlansAreWhole, PlansGiveOwnLids};
+ghost use Rattle.step_ends.specs.WholePlans.{PlansAreWhole, PlansGiveOwnLids};
 
 /// After n steps by settled entries, `next_tables` returns what it was given, if three conditions hold: n is at least
 /// 2; no route of the plan passes more than n switches; and the plan delivers from each switch from which some tables

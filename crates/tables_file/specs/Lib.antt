@@ -1,7 +1,7 @@
 pub mod TablesText
 pub mod TextLine
 pub mod Printed
-pub mod PrintedTables
+pub mod PrintedTextIsRead
 pub mod Reading
 pub mod Reads
 pub mod TablesTextFault

@@ -6,7 +6,7 @@ use Rattle.spread_labels.specs.Orders.{position_of}
 use Rattle.spread_labels.proofs.ByPositions.{position_at, position_less}
 use Rattle.subnet_view.specs.Reading.{Cells, switches}
 use Rattle.held_tables.specs.Held.{HeldPlan}
-use Rattle.next_tables.specs.EntriesByOrder.{AreRight}
+use Rattle.next_tables.specs.SwitchPositions.{AreRight}
 use Rattle.two_orders.specs.Agreement.{AgreesUpTo, AreVertices}
 use Rattle.two_orders.specs.Growth.{number_at}
 use Rattle.told_order.specs.ToldOrder.{AreTaken, IsLast, IsTold, all_left, is_left, position_in}

@@ -19,7 +19,7 @@ use Rattle.audit_channels.specs.Columns.{number_of}
 use Rattle.audit_channels.specs.ChannelOrders.{Follows}
 use Rattle.audit_channels.specs.Waiting.{AreWaits, WaitsFor}
 use Rattle.next_tables.proofs.Hops.{channel_leads, column_at, edge_is}
-use Rattle.next_tables.specs.EntriesByOrder.{Leads, switch_at}
+use Rattle.next_tables.specs.SwitchPositions.{Leads, switch_at}
 use Rattle.told_order.specs.declared.turns.SwitchTurn.{SwitchTurn}
 use Rattle.told_order.specs.Turns.{AreTurns, IsNoted, IsOver, IsTurn, IsWithTurn, IsWithTurns, lists_of}
 

@@ -6,7 +6,7 @@ use Rattle.std.proofs.lemmas.Bool.{and_parts, eqb-true, eq-eqb, cases_lt}
 use Rattle.subnet_view.specs.Reading.{Cells, switches}
 use Rattle.subnet_view.proofs.Members.{contains_here, contains_later, contains_cases, contains_none}
 use Rattle.held_tables.specs.Held.{HeldPlan}
-use Rattle.next_tables.specs.EntriesByOrder.{is_bad, is_down, is_up, AreRight}
+use Rattle.next_tables.specs.SwitchPositions.{is_bad, is_down, is_up, AreRight}
 use Rattle.next_tables.proofs.Hops.{leads_within, to_within}
 use Rattle.told_order.specs.Turns.{IsTurn}
 use Rattle.told_order.specs.ToldOrder.{AreTaken, IsLast, MayBeLast, all_left, is_left, position_in}

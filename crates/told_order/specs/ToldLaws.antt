@@ -2,7 +2,7 @@
 use Rattle.std.specs.Prelude.{◌≡◌, ◌≤◌, ◌<◌, ℕ, List, Contains, None, Some, length}
 use Rattle.subnet_view.specs.Reading.{Cells, switches}
 use Rattle.held_tables.specs.Held.{HeldPlan}
-use Rattle.next_tables.specs.EntriesByOrder.{AreApart, AreRight, IsOrder}
+use Rattle.next_tables.specs.SwitchPositions.{AreApart, AreRight, IsOrder}
 use Rattle.spread_labels.specs.Orders.{position_of}
 use Rattle.two_orders.specs.Agreement.{AgreesUpTo, AreVertices}
 use Rattle.told_order.specs.ToldOrder.{IsTold, position_in}

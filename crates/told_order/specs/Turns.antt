@@ -5,7 +5,7 @@ use Rattle.subnet_view.specs.Reading.{Cells, switches}
 use Rattle.held_tables.specs.Held.{HeldPlan}
 use Rattle.held_tables.specs.declared.far_end.Far.TheVariants.{Switch}
 use Rattle.held_tables.specs.Switches.{far_by}
-use Rattle.next_tables.specs.EntriesByOrder.{Leads}
+use Rattle.next_tables.specs.SwitchPositions.{Leads}
 use Rattle.told_order.specs.declared.turns.SwitchTurn.{SwitchTurn}
 
 -- by `tables`, packets for some LID come from switch `i` to switch `j` and leave it for switch `k`, which may be `i`

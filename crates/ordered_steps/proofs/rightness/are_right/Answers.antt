@@ -2,7 +2,7 @@
 use Rattle.std.proofs.Common.{◌∙◌, ◌<◌, refl, sym, ap, arith}
 use Rattle.fact_store.specs.View.{cells_of}
 use Rattle.packet_walks.specs.Edges.{edges_of}
-use Rattle.next_tables.specs.EntriesByOrder.{position_at}
+use Rattle.next_tables.specs.SwitchPositions.{position_at}
 use Rattle.ordered_steps.specs.Rightness.{is_right_column}
 use Rattle.ordered_steps.proofs.ToldRight.{all_right, one_wrong, right_more}
 use Rattle.ordered_steps.proofs.rightness.are_right.Goals as goal

@@ -1,7 +1,7 @@
 -- The LIDs so far are right.
 use Rattle.std.proofs.Common.{◌≡◌}
 use Rattle.fact_store.specs.View.{cells_of}
-use Rattle.next_tables.specs.EntriesByOrder.{position_at}
+use Rattle.next_tables.specs.SwitchPositions.{position_at}
 use Rattle.ordered_steps.proofs.ToldRight.{RightSoFar}
 use Rattle.ordered_steps.proofs.rightness.are_right.Given as goal
 

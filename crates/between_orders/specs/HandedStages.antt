@@ -8,10 +8,10 @@ use Rattle.held_tables.specs.declared.held.HeldLid.{HeldLid}
 use Rattle.held_tables.specs.Tables.{entry_for, owners_of}
 use Rattle.packet_walks.specs.declared.packet_end.End.TheVariants.{Taken}
 use Rattle.packet_walks.specs.declared.next_hop.NextHop.TheVariants.{Ends}
-use Rattle.next_tables.specs.EntriesByOrder.{AreRight, switch_at}
-use Rattle.next_tables.specs.Next.{step_at}
+use Rattle.next_tables.specs.SwitchPositions.{AreRight, switch_at}
+use Rattle.next_tables.specs.SettledRule.{step_at}
 use Rattle.next_tables.specs.NextTables.{IsKept}
-use Rattle.ordered_steps.specs.StepLaws.{DeliverFrom}
+use Rattle.ordered_steps.specs.OrderedStepLaws.{DeliverFrom}
 use Rattle.two_orders.specs.Growth.{positions_in}
 use Rattle.two_orders.specs.LabelLaws.{grown_twice}
 use Rattle.between_orders.specs.Agreement.{AreRightBy, ComeEverywhere, IsRightByGrown, TellsPositions, order_of_plan}

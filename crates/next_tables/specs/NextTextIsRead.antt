@@ -7,7 +7,7 @@ use Rattle.lft_blocks.specs.Rules.{RuleValue}
 use Rattle.held_tables.specs.Held.{HeldPlan}
 use Rattle.held_tables.specs.PlanRanges.{IsPlanInRange}
 use Rattle.held_tables.specs.PlanTables.{held_plan}
-use Rattle.tables_file.specs.PrintedTables.{IsHeldInRange, Says}
+use Rattle.tables_file.specs.PrintedTextIsRead.{IsHeldInRange, Says}
 use Rattle.tables_file.specs.Reading.{held_of}
 use Rattle.tables_file.specs.TablesText.{next_text}
 use Rattle.next_tables.specs.NextTables.{StepRuleValue, next_tables}

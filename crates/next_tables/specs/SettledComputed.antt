@@ -9,7 +9,7 @@ use Rattle.packet_walks.specs.declared.next_hop.NextHop.TheVariants.{Ends}
 use Rattle.packet_walks.specs.declared.next_hop.SwitchStep.{SwitchStep}
 use Rattle.packet_walks.specs.EndsBySwitch.{end_of, is_to, onward}
 use Rattle.packet_walks.specs.HopsByTables.{is_at}
-use Rattle.next_tables.specs.Next.{comes_to}
+use Rattle.next_tables.specs.SettledRule.{comes_to}
 
 -- the steps of a switch by the held tables, and by the plan
 abbrev pub Both : Type 0

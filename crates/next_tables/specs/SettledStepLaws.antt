@@ -11,7 +11,7 @@ use Rattle.held_tables.specs.Tables.{entry_for, owners_of, top_of}
 use Rattle.packet_walks.specs.EndsBySwitch.{after}
 use Rattle.packet_walks.specs.HopsByTables.{IsBrought, next_hops_of}
 use Rattle.next_tables.specs.Mixtures.{IsBroughtBy, IsLoose, IsMixed}
-use Rattle.next_tables.specs.Next.{IsNext}
+use Rattle.next_tables.specs.SettledRule.{IsNext}
 use Rattle.next_tables.specs.NextTables.{IsKept, StepRuleValue, next_at, next_tables, next_top, settled_first}
 
 -- `next` has the plan's owners and, at each usable switch, the greater top and the next entry for each LID

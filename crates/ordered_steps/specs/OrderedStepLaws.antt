@@ -18,9 +18,10 @@ use Rattle.held_tables.specs.Tables.{owners_of, entry_for}
 use Rattle.packet_walks.specs.EndsBySwitch.{IsEndOf}
 use Rattle.packet_walks.specs.HopsByTables.{IsBrought, next_hops_of}
 use Rattle.next_tables.specs.Mixtures.{IsBroughtBy, IsLoose, IsMixed, RiseInStep, WaitOnMixed}
-use Rattle.next_tables.specs.Next.{step_at}
+use Rattle.next_tables.specs.SettledRule.{step_at}
 use Rattle.next_tables.specs.NextTables.{IsKept, by_order, next_tables, ordered_for}
-use Rattle.next_tables.specs.EntriesByOrder.{IsOrder, AreApart, IsWired, Leads, is_up, switch_at, TurnsWell, AreRight, IsChoice, IsNextByOrder, IsTriedByOrder, numbers_by, position_at}
+use Rattle.next_tables.specs.OrderRule.{IsChoice, IsNextByOrder, IsTriedByOrder, numbers_by}
+use Rattle.next_tables.specs.SwitchPositions.{IsOrder, AreApart, IsWired, Leads, is_up, switch_at, TurnsWell, AreRight, position_at}
 
 -- no packet for `lid` goes down and then up, whatever the mixture is when the packet reaches a switch and whatever it
 -- is when the packet leaves, if two conditions hold: the held tables and the goal are right by the order for `lid`; and

@@ -6,9 +6,10 @@ use Rattle.packet_walks.specs.declared.next_hop.NextHop.{NextHop}
 use Rattle.packet_walks.specs.declared.next_hop.NextHop.TheVariants.{To, Ends}
 use Rattle.packet_walks.specs.declared.next_hop.SwitchStep.{SwitchStep}
 use Rattle.packet_walks.specs.HopsByTables.{is_at}
-use Rattle.next_tables.specs.Next.{comes_to}
-use Rattle.next_tables.specs.EntriesByOrder.{comes_down, goes_up, is_down, is_up, position_at}
-use Rattle.next_tables.specs.SettledEntries.{Both, hops_of}
+use Rattle.next_tables.specs.SettledRule.{comes_to}
+use Rattle.next_tables.specs.OrderRule.{comes_down, goes_up}
+use Rattle.next_tables.specs.SwitchPositions.{is_down, is_up, position_at}
+use Rattle.next_tables.specs.SettledComputed.{Both, hops_of}
 
 -- the flag at index `i`, false past the end
 abbrev pub flag : List Bool → ℕ → Bool
