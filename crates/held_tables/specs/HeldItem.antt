@@ -1,5 +1,5 @@
 -- What is held after one more line of a text of tables.
-use Rattle.std.specs.Prelude.{◌-◌, List, [], ◌∷◌, ◌++◌, length}
+use Rattle.std.specs.Prelude.{◌-◌, [], ◌∷◌, ◌++◌, length}
 use Rattle.held_tables.specs.declared.held_item.HeldItem.{HeldItem}
 use Rattle.held_tables.specs.declared.held_item.HeldItem.TheVariants.{Nothing, Lid, Switch, Block}
 use Rattle.held_tables.specs.Held.{HeldPlan, lids_of}

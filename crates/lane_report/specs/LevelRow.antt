@@ -1,16 +1,11 @@
 -- The end ports whose packets may lack a service level, for 64 LIDs at a time: what an audit by lane looks at instead of
 -- all end ports.
-use Rattle.std.specs.Prelude.{ℕ, ◌%◌, ◌≡◌, ◌&&◌, Bool, false, not, List, [], filter, find, map, Option, None, Some, is_some, nat_lt}
-use Rattle.std.specs.Prelude.{slice_index, if◌then◌else◌}
-use Rattle.std.specs.List.{flat_map, list_all, range_with_len}
-use Rattle.subnet_view.specs.Reading.{Cells}
-use Rattle.subnet_view.specs.EndPorts.{end_ports}
+use Rattle.std.specs.Prelude.{ℕ, ◌%◌, ◌≡◌, Bool, false, not, List, filter, find, map, Option, None, Some, nat_lt}
+use Rattle.std.specs.Prelude.{slice_index}
+use Rattle.std.specs.List.{list_all, range_with_len}
 use Rattle.held_tables.specs.declared.held.HeldLid.{HeldLid}
-use Rattle.held_tables.specs.Held.{HeldPlan}
-use Rattle.held_tables.specs.Tables.{is_owner, is_same_end, lines_of}
 use Rattle.audit_counts.specs.declared.site.Site.{Site}
-use Rattle.audit_counts.specs.Sites.{are_adapters, are_joined, site_of}
-use Rattle.lanes_file.specs.Lanes.{LanesSaid, is_block, level_by, level_of}
+use Rattle.lanes_file.specs.Lanes.{LanesSaid, is_block, level_by}
 use Rattle.lanes_file.specs.declared.lanes.LevelBlock.{LevelBlock}
 use Rattle.lane_report.specs.declared.level_row.RowSender.{RowSender}
 use Rattle.lane_report.specs.declared.levels_missing.PacketPair.{PacketPair}

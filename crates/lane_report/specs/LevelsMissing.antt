@@ -1,7 +1,7 @@
 -- Packets between adapters to which a text of lanes gives no service level.
-use Rattle.std.specs.Prelude.{ℕ, ◌%◌, ◌≡◌, ◌&&◌, Bool, false, not, List, [], filter, find, map, Option, None, Some, is_some, nat_lt}
-use Rattle.std.specs.Prelude.{slice_index, if◌then◌else◌}
-use Rattle.std.specs.List.{flat_map, list_all, range_with_len}
+use Rattle.std.specs.Prelude.{ℕ, ◌&&◌, Bool, not, List, [], filter, map, Option, is_some}
+use Rattle.std.specs.Prelude.{if◌then◌else◌}
+use Rattle.std.specs.List.{flat_map}
 use Rattle.subnet_view.specs.Reading.{Cells}
 use Rattle.subnet_view.specs.EndPorts.{end_ports}
 use Rattle.held_tables.specs.declared.held.HeldLid.{HeldLid}
@@ -9,9 +9,7 @@ use Rattle.held_tables.specs.Held.{HeldPlan}
 use Rattle.held_tables.specs.Tables.{is_owner, is_same_end, lines_of}
 use Rattle.audit_counts.specs.declared.site.Site.{Site}
 use Rattle.audit_counts.specs.Sites.{are_adapters, are_joined, site_of}
-use Rattle.lanes_file.specs.Lanes.{LanesSaid, is_block, level_by, level_of}
-use Rattle.lanes_file.specs.declared.lanes.LevelBlock.{LevelBlock}
-use Rattle.lane_report.specs.declared.level_row.RowSender.{RowSender}
+use Rattle.lanes_file.specs.Lanes.{LanesSaid, level_of}
 use Rattle.lane_report.specs.declared.levels_missing.PacketPair.{PacketPair}
 
 -- `site` and `owner` are of different adapter ports in one component, and packets from `site` to `owner` have no

@@ -1,5 +1,5 @@
 -- Each switch's next entry for a LID by an order of the switches, towards a goal's.
-use Rattle.std.specs.Prelude.{◌≡◌, ◌<◌, ◌⊎◌, ◌==◌, ◌&&◌, ◌||◌, ◌+◌, ◌-◌, ◌*◌, ◌/◌, ℕ, Bool, true, false, not, List, Some, length, map, nat_lt, slice_get, slice_index_or, if◌then◌else◌}
+use Rattle.std.specs.Prelude.{◌≡◌, ◌⊎◌, ◌==◌, ◌&&◌, ◌||◌, ◌+◌, ◌-◌, ◌*◌, ◌/◌, ℕ, Bool, true, false, not, List, Some, length, map, nat_lt, slice_get, if◌then◌else◌}
 use Rattle.std.specs.List.{list_all, range_with_len}
 use Rattle.subnet_view.specs.Reading.{Cells, switches}
 use Rattle.held_tables.specs.declared.held.HeldLid.{HeldLid}
@@ -8,11 +8,11 @@ use Rattle.held_tables.specs.declared.far_end.Far.{Far}
 use Rattle.held_tables.specs.declared.far_end.Far.TheVariants.{Nothing, Switch, Port}
 use Rattle.packet_walks.specs.declared.next_hop.NextHop.{NextHop}
 use Rattle.packet_walks.specs.declared.next_hop.NextHop.TheVariants.{To, Ends}
-use Rattle.held_tables.specs.Switches.{far_by, row_of}
+use Rattle.held_tables.specs.Switches.{far_by}
 use Rattle.held_tables.specs.Tables.{owners_of, entry_for}
 use Rattle.packet_walks.specs.HopsByTables.{is_at}
 use Rattle.next_tables.specs.SettledRule.{step_at, comes_to, delivers}
-use Rattle.next_tables.specs.SwitchPositions.{AreApart, AreRight, IsOrder, IsWired, Leads, TurnsWell, is_bad, is_down, is_up, position_at, switch_at}
+use Rattle.next_tables.specs.SwitchPositions.{is_down, is_up, switch_at}
 
 -- the effective entries of switch `g` for `lid` are equal in `held` and in `goal`
 abbrev pub is_same : Cells → HeldPlan → HeldPlan → ℕ → ℕ → Bool

@@ -1,17 +1,11 @@
 -- Orders of the usable switches: the position of each, the turns that an order allows, and tables that are right by it.
-use Rattle.std.specs.Prelude.{◌≡◌, ◌<◌, ◌⊎◌, ◌==◌, ◌&&◌, ◌||◌, ◌+◌, ◌-◌, ◌*◌, ◌/◌, ℕ, Bool, true, false, not, List, Some, length, map, nat_lt, slice_get, slice_index_or, if◌then◌else◌}
-use Rattle.std.specs.List.{list_all, range_with_len}
+use Rattle.std.specs.Prelude.{◌≡◌, ◌<◌, ◌&&◌, ℕ, Bool, false, not, List, Some, length, nat_lt, slice_get, slice_index_or}
 use Rattle.subnet_view.specs.Reading.{Cells, switches}
-use Rattle.held_tables.specs.declared.held.HeldLid.{HeldLid}
 use Rattle.held_tables.specs.Held.{HeldPlan}
-use Rattle.held_tables.specs.declared.far_end.Far.{Far}
-use Rattle.held_tables.specs.declared.far_end.Far.TheVariants.{Nothing, Switch, Port}
-use Rattle.packet_walks.specs.declared.next_hop.NextHop.{NextHop}
-use Rattle.packet_walks.specs.declared.next_hop.NextHop.TheVariants.{To, Ends}
-use Rattle.held_tables.specs.Switches.{far_by, row_of}
-use Rattle.held_tables.specs.Tables.{owners_of, entry_for}
-use Rattle.packet_walks.specs.HopsByTables.{is_at}
-use Rattle.next_tables.specs.SettledRule.{step_at, comes_to, delivers}
+use Rattle.held_tables.specs.declared.far_end.Far.TheVariants.{Nothing, Switch}
+use Rattle.packet_walks.specs.declared.next_hop.NextHop.TheVariants.{To}
+use Rattle.held_tables.specs.Switches.{row_of}
+use Rattle.next_tables.specs.SettledRule.{step_at}
 
 -- `q` gives each usable switch, by its index, a position below the number of switches
 abbrev pub IsOrder : Cells → (ℕ → ℕ) → Type 0
