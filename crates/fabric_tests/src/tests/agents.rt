@@ -222,7 +222,7 @@ fn holds(smp: &Smp, offset: usize, bytes: [u8; 8]) -> bool {
 }
 
 /// An attribute and its modifier, an offset, and the eight bytes there that the switch and the adapter answer.
-type Row = (AttributeId, u32, usize, [u8; 8], [u8; 8]);
+type Row = (u16, u32, usize, [u8; 8], [u8; 8]);
 
 /// Creates S2 and H1 after Sets of the switch's block 1, top and port, and of the adapter's port.
 fn agents_once_set(alloc: Global) -> Result<(Agent, Agent), AllocError> {
