@@ -20,7 +20,7 @@ impl Model for Lmc {
 }
 
 impl Lmc {
-    /// The LMC by which each port has one LID.
+    /// LMC 0: each end port has a single LID.
     pub const ZERO: Self = Lmc(0);
 
     /// Creates an LMC from its number. Returns `None` if `number` is over 7.

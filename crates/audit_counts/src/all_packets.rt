@@ -92,13 +92,15 @@ fn add_packets(
     owner: &Site,
 ) -> Result<bool, AllocError>
     requires lid { cursor.now.lid ≡ line.now.lid }
-    requires sites { sites.now ≡ map (site_of (cells_of cursor.now.seen.facts)) (end_ports (cells_of cursor.now.seen.facts)) }
+    requires sites { sites.now
+        ≡ map (site_of (cells_of cursor.now.seen.facts)) (end_ports (cells_of cursor.now.seen.facts)) }
     requires census { IsCensus sites.now census }
     requires listed { Contains sites.now owner.now }
     requires owner { owner.now ≡ site_of (cells_of cursor.now.seen.facts) line.now.port }
     ensures counted { OnOk result ((most : ℕ) (packets : List Sent) → IsTally most packets tally.old
         → IsTally most (packets ++ sent_to (cells_of cursor.now.seen.facts) cursor.now.seen.held line.now) tally.new) }
-    ensures told { IfOk result (λ all. all ≡ true → AllComeTo (cells_of cursor.now.seen.facts) cursor.now.seen.held line.now) }
+    ensures told { IfOk result (λ all.
+        all ≡ true → AllComeTo (cells_of cursor.now.seen.facts) cursor.now.seen.held line.now) }
 {
     if cursor.all_arrive(line) {
         add_arrived(tally, sites, census, owner)?;

@@ -215,8 +215,8 @@ fn root_at(
     roots[index]
 }
 
-/// Returns the usable switch at which `port` lies: its own node if that is a usable switch, else the switch to which
-/// its wire leads. Returns `None` if `port` lies at no usable switch.
+/// Returns the node of `port` if it is a usable switch. Otherwise returns the usable switch at the far end of the wire
+/// of `port`, or `None` if there is none.
 fn switch_of(wires: &Wires, port: &EndPort) -> Option<Guid>
     ensures { result ≡ switch_of (cells_of wires.now) port.now }
 {

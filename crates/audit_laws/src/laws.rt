@@ -14,7 +14,7 @@ pub fn plans_pass()
 /// and, for a switch, its table room. Each port that a fact names has a wire that both ends report, is known to be down
 /// and is not port 0, or is a switch's port 0 whose port GUID is known, unless lines `unjoined` name or count the port.
 /// A fact, disputed or not, names the node and the port that it is about. A known link also names the node and the port
-/// to which it leads. The fact that a node is a switch also names port 0 of the node.
+/// at its far end. The fact that a node is a switch also names port 0 of the node.
 pub fn passing_audits_know_all()
     ensures law { PassingAuditsKnowAll }
 {}

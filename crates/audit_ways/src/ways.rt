@@ -100,7 +100,8 @@ fn add_ways(
 ) -> Result<(), AllocError>
     requires lid { cursor.now.lid ≡ line.now.lid }
     requires channels { length tally.old.loads.items ≡ 256 * length (switches (cells_of cursor.now.seen.facts)) }
-    requires senders { AreGrouped (cells_of cursor.now.seen.facts) (adapters (cells_of cursor.now.seen.facts)) senders.old }
+    requires senders { AreGrouped (cells_of cursor.now.seen.facts)
+        (adapters (cells_of cursor.now.seen.facts)) senders.old }
     requires target { is_target (cells_of cursor.now.seen.facts) line.now.port ≡ true }
     requires far { far.now ≡ far_of (cells_of cursor.now.seen.facts) line.now.port.node line.now.port.port }
     requires told { told ≡ true → AllComeTo (cells_of cursor.now.seen.facts) cursor.now.seen.held line.now }
@@ -133,7 +134,8 @@ fn some_of_all(
     ensures { IfOk result (λ groups. MatchOption groups
         (AllComeTo (cells_of cursor.now.seen.facts) cursor.now.seen.held line.now)
         (AreGrouped (cells_of cursor.now.seen.facts) (filter
-        (reaches (cells_of cursor.now.seen.facts) cursor.now.seen.held line.now) (end_ports (cells_of cursor.now.seen.facts))))) }
+        (reaches (cells_of cursor.now.seen.facts) cursor.now.seen.held line.now)
+        (end_ports (cells_of cursor.now.seen.facts))))) }
 {
     if told {
         return Ok(None);

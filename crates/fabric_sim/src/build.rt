@@ -17,9 +17,10 @@ use std::collections::VecDeque;
 use topo_file::{Node, Topology};
 
 impl Fabric {
-    /// Builds the fabric of `topology`: an agent for each node, to which nothing was written, and a cable for each
-    /// link. Nothing is in flight, serial numbers count from `first_serial`, and switches send no traps. Returns an
-    /// error if memory runs out. Takes time linear in the ports and table entries of all nodes, and in the links.
+    /// Builds the fabric of `topology`, with an agent for each node and a cable for each link. Nothing has been written
+    /// to the agents, nothing is in flight, serial numbers count from `first_serial`, and switches send no traps.
+    /// Returns an error if memory runs out. Takes time linear in the ports and table entries of all nodes, and in the
+    /// links.
     pub fn of(alloc: Global, topology: &Topology, first_serial: u64) -> Result<Fabric, AllocError>
         ensures fabric { IfOk result (λ fabric.
             fabric ≡ simulation_of topology.now first_serial) }

@@ -1,7 +1,6 @@
 use smp_bytes::Lid;
 
-/// A packet with the LIDs by which switches forward it. In a packet on a directed route, both LIDs are the permissive
-/// LID.
+/// A packet with its source and destination LIDs. On a directed route, both are the permissive LID.
 #[derive(Clone, Copy, Debug, PartialEq, Eq)]
 pub struct Packet {
     /// The 256 bytes of a subnet management packet; they may be anything.

@@ -35,8 +35,8 @@ impl FarEnds {
         far_at(&self.fars, port)
     }
 
-    /// Returns the index of the usable switch to which the wire in `port` leads. Returns `None` if `port` has no wire,
-    /// or if its wire leads to no usable switch. Takes constant time.
+    /// Returns the index of the usable switch at the far end of the wire in `port`. Returns `None` if `port` has no
+    /// wire, or if its wire leads to no usable switch. Takes constant time.
     pub fn switch(&self, port: u8) -> Option<usize>
         ensures { result ≡ switch_over (slice_index_or self.now port Far.Nothing) }
     {

@@ -1,4 +1,4 @@
-//! One step of following packets by lane: what they do at a stop, and the stops to which they go on.
+//! One step of following packets by lane: what they do at a stop, and which stops they reach next.
 ghost use Rattle.std.specs.Prelude.{◌≡◌, ◌<◌, ◌≤◌, ◌+◌, ◌*◌, ◌/◌, ◌^◌, None, OnOk, Some, length, slice_index_or};
 ghost use Rattle.std.specs.Prelude.{slice_set};
 ghost use Rattle.std.specs.Option.{option_or};

@@ -90,7 +90,7 @@ fn sender_at(lanes: &Lanes, number: u16, site: &Site) -> RowSender
     }
 }
 
-/// Returns whether `block` is a block of which each byte is a service level. Returns false if `block` is `None`.
+/// Returns whether each byte of `block` is a service level. Returns false if `block` is `None`.
 fn is_full(block: &Option<LevelBlock>) -> bool
     ensures { result ≡ is_full block.now }
 {

@@ -20,9 +20,9 @@ const LEVEL_END: u8 = 16;
 #[derive(Clone, Copy, Debug, PartialEq, Eq)]
 pub struct LaneMap {
     pub node: Guid,
-    /// The port by which packets come in, up to 254. It is 0 for packets that the switch sends itself.
+    /// The incoming port of packets, up to 254, or 0 for packets that the switch sends itself.
     pub into: PortNum,
-    /// The port by which packets leave, up to 254.
+    /// The outgoing port of packets, up to 254.
     pub out: PortNum,
     /// The lane of each service level. Lanes are up to 15.
     pub lanes: [u8; 16],
@@ -202,7 +202,7 @@ fn lane_at(lanes: &[u8], level: u8) -> u8
 }
 
 /// Returns whether each service level that some packets have gets a lane below 15 from each map and from `lanes`.
-/// `lanes` are for packets without a map. `own` is the level of packets to which no block gives a level.
+/// `lanes` are for packets without a map. `own` is the level of packets that get none from a block.
 fn each_is_carried(lanes: &[u8], maps: &[LaneMap], own: Option<u8>, blocks: &[LevelBlock]) -> bool
     ensures { result ≡ each_is_carried lanes.now maps.now own blocks.now }
 {
@@ -225,7 +225,7 @@ fn each_has_lane(maps: &[LaneMap], level: u8) -> bool
 }
 
 /// Returns whether some packets have service level `level`: `level` is `own`, or a block gives `level` to a LID. `own`
-/// is the level of packets to which no block gives a level.
+/// is the level of packets that get none from a block.
 fn gives(own: Option<u8>, blocks: &[LevelBlock], level: u8) -> bool
     ensures { result ≡ gives own blocks.now level }
 {

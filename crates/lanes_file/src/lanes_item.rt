@@ -7,7 +7,7 @@ pub(crate) enum LanesItem {
     /// The lanes of all packets for which there is no map.
     Lanes([u8; 16]),
     Map(LaneMap),
-    /// The level, up to 15, of all packets to which no block gives a level.
+    /// The level, up to 15, of all packets that get none from a block.
     Level(u8),
     Block(LevelBlock),
 }
