@@ -3,8 +3,8 @@ use Rattle.std.proofs.Common.{◌≡◌, ◌⊎◌, ◌/◌, ◌%◌, ◌*◌, �
 use Rattle.std.specs.Int.{bit_at, w64}
 use Rattle.std.proofs.lemmas.Bool.{cases_lt}
 use Rattle.std.proofs.lemmas.Nat.Bits.{bit_at-zero, bit_at_set_same, bit_at_set_other}
-use Rattle.audit_channels.specs.Known.{Knows}
-use Rattle.audit_channels.specs.declared.known.Known.{Known}
+use Rattle.audit_channels.specs.ChannelSet.{Knows}
+use Rattle.audit_channels.specs.declared.channel_set.ChannelSet.{ChannelSet}
 
 -- a word with one bit more
 abbrev with_bit : ℕ → ℕ → ℕ
@@ -22,7 +22,7 @@ bit_cases bits index other less =
     ]
 
 -- a channel of the row more
-module _ (known next : Known) (channel : ℕ) (row_is : next.row ≡ channel / 64) (bits_are : next.bits ≡ with_bit known.bits (channel % 64)) where
+module _ (known next : ChannelSet) (channel : ℕ) (row_is : next.row ≡ channel / 64) (bits_are : next.bits ≡ with_bit known.bits (channel % 64)) where
   same_bit : (other : ℕ) → bit_at next.bits other ≡ bit_at (with_bit known.bits (channel % 64)) other
   same_bit other = ap (λ (b : ℕ). bit_at b other) bits_are
 

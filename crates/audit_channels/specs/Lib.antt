@@ -1,7 +1,7 @@
+pub mod ChannelOrders
+pub mod ChannelSet
 pub mod Columns
 pub mod Fabrics
-pub mod Known
 pub mod Numbers
-pub mod ChannelOrders
 pub mod Searches
 pub mod Waiting

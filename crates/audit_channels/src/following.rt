@@ -1,10 +1,10 @@
 //! The channels that follow a channel.
 ghost use Rattle.std.specs.Prelude.{◌≡◌, ◌==◌, [], ℕ, OnErr, OnOk, true};
 ghost use Rattle.std.specs.List.{list_any};
-ghost use Rattle.audit_channels.specs.Known.{Knows};
+ghost use Rattle.audit_channels.specs.ChannelSet.{Knows};
 ghost use Rattle.audit_channels.specs.ChannelOrders.{AreWith};
 
-use crate::known::Known;
+use crate::channel_set::ChannelSet;
 use std::alloc::{AllocError, Global};
 
 /// A list of channels without duplicates, in the order in which they were added. `known` has some of these channels,
@@ -12,7 +12,7 @@ use std::alloc::{AllocError, Global};
 #[derive(Drop)]
 pub(crate) struct Following {
     channels: Vec<usize>,
-    known: Known,
+    known: ChannelSet,
     ghost known_are_there: { (channel : ℕ) → Knows known channel → list_any (λ c. channel == c) channels.items ≡ true },
 }
 
@@ -23,7 +23,7 @@ impl Following {
     {
         Following {
             channels: Vec::new(alloc),
-            known: Known::none(),
+            known: ChannelSet::none(),
         }
     }
 

@@ -5,7 +5,7 @@
 mod column;
 mod cycle;
 mod following;
-mod known;
+mod channel_set;
 pub mod laws;
 mod network_order;
 mod network_waits;

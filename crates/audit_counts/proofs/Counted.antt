@@ -12,7 +12,7 @@ use Rattle.packet_walks.specs.declared.packet_end.Cause.TheVariants.{AboveTop, N
 use Rattle.packet_walks.specs.declared.packet_end.End.{End}
 use Rattle.packet_walks.specs.declared.packet_end.End.TheVariants.{Taken, Lost}
 use Rattle.packet_walks.specs.HopsByTables.{is_at}
-use Rattle.audit_counts.specs.declared.causes.Causes.{Causes}
+use Rattle.audit_counts.specs.declared.cause_counts.Causes.{Causes}
 use Rattle.audit_counts.specs.declared.sent_packet.SentPacket.{SentPacket}
 use Rattle.audit_counts.specs.declared.pairs.Pairs.{Pairs}
 use Rattle.audit_counts.specs.declared.packet_tally.PacketTally.{PacketTally}

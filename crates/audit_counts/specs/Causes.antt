@@ -4,7 +4,7 @@ use Rattle.packet_walks.specs.declared.packet_end.Cause.{Cause}
 use Rattle.packet_walks.specs.declared.packet_end.Cause.TheVariants.{AboveTop, NoEntry, NoPort, NoLink, Foreign}
 use Rattle.packet_walks.specs.declared.packet_end.End.{End}
 use Rattle.packet_walks.specs.declared.packet_end.End.TheVariants.{Taken, Lost}
-use Rattle.audit_counts.specs.declared.causes.Causes.{Causes}
+use Rattle.audit_counts.specs.declared.cause_counts.Causes.{Causes}
 use Rattle.audit_counts.specs.declared.sent_packet.SentPacket.{SentPacket}
 
 -- two causes are equal

@@ -2,7 +2,7 @@
 #![tactic(auto)]
 
 mod all_packets;
-mod causes;
+mod cause_counts;
 mod disputed_facts;
 mod first_few;
 mod packet_tally;
@@ -12,7 +12,7 @@ mod site;
 mod unmatched;
 
 pub use all_packets::{PacketSurvey, survey};
-pub use causes::Causes;
+pub use cause_counts::Causes;
 pub use disputed_facts::disputed;
 pub use first_few::FirstFew;
 pub use packet_tally::PacketTally;

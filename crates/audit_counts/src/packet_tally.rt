@@ -1,7 +1,7 @@
 //! The number of packets that arrive, the causes for which others are lost, and the first packets that do not arrive.
 ghost use Rattle.std.specs.Prelude.{◌≡◌, [], false, OnOk};
 
-use crate::causes::Causes;
+use crate::cause_counts::Causes;
 use crate::first_few::FirstFew;
 use crate::pairs::Pairs;
 use crate::sent_packet::SentPacket;

@@ -9,7 +9,7 @@ use Rattle.subnet_view.specs.declared.end_port.EndPort.{EndPort}
 use Rattle.subnet_view.specs.EndPorts.{end_ports}
 use Rattle.subnet_view.specs.Reading.{Cells, switches}
 use Rattle.fact_gaps.specs.Gaps.{IsKnownNode}
-use Rattle.fact_gaps.specs.Named.{IsNamedNode}
+use Rattle.fact_gaps.specs.NamedPorts.{IsNamedNode}
 use Rattle.held_tables.specs.contracts.held.Held as held_plan
 use Rattle.held_tables.specs.declared.held.HeldLid.{HeldLid}
 use Rattle.held_tables.specs.declared.held.HeldSwitch.{HeldSwitch}
@@ -18,8 +18,8 @@ use Rattle.packet_walks.specs.declared.packet_end.End.TheVariants.{Taken}
 use Rattle.packet_walks.specs.Network.{Seen}
 use Rattle.packet_walks.specs.HopsByTables.{IsBrought}
 use Rattle.audit_channels.specs.Waiting.{RiseOnWays, WaitInCycle}
-use Rattle.audit_ways.specs.declared.figures.Figures.{Figures}
-use Rattle.audit_ways.specs.declared.ways.WayFigures.{WayFigures}
+use Rattle.audit_ways.specs.declared.mean.Figures.{Figures}
+use Rattle.audit_ways.specs.declared.way_figures.WayFigures.{WayFigures}
 use Rattle.audit_ways.specs.Figures.{figures_of}
 use Rattle.audit_ways.specs.Ways.{IsToldOfWays, loads_of}
 use Rattle.audit_counts.specs.declared.packet_tally.PacketTally.{PacketTally}

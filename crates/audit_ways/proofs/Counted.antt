@@ -4,7 +4,7 @@ use Rattle.std.specs.Prelude.{max, nat_lt, sum, ◌↔◌}
 use Rattle.std.specs.List.{sum_by}
 use Rattle.std.proofs.lemmas.Bool.{le-ltb, ltb-false}
 use Rattle.std.proofs.lemmas.List.Sums.{sum_by-cons, sum-map}
-use Rattle.audit_ways.specs.declared.figures.Total.{Total}
+use Rattle.audit_ways.specs.declared.mean.Total.{Total}
 use Rattle.audit_ways.specs.declared.way_tally.WayTally.{WayTally}
 use Rattle.audit_ways.specs.Figures.{IsTotal, figures_by, figures_of, greatest}
 use Rattle.audit_ways.specs.WayTally.{IsCounted, IsCountedWith, Sum, over, weighed}

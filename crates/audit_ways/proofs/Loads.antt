@@ -9,9 +9,9 @@ use Rattle.std.proofs.lemmas.List.Sums.{sum_by_push}
 use Rattle.subnet_view.specs.Reading.{Cells, switches}
 use Rattle.held_tables.specs.Held.{HeldPlan}
 use Rattle.held_tables.specs.Switches.{far_by}
-use Rattle.audit_ways.specs.declared.figures.Total.{Total}
+use Rattle.audit_ways.specs.declared.mean.Total.{Total}
 use Rattle.audit_ways.specs.declared.way_tally.WayTally.{WayTally}
-use Rattle.audit_ways.specs.declared.ways.WayFigures.{WayFigures}
+use Rattle.audit_ways.specs.declared.way_figures.WayFigures.{WayFigures}
 use Rattle.audit_ways.specs.Figures.{IsTotal, IsTotalWith, figures_by, figures_of, greatest}
 use Rattle.audit_ways.specs.WayTally.{IsCounted}
 use Rattle.audit_ways.specs.Ways.{IsToldOfWays, channels_of, is_to_switch, load_of, ways_of}

@@ -17,7 +17,7 @@ use Rattle.packet_walks.specs.Edges.{edges_of}
 use Rattle.held_tables.specs.Switches.{far_by, far_of}
 use Rattle.packet_walks.specs.HopsByTables.{end_for, is_at}
 use Rattle.held_tables.specs.Tables.{is_owner, is_same_end, lines_of}
-use Rattle.audit_ways.specs.declared.ways.WayFigures.{WayFigures}
+use Rattle.audit_ways.specs.declared.way_figures.WayFigures.{WayFigures}
 use Rattle.audit_ways.specs.Figures.{figures_of}
 
 -- the route of a packet: the number of its wires, including the wires at the adapters, and its channels; a channel is a

@@ -3,12 +3,12 @@
 #![tactic(auto)]
 
 mod channel_loads;
-mod figures;
+mod mean;
 mod roster;
 mod sender_groups;
 mod way_tally;
-mod ways;
+mod way_figures;
 
-pub use figures::Figures;
+pub use mean::Figures;
 pub use sender_groups::is_adapter;
-pub use ways::{WayFigures, figures_of_ways, figures_of_ways_told};
+pub use way_figures::{WayFigures, figures_of_ways, figures_of_ways_told};

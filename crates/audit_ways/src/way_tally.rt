@@ -4,7 +4,7 @@ ghost use Rattle.audit_ways.specs.WayTally.{IsCounted, IsCountedMore, IsCountedW
 ghost use Rattle.audit_ways.specs.Ways.{one_wire, way_from};
 
 use crate::channel_loads::load_channels;
-use crate::figures::Total;
+use crate::mean::Total;
 use port_graph::Edge;
 use std::alloc::{AllocError, Global};
 

@@ -9,7 +9,7 @@ use Rattle.spread_labels.specs.Labels.{candidates}
 use Rattle.spread_labels.specs.MarkSets.{AreCandidateSets, picked, sets_at}
 use Rattle.spread_labels.specs.Orders.{numbers_from}
 use Rattle.spread_labels.proofs.Numbers.{made_all, made_at, numbers_long}
-use Rattle.balanced_choices.specs.declared.rounds.Destination.{Destination}
+use Rattle.balanced_choices.specs.declared.choice_rounds.Destination.{Destination}
 use Rattle.balanced_choices.specs.BalancedChoices.{Balance, ends_of, towards, with_all, with_ends, near_first}
 
 pub ends_both : (n : ℕ) (ds es : List Destination) → ends_of n (ds ++ es) ≡ ends_of (ends_of n ds) es

@@ -4,7 +4,7 @@ use Rattle.std.specs.Prelude.{max, None, Option, Some}
 use Rattle.spread_labels.specs.Levels.{greatest}
 use Rattle.std.specs.Option.{option_map_or}
 use Rattle.port_graph.specs.declared.edge.Edge.{Edge}
-use Rattle.balanced_choices.specs.Loads.{channel_by, way}
+use Rattle.balanced_choices.specs.Ways.{channel_by, way}
 
 module _ (taken : ℕ → Option Edge) where
   -- no edge is taken

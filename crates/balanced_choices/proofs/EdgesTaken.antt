@@ -9,7 +9,7 @@ use Rattle.port_graph.specs.Heads.{edges_at}
 use Rattle.spread_labels.specs.Levels.{greatest}
 use Rattle.spread_labels.proofs.Numbers.{made_all, made_at, numbers_long}
 use Rattle.balanced_choices.specs.declared.ways.Change.TheVariants.{Remove}
-use Rattle.balanced_choices.specs.Loads.{candidates_at, channel_by, edge_taken, first_least, lightest, way, way_from, with_changes}
+use Rattle.balanced_choices.specs.Ways.{candidates_at, channel_by, edge_taken, first_least, lightest, way, way_from, with_changes}
 use Rattle.balanced_choices.specs.BalancedChoices.{without_packets}
 use Rattle.balanced_choices.specs.EdgesTaken.{edges_taken, lightest_by, way_by, without_by}
 

@@ -2,7 +2,7 @@
 use Rattle.std.proofs.Common.{◌≡◌, ◌<◌, ◌≤◌, ◌+◌, ◌-◌, ◌^◌, ◌⊎◌, ℕ, zero, suc, List, [], ◌∷◌, All, inl, inr, refl, sym, ap, subst, ◌∙◌, arith, cond, get_or, length, map}
 use Rattle.std.proofs.lemmas.Bool.{cases_lt, le-ltb, lt-ltb}
 use Rattle.port_graph.proofs.Counts.{length_map}
-use Rattle.balanced_choices.specs.Loads.{candidates_at, first_least, least_from, peak}
+use Rattle.balanced_choices.specs.Ways.{candidates_at, first_least, least_from, peak}
 use Rattle.balanced_choices.specs.LeastPeakLaw.{IsFirstLeast, LightestIsLeast}
 
 -- none is less than the one that was found

@@ -6,9 +6,9 @@ use Rattle.std.proofs.lemmas.Option.{slice_get_read}
 use Rattle.std.proofs.Math.Nat.{mod-lt}
 use Rattle.std.specs.Prelude.{Some, slice_get, slice_set}
 use Rattle.port_graph.specs.declared.edge.Edge.{Edge}
-use Rattle.balanced_choices.specs.declared.rounds.Destination.{Destination}
+use Rattle.balanced_choices.specs.declared.choice_rounds.Destination.{Destination}
 use Rattle.balanced_choices.specs.BalancedChoices.{digits_from, in_turn, towards}
-use Rattle.balanced_choices.specs.FirstLoads.{Passing, first_edge, loads_with, loads_with_all, passed_to}
+use Rattle.balanced_choices.specs.Loads.{Passing, first_edge, loads_with, loads_with_all, passed_to}
 
 -- the loads with the packets to some destinations and then to others
 pub with_both : (graph : List (List Edge)) (sent weights loads : List ℕ) (ds es : List Destination)

@@ -1,7 +1,7 @@
 -- The candidate of the least peak, one candidate after the other.
 use Rattle.std.proofs.Common.{◌≡◌, ◌+◌, ℕ, suc, List, ◌∷◌, sym, ap, ◌∙◌, add-one, true, false, cond}
 use Rattle.std.specs.Prelude.{nat_lt}
-use Rattle.balanced_choices.specs.Loads.{least_from}
+use Rattle.balanced_choices.specs.Ways.{least_from}
 
 module _ (best least k n : ℕ) (ns : List ℕ) where
   -- the next is less

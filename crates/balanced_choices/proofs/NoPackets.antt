@@ -4,7 +4,7 @@ use Rattle.std.proofs.lemmas.List.{set-get_or}
 use Rattle.std.specs.Prelude.{slice_set}
 use Rattle.balanced_choices.specs.declared.ways.Change.{Change}
 use Rattle.balanced_choices.specs.declared.ways.Change.TheVariants.{Add, Remove}
-use Rattle.balanced_choices.specs.Loads.{changed, with_changes}
+use Rattle.balanced_choices.specs.Ways.{changed, with_changes}
 
 -- a change that leaves each load
 stays : (change : Change) (loads cs : List ℕ) → ((c : ℕ) → changed change (get_or loads c 0) ≡ get_or loads c 0)

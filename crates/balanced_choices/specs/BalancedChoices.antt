@@ -8,8 +8,8 @@ use Rattle.spread_labels.specs.Levels.{greatest}
 use Rattle.spread_labels.specs.Labels.{candidates, leads_up}
 use Rattle.spread_labels.specs.Orders.{numbers_from}
 use Rattle.balanced_choices.specs.declared.ways.Change.TheVariants.{Add, Remove}
-use Rattle.balanced_choices.specs.declared.rounds.Destination.{Destination}
-use Rattle.balanced_choices.specs.Loads.{candidates_at, lightest, way_from, with_changes}
+use Rattle.balanced_choices.specs.declared.choice_rounds.Destination.{Destination}
+use Rattle.balanced_choices.specs.Ways.{candidates_at, lightest, way_from, with_changes}
 
 -- for one end, the number of the candidate that each position chooses; and the loads of channels
 pub record Chosen : Type 0 where

@@ -4,7 +4,7 @@ use Rattle.port_graph.specs.declared.edge.Edge.{Edge}
 use Rattle.spread_labels.specs.Levels.{greatest}
 use Rattle.spread_labels.specs.Orders.{numbers_from}
 use Rattle.balanced_choices.specs.declared.ways.Change.TheVariants.{Remove}
-use Rattle.balanced_choices.specs.Loads.{candidates_at, channel_by, edge_taken, first_least, way, with_changes}
+use Rattle.balanced_choices.specs.Ways.{candidates_at, channel_by, edge_taken, first_least, way, with_changes}
 
 -- the edge that each position takes by its choice; None for a position that has no such candidate
 abbrev pub edges_taken : List (List Edge) → List ℕ → List (Option Edge)

@@ -1,7 +1,7 @@
 -- The law that the candidate that is chosen has the least peak.
 use Rattle.std.specs.Prelude.{◌<◌, ◌≤◌, ◌-◌, ◌^◌, ℕ, List, All, length, map, slice_index}
 use Rattle.port_graph.specs.declared.edge.Edge.{Edge}
-use Rattle.balanced_choices.specs.Loads.{candidates_at, lightest, peak}
+use Rattle.balanced_choices.specs.Ways.{candidates_at, lightest, peak}
 
 -- no number of `ns` is less than the one at index `i`, and each earlier one is greater
 pub record IsFirstLeast (ns : List ℕ) (i : ℕ) : Type 0 where

@@ -1,6 +1,6 @@
-pub mod Loads
+pub mod BalancedChoices
 pub mod EdgesTaken
 pub mod LeastPeakLaw
-pub mod BalancedChoices
-pub mod FirstLoads
+pub mod Loads
 pub mod RoundRobins
+pub mod Ways

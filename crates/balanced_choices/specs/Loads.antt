@@ -1,59 +1,68 @@
--- The channels that packets take, and their loads.
-use Rattle.std.specs.Prelude.{ℕ, zero, suc, ◌+◌, ◌-◌, ◌*◌, ◌^◌, min, nat_lt, List}
-use Rattle.std.specs.Prelude.{[], ◌∷◌, length, map, take, Option, slice_get, slice_index, slice_set, if◌then◌else◌}
+-- The loads of channels by first choices. For each end of a destination, each position passes on its own packets and
+-- those that have reached it, once all have.
+use Rattle.std.specs.Prelude.{ℕ, ◌+◌, ◌*◌, List, [], ◌∷◌, Option, length, replicate, reverse, take}
+use Rattle.std.specs.Prelude.{slice_get, slice_index, slice_index_or, slice_set}
 use Rattle.std.specs.Option.{option_map_or}
 use Rattle.port_graph.specs.declared.edge.Edge.{Edge}
 use Rattle.port_graph.specs.Heads.{edges_at}
-use Rattle.spread_labels.specs.Levels.{greatest}
-use Rattle.balanced_choices.specs.declared.ways.Change.{Change}
-use Rattle.balanced_choices.specs.declared.ways.Change.TheVariants.{Add, Remove}
+use Rattle.spread_labels.specs.Orders.{numbers_from}
+use Rattle.balanced_choices.specs.declared.choice_rounds.Destination.{Destination}
+use Rattle.balanced_choices.specs.declared.ways.Change.TheVariants.{Add}
+use Rattle.balanced_choices.specs.Ways.{channel_by, with_changes}
+use Rattle.balanced_choices.specs.BalancedChoices.{digits_from, in_turn, near_first, towards}
 
--- the candidates among which position `p` chooses, which are the first 256
-abbrev pub candidates_at : List (List Edge) → ℕ → List Edge
-candidates_at ways p = take 256 (edges_at ways p)
+-- packets on their way to the ends of a destination: for each end, how many each position has had so far; and the loads
+-- of channels
+pub record Passing : Type 0 where
+  pub had : List (List ℕ)
+  pub loads : List ℕ
 
--- the candidate that position `p` takes by its choice; None if `p` has no such candidate
-abbrev pub edge_taken : List (List Edge) → List ℕ → ℕ → Option Edge
-edge_taken ways choices p = slice_get (edges_at ways p) (slice_index choices p)
+-- the number of packets for end `k` that position `p` has had
+abbrev pub had_at : Passing → ℕ → ℕ → ℕ
+had_at packets k p = slice_index (slice_index_or packets.had k []) p
 
--- the number of the channel by which edge `e` leaves position `p`
-abbrev pub channel_by : ℕ → Edge → ℕ
-channel_by p e = 256 * p + e.port
+-- the packets once position `p` has passed on, by edge `e`, the packets that it had for end `k`
+abbrev pub with_passed : ℕ → ℕ → Passing → Edge → Passing
+with_passed p k old e = record {
+  had = slice_set old.had k (with_changes (Add (had_at old k p)) (slice_index_or old.had k []) (e.to ∷ []));
+  loads = with_changes (Add (had_at old k p)) old.loads (channel_by p e ∷ []);
+}
 
--- the channels of the way from position `p` over at most a number of edges; `taken` gives the edge that is taken at
--- each position
-abbrev pub way : (ℕ → Option Edge) → ℕ → ℕ → List ℕ
-way taken zero p = []
-way taken (suc n) p = option_map_or (λ e. channel_by p e ∷ way taken n e.to) (taken p) []
+-- the candidate that position `p` takes at first towards the end with the number `number`: the one at `number` divided
+-- by `weight`, rounded down, plus `p`, modulo the number of candidates, or modulo 256 if there are more; None if there
+-- are none
+abbrev pub first_edge : List Edge → ℕ → ℕ → ℕ → Option Edge
+first_edge edges weight p number = slice_get edges (in_turn (length (take 256 edges)) (digits_from weight number + p))
 
--- the channels of the way from position `p`, by the choices of all positions
-abbrev pub way_from : List (List Edge) → List ℕ → ℕ → List ℕ
-way_from ways choices p = way (edge_taken ways choices) (length ways) p
+-- the packets once position `p` has passed on those that it had for the ends of a list; `number` is the number of end 0
+abbrev pub passed_to : List Edge → ℕ → ℕ → ℕ → Passing → List ℕ → Passing
+passed_to edges weight p number old [] = old
+passed_to edges weight p number old (k ∷ ks) =
+    passed_to edges weight p number
+    (option_map_or (with_passed p k old) (first_edge edges weight p (number + k)) old) ks
 
--- `load` with packets added, at most 2^64 - 1, or with packets removed, at least 0
-abbrev pub changed : Change → ℕ → ℕ
-changed (Add packets) load = min (load + packets) (2 ^ 64 - 1)
-changed (Remove packets) load = load - packets
+-- the packets once the positions of a list, one after the other, have passed on those that they had for the first
+-- `ends` ends
+abbrev pub passed_on : List (List Edge) → List ℕ → ℕ → ℕ → Passing → List ℕ → Passing
+passed_on ways weights number ends old [] = old
+passed_on ways weights number ends old (p ∷ ps) =
+    passed_on ways weights number ends
+    (passed_to (edges_at ways p) (slice_index weights p) p number old (numbers_from 0 ends)) ps
 
--- the loads, with the load of each channel of a list changed
-abbrev pub with_changes : Change → List ℕ → List ℕ → List ℕ
-with_changes change loads [] = loads
-with_changes change loads (c ∷ cs) = with_changes change (slice_set loads c (changed change (slice_index loads c))) cs
+-- the loads with the packets to the ends of the destination `d` added; each position passes on before those that its
+-- candidates lead to
+abbrev pub loads_with : List (List Edge) → List ℕ → List ℕ → List ℕ → Destination → List ℕ
+loads_with ways sent weights loads d =
+    (passed_on ways weights d.number d.ends (record { had = replicate d.ends sent; loads = loads })
+    (reverse (near_first ways))).loads
 
--- the greatest load on the way from position `p` that begins with candidate `e`, by the choices of all positions
-abbrev pub peak : List (List Edge) → List ℕ → List ℕ → ℕ → Edge → ℕ
-peak ways choices loads p e = greatest 0 (map (λ c. slice_index loads c) (channel_by p e ∷ way_from ways choices e.to))
+-- the loads with the packets to all ends of the destinations added
+abbrev pub loads_with_all : List (List Edge) → List ℕ → List ℕ → List ℕ → List Destination → List ℕ
+loads_with_all graph sent weights loads [] = loads
+loads_with_all graph sent weights loads (d ∷ ds) =
+    loads_with_all graph sent weights (loads_with (towards graph d.position) sent weights loads d) ds
 
--- the index of the first least number: of `least`, at index `best`, and the numbers of a list that begins at index `k`
-abbrev pub least_from : ℕ → ℕ → ℕ → List ℕ → ℕ
-least_from best least k [] = best
-least_from best least k (n ∷ ns) = if nat_lt n least then least_from k n (suc k) ns else least_from best least (suc k) ns
-
--- the index of the first least of some numbers, if each is at most 2^64 - 1; 0 if there are none
-abbrev pub first_least : List ℕ → ℕ
-first_least ns = least_from 0 (2 ^ 64 - 1) 0 ns
-
--- the number of the candidate of position `p` whose way has the least peak; ties go to the first; 0 if `p` has no
--- candidate. Peaks are at most 2^64 - 1
-abbrev pub lightest : List (List Edge) → List ℕ → List ℕ → ℕ → ℕ
-lightest ways choices loads p = first_least (map (peak ways choices loads p) (candidates_at ways p))
+-- the loads of channels if all packets to all ends take first choices
+unfoldable pub first_loads : List (List Edge) → List ℕ → List ℕ → List Destination → List ℕ
+first_loads graph sent weights destinations =
+    loads_with_all graph sent weights (replicate (256 * length graph) 0) destinations

@@ -5,13 +5,13 @@ ghost use Rattle.port_graph.specs.Heads.{LeadToVertices};
 ghost use Rattle.spread_labels.specs.Orders.{numbers_from};
 ghost use Rattle.balanced_choices.specs.declared.ways.Change.TheVariants.{Add};
 ghost use Rattle.balanced_choices.specs.BalancedChoices.{near_first};
-ghost use Rattle.balanced_choices.specs.FirstLoads.{first_loads, loads_with, loads_with_all, passed_to};
-ghost use Rattle.balanced_choices.specs.Loads.{channel_by, with_changes};
+ghost use Rattle.balanced_choices.specs.Loads.{first_loads, loads_with, loads_with_all, passed_to};
+ghost use Rattle.balanced_choices.specs.Ways.{channel_by, with_changes};
 
-use crate::choosing::near_first;
+use crate::choice::near_first;
 use crate::loads::{PORTS, no_loads};
 use crate::round_robin::RoundRobin;
-use crate::rounds::{Destination, positions_of, ways_towards};
+use crate::choice_rounds::{Destination, positions_of, ways_towards};
 use port_graph::{Adjacency, Edge};
 use spread_labels::{CandidateSets, TARGETS};
 use std::alloc::{AllocError, Global};

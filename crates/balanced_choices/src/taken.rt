@@ -2,7 +2,7 @@
 ghost use Rattle.std.specs.Prelude.{◌≡◌, IfOk, slice_get, slice_index};
 ghost use Rattle.port_graph.specs.Heads.{edges_at};
 ghost use Rattle.balanced_choices.specs.EdgesTaken.{edges_taken};
-ghost use Rattle.balanced_choices.specs.Loads.{edge_taken};
+ghost use Rattle.balanced_choices.specs.Ways.{edge_taken};
 
 use port_graph::{Adjacency, Edge};
 use std::alloc::{AllocError, Global};

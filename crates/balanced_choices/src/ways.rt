@@ -2,7 +2,7 @@
 ghost use Rattle.std.specs.Prelude.{◌≡◌, ◌<◌, ◌+◌, ◌*◌, IfSome, None, length, map, min, slice_index, slice_index_or};
 ghost use Rattle.spread_labels.specs.Levels.{greatest};
 ghost use Rattle.balanced_choices.specs.EdgesTaken.{lightest_by, peak_by, way_by};
-ghost use Rattle.balanced_choices.specs.Loads.{changed, with_changes};
+ghost use Rattle.balanced_choices.specs.Ways.{changed, with_changes};
 
 use crate::loads::PORTS;
 use port_graph::{Adjacency, Edge};

@@ -10,7 +10,7 @@ use Rattle.subnet_view.specs.Reading.{Cells, switches}
 use Rattle.subnet_view.specs.Graph.{graph_of}
 use Rattle.subnet_view.proofs.Graphs.{graph_law}
 use Rattle.held_tables.specs.Held.{HeldPlan}
-use Rattle.spread_labels.specs.Keys.{before_by}
+use Rattle.spread_labels.specs.KeyOrder.{before_by}
 use Rattle.spread_labels.specs.Orders.{numbers_from, position_of}
 use Rattle.spread_labels.proofs.ByPositions.{position_less}
 use Rattle.spread_routes.proofs.Indices.{leads_below}
@@ -33,7 +33,7 @@ use Rattle.between_orders.specs.Agreement.{StepsKeepAgreement}
 use Rattle.between_orders.specs.Agreement.{TellsPositions, order_of_plan}
 use Rattle.between_orders.specs.Agreement.IsOnward.{first, second, goal}
 use Rattle.between_orders.specs.Between.{Goal, IsGoalBetween}
-use Rattle.between_orders.specs.BetweenLaws.{next_towards}
+use Rattle.between_orders.specs.GoalLaws.{next_towards}
 use Rattle.between_orders.specs.Orders.{edges_in, orders_by, orders_from, told_positions}
 use Rattle.between_orders.proofs.Safe.{count_is, goals_are_safe, grown_most}
 use Rattle.between_orders.proofs.SameGoal.{made_alike}

@@ -21,7 +21,7 @@ use Rattle.two_orders.specs.declared.labels.Sides.{Sides}
 use Rattle.two_orders.specs.LabelLaws.{AreTargets, grown_twice}
 use Rattle.two_orders.specs.Labels.{both_down, label_at}
 use Rattle.two_orders.proofs.TreeLabels.{all_get_labels}
-use Rattle.between_orders.specs.BetweenLaws.{GoalReachesAll}
+use Rattle.between_orders.specs.GoalLaws.{GoalReachesAll}
 use Rattle.between_orders.specs.TablesBetween.{arrives, first_label}
 use Rattle.between_orders.specs.Orders.{edges_in}
 use Rattle.between_orders.proofs.GoalDelivers.{goal_delivers}

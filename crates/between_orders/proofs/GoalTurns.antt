@@ -38,7 +38,7 @@ use Rattle.two_orders.specs.LabelLaws.{GoesOn, turns_up}
 use Rattle.two_orders.specs.Trees.{is_earlier}
 use Rattle.two_orders.specs.TwoOrders.{TwoOrders}
 use Rattle.two_orders.proofs.LabelLaws.{labels_turn_well}
-use Rattle.between_orders.specs.BetweenLaws.{GoalTurnsWell}
+use Rattle.between_orders.specs.GoalLaws.{GoalTurnsWell}
 use Rattle.between_orders.specs.TablesBetween.{arrives, column_between, column_for, entry_between, entry_to, entry_with, fits, labels_towards, port_of}
 use Rattle.between_orders.specs.TablesBetween.{tables_between}
 use Rattle.between_orders.specs.Orders.{edges_in}

@@ -29,7 +29,7 @@ use Rattle.two_orders.specs.TwoOrders.{TwoOrders, two_orders}
 use Rattle.two_orders.proofs.Agreement.{grows_again}
 use Rattle.between_orders.specs.Agreement.{AreRightBy, IsRightByGrown, TellsPositions}
 use Rattle.between_orders.specs.Between.{Goal, IsGoalBetween, goal_between}
-use Rattle.between_orders.specs.BetweenLaws.{AreGoalSteps, IsGoalLine, next_towards}
+use Rattle.between_orders.specs.GoalLaws.{AreGoalSteps, IsGoalLine, next_towards}
 use Rattle.between_orders.specs.HandedStages.{AreHandedSteps, HandedOrdersStay, HandedStepsAreGoalSteps, RightTablesHaveGoals}
 use Rattle.between_orders.specs.Orders.{AreOrders, edges_in, orders_from}
 use Rattle.between_orders.specs.TablesBetween.{tables_between}

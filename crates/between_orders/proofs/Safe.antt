@@ -13,7 +13,7 @@ use Rattle.subnet_view.proofs.Graphs.{graph_law}
 use Rattle.subnet_view.proofs.GraphSwitches.{graph_guids}
 use Rattle.held_tables.specs.Held.{HeldPlan}
 use Rattle.spread_labels.specs.declared.vertex_key.VertexKey.{VertexKey}
-use Rattle.spread_labels.specs.Keys.{before_by}
+use Rattle.spread_labels.specs.KeyOrder.{before_by}
 use Rattle.spread_labels.specs.Orders.{grown_behind, next_placed, numbers_from, position_of, without}
 use Rattle.spread_labels.proofs.Growing.{contains_at}
 use Rattle.spread_routes.specs.Rule.{by_index, order_by_keys}
@@ -34,7 +34,7 @@ use Rattle.two_orders.specs.Trees.{tree}
 use Rattle.two_orders.specs.TwoOrders.{TwoOrders, two_orders}
 use Rattle.between_orders.specs.Between.{Goal, IsGoalBetween}
 use Rattle.between_orders.specs.TablesBetween.{tables_between}
-use Rattle.between_orders.specs.BetweenLaws.{GoalsAreSafe, GoalsFollowTheRule, next_towards}
+use Rattle.between_orders.specs.GoalLaws.{GoalsAreSafe, GoalsFollowTheRule, next_towards}
 use Rattle.between_orders.specs.Orders.{edges_in, orders_by, told_positions}
 use Rattle.between_orders.proofs.GoalTurns.{goal_turns_well}
 use Rattle.between_orders.proofs.Told.{told_at}

@@ -25,7 +25,7 @@ use Rattle.two_orders.specs.TwoOrders.{TwoOrders}
 use Rattle.between_orders.specs.Agreement.{AgreeTo, AreRightBy, ComeEverywhere, ComeTo, IsRightByGrown, TellsPositions, order_of_plan}
 use Rattle.between_orders.specs.Agreement.IsOnward.{goal}
 use Rattle.between_orders.specs.Between.{IsGoalBetween}
-use Rattle.between_orders.specs.BetweenLaws.{AreGoalSteps, IsGoalLine}
+use Rattle.between_orders.specs.GoalLaws.{AreGoalSteps, IsGoalLine}
 use Rattle.between_orders.specs.HandedStages.{HandedStepsEnd, HaveOwnLids, IsOwnLid, IsStage, IsWholePlan, StagesAreFew, StagesStayWhole}
 use Rattle.between_orders.specs.Orders.{edges_in, orders_from, told_positions}
 use Rattle.between_orders.specs.TablesBetween.{tables_between}

@@ -12,7 +12,7 @@ use Rattle.two_orders.specs.Agreement.{AgreesUpTo}
 use Rattle.two_orders.specs.Growth.{grown_by, positions_in}
 use Rattle.two_orders.specs.LabelLaws.{grown_twice}
 use Rattle.between_orders.specs.Between.{Goal, IsGoal}
-use Rattle.between_orders.specs.BetweenLaws.{next_towards}
+use Rattle.between_orders.specs.GoalLaws.{next_towards}
 use Rattle.between_orders.specs.Orders.{edges_in, orders_from, told_positions}
 
 -- the plan's order: it grows by the positions `by` of the plan

@@ -16,7 +16,7 @@ use Rattle.two_orders.specs.Growth.{positions_in}
 use Rattle.two_orders.specs.LabelLaws.{grown_twice}
 use Rattle.between_orders.specs.Agreement.{AreRightBy, ComeEverywhere, IsRightByGrown, TellsPositions, order_of_plan}
 use Rattle.between_orders.specs.Between.{Goal, IsGoal, goal_between}
-use Rattle.between_orders.specs.BetweenLaws.{AreGoalSteps, IsGoalLine, next_towards}
+use Rattle.between_orders.specs.GoalLaws.{AreGoalSteps, IsGoalLine, next_towards}
 use Rattle.between_orders.specs.Orders.{edges_in}
 
 -- tables that are right for every LID by some order of the switches have a goal, whatever the preferred positions are

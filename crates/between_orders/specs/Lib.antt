@@ -1,6 +1,6 @@
 pub mod Agreement
 pub mod Between
-pub mod BetweenLaws
+pub mod GoalLaws
 pub mod HandedStages
-pub mod TablesBetween
 pub mod Orders
+pub mod TablesBetween

@@ -6,7 +6,7 @@ ghost use Rattle.between_orders.specs.Agreement.{
   StepsKeepAgreement,
   WholeTablesGrow,
 };
-ghost use Rattle.between_orders.specs.BetweenLaws.{
+ghost use Rattle.between_orders.specs.GoalLaws.{
   GoalDelivers,
   GoalEndsRight,
   GoalIsReached,
@@ -14,7 +14,7 @@ ghost use Rattle.between_orders.specs.BetweenLaws.{
   GoalStandsStill,
   GoalTurnsWell,
 };
-ghost use Rattle.between_orders.specs.BetweenLaws.{GoalsAreSafe, GoalsFollowTheRule};
+ghost use Rattle.between_orders.specs.GoalLaws.{GoalsAreSafe, GoalsFollowTheRule};
 ghost use Rattle.between_orders.specs.HandedStages.{
   HandedOrdersStay,
   HandedStepsAreGoalSteps,

@@ -1,7 +1,7 @@
 //! The order by depth.
 ghost use Rattle.std.specs.Prelude.{◌≡◌, ◌<◌, length, count_by, IfOk, MatchOption};
 ghost use Rattle.port_graph.specs.Heads.{LeadToVertices};
-ghost use Rattle.spread_labels.specs.Keys.{before_by};
+ghost use Rattle.spread_labels.specs.KeyOrder.{before_by};
 ghost use Rattle.spread_labels.specs.Stages.{earlier_of};
 ghost use Rattle.depth_orders.specs.DepthOrders.{best_beside, deepest, first_left, flag_at, goes_before};
 ghost use Rattle.depth_orders.specs.DepthOrders.{next_by_depth, order_by_depth, turned};

@@ -1,5 +1,5 @@
 ghost use Rattle.std.specs.Prelude.{◌≡◌, ◌<◌, length};
-ghost use Rattle.spread_labels.specs.Keys.{before_by};
+ghost use Rattle.spread_labels.specs.KeyOrder.{before_by};
 ghost use Rattle.depth_orders.specs.DepthOrders.{turned};
 
 use spread_labels::{VertexKey, is_before};

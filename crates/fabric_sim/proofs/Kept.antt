@@ -20,7 +20,7 @@ use Rattle.fabric_sim.specs.declared.flight.Flight.{Flight}
 use Rattle.fabric_sim.specs.declared.fault.FabricFault.TheVariants.{NoSuchPacket, NoSuchPort, SerialsSpent}
 use Rattle.fabric_sim.specs.declared.delivered.Delivered.TheVariants.{Answered}
 use Rattle.fabric_sim.specs.declared.delivered.Reason.TheVariants.{Down, Unreadable, Course as OffCourse}
-use Rattle.fabric_sim.specs.Outcome.{Outcome, Moves, Asks, HandsUp, Represses, Drops}
+use Rattle.fabric_sim.specs.PacketOutcome.{Outcome, Moves, Asks, HandsUp, Represses, Drops}
 use Rattle.fabric_sim.specs.Simulation.{Simulation, IsSimulation, IsWaiting, CanWait, across, is_seat_at, fabric_of, port_of, is_at_seat, is_by_wire, is_numbered, flight_with}
 use Rattle.fabric_sim.specs.Called.{refused}
 use Rattle.fabric_sim.specs.Notices.{trap_repress}

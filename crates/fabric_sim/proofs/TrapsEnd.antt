@@ -18,7 +18,7 @@ use Rattle.node_agents.specs.declared.port.Port.{Port}
 use Rattle.attr_codec.specs.declared.port_state.PortState.TheVariants.{Down}
 use Rattle.fabric_sim.specs.declared.delivered.Delivered.{Delivered}
 use Rattle.fabric_sim.specs.declared.flight.Flight.{Flight}
-use Rattle.fabric_sim.specs.Outcome.{Represses}
+use Rattle.fabric_sim.specs.PacketOutcome.{Represses}
 use Rattle.fabric_sim.specs.Called.{Called}
 use Rattle.fabric_sim.specs.Delivery.{after_deliver, after_outcome, by_course, delivered_flight, is_for_manager, is_trap, outcome_of}
 use Rattle.fabric_sim.specs.Notices.{trap_repress}

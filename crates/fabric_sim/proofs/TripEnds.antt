@@ -31,7 +31,7 @@ use Rattle.node_agents.proofs.Shapes.{answered_keeps_shape, answered_is_agent}
 use Rattle.fabric_sim.specs.declared.flight.Whereabouts.TheVariants.{Seat}
 use Rattle.fabric_sim.specs.declared.flight.Flight.{Flight}
 use Rattle.fabric_sim.specs.declared.delivered.Delivered.TheVariants as delivered_is
-use Rattle.fabric_sim.specs.Outcome.{Asks}
+use Rattle.fabric_sim.specs.PacketOutcome.{Asks}
 use Rattle.fabric_sim.specs.Simulation.{Simulation, IsSimulation, IsWaiting, agent_at, port_count, is_seat_at, fabric_of, port_of, flight_with, without_flight, answer_whereabouts}
 use Rattle.fabric_sim.specs.declared.delivered.Delivered.{Delivered}
 use Rattle.fabric_sim.specs.Called.{Called}

@@ -10,7 +10,7 @@ use Rattle.node_agents.specs.Agent.{Agent, after_set_wired}
 use Rattle.node_agents.specs.Answers.{after_answer}
 use Rattle.fabric_sim.specs.declared.flight.Whereabouts.{Whereabouts}
 use Rattle.fabric_sim.specs.declared.flight.Whereabouts.TheVariants.{Seat, Arrived}
-use Rattle.fabric_sim.specs.Outcome.{Moves, Drops}
+use Rattle.fabric_sim.specs.PacketOutcome.{Moves, Drops}
 use Rattle.fabric_sim.specs.declared.delivered.Reason.TheVariants.{Down}
 use Rattle.fabric_sim.specs.declared.flight.Flight.{Flight}
 use Rattle.fabric_sim.specs.declared.packet.Packet.{Packet}

@@ -5,12 +5,12 @@ pub mod Changes
 pub mod Delivery
 pub mod FabricFault
 pub mod Notices
-pub mod Outcome
+pub mod PacketOutcome
 pub mod Ping
 pub mod SeenFabric
 pub mod Simulation
-pub mod ToldOfEnd
 pub mod ThereAndBack
+pub mod ToldOfEnd
 pub mod TrapCalls
 pub mod TrapLaws
 pub mod Traps

@@ -1,6 +1,6 @@
 ghost use Rattle.std.specs.Prelude.{◌≡◌, ◌<◌, length, None, true};
 ghost use Rattle.smp_bytes.specs.Packet.{is_directed, fault_of};
-ghost use Rattle.fabric_sim.specs.Outcome.{Asks};
+ghost use Rattle.fabric_sim.specs.PacketOutcome.{Asks};
 ghost use Rattle.fabric_sim.specs.declared.packet.Packet.{Packet};
 ghost use Rattle.fabric_sim.specs.declared.delivered.Delivered.TheVariants.{Discarded};
 ghost use Rattle.fabric_sim.specs.Simulation.{port_of, is_cable_port, IsFlightAt};

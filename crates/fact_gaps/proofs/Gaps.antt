@@ -14,7 +14,7 @@ use Rattle.subnet_view.proofs.Apart.{contains_map, contains-from_map}
 use Rattle.subnet_view.proofs.Members.{contains_filter, contains-from_filter}
 use Rattle.subnet_view.proofs.Taken.{all_from}
 use Rattle.fact_gaps.specs.InOrder.{each_once, port_cmp}
-use Rattle.fact_gaps.specs.Named.{named_nodes, named_ports}
+use Rattle.fact_gaps.specs.NamedPorts.{named_nodes, named_ports}
 use Rattle.fact_gaps.specs.Gaps.{NodesLaw, PortsLaw, is_known_node, is_known_port, port_at, unusable_nodes}
 use Rattle.fact_gaps.proofs.Known.{known_node, known_port, node_known, port_known}
 use Rattle.fact_gaps.proofs.Named.{listed_node, listed_port, node_listed, port_listed}

@@ -9,7 +9,7 @@ use Rattle.reply_facts.specs.declared.value.Value.{Value}
 use Rattle.reply_facts.specs.Key.{key_guid}
 use Rattle.subnet_view.specs.Reading.{Cells}
 use Rattle.subnet_view.proofs.Taken.{is_taken, taken_from}
-use Rattle.fact_gaps.specs.Named.{IsNamedNode, IsNamedPort, far_node, far_port, kept, named_nodes, named_ports, own_node, own_port}
+use Rattle.fact_gaps.specs.NamedPorts.{IsNamedNode, IsNamedPort, far_node, far_port, kept, named_nodes, named_ports, own_node, own_port}
 
 module _ {X : Type 0} (test : X → Bool) where
   -- what passes of what a list names

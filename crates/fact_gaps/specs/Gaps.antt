@@ -13,7 +13,7 @@ use Rattle.subnet_view.specs.EndPorts.{IsEndPort, IsNodeWith, is_end_port}
 use Rattle.subnet_view.specs.Reading.{Cells}
 use Rattle.subnet_view.specs.Wires.{IsWire, across}
 use Rattle.fact_gaps.specs.InOrder.{each_once, port_cmp}
-use Rattle.fact_gaps.specs.Named.{IsNamedNode, IsNamedPort, named_nodes, named_ports}
+use Rattle.fact_gaps.specs.NamedPorts.{IsNamedNode, IsNamedPort, named_nodes, named_ports}
 
 -- a node is known if its type is known (`node`) and, for a switch, its table room is known (`room`)
 abbrev pub is_known_type : Option (NodeType × ℕ) → Bool → Bool

@@ -1,3 +1,3 @@
-pub mod InOrder
-pub mod Named
 pub mod Gaps
+pub mod InOrder
+pub mod NamedPorts

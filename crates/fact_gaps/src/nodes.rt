@@ -4,7 +4,7 @@ ghost use Rattle.std.specs.List.{filter_map};
 ghost use Rattle.reply_facts.specs.Known.{peer_in, value_in};
 ghost use Rattle.fact_store.specs.View.{cells_of};
 ghost use Rattle.fact_gaps.specs.Gaps.{AreKnownNodes, is_known_node, unusable_nodes};
-ghost use Rattle.fact_gaps.specs.Named.{far_node, far_port, kept, node_key, own_node};
+ghost use Rattle.fact_gaps.specs.NamedPorts.{far_node, far_port, kept, node_key, own_node};
 
 use crate::in_order::order_guids;
 use fact_store::{Key, Sighting, Store, Value};

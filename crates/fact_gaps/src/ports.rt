@@ -5,7 +5,7 @@ ghost use Rattle.reply_facts.specs.Known.{kind_in, up_of, value_in};
 ghost use Rattle.fact_store.specs.View.{cells_of};
 ghost use Rattle.subnet_view.specs.Reading.{is_switch_in};
 ghost use Rattle.fact_gaps.specs.Gaps.{AreKnownPorts, is_known_port, is_said_down, port_at, unjoined_ports};
-ghost use Rattle.fact_gaps.specs.Named.{far_port, kept, link_key, own_port};
+ghost use Rattle.fact_gaps.specs.NamedPorts.{far_port, kept, link_key, own_port};
 
 use crate::in_order::order_ports;
 use crate::nodes::far_port;

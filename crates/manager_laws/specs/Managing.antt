@@ -13,8 +13,8 @@ use Rattle.sm_manager.specs.declared.outgoing.Outgoing.{Outgoing}
 use Rattle.lft_blocks.specs.Planning.{Planning}
 use Rattle.sm_state.specs.declared.conduct.Conduct.{Conduct}
 use Rattle.sm_manager.specs.Manager.{Manager, Taken, is_running, new_manager, after_take_outgoing}
-use Rattle.sm_manager.specs.Calls as calls
-use Rattle.sm_manager.specs.Calls.{Call, after_call}
+use Rattle.sm_manager.specs.CallLists as calls
+use Rattle.sm_manager.specs.CallLists.{Call, after_call}
 use Rattle.manager_laws.specs.Scene as around
 use Rattle.manager_laws.specs.Scene.{Handed, Scene, Event, CanHappen, IsQuiet, after_event, sent_from}
 use Rattle.manager_laws.specs.Truth.{AreGuidsDistinct}

@@ -43,7 +43,7 @@ use Rattle.takeover_laws.specs.Takeover.{plan_by_it}
 use Rattle.takeover_laws.proofs.ExampleFabric.{distinct, is_network, network}
 use Rattle.masters_laws.specs.Masters.{AllCanBe, Around, At, CanBe, IsAt, IsItsOwn, IsWholeSweep, Masters, MastersEvent, Seated, StartTogether}
 use Rattle.masters_laws.specs.Masters.{WritesWhole, acting, after_masters_event, after_masters_events, seated_after, seen_by}
-use Rattle.masters_laws.specs.InForce.{AllHold, AllSweepWhole, HasWritten, ShareLids, SomeMastersWriteAtOnce, SweepsWhole, WriteNothing, WritesNothing}
+use Rattle.masters_laws.specs.StaysInForce.{AllHold, AllSweepWhole, HasWritten, ShareLids, SomeMastersWriteAtOnce, SweepsWhole, WriteNothing, WritesNothing}
 use Rattle.masters_laws.proofs.Known.{after_both}
 use Rattle.masters_laws.proofs.SameParts.{IsAtSwitch, agrees_too, joined_too}
 use Rattle.masters_laws.proofs.Together.{set_elsewhere}

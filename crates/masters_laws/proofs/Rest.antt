@@ -2,7 +2,7 @@
 use Rattle.fabric_model.specs.FabricWalks.{IsJoinedTo}
 use Rattle.fabric_sim.specs.Simulation.{fabric_of}
 use Rattle.takeover_laws.proofs.Rest.{rest_lids}
-use Rattle.masters_laws.specs.InForce.{RestSharesLids}
+use Rattle.masters_laws.specs.StaysInForce.{RestSharesLids}
 
 pub rest_shares_lids : RestSharesLids
 rest_shares_lids earlier facts planning t s =

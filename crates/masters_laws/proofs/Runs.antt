@@ -18,7 +18,7 @@ use Rattle.manager_laws.proofs.Held as held_laws
 use Rattle.manager_laws.proofs.WritingSweeps.{Ground}
 use Rattle.masters_laws.specs.Masters.{AllCanBe, Around, At, CanBe, IsAt, IsItsOwn, Masters, MastersEvent, Seated, StartTogether, acting}
 use Rattle.masters_laws.specs.Masters.{after_masters_event, after_masters_events, has_swept_after, seated_after, seen_by}
-use Rattle.masters_laws.specs.Runs.{AllSweepBefore, EachRunsOnItsOwn, OwnRun, SweepsBefore, WhatIsGivenOutCanBeSent, WritesSwept}
+use Rattle.masters_laws.specs.OwnRuns.{AllSweepBefore, EachRunsOnItsOwn, OwnRun, SweepsBefore, WhatIsGivenOutCanBeSent, WritesSwept}
 use Rattle.masters_laws.proofs.Side.{Old, goes_after, no_writing, own_scene, view_after}
 use Rattle.masters_laws.proofs.Together.{SeatsStay, ground_of, seats_set, set_elsewhere, set_there, still_apart}
 

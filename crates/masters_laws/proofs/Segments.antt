@@ -11,7 +11,7 @@ use Rattle.manager_laws.specs.Managing.{Managing, ManagerEvent, after_manager_ev
 use Rattle.takeover_laws.specs.Takeover.{plan_by_it}
 use Rattle.masters_laws.specs.Masters.{AllCanBe, Around, At, CanBe, IsAt, Masters, MastersEvent, Seated, acting, after_masters_event, after_masters_events}
 use Rattle.masters_laws.specs.Masters.{seated_after, seen_by}
-use Rattle.masters_laws.specs.InForce.{AllSweepWhole, ShareLids}
+use Rattle.masters_laws.specs.StaysInForce.{AllSweepWhole, ShareLids}
 use Rattle.masters_laws.proofs.Side.{own_scene, view_after}
 use Rattle.masters_laws.proofs.Together.{AllStand, next, set_elsewhere, set_there, still_apart}
 

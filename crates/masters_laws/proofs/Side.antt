@@ -18,7 +18,7 @@ use Rattle.plan_steps.specs.declared.step.Step.{Step}
 use Rattle.plan_steps.specs.Phases.{Phase, phases_of}
 use Rattle.sweep.specs.Sweep.{Sweep}
 use Rattle.sm_manager.specs.declared.outgoing.Outgoing.{Outgoing}
-use Rattle.sm_manager.specs.Calls as calls
+use Rattle.sm_manager.specs.CallLists as calls
 use Rattle.sm_manager.specs.Manager.{after_begin_sweep, begin_fault}
 use Rattle.sm_manager.specs.PlanFaults.{writing_fault}
 use Rattle.sm_manager.specs.Writing.{phases_by}
@@ -48,8 +48,8 @@ use Rattle.takeover_laws.specs.Takeover.{plan_by_it}
 use Rattle.takeover_laws.proofs.Claimed.{swept_claims_are_true}
 use Rattle.takeover_laws.proofs.Seeing.{held_lids}
 use Rattle.masters_laws.specs.Masters.{IsItsOwn, IsWholeSweep, Seated, WritesWhole, has_swept_after, knows_one_after, seated_after, seen_by}
-use Rattle.masters_laws.specs.InForce.{HoldsLids}
-use Rattle.masters_laws.specs.Runs.{WritesSwept}
+use Rattle.masters_laws.specs.StaysInForce.{HoldsLids}
+use Rattle.masters_laws.specs.OwnRuns.{WritesSwept}
 use Rattle.masters_laws.proofs.Acting.{AreCarried, Carried, Plans, WritesCarried, event_plans}
 use Rattle.masters_laws.proofs.Deliveries.{IsPlannedFrom, Sends}
 use Rattle.masters_laws.proofs.Scenes.{SendsSo}

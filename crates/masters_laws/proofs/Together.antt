@@ -33,8 +33,8 @@ use Rattle.takeover_laws.specs.Claims.{HasLidsOf}
 use Rattle.takeover_laws.proofs.Throughout.{in_use}
 use Rattle.masters_laws.specs.Masters.{AllCanBe, Around, At, CanBe, IsAt, IsItsOwn, Masters, MastersEvent, Seated, SetsInfoOnly, StartTogether, WritesWhole}
 use Rattle.masters_laws.specs.Masters.{IsWholeSweep, acting, after_masters_event, after_masters_events, seated_after, seen_by}
-use Rattle.masters_laws.specs.InForce.{AllHold, AllInUse, AllSweepWhole, InUseAlong, MastersChangeNothing, MastersKeepLids, MastersWriteTheSame, ShareLids}
-use Rattle.masters_laws.specs.InForce.{SweepsWhole}
+use Rattle.masters_laws.specs.StaysInForce.{AllHold, AllInUse, AllSweepWhole, InUseAlong, MastersChangeNothing, MastersKeepLids, MastersWriteTheSame, ShareLids}
+use Rattle.masters_laws.specs.StaysInForce.{SweepsWhole}
 use Rattle.masters_laws.proofs.Deliveries.{Sends, Tells}
 use Rattle.masters_laws.proofs.Harmless.{AreHarmless}
 use Rattle.masters_laws.proofs.Scenes.{SendsSo, SentSo, Stands, held_on, stands_on}

@@ -33,9 +33,9 @@ use Rattle.takeover_laws.specs.Takeover.{no_sets, plan_by_it}
 use Rattle.takeover_laws.proofs.Seeing.{is_end}
 use Rattle.masters_laws.specs.Masters.{AllCanBe, Around, At, CanBe, IsAt, IsWholeSweep, Masters, MastersEvent, Seated, after_masters_event}
 use Rattle.masters_laws.specs.Masters.{after_masters_events, seen_by}
-use Rattle.masters_laws.specs.InForce.{AllHold, AllSweepWhole, HasWritten, ShareLids, SweepsWhole, WriteNothing, WrittenByOneIsHeld, WritesNothing}
+use Rattle.masters_laws.specs.StaysInForce.{AllHold, AllSweepWhole, HasWritten, ShareLids, SweepsWhole, WriteNothing, WrittenByOneIsHeld, WritesNothing}
 use Rattle.masters_laws.specs.Known.{LearnNothingElse, LearnsNothingElse, LearntFromOne}
-use Rattle.masters_laws.specs.Runs.{AllSweepBefore, OwnRun, SweepsBefore}
+use Rattle.masters_laws.specs.OwnRuns.{AllSweepBefore, OwnRun, SweepsBefore}
 use Rattle.masters_laws.proofs.Side.{swept_if}
 use Rattle.masters_laws.proofs.Deliveries.{taken_carries}
 use Rattle.masters_laws.proofs.Known.{after_both, knows_one_sweep_means}

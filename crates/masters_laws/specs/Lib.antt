@@ -1,4 +1,4 @@
-pub mod Masters
 pub mod Known
-pub mod Runs
-pub mod InForce
+pub mod Masters
+pub mod OwnRuns
+pub mod StaysInForce

@@ -1,8 +1,8 @@
 //! The laws of several managers on one fabric.
-ghost use Rattle.masters_laws.specs.InForce.{MastersChangeNothing, MastersKeepLids, MastersWriteTheSame};
-ghost use Rattle.masters_laws.specs.InForce.{RestSharesLids, SomeMastersWriteAtOnce, WrittenByOneIsHeld};
+ghost use Rattle.masters_laws.specs.StaysInForce.{MastersChangeNothing, MastersKeepLids, MastersWriteTheSame};
+ghost use Rattle.masters_laws.specs.StaysInForce.{RestSharesLids, SomeMastersWriteAtOnce, WrittenByOneIsHeld};
 ghost use Rattle.masters_laws.specs.Known.{HasSweptMeans, KnowsOneSweepMeans};
-ghost use Rattle.masters_laws.specs.Runs.{EachRunsOnItsOwn, WhatIsGivenOutCanBeSent};
+ghost use Rattle.masters_laws.specs.OwnRuns.{EachRunsOnItsOwn, WhatIsGivenOutCanBeSent};
 
 /// If a manager begins no writing before a sweep, each packet that it gives out can be sent from its seat as a packet
 /// of another manager: the packet is forwarded by LIDs, or is a request over a path that leaves by the seat's port, or

@@ -47,7 +47,8 @@ impl<'n> Model for LidCursor<'n> {
 impl<'n> LidCursor<'n> {
     /// Returns a cursor at LID 0 that does not look for deliveries.
     pub fn of(alloc: Global, network: &'n Network<'n>) -> Result<Self, AllocError>
-        ensures { IfOk result (λ cursor. cursor.seen ≡ network.now) }
+        ensures seen { IfOk result (λ cursor. cursor.seen ≡ network.now) }
+        ensures lid { IfOk result (λ cursor. cursor.lid ≡ 0) }
     {
         let blocks = network.blocks(alloc, 0)?;
         Ok(LidCursor {
@@ -60,7 +61,8 @@ impl<'n> LidCursor<'n> {
 
     /// Returns a cursor at LID 0 that looks for deliveries, for 64 LIDs at a time.
     pub fn with_deliveries(alloc: Global, network: &'n Network<'n>) -> Result<Self, AllocError>
-        ensures { IfOk result (λ cursor. cursor.seen ≡ network.now) }
+        ensures seen { IfOk result (λ cursor. cursor.seen ≡ network.now) }
+        ensures lid { IfOk result (λ cursor. cursor.lid ≡ 0) }
     {
         let blocks = network.blocks(alloc, 0)?;
         let deliveries = network.deliveries(alloc, &blocks)?;

@@ -18,7 +18,7 @@ use Rattle.subnet_view.proofs.EdgeLists.{has_end}
 use Rattle.subnet_view.proofs.Graphs.{graph_law, wire_is_edge}
 use Rattle.subnet_view.proofs.GraphSwitches.{graph_guids, switch_usable}
 use Rattle.spread_labels.specs.Orders.{grown_behind, next_placed, numbers_from, without}
-use Rattle.spread_labels.specs.Keys.{before_by}
+use Rattle.spread_labels.specs.KeyOrder.{before_by}
 use Rattle.spread_labels.specs.declared.vertex_key.VertexKey.{VertexKey}
 use Rattle.spread_routes.specs.Rule.{by_index, position, switch_there}
 use Rattle.spread_routes.specs.SwitchOrders.{OrderValue}

@@ -10,7 +10,7 @@ use Rattle.port_graph.specs.declared.edge.Edge.{Edge}
 use Rattle.port_graph.specs.Walks.{has_walk, least_from, shortest}
 use Rattle.port_graph.specs.Slopes.{ups_at, downs_at, down_distance, least_of, cost}
 use Rattle.port_graph.specs.Heads.{edges_at, heads, LeadToVertices, AreDistances}
-use Rattle.port_graph.specs.Indexed.{indexed_from, indexed, AreSlopes, AreLess, AreCosts, WaysLaw}
+use Rattle.port_graph.specs.NextPorts.{indexed_from, indexed, AreSlopes, AreLess, AreCosts, WaysLaw}
 use Rattle.port_graph.proofs.Lists.{filter_map_same, contains_map, contains_mapped}
 use Rattle.port_graph.proofs.WalkLemmas.{walk_from_test, test_from_walk, least_found}
 use Rattle.port_graph.proofs.Paths.{walk_turned}

@@ -10,7 +10,7 @@ use Rattle.port_graph.specs.declared.edge.Edge.{Edge}
 use Rattle.port_graph.specs.Walks.{shortest}
 use Rattle.port_graph.specs.Heads.{edges_at}
 use Rattle.port_graph.specs.Slopes.{downs_at, down_distance, least_of, cost, same_number, port_down, port_up, next_port}
-use Rattle.port_graph.specs.Indexed.{indexed, AreSlopes}
+use Rattle.port_graph.specs.NextPorts.{indexed, AreSlopes}
 use Rattle.port_graph.specs.Lanes.{at, number_in, port_in, nearest_by, IsStepDown, IsStepUp, AreRouted}
 use Rattle.port_graph.proofs.Costs.{cost_recurs, none_less, port_at_target, port_where_down, port_where_up}
 use Rattle.port_graph.proofs.DistanceLaws.{shortest_found}

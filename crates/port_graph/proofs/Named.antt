@@ -5,7 +5,7 @@ use Rattle.port_graph.specs.declared.edge.Edge.{Edge}
 use Rattle.port_graph.specs.Walks.{shortest}
 use Rattle.port_graph.specs.Slopes.{Slope, ups_at, downs_at, next_port}
 use Rattle.port_graph.specs.Heads.{edges_at, heads, AreDistances}
-use Rattle.port_graph.specs.Indexed.{indexed, AreSlopes, AreNextPorts}
+use Rattle.port_graph.specs.NextPorts.{indexed, AreSlopes, AreNextPorts}
 use Rattle.port_graph.proofs.Indexing.{ups_indexed, downs_indexed, all_indexed, ups_lead, downs_lead}
 use Rattle.port_graph.proofs.Renaming.{IsRenamed, AreRenamed, rename, shortest_renamed, next_port_renamed}
 

@@ -9,7 +9,7 @@ use Rattle.port_graph.specs.declared.edge.Edge.{Edge}
 use Rattle.port_graph.specs.Walks.{has_walk}
 use Rattle.port_graph.specs.Slopes.{Slope, down_distance, cost, same_number, port_down, port_up, next_port}
 use Rattle.port_graph.specs.Heads.{edges_at, heads, AreDistances}
-use Rattle.port_graph.specs.Indexed.{indexed, AreSlopes, AreCosts, port_nearer, port_by}
+use Rattle.port_graph.specs.NextPorts.{indexed, AreSlopes, AreCosts, port_nearer, port_by}
 use Rattle.port_graph.proofs.Lists.{find_none}
 use Rattle.port_graph.proofs.WalkLemmas.{least_is}
 use Rattle.port_graph.proofs.Costs.{port_at_target, port_where_down, port_where_up}

@@ -2,7 +2,7 @@
 use Rattle.std.specs.Prelude.{◌≡◌, ◌<◌, ◌+◌, ◌-◌, ℕ, suc, true, Bool, List, [], ◌∷◌, length, min, Option, None, Some, ◌&&◌, option_map, nat_lt, slice_index, slice_index_or, if◌then◌else◌}
 use Rattle.port_graph.specs.declared.edge.Edge.{Edge}
 use Rattle.port_graph.specs.Slopes.{cost, next_port}
-use Rattle.port_graph.specs.Indexed.{indexed}
+use Rattle.port_graph.specs.NextPorts.{indexed}
 
 -- `P` is true of each of the 16 lanes
 abbrev pub EachLane : (ℕ → Type 0) → Type 0

@@ -1,8 +1,8 @@
-pub mod Walks
-pub mod Slopes
-pub mod Routes
-pub mod Spans
 pub mod Heads
-pub mod Searches
-pub mod Indexed
 pub mod Lanes
+pub mod NextPorts
+pub mod Routes
+pub mod Searches
+pub mod Slopes
+pub mod Spans
+pub mod Walks

@@ -1,6 +1,6 @@
 //! The laws of distances and of next ports.
 ghost use Rattle.port_graph.specs.Heads.{DistancesLaw};
-ghost use Rattle.port_graph.specs.Indexed.{WaysLaw};
+ghost use Rattle.port_graph.specs.NextPorts.{WaysLaw};
 
 /// If all edges lead to vertices, each distance is the length of a shortest walk, and no walk leads to a vertex without
 /// a distance.

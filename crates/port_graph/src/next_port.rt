@@ -1,5 +1,5 @@
 ghost use Rattle.std.specs.Prelude.{◌≡◌, ◌<◌, length, All, IfOk};
-ghost use Rattle.port_graph.specs.Indexed.{AreSlopes, AreNextPorts, port_by, port_nearer};
+ghost use Rattle.port_graph.specs.NextPorts.{AreSlopes, AreNextPorts, port_by, port_nearer};
 
 use crate::adjacency::Adjacency;
 use crate::cost::costs;

@@ -1,6 +1,6 @@
 ghost use Rattle.std.specs.Prelude.{◌≡◌, ◌==◌, ◌<◌, true, All, IfOk, MatchOption, length, map, slice_index};
 ghost use Rattle.std.specs.Prelude.{slice_index_or};
-ghost use Rattle.port_graph.specs.Indexed.{AreSlopes, indexed, ports_between};
+ghost use Rattle.port_graph.specs.NextPorts.{AreSlopes, indexed, ports_between};
 ghost use Rattle.port_graph.specs.Lanes.{AnyLane, EachLane, AreRouted, IsBlock, IsStepDown, IsStepUp, at, nearest_by};
 ghost use Rattle.port_graph.specs.Lanes.{port_in, target_in};
 ghost use Rattle.port_graph.specs.Slopes.{next_port};

@@ -19,7 +19,7 @@ use Rattle.record_file.specs.Feeding.{Absorbing, Awaits, FeedsPiece, Finishes, S
 use Rattle.record_file.specs.Laws.{IsBadPart}
 use Rattle.record_file.specs.PieceFault.{file_fault_of}
 use Rattle.byte_io.specs.Reading.{GivesAt, GivesPiece, ReadingState}
-use Rattle.record_file.specs.RecordFile.{facts_in, outcome, record_size}
+use Rattle.record_file.specs.Reading.{facts_in, outcome, record_size}
 use Rattle.record_file.specs.Head.{floored_magic, head_bytes}
 use Rattle.record_file.proofs.Pieces.{fault_in-behind, held-then, held-wanted, length-awaits, nothing-said, outcome-cut, outcome-header, outcome-magic}
 use Rattle.record_file.proofs.Pieces.{outcome-whole, so_far-late, stays}

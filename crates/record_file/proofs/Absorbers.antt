@@ -7,7 +7,7 @@ use Rattle.record_file.specs.declared.awaited.Awaited.TheVariants as awaited
 use Rattle.record_file.specs.declared.file_fault.FileFault.{FileFault}
 use Rattle.record_file.specs.declared.file_fault.FileFault.TheVariants.{Truncated}
 use Rattle.record_file.specs.Feeding.{Absorbing, Awaits, FeedsBehind, FeedsPiece, Finishes, IsInReach, TakesPiece, WasFed, ending_at}
-use Rattle.record_file.specs.RecordFile.{outcome}
+use Rattle.record_file.specs.Reading.{outcome}
 use Rattle.record_file.proofs.Records.{bytes_of}
 use Rattle.record_file.proofs.Pieces.{length-awaits, outcome-cut, outcome-header, outcome-magic, outcome-whole, so_far-none}
 

@@ -12,8 +12,8 @@ use Rattle.record_file.specs.declared.format.Format.TheVariants.{Reports}
 use Rattle.record_file.specs.Laws.{IsGoodReport, ReportFilesAreAccepted}
 use Rattle.record_file.specs.ReportRecord.{report_judged}
 use Rattle.record_file.specs.Head.{IsFormat, format_in, head_bytes, head_size}
-use Rattle.record_file.specs.RecordFile.{fault_in, fault_or, first_fault, first_records, of_report, outcome, record_size, records}
-use Rattle.record_file.specs.RecordFile.{records_in_reach}
+use Rattle.record_file.specs.Reading.{fault_in, fault_or, first_fault, first_records, of_report, outcome, record_size, records}
+use Rattle.record_file.specs.Reading.{records_in_reach}
 use Rattle.record_file.proofs.Beginnings.{first_records-whole, found, well_found}
 use Rattle.record_file.proofs.Heads.{format_in-head, one_format, whole_drop, whole_of}
 use Rattle.record_file.proofs.Records.{AreRecords, Sightings, bytes_of, ending-whole, file, length-concat, length-file, outcome-part}

@@ -15,8 +15,8 @@ use Rattle.record_file.specs.declared.format.Format.{Format}
 use Rattle.record_file.specs.Absorbs.{AbsorbsFrom, AnswersOutcome, IsDecided, WasInterruptedTooOften}
 use Rattle.record_file.specs.Head.{floor_of, format_in, head_size}
 use Rattle.record_file.specs.Laws.{BadPartStays, IsBadPart}
-use Rattle.record_file.specs.RecordFile.{Judgement, ending, fault_first, fault_in, fault_or, first_fault, first_records, floor_as, floor_in, judged, kept}
-use Rattle.record_file.specs.RecordFile.{kept_as, key_in, outcome, outcome_as, record_size, records, records_in_reach, sightings_by}
+use Rattle.record_file.specs.Reading.{Judgement, ending, fault_first, fault_in, fault_or, first_fault, first_records, floor_as, floor_in, judged, kept}
+use Rattle.record_file.specs.Reading.{kept_as, key_in, outcome, outcome_as, record_size, records, records_in_reach, sightings_by}
 use Rattle.record_file.proofs.Formats.{judged-bad}
 use Rattle.record_file.proofs.Heads.{Begins, begins, format-long, format-more, format-stays, floor_positive, head-short, whole_of}
 use Rattle.record_file.proofs.Heads as head

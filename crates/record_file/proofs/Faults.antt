@@ -5,7 +5,7 @@ use Rattle.std.specs.List.{concat}
 use Rattle.std.proofs.lemmas.List.{take_all}
 use Rattle.std.proofs.lemmas.List.Folds.{concat-append}
 use Rattle.record_file.specs.Laws.{FirstBadRecordIsTold, TruncationIsTold}
-use Rattle.record_file.specs.RecordFile.{fault_or, first_fault, outcome, record_size}
+use Rattle.record_file.specs.Reading.{fault_or, first_fault, outcome, record_size}
 use Rattle.record_file.specs.Head.{head_bytes}
 use Rattle.record_file.proofs.Records.{AreRecords-more, bytes-more, good_records}
 use Rattle.record_file.proofs.Records.{bytes_of, ending-part, first_fault-good, length-file, outcome-bad, outcome-part}

@@ -11,7 +11,7 @@ use Rattle.record_file.specs.declared.format.Format.{Format}
 use Rattle.record_file.specs.declared.format.Format.TheVariants.{Reports, Cells}
 use Rattle.record_file.specs.CellRecord.{cell_of}
 use Rattle.record_file.specs.Laws.{IsBadPart}
-use Rattle.record_file.specs.RecordFile.{Judgement, is_at_told, judged, of_cell, of_report}
+use Rattle.record_file.specs.Reading.{Judgement, is_at_told, judged, of_cell, of_report}
 use Rattle.record_file.specs.ReportRecord.{report_judged}
 
 -- the fault of a judgement is one of a bad record

@@ -7,7 +7,7 @@ use Rattle.record_file.specs.declared.file_fault.FileFault.{FileFault}
 use Rattle.record_file.specs.declared.file_fault.FileFault.TheVariants.{Memory}
 use Rattle.record_file.specs.Feeding.{Absorbing, FeedsBehind, FeedsPiece, Finishes, HasStopped, WasFed, fault_so_far}
 use Rattle.record_file.specs.PieceLaws.{CutsChangeNothing, FeedsEach, PiecesAreRead}
-use Rattle.record_file.specs.RecordFile.{facts_in, outcome}
+use Rattle.record_file.specs.Reading.{facts_in, outcome}
 use Rattle.record_file.proofs.Pieces.{held-then, nothing-said, stays}
 
 -- the absorber goes on behind these bytes, or stopped with their fault

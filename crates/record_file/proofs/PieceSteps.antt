@@ -18,8 +18,8 @@ use Rattle.record_file.specs.Absorbs.{AbsorbsJudged}
 use Rattle.record_file.specs.Feeding.{AddsSightings, Awaits, IsBehindRecords, StopsWith, TakesAwaited, TakesPiece, TakesSome, TakesTo, WantsMemory}
 use Rattle.record_file.specs.Feeding.{awaited_size, behind_header, behind_magic, floor_behind, offset_of, raised_to, staying}
 use Rattle.record_file.specs.Head.{IsFormat, floor_told, floored, floored_magic, format_in, head_bytes}
-use Rattle.record_file.specs.RecordFile.{Judgement, fault_or, first_fault, floor_in, judged, kept, key_in, last_key, outcome}
-use Rattle.record_file.specs.RecordFile.{record_size, sightings_by, sightings_then}
+use Rattle.record_file.specs.Reading.{Judgement, fault_or, first_fault, floor_in, judged, kept, key_in, last_key, outcome}
+use Rattle.record_file.specs.Reading.{record_size, sightings_by, sightings_then}
 use Rattle.record_file.proofs.Beginnings.{floor-fault, floor-known, floor-some}
 use Rattle.record_file.proofs.Beginnings.{kept-fault, outcome-fault}
 use Rattle.record_file.proofs.Formats.{judged-bad}

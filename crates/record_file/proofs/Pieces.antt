@@ -17,8 +17,8 @@ use Rattle.record_file.specs.Feeding.{AddsSightings, Awaits, IsBehindRecords, St
 use Rattle.record_file.specs.Feeding.{fault_so_far, floor_behind, offset_of, staying}
 use Rattle.record_file.specs.Head.{floor_of, floored_magic, format_in, head_bytes}
 use Rattle.record_file.specs.Laws.{IsBadPart}
-use Rattle.record_file.specs.RecordFile.{ending, facts_in, fault_in, floor_in, kept, outcome}
-use Rattle.record_file.specs.RecordFile.{sightings_by}
+use Rattle.record_file.specs.Reading.{ending, facts_in, fault_in, floor_in, kept, outcome}
+use Rattle.record_file.specs.Reading.{sightings_by}
 use Rattle.record_file.proofs.Beginnings.{Found, bad_part_stays, floor-at_least_one, floor-fault, floor-known, floor-long, floor-some, floor-stays, found}
 use Rattle.record_file.proofs.Beginnings.{kept-fault, kept-long, late, long-stays, outcome-fault, well, within}
 use Rattle.record_file.proofs.Beginnings as first

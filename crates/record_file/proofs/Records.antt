@@ -16,8 +16,8 @@ use Rattle.record_file.specs.declared.format.Format.{Format}
 use Rattle.record_file.specs.declared.format.Format.TheVariants.{Reports, Cells}
 use Rattle.record_file.specs.Head.{IsFormat, head_bytes, head_size}
 use Rattle.record_file.proofs.Heads.{format_in-head, length-head}
-use Rattle.record_file.specs.RecordFile.{AreGoodRecords, Judgement, ending, fault_first, fault_in, fault_or, first_fault, first_records, judged, kept}
-use Rattle.record_file.specs.RecordFile.{kept_as, key_in, last_key, outcome, outcome_as, record_size, records, records_in_reach, sightings_by, sightings_then}
+use Rattle.record_file.specs.Reading.{AreGoodRecords, Judgement, ending, fault_first, fault_in, fault_or, first_fault, first_records, judged, kept}
+use Rattle.record_file.specs.Reading.{kept_as, key_in, last_key, outcome, outcome_as, record_size, records, records_in_reach, sightings_by, sightings_then}
 
 abbrev pub Sightings : Type 0
 Sightings = List (Key × Cell Value)

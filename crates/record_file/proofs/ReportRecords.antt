@@ -10,7 +10,7 @@ use Rattle.fact_store.specs.View.{Facts, view}
 use Rattle.record_file.specs.Absorbs.{AbsorbsJudged}
 use Rattle.record_file.specs.declared.file_fault.FileFault.TheVariants.{BadReport, Memory}
 use Rattle.record_file.specs.declared.format.Format.TheVariants.{Reports}
-use Rattle.record_file.specs.RecordFile.{judged}
+use Rattle.record_file.specs.Reading.{judged}
 use Rattle.reply_facts.specs.declared.report_fault.ReportFault.{ReportFault}
 use Rattle.reply_facts.specs.declared.report_fault.ReportFault.TheVariants.{Context as NoContext}
 use Rattle.fact_store.specs.declared.ingest.IngestFault.{IngestFault}

@@ -35,8 +35,8 @@ use Rattle.byte_io.specs.Source.{SourceState}
 use Rattle.record_file.specs.Absorbs.{AbsorbsFrom}
 use Rattle.record_file.specs.CellRecord.{cell_of, record_bytes}
 use Rattle.record_file.specs.Head.{IsFormat, floor_of, floored_magic, head_bytes, head_size}
-use Rattle.record_file.specs.RecordFile.{Judgement, facts_in, fault_or, first_fault, floor_in, is_at_told, key_in, kept, of_cell, records, records_in_reach, sightings_by}
-use Rattle.record_file.specs.RecordFile.{outcome, sightings_then}
+use Rattle.record_file.specs.Reading.{Judgement, facts_in, fault_or, first_fault, floor_in, is_at_told, key_in, kept, of_cell, records, records_in_reach, sightings_by}
+use Rattle.record_file.specs.Reading.{outcome, sightings_then}
 use Rattle.record_file.specs.StoreFile.{cells_file}
 use Rattle.record_file.specs.StoreLaws.{AbsorbingReadsBack, FactsAreReadBack, FactsHaveOneSpelling, IsFlooredFile, IsStoreFile, StoreFilesAreAccepted}
 use Rattle.record_file.proofs.Accepted.{IsFile, accepted_is_file, file_is_accepted}

@@ -9,7 +9,7 @@ use Rattle.record_file.specs.declared.file_fault.FileFault.{FileFault}
 use Rattle.record_file.specs.declared.file_fault.FileFault.TheVariants.{Magic, Truncated, Read, Memory, TooLong}
 use Rattle.record_file.specs.declared.format.Format.{Format}
 use Rattle.record_file.specs.Head.{IsFormat, floored_magic, format_in, head_bytes}
-use Rattle.record_file.specs.RecordFile.{AreGoodRecords, Judgement, facts_in, fault_in, outcome}
+use Rattle.record_file.specs.Reading.{AreGoodRecords, Judgement, facts_in, fault_in, outcome}
 
 -- what absorbing one record does. The sightings of a good record are merged into the store, unless memory runs out;
 -- then the store stays. For a bad record the result is the record's fault at `index`, and the store stays

@@ -16,7 +16,7 @@ use Rattle.record_file.specs.declared.format.Format.{Format}
 use Rattle.record_file.specs.declared.format.Format.TheVariants.{Cells}
 use Rattle.record_file.specs.Absorbs.{AbsorbsJudged}
 use Rattle.record_file.specs.Head.{IsFormat, floor_told, floored_magic, format_in, head_bytes, head_size}
-use Rattle.record_file.specs.RecordFile.{AreGoodRecords, floor_in, judged, kept, key_in, last_key, outcome, record_size}
+use Rattle.record_file.specs.Reading.{AreGoodRecords, floor_in, judged, kept, key_in, last_key, outcome, record_size}
 
 -- an absorber: the part of the file that it awaits, or the fault with which it stopped; and the bytes of the awaited
 -- part that have come

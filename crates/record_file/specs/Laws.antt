@@ -7,7 +7,7 @@ use Rattle.record_file.specs.declared.file_fault.FileFault.TheVariants.{Truncate
 use Rattle.record_file.specs.declared.format.Format.{Format}
 use Rattle.record_file.specs.declared.format.Format.TheVariants.{Reports}
 use Rattle.record_file.specs.Head.{IsFormat, format_in, head_bytes, head_size}
-use Rattle.record_file.specs.RecordFile.{AreGoodRecords, floor_in, judged, kept, last_key, outcome, record_size}
+use Rattle.record_file.specs.Reading.{AreGoodRecords, floor_in, judged, kept, last_key, outcome, record_size}
 use Rattle.record_file.specs.ReportRecord.{context_guid, report_bytes, report_judged, report_of}
 
 -- the fault is that of a bad header or of a bad record

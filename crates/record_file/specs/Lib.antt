@@ -7,7 +7,7 @@ pub mod Head
 pub mod Laws
 pub mod PieceFault
 pub mod PieceLaws
-pub mod RecordFile
+pub mod Reading
 pub mod ReportRecord
 pub mod StoreFile
 pub mod StoreLaws

@@ -6,7 +6,7 @@ use Rattle.fact_store.specs.Merge.{merge}
 use Rattle.record_file.specs.declared.file_fault.FileFault.{FileFault}
 use Rattle.record_file.specs.declared.file_fault.FileFault.TheVariants.{Memory}
 use Rattle.record_file.specs.Feeding.{Absorbing, FeedsPiece, Finishes, WasFed, fault_so_far}
-use Rattle.record_file.specs.RecordFile.{facts_in, floor_in, kept, outcome}
+use Rattle.record_file.specs.Reading.{facts_in, floor_in, kept, outcome}
 
 -- the pieces are fed to the absorber `a` one after the other, and memory runs out for none of them
 abbrev pub FeedsEach : List (List ℕ) → Absorbing → Absorbing → Facts → Facts → Type 0

@@ -11,7 +11,7 @@ use Rattle.record_file.specs.declared.format.Format.TheVariants.{Cells}
 use Rattle.record_file.specs.Absorbs.{Absorbs}
 use Rattle.record_file.specs.CellRecord.{cell_of, record_bytes}
 use Rattle.record_file.specs.Head.{IsFormat, floor_of, floored_magic, format_in}
-use Rattle.record_file.specs.RecordFile.{facts_in, kept, outcome}
+use Rattle.record_file.specs.Reading.{facts_in, kept, outcome}
 use Rattle.record_file.specs.StoreFile.{cells_file}
 
 -- `bytes` spell `e` exactly if `e` is a sighting and `bytes` are the record of `e`

@@ -16,7 +16,7 @@ pub(crate) enum Format {
 impl Format {
     ghost use Rattle.std.specs.Prelude.{◌≡◌};
     ghost use Rattle.record_file.specs.Head.{head_size};
-    ghost use Rattle.record_file.specs.RecordFile.{record_size};
+    ghost use Rattle.record_file.specs.Reading.{record_size};
 
     /// Returns the number of bytes before the records.
     pub(crate) fn head_len(self) -> usize

@@ -2,7 +2,7 @@
 ghost use Rattle.std.specs.Prelude.{◌≡◌, length, IfOk};
 ghost use Rattle.reply_facts.specs.Key.{is_above};
 ghost use Rattle.record_file.specs.Absorbs.{AbsorbsJudged};
-ghost use Rattle.record_file.specs.RecordFile.{is_at_told as is_at_floor_told, judged, key_in, record_size};
+ghost use Rattle.record_file.specs.Reading.{is_at_told as is_at_floor_told, judged, key_in, record_size};
 ghost use Rattle.record_file.specs.declared.format.Format.TheVariants.{Reports, Cells};
 
 use crate::file_fault::FileFault;

@@ -27,8 +27,8 @@ use Rattle.fact_store.specs.View.{view_at}
 use Rattle.fact_store.proofs.Views.{raised_is_merge}
 use Rattle.lft_blocks.specs.Planning.{Planning}
 use Rattle.sm_manager.specs.declared.fault.ManagerFault.{ManagerFault}
-use Rattle.sm_manager.specs.Calls as calls
-use Rattle.sm_manager.specs.Calls.{sightings_of_call}
+use Rattle.sm_manager.specs.CallLists as calls
+use Rattle.sm_manager.specs.CallLists.{sightings_of_call}
 use Rattle.sm_manager.specs.Election.{after_handover, handover_fault, successor_lid, poll_fault, after_poll}
 use Rattle.sm_manager.specs.Manager.{Manager, begin_fault, after_raise_floor, after_merge, outstanding, after_begin_sweep}
 use Rattle.sm_manager.specs.Packets as manager
@@ -42,7 +42,7 @@ use Rattle.schedule_world.specs.Commands.{after_parting, after_resend, after_res
 use Rattle.schedule_world.specs.Commands.{after_fate, after_floor_line, after_give_up, after_giving_up, after_hand_up, after_manager_line, after_merge_line}
 use Rattle.schedule_world.specs.Commands.{after_packet_line, after_plug_line, after_step, after_take, after_take_and_send, after_timeout_line}
 use Rattle.schedule_world.specs.Commands.{seat_at, world_of}
-use Rattle.schedule_world.specs.Flights.{serial_of}
+use Rattle.schedule_world.specs.NamedPackets.{serial_of}
 use Rattle.schedule_lines.specs.Refusals.{refusal_line}
 use Rattle.schedule_lines.specs.Outcome.{Outcome, and_then, quiet, shows}
 use Rattle.schedule_world.specs.World.{SeatedValue, WorldValue, after_ask, at_seat, after_manager_call, after_fabric_call, after_send, after_send_by, with_manager}

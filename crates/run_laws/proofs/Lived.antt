@@ -29,7 +29,7 @@ use Rattle.sm_manager.specs.declared.fault.ManagerFault.{ManagerFault}
 use Rattle.sm_manager.specs.declared.outgoing.Outgoing.{Outgoing}
 use Rattle.manager_laws.specs.Scene as around
 use Rattle.manager_laws.specs.Scene.{Handed, Scene, handed_by}
-use Rattle.sm_manager.specs.Calls as calls
+use Rattle.sm_manager.specs.CallLists as calls
 use Rattle.manager_laws.specs.Managing.{Around, calling, hearing, sending, CanBe, HandOver, Hear, Managing, ManagerEvent, Poll, Send, Take, TimeOut}
 use Rattle.manager_laws.specs.Managing.{after_manager_event, after_manager_events, packet_of}
 use Rattle.manager_laws.specs.WritingPings.{AreNoSweeps, BeginsNoSweep}
@@ -39,11 +39,11 @@ use Rattle.manager_laws.proofs.RunParts.{alone_behind, events_behind, keep_behin
 use Rattle.schedule_world.specs.Commands.{after_arrival, after_ask_line, after_command, after_commands, after_drain_line, after_fate, after_give_up}
 use Rattle.schedule_world.specs.Commands.{after_giving_up, after_hand_up, after_packet_line, after_step, after_take_and_send, after_timeout_line, heard_text}
 use Rattle.schedule_world.specs.Commands.{seat_at}
-use Rattle.schedule_world.specs.Flights.{packet_out, serial_of}
+use Rattle.schedule_world.specs.NamedPackets.{packet_out, serial_of}
 use Rattle.schedule_lines.specs.Refusals.{refusal_line}
 use Rattle.schedule_lines.specs.Outcome.{and_then, quiet, shows}
 use Rattle.schedule_world.specs.World.{SeatedValue, WorldValue, after_ask, after_manager_call, after_send, after_inject_all}
-use Rattle.run_laws.specs.Alone.{AreLines, IsLine, KeepsLine, KeepsLines, KeepsStep, KeepsSteps}
+use Rattle.run_laws.specs.OneManager.{AreLines, IsLine, KeepsLine, KeepsLines, KeepsStep, KeepsSteps}
 
 abbrev pub managing_of : Scene → NodePort → Manager → List Outgoing → Managing
 managing_of scene seat manager out = record { scene = scene; seat = seat; manager = manager; out = out }

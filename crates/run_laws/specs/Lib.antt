@@ -1,5 +1,5 @@
 pub mod Accounts
-pub mod Alone
 pub mod Lines
+pub mod OneManager
 pub mod Reached
 pub mod Repeats

@@ -1,6 +1,6 @@
 //! The laws of what a run prints.
 ghost use Rattle.run_laws.specs.Accounts.{RunsAreAccountedFor};
-ghost use Rattle.run_laws.specs.Alone.{RunsOfOneAreReached, SomeRunOfOne};
+ghost use Rattle.run_laws.specs.OneManager.{RunsOfOneAreReached, SomeRunOfOne};
 ghost use Rattle.run_laws.specs.Lines.{LaterLinesComeBehind, MergedManagersPlanAlike, SameTakenInPlansAlike};
 ghost use Rattle.run_laws.specs.Lines.{SameTakenInSameLines, SweepLinesTell, WrittenLinesTell};
 ghost use Rattle.run_laws.specs.Reached.{HeldPlansAreReached, WrittenPlansAreReached};

@@ -22,7 +22,7 @@ use Rattle.schedule_file.specs.declared.command.Which.TheVariants.{Last, Serial}
 use Rattle.schedule_file.specs.declared.line.NewManager.{NewManager}
 use Rattle.schedule_file.specs.declared.line.ScheduleLine.{ScheduleLine}
 use Rattle.schedule_file.specs.declared.line.ScheduleLine.TheVariants as line
-use Rattle.schedule_file.specs.declared.named.PortName.{PortName}
+use Rattle.schedule_file.specs.declared.named_command.PortName.{PortName}
 use Rattle.schedule_file.specs.Command.{fate_word, named_words, port_word, shown_word, which_word}
 use Rattle.schedule_file.specs.Command.{NamedCommand, ask, bare_of, bracketed_number, command_in, floor, line_in, line_of, merge}
 use Rattle.schedule_file.specs.Command.{new_manager, of_one, of_two, packet, ping, plug, poll, port_name, show, to_manager}

@@ -22,7 +22,7 @@ use Rattle.schedule_file.specs.declared.fault.ScheduleFault.TheVariants as fault
 use Rattle.schedule_file.specs.declared.line.NewManager.{NewManager}
 use Rattle.schedule_file.specs.declared.line.ScheduleLine.{ScheduleLine}
 use Rattle.schedule_file.specs.declared.line.ScheduleLine.TheVariants as line
-use Rattle.schedule_file.specs.declared.named.PortName.{PortName}
+use Rattle.schedule_file.specs.declared.named_command.PortName.{PortName}
 use Rattle.schedule_file.specs.declared.schedule.Seat.{Seat}
 use Rattle.schedule_file.specs.Command.{NamedCommand, line_of, named_words, port_word, sm_key_words}
 use Rattle.schedule_file.specs.Printed.{PrintedSchedulesAreRead, command_words, manager_at, port_at, seat_words}

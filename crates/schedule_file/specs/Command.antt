@@ -19,7 +19,7 @@ use Rattle.schedule_file.specs.declared.command.Which.TheVariants.{Last, Serial}
 use Rattle.schedule_file.specs.declared.line.ScheduleLine.{ScheduleLine}
 use Rattle.schedule_file.specs.declared.line.ScheduleLine.TheVariants as line
 use Rattle.schedule_file.specs.declared.line.NewManager.{NewManager}
-use Rattle.schedule_file.specs.declared.named.PortName.{PortName}
+use Rattle.schedule_file.specs.declared.named_command.PortName.{PortName}
 use Rattle.schedule_file.specs.ManagerName.{manager_name_in}
 use Rattle.schedule_file.specs.ManagerWords.{asked_by, generation_of, lid_of, number_up_to, shown_by}
 

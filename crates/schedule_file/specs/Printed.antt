@@ -6,7 +6,7 @@ use Rattle.text_words.specs.Printed.{lines_text}
 use Rattle.topo_file.specs.declared.node.Node.{Node}
 use Rattle.topo_file.specs.Printed.{name_at}
 use Rattle.schedule_file.specs.declared.command.Command.TheVariants as command
-use Rattle.schedule_file.specs.declared.named.PortName.{PortName}
+use Rattle.schedule_file.specs.declared.named_command.PortName.{PortName}
 use Rattle.schedule_file.specs.declared.schedule.Seat.{Seat}
 use Rattle.schedule_file.specs.Command.{named_words, port_word, sm_key_words}
 use Rattle.schedule_file.specs.Schedule.{Script, SeatCommand, schedule_of}

@@ -8,7 +8,7 @@ pub mod laws;
 mod line;
 mod manager_name;
 mod manager_words;
-mod named;
+mod named_command;
 mod numbers;
 mod resolve;
 mod schedule;

@@ -4,7 +4,7 @@ ghost use Rattle.schedule_file.specs.Command.{line_of, new_manager, sm_key_in};
 ghost use Rattle.schedule_file.specs.ManagerWords.{number_up_to};
 
 use crate::manager_name::ManagerName;
-use crate::named::{NamedCommand, PortName, named_command, pair, port_name};
+use crate::named_command::{NamedCommand, PortName, named_command, pair, port_name};
 use crate::numbers::{number_up_to, serial};
 use attr_codec::Priority;
 use text_words::{is_word, split_word};

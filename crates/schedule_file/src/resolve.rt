@@ -6,7 +6,7 @@ ghost use Rattle.schedule_file.specs.Schedule.{port_of, seat_of, where_known};
 use crate::command::Command;
 use crate::fault::ScheduleFault;
 use crate::manager_name::ManagerName;
-use crate::named::{NamedCommand, PortName};
+use crate::named_command::{NamedCommand, PortName};
 use crate::schedule::Seat;
 use fabric_model::NodePort;
 use smp_bytes::PortNum;

@@ -2,7 +2,7 @@
 use Rattle.std.proofs.Common.{◌≡◌, ◌∙◌, ◌<◌, List, [], ◌∷◌, None, Some, length, refl, sym, ap, arith}
 use Rattle.sm_manager.specs.declared.outgoing.Outgoing.{Outgoing}
 use Rattle.sm_manager.specs.Manager.{Manager, after_take_outgoing, taken_of}
-use Rattle.schedule_lines.specs.Asked.{emptied}
+use Rattle.schedule_lines.specs.ManagerAsks.{emptied}
 
 first_of : (m : Manager) (queue : List Outgoing) (out : Outgoing) → (taken_of m queue).packet ≡ Some out
     → queue ≡ out ∷ (taken_of m queue).manager.outgoing

@@ -1,5 +1,5 @@
-pub mod Asked
 pub mod Lines
+pub mod ManagerAsks
 pub mod Outcome
 pub mod Prints
 pub mod Refusals

@@ -3,7 +3,7 @@ ghost use Rattle.std.specs.Prelude.{◌≡◌, IfOk, OnErr, OnOk};
 ghost use Rattle.sm_manager.specs.Fault.{is_memory};
 ghost use Rattle.sm_manager.specs.Manager.{outstanding};
 ghost use Rattle.smp_bytes.specs.Judges.{JudgesButFor};
-ghost use Rattle.schedule_lines.specs.Asked.{after_asked, asked_fault};
+ghost use Rattle.schedule_lines.specs.ManagerAsks.{after_asked, asked_fault};
 
 use schedule_file::Ask;
 use sm_manager::{Manager, ManagerFault};

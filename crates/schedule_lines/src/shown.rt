@@ -1,6 +1,6 @@
 //! What is shown about managers.
 ghost use Rattle.fact_store.specs.View.{cells_of};
-ghost use Rattle.schedule_lines.specs.Asked.{plan_or_refusal, text_of};
+ghost use Rattle.schedule_lines.specs.ManagerAsks.{plan_or_refusal, text_of};
 ghost use Rattle.schedule_lines.specs.Lines.{name_of, trap_text};
 ghost use Rattle.schedule_lines.specs.Prints.{PrintsUnless};
 ghost use Rattle.sm_manager.specs.PlanFaults.{plan_fault};

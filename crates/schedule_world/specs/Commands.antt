@@ -33,8 +33,8 @@ use Rattle.fabric_sim.specs.declared.packet.Packet.{Packet}
 use Rattle.lft_blocks.specs.Planning.{Planning}
 use Rattle.sm_manager.specs.Manager.{after_raise_floor, after_merge, new_manager, outstanding}
 use Rattle.sm_manager.specs.Packets as manager
-use Rattle.schedule_world.specs.Flights.{serial_of}
-use Rattle.schedule_lines.specs.Asked.{after_asked, asked_fault, text_of}
+use Rattle.schedule_world.specs.NamedPackets.{serial_of}
+use Rattle.schedule_lines.specs.ManagerAsks.{after_asked, asked_fault, text_of}
 use Rattle.schedule_lines.specs.Lines.{flight_line, ping_line, trap_text}
 use Rattle.schedule_lines.specs.Refusals.{refusal_line}
 use Rattle.schedule_lines.specs.Tables.{tables_text}

@@ -1,3 +1,3 @@
 pub mod Commands
-pub mod Flights
+pub mod NamedPackets
 pub mod World

@@ -5,7 +5,7 @@ mod ask;
 mod cables;
 mod commands;
 mod merge;
-mod packets;
+mod delivery;
 mod show;
 mod world;
 

@@ -4,9 +4,9 @@ ghost use Rattle.std.specs.Prelude.{option_map, slice_get};
 ghost use Rattle.schedule_file.specs.Schedule.{is_seat};
 ghost use Rattle.fabric_sim.specs.Changes.{after_inject};
 ghost use Rattle.schedule_world.specs.Commands.{seat_at, world_of};
-ghost use Rattle.schedule_world.specs.Flights.{packet_out};
+ghost use Rattle.schedule_world.specs.NamedPackets.{packet_out};
 ghost use Rattle.schedule_lines.specs.Prints.{PrintsUnless};
-ghost use Rattle.schedule_lines.specs.Asked.{emptied};
+ghost use Rattle.schedule_lines.specs.ManagerAsks.{emptied};
 ghost use Rattle.schedule_world.specs.World.{after_fabric, after_send, after_inject_all, value_of, Does};
 
 use byte_io::Sink;

@@ -5,8 +5,8 @@ use Rattle.fact_store.specs.View.{cells_of}
 use Rattle.record_file.specs.FactsText.{facts_text}
 use Rattle.lft_blocks.specs.Planning.{Planning}
 use Rattle.sm_state.specs.declared.conduct.Conduct.{Conduct}
-use Rattle.schedule_lines.specs.Asked.{plan_or_refusal}
-use Rattle.sm_manager.specs.Calls.{KnowTheSame, after_calls}
+use Rattle.schedule_lines.specs.ManagerAsks.{plan_or_refusal}
+use Rattle.sm_manager.specs.CallLists.{KnowTheSame, after_calls}
 use Rattle.sm_manager.specs.Manager.{Manager, new_manager}
 use Rattle.sm_manager.specs.PlanFaults.{plan_fault}
 use Rattle.sm_manager.proofs.Lives.{knows_what_it_took_in, planning_of_calls, same_taken_in_same_plan}

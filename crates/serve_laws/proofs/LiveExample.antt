@@ -17,7 +17,7 @@ use Rattle.fabric_sim.specs.Simulation.{fabric_of}
 use Rattle.fabric_sim.specs.Changes.{after_inject, cabled_at, after_lose, after_repeat}
 use Rattle.fabric_sim.specs.Delivery.{outcome_of, after_deliver}
 use Rattle.schedule_file.specs.declared.command.Ask.TheVariants as ask
-use Rattle.schedule_lines.specs.Asked.{emptied}
+use Rattle.schedule_lines.specs.ManagerAsks.{emptied}
 use Rattle.sm_manager.specs.Manager.{Manager, new_manager, after_begin_sweep}
 use Rattle.sm_manager.specs.PlanFaults.{writing_fault}
 use Rattle.sm_manager.specs.Writing.{after_write_steps, begun_with, is_written}

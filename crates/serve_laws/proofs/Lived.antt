@@ -3,8 +3,8 @@ use Rattle.std.proofs.Common.{◌≡◌, ℕ, cond, List, [], ◌∷◌, ◌++�
 use Rattle.std.specs.Prelude.{Option, Some, None, is_none, map}
 use Rattle.schedule_file.specs.declared.command.Ask.{Ask as Asking}
 use Rattle.schedule_file.specs.declared.command.Ask.TheVariants.{Sweep, Write, Handover, Poll}
-use Rattle.sm_manager.specs.Calls as calls
-use Rattle.sm_manager.specs.Calls.{Call, after_call, after_calls}
+use Rattle.sm_manager.specs.CallLists as calls
+use Rattle.sm_manager.specs.CallLists.{Call, after_call, after_calls}
 use Rattle.sm_manager.specs.Election.{after_handover, after_poll, handover_fault, poll_fault}
 use Rattle.sm_manager.specs.Manager.{Manager, after_begin_sweep, begin_fault, outstanding}
 use Rattle.sm_manager.specs.Packets.{after_timeout}
@@ -12,7 +12,7 @@ use Rattle.sm_manager.specs.PlanFaults.{writing_fault}
 use Rattle.sm_manager.specs.Writing.{after_write_steps}
 use Rattle.sm_manager.specs.declared.fault.ManagerFault.{ManagerFault}
 use Rattle.sm_manager.specs.declared.outgoing.Outgoing.{Outgoing}
-use Rattle.schedule_lines.specs.Asked.{emptied}
+use Rattle.schedule_lines.specs.ManagerAsks.{emptied}
 use Rattle.serve_lines.specs.declared.line.ServeLine.{ServeLine}
 use Rattle.serve_lines.specs.declared.line.ServeLine.TheVariants.{Ask, GiveUp}
 use Rattle.serve_run.specs.Served.{after_giving_up, after_line, asked, asked_with, served}

@@ -5,7 +5,7 @@ use Rattle.sm_manager.specs.Manager.{Manager}
 use Rattle.sm_manager.specs.Writing.{is_written}
 use Rattle.serve_lines.specs.declared.line.ServeLine.{ServeLine}
 use Rattle.schedule_file.specs.declared.command.Shown.TheVariants.{Written}
-use Rattle.schedule_lines.specs.Asked.{text_of}
+use Rattle.schedule_lines.specs.ManagerAsks.{text_of}
 use Rattle.serve_run.specs.Served.{after_line, end_line, send_line, served}
 use Rattle.serve_laws.specs.Told.{given_by}
 

@@ -2,7 +2,7 @@
 use Rattle.std.specs.Prelude.{◌≡◌, ℕ, List, [], ◌++◌}
 use Rattle.fact_store.specs.Seen.{HaveSameMembers}
 use Rattle.fact_store.specs.View.{view_at}
-use Rattle.sm_manager.specs.Calls.{KnowTheSame, after_calls}
+use Rattle.sm_manager.specs.CallLists.{KnowTheSame, after_calls}
 use Rattle.sm_manager.specs.Manager.{Manager}
 use Rattle.serve_lines.specs.declared.line.ServeLine.{ServeLine}
 use Rattle.serve_lines.specs.declared.line.ServeLine.TheVariants.{Show}

@@ -3,8 +3,8 @@ use Rattle.std.specs.Prelude.{ℕ, List, [], ◌∷◌, ◌++◌, map, Some}
 use Rattle.schedule_file.specs.declared.command.Ask.{Ask as Asking}
 use Rattle.schedule_file.specs.declared.command.Ask.TheVariants.{Sweep, Write, Handover, Poll}
 use Rattle.reply_facts.specs.Report.{Sightings}
-use Rattle.sm_manager.specs.Calls as calls
-use Rattle.sm_manager.specs.Calls.{Call, greatest_floor, taken_in}
+use Rattle.sm_manager.specs.CallLists as calls
+use Rattle.sm_manager.specs.CallLists.{Call, greatest_floor, taken_in}
 use Rattle.sm_manager.specs.Manager.{Manager, new_manager, outstanding}
 use Rattle.sm_manager.specs.declared.outgoing.Outgoing.{Outgoing}
 use Rattle.serve_lines.specs.declared.line.ServeLine.{ServeLine}

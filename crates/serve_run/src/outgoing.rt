@@ -3,7 +3,7 @@ ghost use Rattle.std.specs.Prelude.{◌≡◌, OnOk};
 ghost use Rattle.std.specs.List.{flat_map};
 ghost use Rattle.byte_io.specs.Writes.{Writes};
 ghost use Rattle.hex.specs.Hex.{encode_lower};
-ghost use Rattle.schedule_lines.specs.Asked.{emptied};
+ghost use Rattle.schedule_lines.specs.ManagerAsks.{emptied};
 ghost use Rattle.schedule_lines.specs.Prints.{PrintsUnless};
 ghost use Rattle.serve_run.specs.Served.{send_line, to_text};
 

@@ -9,7 +9,7 @@ use Rattle.reply_facts.specs.declared.value.Value.{Value}
 use Rattle.smp_bytes.proofs.Members.{contains_here, contains_later, contains_cases, contains_none}
 use Rattle.fact_store.specs.View.{view_at}
 use Rattle.fact_store.proofs.Views.{members_decide_view}
-use Rattle.record_file.specs.RecordFile.{floor_in, kept}
+use Rattle.record_file.specs.Reading.{floor_in, kept}
 use Rattle.sm_cli.specs.InputFiles.{floor_among}
 use Rattle.sm_cli.specs.Run.{answer_to}
 use Rattle.sm_cli.specs.RunLaws.{AreSameFiles, FilesDecideAnswer, SightingsDecideAnswer}

@@ -14,7 +14,7 @@ use Rattle.fact_store.specs.Merge.{merge}
 use Rattle.fact_store.proofs.Merges.{at_same_floor, merge_empty}
 use Rattle.fact_store.proofs.Views.{raising_forgets, view_of_both}
 use Rattle.record_file.specs.Absorbs.{Absorbs, AnswersKnown, HasNoFaultYet, HoldsKept}
-use Rattle.record_file.specs.RecordFile.{ending, facts_in, fault_first, fault_in, floor_in, kept, outcome, outcome_as}
+use Rattle.record_file.specs.Reading.{ending, facts_in, fault_first, fault_in, floor_in, kept, outcome, outcome_as}
 use Rattle.record_file.specs.Head.{format_in}
 use Rattle.record_file.specs.declared.file_fault.FileFault.{FileFault}
 use Rattle.record_file.specs.declared.file_fault.FileFault.TheVariants.{Memory, Read}

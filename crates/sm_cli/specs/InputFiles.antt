@@ -6,7 +6,7 @@ use Rattle.byte_io.specs.Source.{SourceState}
 use Rattle.fact_store.specs.Merge.{merge}
 use Rattle.fact_store.specs.View.{Facts, view_at}
 use Rattle.record_file.specs.Absorbs.{AnswersKnown, AnswersOutcome, HasNoFaultBefore, IsBounded, IsDecided, WasInterruptedTooOften}
-use Rattle.record_file.specs.RecordFile.{facts_in, floor_in, kept, outcome}
+use Rattle.record_file.specs.Reading.{facts_in, floor_in, kept, outcome}
 use Rattle.record_file.specs.declared.file_fault.FileFault.{FileFault}
 use Rattle.record_file.specs.declared.file_fault.FileFault.TheVariants.{Read, Memory as NoMemory}
 use Rattle.sm_cli.specs.declared.fault.Fault.{Fault}

@@ -14,8 +14,8 @@ use Rattle.sm_state.specs.declared.event.Event.TheVariants as event
 use Rattle.sm_manager.specs.declared.pending.Pending.{Pending}
 use Rattle.sm_manager.specs.declared.pending.Purpose.{Purpose}
 use Rattle.sm_manager.specs.declared.pending.Purpose.TheVariants as purpose
-use Rattle.sm_manager.specs.Answered.{counting_in, one_if}
-use Rattle.sm_manager.specs.Calls.{Poll}
+use Rattle.sm_manager.specs.StepsAnswered.{counting_in, one_if}
+use Rattle.sm_manager.specs.CallLists.{Poll}
 use Rattle.sm_manager.specs.ManagerRequests.{counts, how_many, is_step, without_number}
 use Rattle.sm_manager.specs.Writing.{next_phase, numbered, without_empty_phases}
 use Rattle.sm_manager.proofs.Numbers as numbers

@@ -36,7 +36,7 @@ use Rattle.sm_state.specs.declared.event.Message.{Message}
 use Rattle.sm_state.specs.declared.transition.Transition.{Transition}
 use Rattle.sm_state.specs.Transitions.{status_of, stepped}
 use Rattle.sm_manager.specs.Writing.{is_done_by, is_spent, noted, phase_sent, after_step, went_on_with, after_write_steps}
-use Rattle.sm_manager.specs.Calls.{Call, BeginSweep, WriteSteps, Take, Packet, Timeout, Raise, Merge, Poll, Handover, after_call, after_calls, sightings_if, sightings_of_reply, sightings_of_packet, sightings_of_call, taken_in, floor_in, greatest_floor, KnowsWhatItTookIn, SameTakenInSamePlan}
+use Rattle.sm_manager.specs.CallLists.{Call, BeginSweep, WriteSteps, Take, Packet, Timeout, Raise, Merge, Poll, Handover, after_call, after_calls, sightings_if, sightings_of_reply, sightings_of_packet, sightings_of_call, taken_in, floor_in, greatest_floor, KnowsWhatItTookIn, SameTakenInSamePlan}
 
 -- what a call takes in is merged with what was known -------------------------------------------
 

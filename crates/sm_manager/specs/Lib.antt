@@ -1,5 +1,4 @@
-pub mod Answered
-pub mod Calls
+pub mod CallLists
 pub mod Coded
 pub mod Election
 pub mod Fault
@@ -11,5 +10,6 @@ pub mod Packets
 pub mod PlanFaults
 pub mod PollLaws
 pub mod Served
+pub mod StepsAnswered
 pub mod Traps
 pub mod Writing

@@ -1,7 +1,7 @@
 //! Laws of a manager's whole life.
 ghost use Rattle.sm_manager.specs.HandoverLaws.{HandoversLeaveAMaster};
-ghost use Rattle.sm_manager.specs.Answered.{WrittenIsEachStepDone};
-ghost use Rattle.sm_manager.specs.Calls.{KnowsWhatItTookIn, SameTakenInSamePlan};
+ghost use Rattle.sm_manager.specs.StepsAnswered.{WrittenIsEachStepDone};
+ghost use Rattle.sm_manager.specs.CallLists.{KnowsWhatItTookIn, SameTakenInSamePlan};
 ghost use Rattle.sm_manager.specs.PollLaws.{AnswersReachPolls};
 
 /// After any calls in any order, a manager's facts are the view of all sightings that it took in, at the greatest

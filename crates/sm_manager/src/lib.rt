@@ -2,7 +2,7 @@
 //! state machine does no input or output itself.
 #![tactic(auto)]
 
-mod election;
+mod handover;
 mod end_request;
 mod fault;
 mod generation;

@@ -5,7 +5,7 @@ ghost use Rattle.smp_bytes.specs.Judges.{JudgesButFor};
 ghost use Rattle.sm_manager.specs.Fault.{is_memory, refusal_of};
 ghost use Rattle.sweep.specs.Replies.{judged};
 
-use crate::election::end_sweep;
+use crate::handover::end_sweep;
 use crate::fault::ManagerFault;
 use crate::manager::Manager;
 use crate::note_seen::note_seen;

@@ -16,7 +16,7 @@ use Rattle.port_graph.proofs.WalkLemmas.{least_found, least_is, shortest_is, tes
 use Rattle.spread_labels.specs.declared.vertex_key.VertexKey.{VertexKey}
 use Rattle.spread_labels.specs.DistanceClasses.{distance}
 use Rattle.spread_labels.specs.GrowthKeys.{AreFar, distances_from, first_among, first_at, from_first}
-use Rattle.spread_labels.specs.Keys.{before_by}
+use Rattle.spread_labels.specs.KeyOrder.{before_by}
 use Rattle.spread_labels.specs.LabelLaws.{IsSymmetric}
 use Rattle.spread_labels.specs.Orders.{earliest, numbers_from}
 use Rattle.spread_labels.specs.Stages.{earliest_of}

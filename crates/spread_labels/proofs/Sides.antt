@@ -5,7 +5,7 @@ use Rattle.std.specs.Prelude.{nat_lt, filter, Contains}
 use Rattle.smp_bytes.proofs.Members.{contains_filter, contains-from_filter}
 use Rattle.port_graph.specs.declared.edge.Edge.{Edge}
 use Rattle.port_graph.specs.Heads.{edges_at, heads}
-use Rattle.port_graph.specs.Indexed.{AreSlopes}
+use Rattle.port_graph.specs.NextPorts.{AreSlopes}
 use Rattle.port_graph.specs.Routes.{Climbs, Descends}
 use Rattle.port_graph.proofs.Lists.{contains_map, contains_mapped}
 use Rattle.port_graph.proofs.Indexing.{ups_indexed, downs_indexed}

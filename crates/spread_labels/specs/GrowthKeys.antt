@@ -5,7 +5,7 @@ use Rattle.std.specs.Option.{option_or}
 use Rattle.port_graph.specs.declared.edge.Edge.{Edge}
 use Rattle.spread_labels.specs.declared.vertex_key.VertexKey.{VertexKey}
 use Rattle.spread_labels.specs.DistanceClasses.{distance}
-use Rattle.spread_labels.specs.Keys.{before_by}
+use Rattle.spread_labels.specs.KeyOrder.{before_by}
 use Rattle.spread_labels.specs.Orders.{numbers_from}
 use Rattle.spread_labels.specs.Stages.{earliest_of}
 

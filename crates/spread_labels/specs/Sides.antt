@@ -2,7 +2,7 @@
 use Rattle.std.specs.Prelude.{ℕ, suc, Bool, nat_lt, List, [], ◌∷◌, filter}
 use Rattle.port_graph.specs.declared.edge.Edge.{Edge}
 use Rattle.port_graph.specs.Slopes.{Slope}
-use Rattle.port_graph.specs.Indexed.{indexed, AreSlopes}
+use Rattle.port_graph.specs.NextPorts.{indexed, AreSlopes}
 use Rattle.port_graph.specs.Routes.{Climbs, Descends}
 use Rattle.spread_labels.specs.LabelLaws.{IsSymmetric}
 use Rattle.spread_labels.specs.Ways.{Climbs as ClimbsBy, Descends as DescendsBy}

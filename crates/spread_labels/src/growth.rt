@@ -3,7 +3,7 @@ ghost use Rattle.std.specs.Prelude.{◌≡◌, ◌<◌, length, All, IfOk, Match
 ghost use Rattle.port_graph.specs.Heads.{LeadToVertices};
 ghost use Rattle.spread_labels.specs.LabelLaws.{IsSymmetric};
 ghost use Rattle.spread_labels.specs.Orders.{order};
-ghost use Rattle.spread_labels.specs.Keys.{before_by};
+ghost use Rattle.spread_labels.specs.KeyOrder.{before_by};
 ghost use Rattle.spread_labels.specs.Stages.{earlier_of, earliest_at, is_stage, next_at, after_add_vertex};
 
 use crate::vertex_key::VertexKey;

@@ -1,7 +1,7 @@
 //! The laws of labels and of ways by candidates.
 ghost use Rattle.spread_labels.specs.LabelLaws.{LabelledLaw, UniqueLaw, ReachedLaw, CandidatesLaw};
 ghost use Rattle.spread_labels.specs.CandidatesByMarks.{CandidatesAreNearer};
-ghost use Rattle.spread_labels.specs.Keys.{KeysTellApart};
+ghost use Rattle.spread_labels.specs.KeyOrder.{KeysTellApart};
 ghost use Rattle.spread_labels.specs.Ways.{WaysLaw, ChannelsLaw, NoCycleLaw};
 ghost use Rattle.spread_labels.specs.Orders.{OrderLaw, KeysLaw};
 ghost use Rattle.spread_labels.specs.Sides.{SidesLaw};

@@ -1,5 +1,5 @@
 ghost use Rattle.std.specs.Prelude.{◌≡◌};
-ghost use Rattle.spread_labels.specs.Keys.{key_less};
+ghost use Rattle.spread_labels.specs.KeyOrder.{key_less};
 
 /// The key by which a vertex is ordered: first its distance class, and then its distance.
 #[derive(Clone, Copy, Debug, PartialEq, Eq)]

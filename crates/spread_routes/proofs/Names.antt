@@ -9,7 +9,7 @@ use Rattle.port_graph.proofs.Counts.{length_map}
 use Rattle.spread_labels.specs.declared.vertex_key.VertexKey.{VertexKey}
 use Rattle.spread_labels.specs.LabelLaws.{IsGrownGraph}
 use Rattle.spread_labels.specs.Orders.{at_position, position_of, positioned_edge, IsGrownOrder}
-use Rattle.spread_labels.specs.Keys.{before_by}
+use Rattle.spread_labels.specs.KeyOrder.{before_by}
 use Rattle.spread_labels.proofs.ByPositions.{orders_in_words, position_less, position_at, leads}
 use Rattle.subnet_view.specs.SwitchEdges.{SwitchEdges}
 use Rattle.subnet_view.specs.Graph.{guids_of}

@@ -13,7 +13,7 @@ use Rattle.spread_labels.specs.Levels.{levels_of}
 use Rattle.spread_labels.specs.CandidatesByMarks.{chosen}
 use Rattle.spread_labels.specs.Ways.{cost, channel_number}
 use Rattle.spread_labels.specs.Orders.{at_position, position_of, by_position}
-use Rattle.spread_labels.specs.Keys.{before_by, key_at, key_less}
+use Rattle.spread_labels.specs.KeyOrder.{before_by, key_at, key_less}
 use Rattle.spread_labels.proofs.ByPositions.{position_less}
 use Rattle.subnet_view.specs.SwitchEdges.{SwitchEdges}
 use Rattle.subnet_view.specs.Graph.{guids_of}

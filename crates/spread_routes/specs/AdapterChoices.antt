@@ -6,8 +6,8 @@ use Rattle.port_graph.specs.declared.edge.Edge.{Edge}
 use Rattle.spread_labels.specs.LeafVertices.{leaf_vertices}
 use Rattle.spread_labels.specs.Levels.{greatest}
 use Rattle.balanced_choices.specs.BalancedChoices.{are_even, balanced_choices, digits_from, in_turn}
-use Rattle.balanced_choices.specs.FirstLoads.{first_loads}
-use Rattle.balanced_choices.specs.declared.rounds.Destination.{Destination}
+use Rattle.balanced_choices.specs.Loads.{first_loads}
+use Rattle.balanced_choices.specs.declared.choice_rounds.Destination.{Destination}
 
 -- how candidates towards adapters are chosen. The digit weight, the leaf number and the number of adapters of each
 -- position give the first choices. `counted` is None if the first choices stand; else it has for each adapter the

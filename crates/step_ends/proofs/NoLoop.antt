@@ -16,7 +16,7 @@ use Rattle.ordered_steps.proofs.ToldRight.{rightness_is_told}
 use Rattle.plan_order_laws.specs.PlanLaws.{plan_position}
 use Rattle.plan_order_laws.proofs.PlanSteps.{steps_towards_plans}
 use Rattle.between_orders.specs.Between.{Goal, IsGoal}
-use Rattle.between_orders.specs.BetweenLaws.{next_towards as next_to}
+use Rattle.between_orders.specs.GoalLaws.{next_towards as next_to}
 use Rattle.between_orders.proofs.Safe.{goals_are_safe}
 use Rattle.ordered_steps.proofs.Waits.{numbers_rise_by_order}
 use Rattle.next_run.specs.RunNext.{IsGoalFrom, planned, stepped}

@@ -35,7 +35,7 @@ use Rattle.next_tables.specs.SwitchPositions.{switch_at}
 use Rattle.next_tables.specs.SettledRule.{step_at}
 use Rattle.next_tables.proofs.Entries.{member}
 use Rattle.next_tables.proofs.Hops.{placed}
-use Rattle.between_orders.specs.BetweenLaws.{IsGoalLine}
+use Rattle.between_orders.specs.GoalLaws.{IsGoalLine}
 use Rattle.between_orders.specs.HandedStages.{IsOwnLid}
 use Rattle.between_orders.proofs.Arrivals.{arrives_at, own_switch}
 use Rattle.step_ends.specs.WholePlans.{PlansAreWhole, PlansGiveOwnLids}

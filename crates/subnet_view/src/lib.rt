@@ -10,13 +10,13 @@ mod reading;
 mod root;
 mod switch;
 mod switch_graph;
-mod wire_ends;
-mod wires;
+mod wire;
+mod wire_table;
 
 pub use end_port::{EndPort, count_end_ports, end_ports, is_end_port};
 pub use end_port_walk::next_end_port;
 pub use reading::port_count;
 pub use switch::{is_usable, switches, usable_guid};
 pub use switch_graph::SwitchGraph;
-pub use wire_ends::{attached, wire};
-pub use wires::Wires;
+pub use wire::{attached, wire};
+pub use wire_table::Wires;

@@ -12,7 +12,7 @@ ghost use Rattle.subnet_view.specs.SwitchGraph.{IsIndexIn, LeadBelow};
 use crate::reading::port_count;
 use crate::root::roots;
 use crate::switch::switches;
-use crate::wires::Wires;
+use crate::wire_table::Wires;
 use fact_store::Refused;
 use port_graph::{Adjacency, Edge};
 use smp_bytes::{Guid, PortNum};

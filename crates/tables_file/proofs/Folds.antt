@@ -5,7 +5,7 @@ use Rattle.tables_file.specs.TablesTextFault.{TablesLineFault}
 use Rattle.held_tables.specs.declared.held_item.HeldItem.{HeldItem}
 use Rattle.tables_file.specs.declared.last_lines.LastLines.{LastLines}
 use Rattle.held_tables.specs.Held.{HeldPlan, nothing_held}
-use Rattle.tables_file.specs.TextLine.{line_of}
+use Rattle.tables_file.specs.TablesLine.{line_of}
 use Rattle.tables_file.specs.Reading.{start, last_lines_after, item_of, then_or, first_fault_from, items_from, held_by, first_fault, held_of}
 use Rattle.held_tables.specs.HeldItem.{held_with}
 

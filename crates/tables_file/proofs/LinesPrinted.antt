@@ -16,7 +16,7 @@ use Rattle.tables_file.specs.declared.last_lines.LastLines.{LastLines}
 use Rattle.held_tables.specs.declared.held.HeldLid.{HeldLid}
 use Rattle.held_tables.specs.declared.held.HeldSwitch.{HeldSwitch}
 use Rattle.held_tables.specs.Held.{LidRange}
-use Rattle.tables_file.specs.TextLine.{line_in, lmc_line}
+use Rattle.tables_file.specs.TablesLine.{line_in, lmc_line}
 use Rattle.held_tables.specs.PlanRanges.{IsBlock}
 use Rattle.tables_file.specs.Reading.{last_lines_after, item_of, lid_after, switch_after, block_with}
 use Rattle.tables_file.proofs.Passes.{Passes, passes_line}

@@ -6,7 +6,7 @@ use Rattle.text_words.specs.Printed.{line_text}
 use Rattle.text_words.proofs.Printed.{IsWord, words_are_read, line_then, line_plain}
 use Rattle.held_tables.specs.declared.held_item.HeldItem.{HeldItem}
 use Rattle.tables_file.specs.declared.last_lines.LastLines.{LastLines}
-use Rattle.tables_file.specs.TextLine.{line_in, line_of}
+use Rattle.tables_file.specs.TablesLine.{line_in, line_of}
 use Rattle.tables_file.specs.Reading.{last_lines_after, item_of, first_fault_from, items_from}
 use Rattle.tables_file.proofs.Folds.{fault_more, items_more}
 

@@ -26,7 +26,7 @@ use Rattle.held_tables.specs.PlanRanges.{IsBlock}
 use Rattle.tables_file.specs.PrintedTextIsRead.{IsHeldInRange, TextsAreInRange}
 use Rattle.tables_file.specs.Reading.{start, is_behind, lid_after, lid_with, switch_after, switch_with, block_below, item_of, last_lines_after, then_or, items_from, held_by, held_of}
 use Rattle.held_tables.specs.HeldItem.{held_with}
-use Rattle.tables_file.specs.TextLine.{both, top_line, switch_line, lid_line, line_in, line_of}
+use Rattle.tables_file.specs.TablesLine.{both, top_line, switch_line, lid_line, line_in, line_of}
 use Rattle.tables_file.specs.Words.{at_most, small_of, bare_guid_of, entries_of}
 
 -- a top, entries, and a line

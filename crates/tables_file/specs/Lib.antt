@@ -1,8 +1,8 @@
-pub mod TablesText
-pub mod TextLine
 pub mod Printed
 pub mod PrintedTextIsRead
 pub mod Reading
 pub mod Reads
+pub mod TablesLine
+pub mod TablesText
 pub mod TablesTextFault
 pub mod Words

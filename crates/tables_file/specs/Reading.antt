@@ -13,7 +13,7 @@ use Rattle.held_tables.specs.declared.held.HeldLid.{HeldLid}
 use Rattle.held_tables.specs.declared.held.HeldSwitch.{HeldSwitch}
 use Rattle.held_tables.specs.Held.{HeldPlan, LidRange, nothing_held}
 use Rattle.held_tables.specs.HeldItem.{held_with}
-use Rattle.tables_file.specs.TextLine.{line_of}
+use Rattle.tables_file.specs.TablesLine.{line_of}
 
 -- the state before the first line: no line of a LID or a switch was read
 abbrev pub start : LastLines

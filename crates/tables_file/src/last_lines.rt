@@ -1,5 +1,5 @@
 ghost use Rattle.std.specs.Prelude.{◌≡◌};
-ghost use Rattle.tables_file.specs.TextLine.{line_of};
+ghost use Rattle.tables_file.specs.TablesLine.{line_of};
 ghost use Rattle.tables_file.specs.Reading.{start, item_of, last_lines_after};
 ghost use Rattle.tables_file.specs.Reading.{lid_with, lid_after, lid_behind, is_behind, switch_with, block_with};
 

@@ -1,6 +1,6 @@
 ghost use Rattle.std.specs.Prelude.{◌≡◌, ◌∷◌, option_map};
 ghost use Rattle.text_words.specs.Text.{words};
-ghost use Rattle.tables_file.specs.TextLine.{line_of, both, lid_line, lmc_line, switch_line, block_line};
+ghost use Rattle.tables_file.specs.TablesLine.{line_of, both, lid_line, lmc_line, switch_line, block_line};
 
 use crate::words::{bare_guid, entries, lmc_of, node_port, small};
 use attr_codec::Lmc;
@@ -48,7 +48,7 @@ pub(crate) struct BlockLine {
 }
 
 /// Returns what `line` says, or `None` if the grammar has no such line.
-#[tactic(auto, unfolding(crate::specs::TextLine::line_of))]
+#[tactic(auto, unfolding(crate::specs::TablesLine::line_of))]
 pub(crate) fn read_line(line: &[u8]) -> Option<TextLine>
     ensures { result ≡ line_of line.now }
 {

@@ -15,7 +15,7 @@ use Rattle.subnet_view.proofs.Components.{same_tests}
 use Rattle.subnet_view.proofs.UsableSwitches.{switches_law, usable_law}
 use Rattle.subnet_view.proofs.WireLaws.{wire_law}
 use Rattle.lid_assign.specs.Lids.{room, least_room}
-use Rattle.takeover_laws.specs.Alike.{IsAlike}
+use Rattle.takeover_laws.specs.OnePlan.{IsAlike}
 
 -- two options that hold the same values are the same
 same_option : {X : Type 0} (a b : Option X) → ((x : X) → a ≡ Some x → b ≡ Some x) → ((x : X) → b ≡ Some x → a ≡ Some x) → a ≡ b

@@ -48,7 +48,7 @@ use Rattle.manager_laws.proofs.Done.{done_sweeps_are_complete, seat_end}
 use Rattle.manager_laws.proofs.Known.{HasKey, same_node}
 use Rattle.manager_laws.proofs.Lists.{Has, has_left, has_right, has_either, contained_has, all_contained, all_append, all_first, all_last}
 use Rattle.manager_laws.proofs.Sweeps.{told_in, all_covered}
-use Rattle.takeover_laws.specs.Alike.{ClaimsAreTrue}
+use Rattle.takeover_laws.specs.OnePlan.{ClaimsAreTrue}
 use Rattle.manager_laws.proofs.Planned.{end_number}
 use Rattle.manager_laws.proofs.Agreeing.{joined_reached}
 use Rattle.takeover_laws.specs.Claims.{LidsStay, IsTrueClaim, IsTrueClaimOf, AcceptedClaimsAreTrue, SweptClaimsAreTrue, TakeoversChangeNothing}

@@ -21,7 +21,7 @@ use Rattle.lft_blocks.specs.Plan.{plan_of}
 use Rattle.lft_blocks.specs.Rules.{up_and_down}
 use Rattle.lft_blocks.specs.Planning.{Planning}
 use Rattle.manager_laws.specs.Managing.{Managing}
-use Rattle.takeover_laws.specs.Rest.{SomeManagerServesTheRest, TakesRest}
+use Rattle.takeover_laws.specs.AfterCut.{SomeManagerServesTheRest, TakesRest}
 use Rattle.takeover_laws.specs.Takeover.{plan_by_it}
 use Rattle.manager_laws.proofs.Computed.{one}
 use Rattle.takeover_laws.proofs.Example.{after, all_told, at_is, beginning, between, has_swept, its_planning, sweeps}

@@ -26,7 +26,7 @@ use Rattle.lid_assign.specs.Lids.{IsNoRoom, if_fits, fitting_claim, claims, with
 use Rattle.lid_assign.proofs.Staying.{still_room, lids_same}
 use Rattle.lft_blocks.specs.Entries.{attachment_of, block_count}
 use Rattle.lft_blocks.specs.Plan.{tables_of, plan_of}
-use Rattle.takeover_laws.specs.Alike.{IsAlike, ClaimAlike, AlikeViewsPlanAlike, ClaimedPlansStay}
+use Rattle.takeover_laws.specs.OnePlan.{IsAlike, ClaimAlike, AlikeViewsPlanAlike, ClaimedPlansStay}
 use Rattle.takeover_laws.proofs.Alike.{end_ports_same, switches_same, usable_same, across_same, room_same}
 use Rattle.lft_blocks.specs.LidNumbers.{lid_numbers, number_of, numbered, numbering_by}
 

@@ -40,8 +40,8 @@ use Rattle.sm_manager.specs.Manager.{newest_held}
 use Rattle.manager_laws.specs.Written.{at_writing}
 use Rattle.manager_laws.proofs.Held as held
 use Rattle.manager_laws.proofs.Planned.{known_end}
-use Rattle.takeover_laws.specs.Alike.{ClaimsAreTrue}
-use Rattle.takeover_laws.specs.Rest.{FloorsForget, IsRestOf, LidsOutlast, RaisedManagersKnowNothing, RestIsServed}
+use Rattle.takeover_laws.specs.OnePlan.{ClaimsAreTrue}
+use Rattle.takeover_laws.specs.AfterCut.{FloorsForget, IsRestOf, LidsOutlast, RaisedManagersKnowNothing, RestIsServed}
 use Rattle.takeover_laws.specs.Takeover.{planning_at}
 use Rattle.takeover_laws.proofs.Takeover.{arrives_once_written, found_agrees, found_claims}
 use Rattle.takeover_laws.proofs.Seeing.{inside, named_so}

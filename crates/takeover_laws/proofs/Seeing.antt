@@ -29,7 +29,7 @@ use Rattle.lft_blocks.specs.Rules.{RuleValue}
 use Rattle.lid_assign.specs.Stability.{ClaimLids}
 use Rattle.lid_assign.proofs.LidLaws.{ports-lids}
 use Rattle.lid_assign.proofs.Owners.{given-from_lid}
-use Rattle.takeover_laws.specs.Alike.{IsAlike, ClaimAlike, KnowAlikeButClaims, PlansReadKnownValues, KnownPlansStay, ClaimsAreTrue, SameClaimsGiveOnePlan, WhoSeesTheSamePlansTheSame, TrueClaimsGiveOnePlan, WhoSeesTheTruthPlansTheSame, HeldPlanIsPlanned, HeldPlansArePlanned}
+use Rattle.takeover_laws.specs.OnePlan.{IsAlike, ClaimAlike, KnowAlikeButClaims, PlansReadKnownValues, KnownPlansStay, ClaimsAreTrue, SameClaimsGiveOnePlan, WhoSeesTheSamePlansTheSame, TrueClaimsGiveOnePlan, WhoSeesTheTruthPlansTheSame, HeldPlanIsPlanned, HeldPlansArePlanned}
 use Rattle.manager_laws.proofs.Planned.{known_end}
 use Rattle.takeover_laws.proofs.Planning.{alike_views_plan_alike, claimed_plans_stay}
 

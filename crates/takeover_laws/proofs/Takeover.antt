@@ -22,7 +22,7 @@ use Rattle.manager_laws.proofs.Follows.{holds_all}
 use Rattle.fact_store.specs.View.{Facts}
 use Rattle.manager_laws.proofs.Arrive.{pings_arrive_once_written}
 use Rattle.manager_laws.proofs.OneSweep.{FollowsOne, StaysSo, first_begins, first_of, one_sweep}
-use Rattle.takeover_laws.specs.Alike.{ClaimsAreTrue}
+use Rattle.takeover_laws.specs.OnePlan.{ClaimsAreTrue}
 use Rattle.takeover_laws.specs.Claims.{HasLidsOf}
 use Rattle.takeover_laws.specs.Takeover.{LidsStayAround, SweepsAlone, TakeoverChangesNothing, planning_at, plan_by_it}
 use Rattle.takeover_laws.proofs.Claimed.{swept_claims_are_true, takeovers_change_nothing}

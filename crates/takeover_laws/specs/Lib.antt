@@ -1,4 +1,4 @@
-pub mod Alike
+pub mod AfterCut
 pub mod Claims
-pub mod Rest
+pub mod OnePlan
 pub mod Takeover

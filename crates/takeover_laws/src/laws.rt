@@ -1,10 +1,10 @@
 //! The laws of views that have one plan, and of takeovers.
-ghost use Rattle.takeover_laws.specs.Alike.{AlikeViewsPlanAlike, ClaimedPlansStay, PlansReadKnownValues};
-ghost use Rattle.takeover_laws.specs.Alike.{KnownPlansStay, WhoSeesTheSamePlansTheSame};
-ghost use Rattle.takeover_laws.specs.Alike.{WhoSeesTheTruthPlansTheSame, HeldPlansArePlanned};
+ghost use Rattle.takeover_laws.specs.OnePlan.{AlikeViewsPlanAlike, ClaimedPlansStay, PlansReadKnownValues};
+ghost use Rattle.takeover_laws.specs.OnePlan.{KnownPlansStay, WhoSeesTheSamePlansTheSame};
+ghost use Rattle.takeover_laws.specs.OnePlan.{WhoSeesTheTruthPlansTheSame, HeldPlansArePlanned};
 ghost use Rattle.takeover_laws.specs.Claims.{AcceptedClaimsAreTrue, SweptClaimsAreTrue, TakeoversChangeNothing};
-ghost use Rattle.takeover_laws.specs.Rest.{FloorsForget, LidsOutlast, RaisedManagersKnowNothing, RestIsServed};
-ghost use Rattle.takeover_laws.specs.Rest.{SomeManagerServesTheRest};
+ghost use Rattle.takeover_laws.specs.AfterCut.{FloorsForget, LidsOutlast, RaisedManagersKnowNothing, RestIsServed};
+ghost use Rattle.takeover_laws.specs.AfterCut.{SomeManagerServesTheRest};
 ghost use Rattle.takeover_laws.specs.Takeover.{PingsArriveThroughout, SomeManagerTakesOver, TakeoverChangesNothing};
 
 /// Two alike views in which each end port claims the same LID, or none in either, have one plan, by each rule and under

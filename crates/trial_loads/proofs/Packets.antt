@@ -7,7 +7,7 @@ use Rattle.std.specs.Prelude.{filter, min, not, slice_set}
 use Rattle.port_graph.specs.declared.edge.Edge.{Edge}
 use Rattle.spread_labels.specs.Labels.{candidates}
 use Rattle.spread_labels.specs.Orders.{numbers_from}
-use Rattle.balanced_choices.specs.Loads.{channel_by}
+use Rattle.balanced_choices.specs.Ways.{channel_by}
 use Rattle.trial_loads.specs.TrialLoads.{Packets, carried_between, carried_to, first_had, goes_up}
 use Rattle.trial_loads.specs.TrialLoads.{share, shared, with_more, with_shares}
 

@@ -6,14 +6,14 @@ use Rattle.port_graph.specs.declared.edge.Edge.{Edge}
 use Rattle.port_graph.specs.Heads.{edges_at}
 use Rattle.spread_labels.specs.declared.target_set.TargetSet.{TargetSet}
 use Rattle.spread_labels.specs.declared.vertex_key.VertexKey.{VertexKey}
-use Rattle.spread_labels.specs.Keys.{before_by}
+use Rattle.spread_labels.specs.KeyOrder.{before_by}
 use Rattle.spread_labels.specs.Labels.{candidates, leads_up}
 use Rattle.spread_labels.specs.LeafVertices.{leaf_vertices}
 use Rattle.spread_labels.specs.Levels.{greatest}
 use Rattle.spread_labels.specs.MarkSets.{picked, set_at, sets_at}
 use Rattle.spread_labels.specs.Orders.{by_position, numbers_from, order}
 use Rattle.spread_labels.specs.TargetSets.{EachTarget, has}
-use Rattle.balanced_choices.specs.Loads.{channel_by}
+use Rattle.balanced_choices.specs.Ways.{channel_by}
 
 -- `numbers`, with `more` added at each index of a list; each sum stops at 2^64 - 1
 abbrev pub with_more : ℕ → List ℕ → List ℕ → List ℕ

@@ -3,7 +3,7 @@
 
 pub mod laws;
 mod least_loaded;
-mod shares;
+mod shared_loads;
 mod trials;
 mod upward;
 

@@ -4,7 +4,7 @@ ghost use Rattle.port_graph.specs.Heads.{LeadToVertices};
 ghost use Rattle.spread_labels.specs.LabelLaws.{IsSymmetric};
 ghost use Rattle.trial_loads.specs.TrialLoads.{loads_by, trial_load, trial_loads};
 
-use crate::shares::add_packets_between;
+use crate::shared_loads::add_packets_between;
 use balanced_choices::no_loads;
 use port_graph::Adjacency;
 use spread_labels::{

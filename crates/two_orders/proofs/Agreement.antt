@@ -10,7 +10,7 @@ use Rattle.port_graph.specs.declared.edge.Edge.{Edge}
 use Rattle.port_graph.specs.Heads.{LeadToVertices, edges_at, heads}
 use Rattle.port_graph.proofs.Indexing.{edges_below}
 use Rattle.port_graph.proofs.Lists.{contains_map, contains_mapped}
-use Rattle.spread_labels.specs.Keys.{before_by, key_at, key_less}
+use Rattle.spread_labels.specs.KeyOrder.{before_by, key_at, key_less}
 use Rattle.spread_labels.specs.Orders.{AreEarlier, Beside, IsEarlier, IsGrownOrder, at_position, position_of}
 use Rattle.spread_labels.proofs.ByPositions.{position_at, position_less}
 use Rattle.spread_labels.proofs.Earliest.{keys_in_words}

@@ -9,7 +9,7 @@ use Rattle.port_graph.specs.Heads.{LeadToVertices, edges_at, heads}
 use Rattle.port_graph.specs.Walks.{Walk}
 use Rattle.port_graph.proofs.Lists.{contains_mapped}
 use Rattle.port_graph.proofs.Paths.{walk_append}
-use Rattle.spread_labels.specs.Keys.{before_by}
+use Rattle.spread_labels.specs.KeyOrder.{before_by}
 use Rattle.spread_labels.specs.LabelLaws.{IsSymmetric}
 use Rattle.spread_labels.specs.Orders.{Beside, position_of}
 use Rattle.spread_labels.proofs.ByPositions.{position_at, position_less}

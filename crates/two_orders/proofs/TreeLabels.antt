@@ -15,7 +15,7 @@ use Rattle.port_graph.proofs.Indexing.{edges_below}
 use Rattle.port_graph.proofs.Lists.{contains_map, contains_mapped}
 use Rattle.port_graph.proofs.Paths.{walk_append, walk_reverse, walk_turned}
 use Rattle.port_graph.proofs.WalkLemmas.{list_any_at, list_any_found}
-use Rattle.spread_labels.specs.Keys.{before_by}
+use Rattle.spread_labels.specs.KeyOrder.{before_by}
 use Rattle.spread_labels.specs.LabelLaws.{IsSymmetric}
 use Rattle.spread_labels.specs.Orders.{IsGrownOrder, at_position, earliest, position_of}
 use Rattle.spread_labels.proofs.ByPositions.{position_at, position_less}

@@ -13,7 +13,7 @@ use Rattle.subnet_view.proofs.Taken.{all_from}
 use Rattle.port_graph.specs.declared.edge.Edge.{Edge}
 use Rattle.port_graph.specs.Slopes.{ups_at, downs_at, down_distance, cost, same_number, port_down, port_up, next_port}
 use Rattle.port_graph.specs.Heads.{edges_at as edges_by_index, heads}
-use Rattle.port_graph.specs.Indexed.{indexed, AreSlopes, AreNextPorts}
+use Rattle.port_graph.specs.NextPorts.{indexed, AreSlopes, AreNextPorts}
 use Rattle.port_graph.proofs.Counts.{length_map}
 use Rattle.port_graph.proofs.Lists.{contains_map, nothing_there}
 use Rattle.port_graph.proofs.Indexing.{edges_below, all_indexed}

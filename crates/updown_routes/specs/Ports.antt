@@ -1,7 +1,7 @@
 -- The next ports between the switches of a graph, in ascending order of GUID.
 use Rattle.std.specs.Prelude.{◌≡◌, ℕ, List, map, Option, option_and_then, slice_get}
 use Rattle.port_graph.specs.declared.edge.Edge.{Edge}
-use Rattle.port_graph.specs.Indexed.{indexed}
+use Rattle.port_graph.specs.NextPorts.{indexed}
 use Rattle.port_graph.specs.Slopes.{next_port}
 use Rattle.subnet_view.specs.SwitchEdges.{SwitchEdges}
 use Rattle.subnet_view.specs.Graph.{guids_of}

@@ -1,5 +1,5 @@
 ghost use Rattle.std.specs.Prelude.{◌≡◌, ◌<◌, All, IfOk, length, map};
-ghost use Rattle.port_graph.specs.Indexed.{AreSlopes};
+ghost use Rattle.port_graph.specs.NextPorts.{AreSlopes};
 ghost use Rattle.port_graph.specs.Slopes.{next_port};
 ghost use Rattle.updown_routes.specs.Ports.{next_port_at, port_rows};
 ghost use Rattle.updown_routes.specs.Ranks.{slopes_of};

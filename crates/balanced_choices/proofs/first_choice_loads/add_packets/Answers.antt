@@ -7,9 +7,9 @@ use Rattle.port_graph.specs.Heads.{edges_at}
 use Rattle.spread_labels.specs.MarkSets.{picked, sets_at}
 use Rattle.spread_labels.specs.Orders.{numbers_from}
 use Rattle.spread_labels.proofs.Numbers.{numbers_long}
-use Rattle.balanced_choices.specs.declared.rounds.Destination.{Destination}
+use Rattle.balanced_choices.specs.declared.choice_rounds.Destination.{Destination}
 use Rattle.balanced_choices.specs.BalancedChoices.{towards}
-use Rattle.balanced_choices.specs.FirstLoads.{loads_with, loads_with_all}
+use Rattle.balanced_choices.specs.Loads.{loads_with, loads_with_all}
 use Rattle.balanced_choices.proofs.EachEnd.{ways_are}
 use Rattle.balanced_choices.proofs.first_choice_loads.add_packets.Goals as goal
 

@@ -1,5 +1,5 @@
 use Rattle.std.proofs.Common.{◌≡◌, drop}
-use Rattle.balanced_choices.specs.FirstLoads.{loads_with_all}
+use Rattle.balanced_choices.specs.Loads.{loads_with_all}
 use Rattle.balanced_choices.proofs.first_choice_loads.add_packets.Given as goal
 
 -- the destinations that are left add the rest

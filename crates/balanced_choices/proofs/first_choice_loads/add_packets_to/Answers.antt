@@ -4,7 +4,7 @@ use Rattle.std.specs.Prelude.{reverse}
 use Rattle.port_graph.proofs.Counts.{length_map}
 use Rattle.spread_labels.specs.Orders.{numbers_from}
 use Rattle.balanced_choices.specs.BalancedChoices.{near_first}
-use Rattle.balanced_choices.specs.FirstLoads.{Passing, passed_on, passed_to}
+use Rattle.balanced_choices.specs.Loads.{Passing, passed_on, passed_to}
 use Rattle.balanced_choices.proofs.first_choice_loads.add_packets_to.Goals as goal
 
 pub loop-position-init : goal.loop-position-init

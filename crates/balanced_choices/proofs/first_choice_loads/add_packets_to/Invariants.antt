@@ -1,7 +1,7 @@
 use Rattle.std.proofs.Common.{◌≡◌, All, drop, length, map, replicate}
 use Rattle.std.specs.Prelude.{reverse}
 use Rattle.balanced_choices.specs.BalancedChoices.{near_first}
-use Rattle.balanced_choices.specs.FirstLoads.{Passing, passed_on}
+use Rattle.balanced_choices.specs.Loads.{Passing, passed_on}
 use Rattle.balanced_choices.proofs.first_choice_loads.add_packets_to.Given as goal
 
 -- the positions that are left do the rest

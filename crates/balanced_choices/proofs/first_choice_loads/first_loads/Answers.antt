@@ -1,6 +1,6 @@
 use Rattle.std.proofs.Common.{◌≡◌, ◌≤◌, ◌+◌, ◌-◌, ◌*◌, sym, ap, ◌∙◌, arith, drop, length, take, replicate}
 use Rattle.std.proofs.lemmas.List.{drop_all, length-replicate, with_items_is}
-use Rattle.balanced_choices.specs.FirstLoads.{first_loads, loads_with_all}
+use Rattle.balanced_choices.specs.Loads.{first_loads, loads_with_all}
 use Rattle.balanced_choices.proofs.EachEnd.{part_and_rest}
 use Rattle.balanced_choices.proofs.FirstLoads.{with_both}
 use Rattle.balanced_choices.proofs.first_choice_loads.first_loads.Goals as goal

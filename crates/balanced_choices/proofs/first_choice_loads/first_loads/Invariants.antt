@@ -1,5 +1,5 @@
 use Rattle.std.proofs.Common.{◌≡◌, ◌≤◌, ◌-◌, ◌*◌, drop, length, replicate}
-use Rattle.balanced_choices.specs.FirstLoads.{loads_with_all}
+use Rattle.balanced_choices.specs.Loads.{loads_with_all}
 use Rattle.balanced_choices.proofs.first_choice_loads.first_loads.Given as goal
 
 -- the destinations that are left add the rest

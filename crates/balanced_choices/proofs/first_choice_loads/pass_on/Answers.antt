@@ -7,8 +7,8 @@ use Rattle.port_graph.specs.declared.edge.Edge.{Edge}
 use Rattle.port_graph.proofs.Counts.{length_map}
 use Rattle.spread_labels.specs.Orders.{numbers_from}
 use Rattle.balanced_choices.specs.declared.ways.Change.TheVariants.{Add}
-use Rattle.balanced_choices.specs.Loads.{channel_by, with_changes}
-use Rattle.balanced_choices.specs.FirstLoads.{Passing, first_edge, passed_to, with_passed}
+use Rattle.balanced_choices.specs.Ways.{channel_by, with_changes}
+use Rattle.balanced_choices.specs.Loads.{Passing, first_edge, passed_to, with_passed}
 use Rattle.balanced_choices.proofs.Counting.{turn_of}
 use Rattle.balanced_choices.proofs.FirstLoads.{as_long, edge_in_turn, none_passed}
 use Rattle.balanced_choices.proofs.InOrder.{numbers_left}

@@ -1,7 +1,7 @@
 use Rattle.std.proofs.Common.{◌++◌, List, [], ◌∷◌, sym, ap, ◌∙◌}
 use Rattle.std.specs.Prelude.{Option}
 use Rattle.port_graph.specs.declared.edge.Edge.{Edge}
-use Rattle.balanced_choices.specs.Loads.{edge_taken}
+use Rattle.balanced_choices.specs.Ways.{edge_taken}
 use Rattle.balanced_choices.proofs.InOrder.{made_next}
 use Rattle.balanced_choices.proofs.taken.edges_taken.Goals as goal
 

@@ -1,6 +1,6 @@
 use Rattle.std.proofs.Common.{◌≡◌, map}
 use Rattle.spread_labels.specs.Orders.{numbers_from}
-use Rattle.balanced_choices.specs.Loads.{edge_taken}
+use Rattle.balanced_choices.specs.Ways.{edge_taken}
 use Rattle.balanced_choices.proofs.taken.edges_taken.Given as goal
 
 -- those of the positions so far

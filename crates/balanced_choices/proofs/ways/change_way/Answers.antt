@@ -1,7 +1,7 @@
 use Rattle.std.proofs.Common.{◌≡◌, ◌+◌, ◌-◌, ◌*◌, ℕ, sym, ap, ◌∙◌, arith, length, get_or}
 use Rattle.std.specs.Prelude.{None, Option, slice_set}
 use Rattle.port_graph.specs.declared.edge.Edge.{Edge}
-use Rattle.balanced_choices.specs.Loads.{changed, channel_by, way, with_changes}
+use Rattle.balanced_choices.specs.Ways.{changed, channel_by, way, with_changes}
 use Rattle.balanced_choices.proofs.EdgeByEdge.{none_left, way_ends, way_goes}
 use Rattle.balanced_choices.proofs.ways.change_way.Goals as goal
 

@@ -1,7 +1,7 @@
 use Rattle.std.proofs.Common.{◌≡◌, ◌-◌, length, get_or}
 use Rattle.std.specs.Prelude.{None}
 use Rattle.balanced_choices.specs.EdgesTaken.{way_by}
-use Rattle.balanced_choices.specs.Loads.{way, with_changes}
+use Rattle.balanced_choices.specs.Ways.{way, with_changes}
 use Rattle.balanced_choices.proofs.ways.change_way.Given as goal
 
 -- what is left of the way does the rest

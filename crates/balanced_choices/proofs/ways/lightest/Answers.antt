@@ -5,7 +5,7 @@ use Rattle.std.proofs.lemmas.List.{drop_all, drop_more, get_or-take, length-take
 use Rattle.port_graph.specs.declared.edge.Edge.{Edge}
 use Rattle.port_graph.specs.Heads.{edges_at}
 use Rattle.balanced_choices.specs.EdgesTaken.{lightest_by, peak_by}
-use Rattle.balanced_choices.specs.Loads.{candidates_at, least_from}
+use Rattle.balanced_choices.specs.Ways.{candidates_at, least_from}
 use Rattle.balanced_choices.proofs.LeastPeak.{least_kept, least_next}
 use Rattle.balanced_choices.proofs.ways.lightest.Goals as goal
 use Rattle.balanced_choices.proofs.ways.lightest.Goals.{then-peak-least, else-peak-least}

@@ -1,6 +1,6 @@
 use Rattle.std.proofs.Common.{◌≡◌, ◌<◌, drop, map}
 use Rattle.balanced_choices.specs.EdgesTaken.{lightest_by, peak_by}
-use Rattle.balanced_choices.specs.Loads.{candidates_at, least_from}
+use Rattle.balanced_choices.specs.Ways.{candidates_at, least_from}
 use Rattle.balanced_choices.proofs.ways.lightest.Given as goal
 
 -- the candidates that are left do the rest

@@ -2,7 +2,7 @@ use Rattle.std.proofs.Common.{◌≡◌, ◌+◌, ◌-◌, ◌*◌, ℕ, List, m
 use Rattle.std.specs.Prelude.{None, Option, min}
 use Rattle.spread_labels.specs.Levels.{greatest}
 use Rattle.port_graph.specs.declared.edge.Edge.{Edge}
-use Rattle.balanced_choices.specs.Loads.{channel_by, way}
+use Rattle.balanced_choices.specs.Ways.{channel_by, way}
 use Rattle.balanced_choices.proofs.EdgeByEdge.{greatest_least, none_left, way_ends, way_goes}
 use Rattle.balanced_choices.proofs.ways.peak_from.Goals as goal
 

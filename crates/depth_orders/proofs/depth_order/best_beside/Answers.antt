@@ -1,7 +1,7 @@
 use Rattle.std.proofs.Common.{◌≡◌, ◌<◌, ℕ, List, sym, ap, ◌∙◌, subst, length, get_or}
 use Rattle.std.specs.Prelude.{Some, Contains, not}
 use Rattle.port_graph.specs.declared.edge.Edge.{Edge}
-use Rattle.spread_labels.specs.Keys.{before_by}
+use Rattle.spread_labels.specs.KeyOrder.{before_by}
 use Rattle.spread_labels.specs.Stages.{earlier_of}
 use Rattle.spread_labels.proofs.Earlier.{IsBelow, earlier_below}
 use Rattle.depth_orders.specs.DepthOrders.{flag_at, goes_before, turned}

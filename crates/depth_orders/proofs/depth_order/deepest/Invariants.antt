@@ -1,5 +1,5 @@
 use Rattle.std.proofs.Common.{◌≡◌, ◌≤◌, length}
-use Rattle.spread_labels.specs.Keys.{before_by}
+use Rattle.spread_labels.specs.KeyOrder.{before_by}
 use Rattle.depth_orders.specs.DepthOrders.{deepest, flag_at, turned}
 use Rattle.depth_orders.proofs.depth_order.deepest.Given as goal
 

@@ -1,6 +1,6 @@
 use Rattle.std.proofs.Common.{◌<◌, ℕ, sym, ap, ◌∙◌, subst, length}
 use Rattle.std.specs.Prelude.{Some, not}
-use Rattle.spread_labels.specs.Keys.{before_by}
+use Rattle.spread_labels.specs.KeyOrder.{before_by}
 use Rattle.spread_labels.specs.Stages.{earlier_of}
 use Rattle.spread_labels.proofs.Earlier.{IsBelow, earlier_below, earliest_passing, earliest_failing}
 use Rattle.depth_orders.specs.DepthOrders.{flag_at, turned}

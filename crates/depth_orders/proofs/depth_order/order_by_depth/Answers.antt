@@ -1,7 +1,7 @@
 use Rattle.std.proofs.Common.{◌≡◌, ◌<◌, ◌+◌, ◌++◌, [], ◌∷◌, true, sym, ap, ◌∙◌, subst, arith, add-one, length}
 use Rattle.std.proofs.lemmas.List.{length-set}
 use Rattle.std.specs.Prelude.{slice_set}
-use Rattle.spread_labels.specs.Keys.{before_by}
+use Rattle.spread_labels.specs.KeyOrder.{before_by}
 use Rattle.spread_labels.proofs.Earlier.{IsBelow}
 use Rattle.depth_orders.specs.DepthOrders.{depth_after, flag_at, is_among, next_by_depth, turned, with_next}
 use Rattle.depth_orders.proofs.Flags.{flags_more}

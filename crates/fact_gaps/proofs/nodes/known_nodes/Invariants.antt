@@ -3,7 +3,7 @@ use Rattle.std.specs.List.{filter_map}
 use Rattle.fact_store.specs.View.{cells_of}
 use Rattle.fact_store.specs.Walk.{cells_left}
 use Rattle.fact_gaps.specs.Gaps.{is_known_node}
-use Rattle.fact_gaps.specs.Named.{kept, node_key}
+use Rattle.fact_gaps.specs.NamedPorts.{kept, node_key}
 use Rattle.fact_gaps.proofs.nodes.known_nodes.Given as goal
 
 -- what was found, and what the rest has, are all that there is

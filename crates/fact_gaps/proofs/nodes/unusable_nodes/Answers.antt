@@ -6,7 +6,7 @@ use Rattle.std.specs.Ordering.{nat_cmp}
 use Rattle.fact_store.specs.View.{cells_of}
 use Rattle.fact_gaps.specs.InOrder.{each_once}
 use Rattle.fact_gaps.specs.Gaps.{is_known_node}
-use Rattle.fact_gaps.specs.Named.{node_key, far_node, kept, own_node}
+use Rattle.fact_gaps.specs.NamedPorts.{node_key, far_node, kept, own_node}
 use Rattle.fact_gaps.proofs.Named.{kept_both, kept_passes}
 use Rattle.fact_gaps.proofs.nodes.unusable_nodes.Goals as goal
 

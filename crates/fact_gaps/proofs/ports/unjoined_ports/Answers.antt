@@ -6,7 +6,7 @@ use Rattle.std.proofs.lemmas.Result.{IfOk-weaker}
 use Rattle.fact_store.specs.View.{cells_of}
 use Rattle.fact_gaps.specs.InOrder.{each_once, port_cmp}
 use Rattle.fact_gaps.specs.Gaps.{is_known_port, port_at}
-use Rattle.fact_gaps.specs.Named.{link_key, far_port, kept, own_port}
+use Rattle.fact_gaps.specs.NamedPorts.{link_key, far_port, kept, own_port}
 use Rattle.fact_gaps.proofs.Named.{kept_both, kept_passes}
 use Rattle.fact_gaps.proofs.ports.unjoined_ports.Goals as goal
 

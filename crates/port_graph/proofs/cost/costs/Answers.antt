@@ -3,7 +3,7 @@ use Rattle.std.proofs.Common.{◌≡◌, ◌<◌, ◌+◌, List, ℕ, sym, ap, �
 use Rattle.std.specs.Prelude.{Option, None, Contains, slice_index_or}
 use Rattle.port_graph.specs.declared.edge.Edge.{Edge}
 use Rattle.port_graph.specs.Heads.{edges_at}
-use Rattle.port_graph.specs.Indexed.{AreCosts, cost_of}
+use Rattle.port_graph.specs.NextPorts.{AreCosts, cost_of}
 use Rattle.port_graph.proofs.Searching.{known_below}
 use Rattle.port_graph.proofs.SearchSteps.{all_from_contained}
 use Rattle.port_graph.proofs.CostSteps.{AreBounded, costs_more, bounded_more}

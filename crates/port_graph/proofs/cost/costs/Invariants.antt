@@ -1,5 +1,5 @@
 use Rattle.std.proofs.Common.{length}
-use Rattle.port_graph.specs.Indexed.{AreCosts}
+use Rattle.port_graph.specs.NextPorts.{AreCosts}
 use Rattle.port_graph.proofs.CostSteps.{AreBounded}
 use Rattle.port_graph.proofs.cost.costs.Given as goal
 

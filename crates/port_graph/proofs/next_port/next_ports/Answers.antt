@@ -1,7 +1,7 @@
 -- Vertex by vertex.
 use Rattle.std.proofs.Common.{◌≡◌, ◌+◌, List, ℕ, sym, ap, ◌∙◌, subst, arith, length}
 use Rattle.std.specs.Prelude.{Option, None, slice_index_or}
-use Rattle.port_graph.specs.Indexed.{port_by, indexed, AreCosts}
+use Rattle.port_graph.specs.NextPorts.{port_by, indexed, AreCosts}
 use Rattle.port_graph.specs.Slopes.{next_port}
 use Rattle.port_graph.proofs.Indexing.{ups_lead, distance_short}
 use Rattle.port_graph.proofs.NextPorts.{AreFirstPorts, ports_more, is_next_port}

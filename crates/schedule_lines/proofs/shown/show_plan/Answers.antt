@@ -2,7 +2,7 @@ use Rattle.std.proofs.Common.{Option, refl}
 use Rattle.std.proofs.lemmas.Result.{err_from_is_err_and}
 use Rattle.fact_store.specs.View.{cells_of}
 use Rattle.sm_manager.specs.declared.fault.ManagerFault.{ManagerFault}
-use Rattle.schedule_lines.specs.Asked.{plan_or_refusal}
+use Rattle.schedule_lines.specs.ManagerAsks.{plan_or_refusal}
 use Rattle.schedule_lines.specs.Outcome.{Outcome, shows}
 use Rattle.schedule_lines.proofs.Refused.{but_for_memory, refusal_prints, refuses}
 use Rattle.schedule_lines.proofs.shown.show_plan.Goals as goal

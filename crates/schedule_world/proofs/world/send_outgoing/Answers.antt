@@ -2,10 +2,10 @@ use Rattle.std.proofs.Common.{◌∙◌, sym, ap, subst}
 use Rattle.std.proofs.lemmas.Result.{err_from_is_err_and}
 use Rattle.fabric_sim.specs.Changes.{after_inject}
 use Rattle.fabric_sim.specs.Simulation.{Simulation}
-use Rattle.schedule_world.specs.Flights.{packet_out}
+use Rattle.schedule_world.specs.NamedPackets.{packet_out}
 use Rattle.schedule_lines.specs.Outcome.{Outcome}
 use Rattle.schedule_world.specs.World.{after_fabric, after_inject_all}
-use Rattle.schedule_lines.specs.Asked.{emptied}
+use Rattle.schedule_lines.specs.ManagerAsks.{emptied}
 use Rattle.schedule_lines.proofs.Printing.{IsUnderWay, goes_on, is_over, stops_in}
 use Rattle.schedule_lines.proofs.Taking.{fewer_left, none_emptied, taken_emptied}
 use Rattle.schedule_world.proofs.Sending.{first_goes, none_goes}

@@ -1,5 +1,5 @@
 use Rattle.std.proofs.Common.{◌-◌, length}
-use Rattle.spread_labels.specs.Keys.{before_by}
+use Rattle.spread_labels.specs.KeyOrder.{before_by}
 use Rattle.spread_labels.proofs.OrderSteps.{IsGrowing}
 use Rattle.spread_labels.proofs.growth.grown_order.Given as goal
 

@@ -1,6 +1,6 @@
 use Rattle.std.proofs.Common.{◌<◌, ℕ, sym, ap, ◌∙◌, subst, length}
 use Rattle.std.specs.Prelude.{None, Some, is_some, slice_index_or}
-use Rattle.spread_labels.specs.Keys.{before_by}
+use Rattle.spread_labels.specs.KeyOrder.{before_by}
 use Rattle.spread_labels.specs.Stages.{earlier_of}
 use Rattle.spread_labels.proofs.Earlier.{IsBelow, earlier_below, earliest_passing, earliest_failing}
 use Rattle.spread_labels.proofs.vertex_keys.first.Goals as goal

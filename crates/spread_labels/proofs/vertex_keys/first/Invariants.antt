@@ -1,6 +1,6 @@
 use Rattle.std.proofs.Common.{◌≡◌, ◌<◌, length}
 use Rattle.std.specs.Prelude.{MatchOption, filter, is_some, slice_index_or, None}
-use Rattle.spread_labels.specs.Keys.{before_by}
+use Rattle.spread_labels.specs.KeyOrder.{before_by}
 use Rattle.spread_labels.specs.Orders.{numbers_from}
 use Rattle.spread_labels.specs.Stages.{earliest_of}
 use Rattle.spread_labels.proofs.vertex_keys.first.Given as goal

@@ -1,7 +1,7 @@
 use Rattle.std.proofs.Common.{◌≡◌, ◌<◌, ℕ, List, All, ap, sym, ◌∙◌, subst, length, map}
 use Rattle.std.specs.Prelude.{IfOk}
 use Rattle.spread_labels.specs.LabelLaws.{IsSymmetric}
-use Rattle.spread_labels.specs.Keys.{before_by}
+use Rattle.spread_labels.specs.KeyOrder.{before_by}
 use Rattle.spread_labels.specs.Orders.{at_position, order}
 use Rattle.spread_routes.specs.Rule.{by_index, order_by_keys}
 use Rattle.spread_routes.specs.Spread.{keys_by, switches_in_order}

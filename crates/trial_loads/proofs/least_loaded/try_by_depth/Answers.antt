@@ -1,6 +1,6 @@
 use Rattle.std.proofs.Common.{◌≡◌, [], ◌∷◌, sym, ap, ◌∙◌, subst, cond, length, map}
 use Rattle.std.specs.Prelude.{nat_lt}
-use Rattle.spread_labels.specs.Keys.{before_by}
+use Rattle.spread_labels.specs.KeyOrder.{before_by}
 use Rattle.spread_labels.specs.Orders.{numbers_from}
 use Rattle.spread_labels.proofs.Numbers.{numbers_long}
 use Rattle.depth_orders.specs.DepthOrders.{order_by_depth, turned}

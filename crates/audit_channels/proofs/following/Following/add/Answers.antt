@@ -1,7 +1,7 @@
 -- It is known, or is there now.
 use Rattle.std.proofs.Common.{◌≡◌, ◌==◌, ◌⊎◌, ℕ, inl, inr, true}
 use Rattle.std.specs.List.{list_any}
-use Rattle.audit_channels.specs.Known.{Knows}
+use Rattle.audit_channels.specs.ChannelSet.{Knows}
 use Rattle.audit_channels.proofs.Made.{with_found, any_with}
 use Rattle.audit_channels.proofs.following.Following.add.Goals as goal
 

@@ -1,6 +1,6 @@
 use Rattle.std.proofs.Common.{refl}
 use Rattle.schedule_world.specs.Commands.{after_ask_line}
-use Rattle.schedule_lines.specs.Asked.{after_asked, asked_fault}
+use Rattle.schedule_lines.specs.ManagerAsks.{after_asked, asked_fault}
 use Rattle.schedule_world.specs.World.{after_send}
 use Rattle.schedule_world.proofs.Seats.{done_does, refused_does}
 use Rattle.schedule_lines.proofs.Refused.{but_for_memory}

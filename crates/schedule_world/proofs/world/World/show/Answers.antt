@@ -1,6 +1,6 @@
 use Rattle.std.proofs.Common.{[], Some, ap, sym, ◌∙◌}
 use Rattle.std.specs.Option.{option_map_or}
-use Rattle.schedule_lines.specs.Asked.{text_of}
+use Rattle.schedule_lines.specs.ManagerAsks.{text_of}
 use Rattle.schedule_world.specs.Commands.{shown_at, shown_of}
 use Rattle.schedule_lines.proofs.Printing.{prints_same}
 use Rattle.schedule_world.proofs.Seats.{sits}

@@ -1,6 +1,6 @@
 use Rattle.std.proofs.Common.{◌≡◌, ◌<◌, ℕ, List, sym, ap, ◌∙◌, subst, length}
 use Rattle.std.specs.Prelude.{All}
-use Rattle.balanced_choices.specs.declared.rounds.Destination.{Destination}
+use Rattle.balanced_choices.specs.declared.choice_rounds.Destination.{Destination}
 use Rattle.spread_routes.specs.AdapterChoices.{adapter_choices, counted_if_uneven, destinations}
 use Rattle.spread_routes.proofs.adapter_choices.AdapterChoices.of.Goals as goal
 

@@ -1,9 +1,0 @@
--- A set of channels out of one row of 64, as bits.
-use Rattle.std.specs.Prelude.{◌≡◌, ◌/◌, ◌%◌, ℕ}
-use Rattle.std.specs.Int.{bit_at}
-use Rattle.audit_channels.specs.declared.known.Known.{Known}
-
--- `known` has `channel`: it is in the row, and the bit at its index is set
-pub record Knows (known : Known) (channel : ℕ) : Type 0 where
-  pub row_is : known.row ≡ channel / 64
-  pub bit_is : bit_at known.bits (channel % 64) ≡ 1

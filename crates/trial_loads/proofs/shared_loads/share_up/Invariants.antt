@@ -1,0 +1,11 @@
+use Rattle.std.proofs.Common.{◌≡◌, length}
+use Rattle.std.specs.Prelude.{filter}
+use Rattle.trial_loads.specs.TrialLoads.{candidates_in, goes_up, last_first, shared}
+use Rattle.trial_loads.proofs.shared_loads.share_up.Given as goal
+
+-- the shares of the positions that are left make up the rest
+abbrev pub invariant-loop-position : goal.invariant-loop-position
+invariant-loop-position l =
+    let towards = candidates_in l.graph l.sets l.k in
+    shared towards (filter (goes_up towards) (last_first l.position)) (record { had = l.had; carried = l.loads })
+    ≡ shared towards (filter (goes_up towards) (last_first (length l.graph))) (record { had = l.fn.had; carried = l.fn.loads })
