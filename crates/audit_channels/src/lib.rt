@@ -2,10 +2,10 @@
 //! switches hold, whoever wrote them.
 #![tactic(auto)]
 
+mod channel_set;
 mod column;
 mod cycle;
 mod following;
-mod channel_set;
 pub mod laws;
 mod network_order;
 mod network_waits;

@@ -1,65 +1,16 @@
 //! The choices for one end.
-ghost use Rattle.std.specs.Prelude.{◌≡◌, ◌<◌, ◌≤◌, ◌+◌, ◌*◌, ◌++◌, ◌^◌};
-ghost use Rattle.std.specs.Prelude.{All, IfOk, OnOk, filter, length, not, reverse, slice_index};
-ghost use Rattle.port_graph.specs.Heads.{edges_at};
-ghost use Rattle.spread_labels.specs.Labels.{leads_up};
+ghost use Rattle.std.specs.Prelude.{◌≡◌, ◌<◌, ◌≤◌, ◌+◌, ◌*◌, ◌^◌, All, OnOk, length};
 ghost use Rattle.spread_labels.specs.Orders.{numbers_from};
 ghost use Rattle.balanced_choices.specs.EdgesTaken.{edges_taken, without_by};
 ghost use Rattle.balanced_choices.specs.Ways.{lightest};
 ghost use Rattle.balanced_choices.specs.BalancedChoices.{Chosen, choices_in, choose_each, digits_from, first_choice};
-ghost use Rattle.balanced_choices.specs.BalancedChoices.{first_choices, in_turn, is_below, near_first, with_choice};
+ghost use Rattle.balanced_choices.specs.BalancedChoices.{first_choices, in_turn, with_choice};
 
 use crate::loads::PORTS;
 use crate::taken::{edge_taken, edges_taken};
 use crate::ways::{Change, change_way, lightest};
 use port_graph::{Adjacency, Edge};
 use std::alloc::{AllocError, Global};
-
-/// Returns all positions. If `ways` are the candidates towards one target, each position comes after the positions that
-/// its candidates lead to.
-pub(crate) fn near_first(alloc: Global, ways: &Adjacency) -> Result<Vec<usize>, AllocError>
-    ensures order { IfOk result (λ order. order.items ≡ near_first ways.now) }
-    ensures positions { IfOk result (λ order. All (λ p. p < length ways.now) order.items) }
-{
-    let mut order = Vec::with_capacity(alloc, ways.len())?;
-    push_above(ways, &mut order)?;
-    push_below(ways, &mut order)?;
-    Ok(order)
-}
-
-/// Appends to `order` the positions without a candidate that leads up, from the last to the first.
-fn push_above(ways: &Adjacency, order: &mut Vec<usize>) -> Result<(), AllocError>
-    ensures { OnOk result (order.new.items
-        ≡ order.old.items ++ filter (λ p. not (is_below ways.now p)) (reverse (numbers_from 0 (length ways.now)))) }
-{
-    for left in 0..ways.len() {
-        let position = ways.len() - 1 - left;
-        if !is_below(ways, position) {
-            order.push(position)?;
-        }
-    }
-    Ok(())
-}
-
-/// Appends to `order` the positions with a candidate that leads up, from the first to the last.
-fn push_below(ways: &Adjacency, order: &mut Vec<usize>) -> Result<(), AllocError>
-    ensures { OnOk result (order.new.items
-        ≡ order.old.items ++ filter (is_below ways.now) (numbers_from 0 (length ways.now))) }
-{
-    for position in 0..ways.len() {
-        if is_below(ways, position) {
-            order.push(position)?;
-        }
-    }
-    Ok(())
-}
-
-/// Returns whether a candidate of `position` leads up.
-fn is_below(ways: &Adjacency, position: usize) -> bool
-    ensures { result ≡ is_below ways.now position }
-{
-    ways.at(position).iter().any(|edge| edge.to < position)
-}
 
 /// Makes the choices of `round` for the end with the number `number`: first choices in round 0, and new ones in later
 /// rounds. Before new choices, the packets to the end are taken off `loads`.

@@ -3,9 +3,11 @@ ghost use Rattle.std.specs.Prelude.{◌≡◌, ◌<◌, ◌≤◌, ◌+◌, ◌-
 ghost use Rattle.port_graph.specs.Heads.{LeadToVertices, edges_at};
 ghost use Rattle.spread_labels.specs.MarkSets.{AreRowsOf, picked, sets_at};
 ghost use Rattle.spread_labels.specs.Orders.{numbers_from};
-ghost use Rattle.balanced_choices.specs.BalancedChoices.{Balance, balanced_choices, ends_of, with_all, with_ends, with_round};
+ghost use Rattle.balanced_choices.specs.BalancedChoices.{Balance, balanced_choices, ends_of, with_all, with_ends};
+ghost use Rattle.balanced_choices.specs.BalancedChoices.{with_round};
 
-use crate::choice::{choose, near_first};
+use crate::choice::choose;
+use crate::choice_order::near_first;
 use crate::evenness::are_even;
 use crate::loads::no_loads;
 use port_graph::{Adjacency, Edge};

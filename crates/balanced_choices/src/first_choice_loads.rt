@@ -1,6 +1,6 @@
 //! The loads of channels by first choices.
-ghost use Rattle.std.specs.Prelude.{◌≡◌, ◌<◌, ◌≤◌, ◌+◌, ◌*◌, ℕ, [], ◌∷◌, All, IfOk, OnOk};
-ghost use Rattle.std.specs.Prelude.{length, map, replicate, reverse, slice_index, slice_index_or};
+ghost use Rattle.std.specs.Prelude.{◌≡◌, ◌<◌, ◌≤◌, ◌+◌, ◌*◌, ℕ, [], ◌∷◌, All, IfOk, OnOk, length, map, replicate};
+ghost use Rattle.std.specs.Prelude.{reverse, slice_index, slice_index_or};
 ghost use Rattle.port_graph.specs.Heads.{LeadToVertices};
 ghost use Rattle.spread_labels.specs.Orders.{numbers_from};
 ghost use Rattle.balanced_choices.specs.declared.ways.Change.TheVariants.{Add};
@@ -8,10 +8,10 @@ ghost use Rattle.balanced_choices.specs.BalancedChoices.{near_first};
 ghost use Rattle.balanced_choices.specs.Loads.{first_loads, loads_with, loads_with_all, passed_to};
 ghost use Rattle.balanced_choices.specs.Ways.{channel_by, with_changes};
 
-use crate::choice::near_first;
+use crate::choice_order::near_first;
+use crate::choice_rounds::{Destination, positions_of, ways_towards};
 use crate::loads::{PORTS, no_loads};
 use crate::round_robin::RoundRobin;
-use crate::choice_rounds::{Destination, positions_of, ways_towards};
 use port_graph::{Adjacency, Edge};
 use spread_labels::{CandidateSets, TARGETS};
 use std::alloc::{AllocError, Global};

@@ -2,17 +2,18 @@
 #![tactic(auto)]
 
 mod choice;
+mod choice_order;
+mod choice_rounds;
 mod evenness;
 mod first_choice_loads;
 pub mod laws;
 mod loads;
 mod round_robin;
-mod choice_rounds;
 mod taken;
 mod ways;
 
+pub use choice_rounds::{Destination, balanced_choices};
 pub use evenness::are_even;
 pub use first_choice_loads::first_loads;
 pub use loads::{PORTS, no_loads};
 pub use round_robin::RoundRobin;
-pub use choice_rounds::{Destination, balanced_choices};

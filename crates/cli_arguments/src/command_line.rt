@@ -1,34 +1,16 @@
 //! The command line.
-ghost use Rattle.std.specs.Prelude.{◌≡◌, ◌∷◌, IfOk, codes, false, if◌then◌else◌, is_some, map};
-ghost use Rattle.std.specs.Char.{is_ascii_hexdigit};
-ghost use Rattle.std.specs.List.{list_all};
-ghost use Rattle.std.specs.Str.{bytes_eq};
-ghost use Rattle.clap.specs.Matches.{first_value, found_of};
-ghost use Rattle.clap.specs.Simple.{App, Shape, subcommand_rows_of, with_subcommand};
-ghost use Rattle.clap.specs.Values.{kind_of};
-ghost use Rattle.cli_arguments.specs.CommandLine.{AddsRules, AreRoutings, IsApp, IsOf, IsReadAs};
-ghost use Rattle.cli_arguments.specs.CommandLine.{audit_shape, facts_shape, join_shape, next_shape, order_of_shape};
-ghost use Rattle.cli_arguments.specs.CommandLine.{order_shape};
+ghost use Rattle.std.specs.Prelude.{◌∷◌, IfOk, codes, map};
+ghost use Rattle.clap.specs.Simple.{App, Shape, with_subcommand};
+ghost use Rattle.cli_arguments.specs.CommandLine.{AddsRules, AreRoutings, IsApp, IsOf, IsReadAs, audit_shape};
+ghost use Rattle.cli_arguments.specs.CommandLine.{facts_shape, join_shape, next_shape, order_of_shape, order_shape};
 ghost use Rattle.cli_arguments.specs.CommandLine.{command_line, of_files, of_order, of_planning, of_routing, of_seat};
-ghost use Rattle.cli_arguments.specs.CommandLine.{plan_shape, program_app, run_shape, serve_shape};
-ghost use Rattle.cli_arguments.specs.CommandLine.{of_lanes, of_report, of_step};
-ghost use Rattle.cli_arguments.specs.CommandLine.{text_rule};
+ghost use Rattle.cli_arguments.specs.CommandLine.{plan_shape, program_app, run_shape, serve_shape, of_lanes};
+ghost use Rattle.cli_arguments.specs.CommandLine.{of_report, of_step, text_rule};
 ghost use Rattle.cli_arguments.specs.WellFormed.{IsWellFormed};
-ghost use Rattle.cli_arguments.specs.Words.{has_conflict, has_conflict_behind, is_guid, is_guid_word, is_key};
-ghost use Rattle.cli_arguments.specs.Words.{is_set, is_wrong_seat, lacks_lanes, lacks_rule, order_rule};
-ghost use Rattle.cli_arguments.specs.Words.{planning_conflict};
+ghost use Rattle.cli_arguments.specs.Words.{has_conflict};
 
-use crate::argument_names::{
-    ANSWERS_AS_ASKED, AUDIT, BALANCE, FACTS, FILE, GUID, JOIN, LANES, LMC, NEXT, ORDER, ORDER_OF,
-    PLAN, ROOTS, ROUTING, RUN, SCHEDULE, SERVE, SM_KEY, SPREAD, TABLES, TOPOLOGY, UPDOWN,
-};
-use crate::arguments::{
-    all, answers_as_asked, files, floor, lanes, last_order, lmc, max_load, order_file, port,
-    priority, roots, routing, sm_key, text, told_order,
-};
-use clap::error::ErrorKind;
-use clap::{ArgMatches, Command, Error};
-use std::alloc::{AllocError, Global};
+use crate::argument_names::{BALANCE, GUID, SPREAD, TABLES, UPDOWN};
+use crate::arguments::{all, files, lanes, port};
 
 const RULES: [&str; 3] = [UPDOWN, SPREAD, BALANCE];
 
@@ -345,156 +327,8 @@ fn with_order<'a>(alloc: Global, command: Command<'a>) -> Result<Command<'a>, Al
     command.arg(roots(alloc))?.arg(order_file(alloc))
 }
 
-/// Returns whether options contradict each other, or the GUID or the SM_Key of `serve` is wrong. Options contradict
-/// each other if roots and an order are both named, if roots or an order are named without a rule of routing that takes
-/// them, or if `--answers-as-asked` is set without a file of lanes. The subcommand `order` needs no rule. The GUID must
-/// be 1 to 16 hex digits, and an SM_Key too if it is named.
-fn has_conflict(matches: &ArgMatches<'_>) -> bool
-    ensures { result ≡ has_conflict_behind (subcommand_rows_of matches.now) }
-{
-    match matches.subcommand() {
-        Some((name, words)) => has_conflict_in(name, words),
-        None => false,
-    }
-}
-
-/// Returns whether the options of the subcommand `name` contradict each other, or `name` is `serve` and the GUID or the
-/// SM_Key is not 1 to 16 hex digits.
-fn has_conflict_in(name: &str, words: &ArgMatches<'_>) -> bool
-    ensures { result ≡ has_conflict name.now (first_value (found_of words.now)) }
-{
-    match name {
-        SERVE => planning_conflict(name, words) || has_wrong_seat(words),
-        AUDIT => lacks_lanes(words),
-        NEXT => planning_conflict(name, words) || lacks_lanes(words),
-        _ => planning_conflict(name, words),
-    }
-}
-
-/// Returns whether options of a plan or an order contradict each other: roots and an order are both named, or roots or
-/// an order are named without a rule that takes them.
-fn planning_conflict(name: &str, words: &ArgMatches<'_>) -> bool
-    ensures { result ≡ planning_conflict name.now (first_value (found_of words.now)) }
-{
-    let rooted = is_named(words, ROOTS);
-    let ordered = is_named(words, ORDER);
-    (rooted && ordered) || lacks_rule(name, words, rooted, ordered)
-}
-
-/// Returns whether the flag about the service levels of answers is set, but no file of lanes is named.
-fn lacks_lanes(words: &ArgMatches<'_>) -> bool
-    ensures { result ≡ lacks_lanes (first_value (found_of words.now)) }
-{
-    is_set(words, ANSWERS_AS_ASKED) && !is_named(words, LANES)
-}
-
-/// Returns whether `words`, after a subcommand, set the flag `name`.
-pub fn is_set(words: &ArgMatches<'_>, name: &str) -> bool
-    ensures { result ≡ is_set (first_value (found_of words.now) name.now) }
-{
-    match words.get_str(name) {
-        Some(word) => word == "true",
-        None => false,
-    }
-}
-
-/// Returns whether no GUID of 1 to 16 hex digits is named, or an SM_Key is named that is not 1 to 16 hex digits.
-fn has_wrong_seat(words: &ArgMatches<'_>) -> bool
-    ensures { result ≡ is_wrong_seat (first_value (found_of words.now)) }
-{
-    !has_guid(words) || !has_key(words)
-}
-
-/// Returns whether the SM_Key is 1 to 16 hex digits. Returns true if no SM_Key is named.
-fn has_key(words: &ArgMatches<'_>) -> bool
-    ensures { result ≡ is_key (first_value (found_of words.now) (codes "sm-key")) }
-{
-    match words.get_str(SM_KEY) {
-        Some(word) => is_guid_word(word.as_bytes()),
-        None => true,
-    }
-}
-
-/// Returns whether a GUID is named, and is 1 to 16 hex digits.
-fn has_guid(words: &ArgMatches<'_>) -> bool
-    ensures { result ≡ is_guid (first_value (found_of words.now) (codes "GUID")) }
-{
-    match words.get_str(GUID) {
-        Some(word) => is_guid_word(word.as_bytes()),
-        None => false,
-    }
-}
-
-/// Returns whether `word` is 1 to 16 hex digits.
-fn is_guid_word(word: &[u8]) -> bool
-    ensures { result ≡ is_guid_word word.now }
-{
-    !word.is_empty() && word.len() <= 16 && are_hex_digits(word)
-}
-
-/// Returns whether all of `bytes` are hex digits.
-fn are_hex_digits(bytes: &[u8]) -> bool
-    ensures { result ≡ list_all is_ascii_hexdigit bytes.now }
-{
-    bytes.iter().all(|byte| byte.is_ascii_hexdigit())
-}
-
-/// Returns whether roots are named (`rooted`) without the rule that takes them, or an order is named (`ordered`)
-/// without a rule that takes it. For the subcommand `order`, `spread` need not be named.
-fn lacks_rule(name: &str, words: &ArgMatches<'_>, rooted: bool, ordered: bool) -> bool
-    ensures { result ≡ lacks_rule (if bytes_eq name.now (codes "order")
-        then order_rule (first_value (found_of words.now) (codes "routing"))
-        else first_value (found_of words.now) (codes "routing")) rooted ordered }
-{
-    match (name, words.get_str(ROUTING)) {
-        (_, Some(SPREAD)) | (ORDER, None) => false,
-        (_, Some(BALANCE)) => rooted,
-        _ => rooted || ordered,
-    }
-}
-
-/// Returns whether `words` have a word for the option `name`.
-fn is_named(words: &ArgMatches<'_>, name: &str) -> bool
-    ensures { result ≡ is_some (first_value (found_of words.now) name.now) }
-{
-    words.get_str(name).is_some()
-}
-
-/// Returns the error for a command line for which `has_conflict` returns true: options contradict each other, or a GUID
-/// or an SM_Key is not 1 to 16 hex digits. Returns an outer `Err` if memory is refused.
-fn conflict(alloc: Global, matches: &ArgMatches<'_>) -> Result<Error, AllocError>
-    ensures { IfOk result (λ error. kind_of error ≡ ErrorKind.ArgumentConflict) }
-{
-    let mut command = subcommand(alloc, matches.subcommand_name())?;
-    command.error(ErrorKind::ArgumentConflict, conflict_text(matches))
-}
-
-/// Returns the text of the error for options that contradict each other, or for a GUID or an SM_Key that is not 1 to 16
-/// hex digits. Returns an empty text without a subcommand.
-fn conflict_text(matches: &ArgMatches<'_>) -> &'static str {
-    let Some((_, words)) = matches.subcommand() else {
-        return "";
-    };
-    if is_named(words, GUID) && !has_guid(words) {
-        return "invalid value for '<GUID>': 1 to 16 hex digits are wanted";
-    }
-    if !has_key(words) {
-        return "invalid value for '--sm-key <HEX>': 1 to 16 hex digits are wanted";
-    }
-    if lacks_lanes(words) {
-        return "the argument '--answers-as-asked' cannot be used without '--lanes <FILE>'";
-    }
-    match (is_named(words, ROOTS), is_named(words, ORDER)) {
-        (true, true) => "the argument '--roots <FILE>' cannot be used with '--order <FILE>'",
-        (true, false) => "the argument '--roots <FILE>' cannot be used without '--routing spread'",
-        (false, _) => {
-            "the argument '--order <FILE>' cannot be used without '--routing spread' or '--routing balance'"
-        }
-    }
-}
-
 /// Builds the subcommand `name`: `audit`, `next`, `run`, `order` or `serve`, and `plan` for any other name.
-fn subcommand<'a>(alloc: Global, name: Option<&str>) -> Result<Command<'a>, AllocError> {
+pub(crate) fn subcommand<'a>(alloc: Global, name: Option<&str>) -> Result<Command<'a>, AllocError> {
     match name {
         Some(AUDIT) => audit(alloc)?.bin_name("ibsm audit"),
         Some(NEXT) => next(alloc, RULES.as_slice())?.bin_name("ibsm next"),

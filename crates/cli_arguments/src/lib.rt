@@ -1,8 +1,11 @@
 //! The words of a command line: which words there are, and what they are parsed as.
 #![tactic(auto)]
 
+mod arg_matches;
 pub mod argument_names;
 mod arguments;
 mod command_line;
+mod conflicts;
 
-pub use command_line::{is_set, matches_of};
+pub use arg_matches::is_set;
+pub use command_line::matches_of;

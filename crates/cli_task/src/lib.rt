@@ -2,6 +2,7 @@
 #![tactic(auto)]
 
 pub mod laws;
+mod option_values;
 mod task;
 
 pub use task::{Task, names_of, task_of};

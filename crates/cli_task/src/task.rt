@@ -1,31 +1,27 @@
 //! The task that the words of the command line ask for.
-ghost use Rattle.std.specs.Prelude.{◌≡◌, IfOk, codes, is_some, map, option_and_then, option_map};
+ghost use Rattle.std.specs.Prelude.{◌≡◌, IfOk, codes, map, option_map};
 ghost use Rattle.clap.specs.Matches.{first_value, found_of, matched_of, raw_values};
-ghost use Rattle.cli_task.specs.Asked.{audit_asked, audit_task, floor_asked, lmc_asked, max_load_asked, number_in};
-ghost use Rattle.cli_task.specs.Asked.{number_or, planning_asked, rule_asked};
-ghost use Rattle.cli_task.specs.Asked.{held_order_of, lanes_of, order_asked, output_asked, step_asked, step_texts};
-ghost use Rattle.cli_task.specs.Asked.{task_asked, task_behind, within};
-ghost use Rattle.cli_task.specs.Asked.{balance_asked, names_asked, names_in, rule_of_task, spread_asked, takes_files};
-ghost use Rattle.cli_task.specs.Asked.{texts_asked};
-ghost use Rattle.cli_task.specs.Asked.{guid_asked, port_asked, priority_asked, serving_asked, sm_key_asked};
-ghost use Rattle.cli_task.specs.Asked.{texts_of_rule};
+ghost use Rattle.cli_task.specs.Asked.{audit_asked, audit_task, held_order_of, lanes_of, output_asked, step_asked};
+ghost use Rattle.cli_task.specs.Asked.{step_texts, task_asked, task_behind, names_asked, names_in, rule_of_task};
+ghost use Rattle.cli_task.specs.Asked.{takes_files, texts_asked, serving_asked, texts_of_rule};
 
+use crate::option_values::{
+    floor_of, guid_of, max_load_of, order_of, planning_of, port_of, priority_of, sm_key_of,
+};
 use arrayvec::ArrayVec;
-use attr_codec::{Lmc, Priority};
+use attr_codec::Lmc;
 use audit_report::AuditAsked;
 use clap::ArgMatches;
 use cli_arguments::argument_names::{
-    ALL, ANSWERS_AS_ASKED, AUDIT, BALANCE, FACTS, FILE, FLOOR, GUID, JOIN, LANES, LAST_ORDER, LMC,
-    MAX_LOAD, NEXT, ORDER, ORDER_OF, PLAN, PORT, PRIORITY, ROOTS, ROUTING, RUN, SCHEDULE, SERVE,
-    SM_KEY, SPREAD, TABLES, TOLD_ORDER, TOPOLOGY, UPDOWN,
+    ALL, ANSWERS_AS_ASKED, AUDIT, FACTS, FILE, GUID, JOIN, LANES, LAST_ORDER, NEXT, ORDER,
+    ORDER_OF, PLAN, ROOTS, RUN, SCHEDULE, SERVE, TABLES, TOLD_ORDER, TOPOLOGY,
 };
 use cli_arguments::is_set;
 use lane_report::LaneAuditAsked;
 use next_run::{HeldOrder, StepAsked, StepLanes};
-use serve_lines::hex_number;
 use serve_task::Serving;
 use sm_cli::{Invocation, Output, RuleAsked};
-use smp_bytes::{Generation, Guid, PortNum};
+use smp_bytes::Generation;
 use std::alloc::{AllocError, Global};
 
 /// A task that the program is asked to do.
@@ -141,17 +137,6 @@ fn audit_of(words: &ArgMatches<'_>) -> Option<AuditAsked>
     })
 }
 
-/// Returns the maximum load that passes, as asked by `words`, which are those after a subcommand. The inner value is
-/// `None` if the words name no maximum load. Returns `None` if the maximum load is not a number of 32 bits.
-fn max_load_of(words: &ArgMatches<'_>) -> Option<Option<u64>>
-    ensures { result ≡ max_load_asked (first_value (found_of words.now) (codes "max-load")) }
-{
-    match words.get_str(MAX_LOAD) {
-        Some(text) => Some(Some(u64::from(number_in(text)?))),
-        None => Some(None),
-    }
-}
-
 /// Returns the options of a step, as asked by `words`, which are those after a subcommand. Returns `None` if one of the
 /// words is wrong.
 fn step_of(words: &ArgMatches<'_>) -> Option<StepAsked>
@@ -214,52 +199,6 @@ fn serving_of(words: &ArgMatches<'_>) -> Option<Serving>
     })
 }
 
-/// Returns the GUID that `words` name. Returns `None` if `words` name no GUID, or if the GUID is not written as 1 to 16
-/// hex digits.
-fn guid_of(words: &ArgMatches<'_>) -> Option<Guid>
-    ensures { result ≡ guid_asked (first_value (found_of words.now) (codes "GUID")) }
-{
-    Some(Guid::new(hex_number(words.get_str(GUID)?.as_bytes())?))
-}
-
-/// Returns the port number that `words` name. Returns `None` if `words` name no port number, or if the number is not
-/// from 1 to 254.
-fn port_of(words: &ArgMatches<'_>) -> Option<PortNum>
-    ensures { result ≡ port_asked (first_value (found_of words.now) (codes "PORT")) }
-{
-    let port = number_in(words.get_str(PORT)?)?;
-    if port == 0 || port > 254 {
-        return None;
-    }
-    Some(PortNum::new(port as u8))
-}
-
-/// Returns the priority that `words` name. Returns `None` if `words` name no priority, or if the priority is not from 0
-/// to 15.
-fn priority_of(words: &ArgMatches<'_>) -> Option<Priority>
-    ensures { result ≡ priority_asked (first_value (found_of words.now) (codes "PRIORITY")) }
-{
-    let priority = number_in(words.get_str(PRIORITY)?)?;
-    if priority > 15 {
-        return None;
-    }
-    Priority::new(priority as u8)
-}
-
-/// The SM_Key that OpenSM has unless its options set another.
-const OPENSM_KEY: u64 = 1;
-
-/// Returns the SM_Key that `words` name, or that of OpenSM if `words` name no SM_Key. Returns `None` if the SM_Key is
-/// not written as 1 to 16 hex digits.
-fn sm_key_of(words: &ArgMatches<'_>) -> Option<u64>
-    ensures { result ≡ sm_key_asked (first_value (found_of words.now) (codes "sm-key")) }
-{
-    match words.get_str(SM_KEY) {
-        Some(word) => hex_number(word.as_bytes()),
-        None => Some(OPENSM_KEY),
-    }
-}
-
 /// Returns what the subcommand `command` writes about files. Returns `None` if `command` is not `facts`, `join`, `plan`
 /// or `order`, or if one of `words` is wrong.
 fn output_of(command: &str, words: &ArgMatches<'_>) -> Option<Output>
@@ -274,108 +213,6 @@ fn output_of(command: &str, words: &ArgMatches<'_>) -> Option<Output>
         }
         ORDER => Some(Output::Order(order_of(words)?)),
         _ => None,
-    }
-}
-
-/// Returns the LMC and the rule of routing that `words` ask for. Returns `None` if the words for the LMC or for the
-/// rule are wrong.
-fn planning_of(words: &ArgMatches<'_>) -> Option<(Lmc, RuleAsked)>
-    ensures { result ≡ planning_asked (first_value (found_of words.now)) }
-{
-    let lmc = lmc_of(words)?;
-    let rule = rule_of(words)?;
-    Some((lmc, rule))
-}
-
-/// Returns the rule whose order `words` ask for, or the rule that spreads if `words` name no rule. Returns `None` if
-/// the named rule is unknown, if roots and an order are both named, or if roots or an order are named with a rule that
-/// does not take them.
-fn order_of(words: &ArgMatches<'_>) -> Option<RuleAsked>
-    ensures { result ≡ order_asked (first_value (found_of words.now)) }
-{
-    match words.get_str(ROUTING) {
-        Some(_) => rule_of(words),
-        None => spread_by(
-            words.get_str(ROOTS).is_some(),
-            words.get_str(ORDER).is_some(),
-        ),
-    }
-}
-
-/// Returns the floor that `words` ask for, or 1 if `words` name no floor. Returns `None` if the named floor is not from
-/// 1 to 2^32 - 1.
-fn floor_of(words: &ArgMatches<'_>) -> Option<Generation>
-    ensures { result ≡ floor_asked (first_value (found_of words.now) (codes "floor")) }
-{
-    Generation::new(number_or(words, FLOOR, 1)?)
-}
-
-/// Returns the LMC that `words` ask for, or 0 if `words` name no LMC. Returns `None` if the named LMC is not from 0 to
-/// 7.
-fn lmc_of(words: &ArgMatches<'_>) -> Option<Lmc>
-    ensures { result ≡ lmc_asked (first_value (found_of words.now) (codes "lmc")) }
-{
-    Lmc::new(u8::try_from(number_or(words, LMC, 0)?).ok()?)
-}
-
-/// Returns the number after the option `name`, or `otherwise` if the option is not given. Returns `None` if the option
-/// is not followed by a number of 32 bits.
-fn number_or(words: &ArgMatches<'_>, name: &str, otherwise: u32) -> Option<u32>
-    ensures { result ≡ number_or otherwise (first_value (found_of words.now) name.now) }
-{
-    match words.get_str(name) {
-        Some(text) => number_in(text),
-        None => Some(otherwise),
-    }
-}
-
-/// Returns the number that `text` writes in decimal, with or without a sign, as the parser of words reads it. Returns
-/// `None` if `text` does not write a number of 32 bits.
-fn number_in(text: &str) -> Option<u32>
-    ensures { result ≡ option_and_then (within 0 4294967295) (number_in text.now) }
-{
-    u32::try_from(text.parse::<i64>().ok()?).ok()
-}
-
-/// Returns the rule of routing that `words` ask for, or `UpDown` if `words` name no rule, no roots and no order.
-/// Returns `None` if the named rule is unknown, if roots and an order are both named, or if roots or an order are named
-/// without a rule that takes them.
-fn rule_of(words: &ArgMatches<'_>) -> Option<RuleAsked>
-    ensures { result ≡ rule_asked (first_value (found_of words.now) (codes "routing"))
-        (is_some (first_value (found_of words.now) (codes "roots")))
-        (is_some (first_value (found_of words.now) (codes "order"))) }
-{
-    let rooted = words.get_str(ROOTS).is_some();
-    let ordered = words.get_str(ORDER).is_some();
-    match words.get_str(ROUTING) {
-        None | Some(UPDOWN) if !rooted && !ordered => Some(RuleAsked::UpDown),
-        Some(BALANCE) if !rooted => Some(balance_by(ordered)),
-        Some(SPREAD) => spread_by(rooted, ordered),
-        _ => None,
-    }
-}
-
-/// Returns the rule that spreads: from roots if `rooted`, in a named order if `ordered`. Returns `None` if `rooted` and
-/// `ordered` are both true.
-fn spread_by(rooted: bool, ordered: bool) -> Option<RuleAsked>
-    ensures { result ≡ spread_asked rooted ordered }
-{
-    match (rooted, ordered) {
-        (false, false) => Some(RuleAsked::Spread),
-        (true, false) => Some(RuleAsked::SpreadFromRoots),
-        (false, true) => Some(RuleAsked::SpreadInOrder),
-        (true, true) => None,
-    }
-}
-
-/// Returns the rule that spreads with balanced loads, in a named order if `ordered`.
-fn balance_by(ordered: bool) -> RuleAsked
-    ensures { result ≡ balance_asked ordered }
-{
-    if ordered {
-        RuleAsked::BalanceInOrder
-    } else {
-        RuleAsked::Balance
     }
 }
 

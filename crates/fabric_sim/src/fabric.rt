@@ -1,6 +1,6 @@
 ghost use Rattle.std.specs.Prelude.{◌≡◌, ◌<◌, length, slice_get, option_copied, is_some, true, Some, IfSome};
 ghost use Rattle.fabric_model.specs.Fabric.{is_switch_at};
-ghost use Rattle.fabric_sim.specs.Simulation.{agent_at, across, is_seat_at, is_cable_port, fabric_of};
+ghost use Rattle.fabric_sim.specs.Simulation.{agent_at, across, is_cable_port, fabric_of};
 
 use crate::flight::Flight;
 use crate::peers::Peers;
@@ -96,17 +96,6 @@ impl Fabric {
     {
         match self.peers.get(port.node.number()) {
             Some(peers) => peers.across(port.port).is_some(),
-            None => false,
-        }
-    }
-
-    /// Returns whether a subnet manager sits at `port`.
-    pub fn is_seat(&self, port: &NodePort) -> bool
-        ensures seat { result ≡ is_seat_at self.now port.now }
-        ensures port { result ≡ true → is_cable_port self.now port.now ≡ true }
-    {
-        match self.agents.get(port.node.number()) {
-            Some(agent) => agent.has_seat(port.port),
             None => false,
         }
     }

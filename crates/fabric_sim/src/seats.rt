@@ -1,5 +1,5 @@
-ghost use Rattle.std.specs.Prelude.{◌≡◌};
-ghost use Rattle.fabric_sim.specs.Simulation.{is_cable_port};
+ghost use Rattle.std.specs.Prelude.{◌≡◌, true, Some};
+ghost use Rattle.fabric_sim.specs.Simulation.{is_cable_port, is_seat_at};
 ghost use Rattle.fabric_sim.specs.Changes.{after_seat};
 
 use crate::fabric::Fabric;
@@ -27,5 +27,16 @@ impl Fabric {
         let agent = &mut self.agents[at.node.number()];
         agent.set_seat(at.port);
         Ok(())
+    }
+
+    /// Returns whether a subnet manager sits at `port`.
+    pub fn is_seat(&self, port: &NodePort) -> bool
+        ensures seat { result ≡ is_seat_at self.now port.now }
+        ensures port { result ≡ true → is_cable_port self.now port.now ≡ true }
+    {
+        match self.agents.get(port.node.number()) {
+            Some(agent) => agent.has_seat(port.port),
+            None => false,
+        }
     }
 }

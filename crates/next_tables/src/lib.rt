@@ -4,6 +4,7 @@
 #![tactic(auto)]
 
 mod assembly;
+mod deliveries;
 mod entries_by_lid;
 mod fault;
 pub mod laws;

@@ -4,15 +4,14 @@ ghost use Rattle.std.specs.List.{enumerate_from};
 ghost use Rattle.next_tables.specs.OrderRule.{goes_up};
 ghost use Rattle.next_tables.specs.SwitchPositions.{position_at};
 ghost use Rattle.next_tables.specs.SettledComputed.{arrives_by};
-ghost use Rattle.next_tables.specs.OrderComputed.{delivered_of, entered_of, flag, is_differing, leads_in};
-ghost use Rattle.next_tables.specs.OrderComputed.{may_change_by};
+ghost use Rattle.next_tables.specs.OrderComputed.{entered_of, flag, is_differing, leads_in, may_change_by};
 ghost use Rattle.next_tables.specs.OrderComputed.{entries_by, entry_by, enters, going_up_of, ordered_of, tried_by};
 ghost use Rattle.next_tables.specs.OrderComputed.{tried_of, turns_well_by};
 
-use crate::settled_entries::{arrives_by, hops};
+use crate::deliveries::{arrives_by, delivered, flag, hops, leads_in};
 use crate::up_down::{is_down, is_up};
 use packet_walks::ends_by_switch::ends;
-use packet_walks::{NextHop, SwitchStep, is_at};
+use packet_walks::{NextHop, SwitchStep};
 use std::alloc::{AllocError, Global};
 use subnet_view::EndPort;
 
@@ -49,31 +48,6 @@ pub(crate) fn ordered_entries(
     };
     let tried = tried(alloc, port, positions, &flags, held, goal)?;
     entries_by(alloc, port, &tried)
-}
-
-/// Returns, for each switch, whether the held tables deliver the packet at `port` from there.
-fn delivered(alloc: Global, port: &EndPort, held: &[SwitchStep]) -> Result<Vec<bool>, AllocError>
-    ensures { IfOk result (λ delivered. delivered.items ≡ delivered_of port.now held.now) }
-{
-    let hops = hops(alloc, held)?;
-    let ends = ends(hops);
-    arrivals(alloc, port, &ends, held)
-}
-
-/// Returns, for each of `steps`, whether the walk that goes on by its hop arrives at `port`. `ends` has the end of the
-/// walk from each switch.
-fn arrivals(
-    alloc: Global,
-    port: &EndPort,
-    ends: &[NextHop],
-    steps: &[SwitchStep],
-) -> Result<Vec<bool>, AllocError>
-    ensures { IfOk result (λ found. found.items ≡ map (λ x. arrives_by port.now ends.now x.hop) steps.now) }
-{
-    steps
-        .iter()
-        .map(|step| arrives_by(port, ends, step.hop))
-        .collect(alloc)
 }
 
 /// Returns, for each switch, whether it sends the packet up by a held entry that is not the goal's.
@@ -222,23 +196,6 @@ fn turns_well(positions: &[usize], flags: &SwitchFlags, index: usize, hop: &Next
         }
         NextHop::Ends(_) => true,
     }
-}
-
-/// Returns whether `hop` ends at `port`, or leads to a switch from which the held tables deliver the packet.
-fn leads_in(port: &EndPort, delivered: &[bool], hop: &NextHop) -> bool
-    ensures { result ≡ leads_in port.now delivered.now hop.now }
-{
-    match hop {
-        NextHop::To(to) => flag(delivered, *to),
-        NextHop::Ends(end) => is_at(port, &Some(*end)),
-    }
-}
-
-/// Returns the flag at `index`, or false if there is none.
-fn flag(flags: &[bool], index: usize) -> bool
-    ensures { result ≡ flag flags.now index }
-{
-    flags.get(index).copied().unwrap_or(false)
 }
 
 /// Returns, for each switch, the entry of its step in `tried` if these steps deliver the packet from there at `port`,

@@ -1,12 +1,12 @@
 //! The next entries of the switches for a LID that one end port alone holds, both in the held tables and in the plan.
 ghost use Rattle.std.specs.Prelude.{◌≡◌, ◌↔◌, IfOk, IsTrue};
 ghost use Rattle.packet_walks.specs.EndsBySwitch.{HaveEnded};
-ghost use Rattle.next_tables.specs.SettledComputed.{agreed_by, agreed_of, arrives_by, chosen_by, hops_of};
-ghost use Rattle.next_tables.specs.SettledComputed.{mending_by, mending_of};
-ghost use Rattle.next_tables.specs.SettledComputed.{is_whole, next_by, next_of, patch_by, patch_entry_by};
+ghost use Rattle.next_tables.specs.SettledComputed.{agreed_by, agreed_of, arrives_by, chosen_by, hops_of, mending_by};
+ghost use Rattle.next_tables.specs.SettledComputed.{mending_of, is_whole, next_by, next_of, patch_by, patch_entry_by};
 
-use packet_walks::ends_by_switch::{end_of, ends, is_to, onward};
-use packet_walks::{Cause, End, NextHop, SwitchStep, is_at};
+use crate::deliveries::{arrives_by, hops};
+use packet_walks::ends_by_switch::{ends, is_to};
+use packet_walks::{Cause, End, NextHop, SwitchStep};
 use std::alloc::{AllocError, Global};
 use subnet_view::EndPort;
 
@@ -101,13 +101,6 @@ fn agreed_by(held: &SwitchStep, plan: &SwitchStep) -> NextHop
     } else {
         NextHop::Ends(End::Lost(held.switch, Cause::NoEntry))
     }
-}
-
-/// Returns the next hop of each of `steps`.
-pub(crate) fn hops(alloc: Global, steps: &[SwitchStep]) -> Result<Vec<NextHop>, AllocError>
-    ensures { IfOk result (λ hops. hops.items ≡ hops_of steps.now) }
-{
-    steps.iter().map(|step| step.hop).collect(alloc)
 }
 
 /// Returns whether, from each switch, the packet arrives at `port` by the plan's next hop and then by `settled`, or by
@@ -223,12 +216,4 @@ fn next_by(
     } else {
         255
     }
-}
-
-/// Returns whether the walk that goes on from `step` arrives at `port`. `ends` has the end of the walk from each
-/// switch.
-pub(crate) fn arrives_by(port: &EndPort, ends: &[NextHop], step: NextHop) -> bool
-    ensures { result ≡ arrives_by port.now ends.now step }
-{
-    is_at(port, &end_of(onward(ends, step)))
 }

@@ -4,13 +4,13 @@ ghost use Rattle.port_graph.specs.Heads.{LeadToVertices};
 ghost use Rattle.spread_labels.specs.MarkSets.{AreRowsOf, picked};
 ghost use Rattle.spread_labels.specs.Orders.{numbers_from};
 ghost use Rattle.spread_labels.specs.TargetSets.{has};
-ghost use Rattle.trial_loads.specs.TrialLoads.{AreUpward, candidates_in, carried_between, carried_to};
-ghost use Rattle.trial_loads.specs.TrialLoads.{first_had, goes_up, last_first, shared, with_shares};
+ghost use Rattle.trial_loads.specs.TrialLoads.{AreUpward, candidates_in, carried_between, carried_to, first_had};
+ghost use Rattle.trial_loads.specs.TrialLoads.{goes_up, last_first, shared, with_shares, loads_by};
 
 use crate::upward::upward;
-use balanced_choices::PORTS;
+use balanced_choices::{PORTS, no_loads};
 use port_graph::{Adjacency, Edge};
-use spread_labels::{CandidateSets, TargetSet};
+use spread_labels::{CandidateSets, TARGETS, TargetSet, leaf_vertices};
 use std::alloc::{AllocError, Global};
 
 /// The number of packets from each adapter to each adapter.
@@ -181,4 +181,26 @@ fn count_having(sets: &[TargetSet], target: usize) -> usize
         }
     }
     count
+}
+
+/// Returns how many packets each channel carries if each adapter sends 65,536 packets to each adapter. `adapters` must
+/// have the number of adapters at each vertex of `graph`. Counts the packets to 64 targets at a time.
+pub(crate) fn loads_by(
+    alloc: Global,
+    graph: &Adjacency,
+    adapters: &[u16],
+) -> Result<Vec<usize>, AllocError>
+    requires lead { LeadToVertices graph.now }
+    requires adapters { length adapters.now ≡ length graph.now }
+    ensures { IfOk result (λ loads. loads.items ≡ loads_by graph.now adapters.now) }
+{
+    let targets = leaf_vertices(alloc, adapters)?;
+    let mut loads = no_loads(alloc, graph.len())?;
+    let mut first = 0;
+    while first < targets.len() {
+        let end = first + TARGETS.min(targets.len() - first);
+        add_packets_between(alloc, graph, adapters, &targets[first..end], &mut loads)?;
+        first = end;
+    }
+    Ok(loads)
 }

@@ -4,12 +4,9 @@ ghost use Rattle.port_graph.specs.Heads.{LeadToVertices};
 ghost use Rattle.spread_labels.specs.LabelLaws.{IsSymmetric};
 ghost use Rattle.trial_loads.specs.TrialLoads.{loads_by, trial_load, trial_loads};
 
-use crate::shared_loads::add_packets_between;
-use balanced_choices::no_loads;
+use crate::shared_loads::loads_by;
 use port_graph::Adjacency;
-use spread_labels::{
-    TARGETS, VertexKey, by_positions, counts_at, greatest_of, grown_order, leaf_vertices, positions,
-};
+use spread_labels::{VertexKey, by_positions, counts_at, greatest_of, grown_order, positions};
 use std::alloc::{AllocError, Global};
 
 /// Returns the trial load of the order that grows by `keys`: the load of the busiest channel. Takes as long as
@@ -52,22 +49,4 @@ pub(crate) fn trial_loads(
     let graph = by_positions(alloc, edges, &vertices, &positions)?;
     let adapters = counts_at(alloc, adapters, &vertices)?;
     loads_by(alloc, &graph, &adapters)
-}
-
-/// Returns how many packets each channel carries if each adapter sends 65,536 packets to each adapter. `adapters` must
-/// have the number of adapters at each vertex of `graph`. Counts the packets to 64 targets at a time.
-fn loads_by(alloc: Global, graph: &Adjacency, adapters: &[u16]) -> Result<Vec<usize>, AllocError>
-    requires lead { LeadToVertices graph.now }
-    requires adapters { length adapters.now ≡ length graph.now }
-    ensures { IfOk result (λ loads. loads.items ≡ loads_by graph.now adapters.now) }
-{
-    let targets = leaf_vertices(alloc, adapters)?;
-    let mut loads = no_loads(alloc, graph.len())?;
-    let mut first = 0;
-    while first < targets.len() {
-        let end = first + TARGETS.min(targets.len() - first);
-        add_packets_between(alloc, graph, adapters, &targets[first..end], &mut loads)?;
-        first = end;
-    }
-    Ok(loads)
 }

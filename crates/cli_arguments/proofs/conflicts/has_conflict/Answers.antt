@@ -2,7 +2,7 @@
 use Rattle.std.proofs.Common.{◌∙◌, sym}
 use Rattle.clap.specs.Matches.{found_of}
 use Rattle.cli_arguments.proofs.FoundWords.{conflict_is}
-use Rattle.cli_arguments.proofs.command_line.has_conflict.Goals as goal
+use Rattle.cli_arguments.proofs.conflicts.has_conflict.Goals as goal
 
 pub returns-in-Some : goal.returns-in-Some
 returns-in-Some c =

@@ -3,7 +3,7 @@ use Rattle.std.proofs.Common.{◌∙◌, ap, sym, w64}
 use Rattle.std.proofs.lemmas.Int.{to_z-of_z}
 use Rattle.std.specs.Prelude.{option_and_then}
 use Rattle.cli_task.proofs.Numbers.{natural, natural_tried, number_parsed, parsed_fits}
-use Rattle.cli_task.proofs.task.number_in.Goals as goal
+use Rattle.cli_task.proofs.option_values.number_in.Goals as goal
 
 pub returns-in_err-ok : goal.returns-in_err-ok
 returns-in_err-ok c =

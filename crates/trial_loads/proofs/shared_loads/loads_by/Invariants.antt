@@ -1,6 +1,6 @@
 use Rattle.std.proofs.Common.{◌≡◌, ◌≤◌, ◌*◌, ◌-◌, length, replicate, take}
 use Rattle.trial_loads.specs.TrialLoads.{carried_between}
-use Rattle.trial_loads.proofs.trials.loads_by.Given as goal
+use Rattle.trial_loads.proofs.shared_loads.loads_by.Given as goal
 
 -- the packets to the targets so far
 abbrev pub invariant-loop-first : goal.invariant-loop-first

@@ -3,7 +3,7 @@ use Rattle.std.specs.Prelude.{filter, not, reverse}
 use Rattle.spread_labels.specs.Orders.{numbers_from}
 use Rattle.balanced_choices.specs.BalancedChoices.{is_below, near_first}
 use Rattle.balanced_choices.proofs.InOrder.{near_first_positions}
-use Rattle.balanced_choices.proofs.choice.near_first.Goals as goal
+use Rattle.balanced_choices.proofs.choice_order.near_first.Goals as goal
 
 pub returns-clause-positions : goal.returns-clause-positions
 returns-clause-positions c =

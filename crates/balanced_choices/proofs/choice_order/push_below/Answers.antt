@@ -4,8 +4,8 @@ use Rattle.spread_labels.specs.Orders.{numbers_from}
 use Rattle.balanced_choices.specs.BalancedChoices.{is_below}
 use Rattle.spread_labels.proofs.Earlier.{filter_grown}
 use Rattle.balanced_choices.proofs.InOrder.{failing, passing}
-use Rattle.balanced_choices.proofs.choice.push_below.Goals as goal
-use Rattle.balanced_choices.proofs.choice.push_below.Goals.{then-is_below+in_ok-push, else-is_below}
+use Rattle.balanced_choices.proofs.choice_order.push_below.Goals as goal
+use Rattle.balanced_choices.proofs.choice_order.push_below.Goals.{then-is_below+in_ok-push, else-is_below}
 
 pub loop-position-preserved : goal.loop-position-preserved
 loop-position-preserved c =

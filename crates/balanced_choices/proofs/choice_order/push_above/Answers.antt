@@ -3,8 +3,8 @@ use Rattle.std.specs.Prelude.{filter, not, reverse}
 use Rattle.spread_labels.specs.Orders.{numbers_from}
 use Rattle.balanced_choices.specs.BalancedChoices.{is_below}
 use Rattle.balanced_choices.proofs.InOrder.{failing, filter_back, passing}
-use Rattle.balanced_choices.proofs.choice.push_above.Goals as goal
-use Rattle.balanced_choices.proofs.choice.push_above.Goals.{then-not-is_below+in_ok-push, else-not-is_below}
+use Rattle.balanced_choices.proofs.choice_order.push_above.Goals as goal
+use Rattle.balanced_choices.proofs.choice_order.push_above.Goals.{then-not-is_below+in_ok-push, else-not-is_below}
 
 pub loop-left-preserved : goal.loop-left-preserved
 loop-left-preserved c =

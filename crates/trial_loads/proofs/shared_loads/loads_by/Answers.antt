@@ -3,7 +3,7 @@ use Rattle.std.proofs.lemmas.List.{with_items_is}
 use Rattle.std.proofs.Math.Seq.{take-add}
 use Rattle.trial_loads.specs.TrialLoads.{carried_between}
 use Rattle.trial_loads.proofs.Packets.{between_both}
-use Rattle.trial_loads.proofs.trials.loads_by.Goals as goal
+use Rattle.trial_loads.proofs.shared_loads.loads_by.Goals as goal
 
 pub loop-first-preserved : goal.loop-first-preserved
 loop-first-preserved c =

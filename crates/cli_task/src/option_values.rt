@@ -1,0 +1,175 @@
+//! The values of the options of a command line.
+ghost use Rattle.std.specs.Prelude.{◌≡◌, codes, is_some, option_and_then};
+ghost use Rattle.clap.specs.Matches.{first_value, found_of};
+ghost use Rattle.cli_task.specs.Asked.{floor_asked, lmc_asked, max_load_asked, number_in, number_or, planning_asked};
+ghost use Rattle.cli_task.specs.Asked.{rule_asked, order_asked, within, balance_asked, spread_asked, guid_asked};
+ghost use Rattle.cli_task.specs.Asked.{port_asked, priority_asked, sm_key_asked};
+
+use attr_codec::{Lmc, Priority};
+use clap::ArgMatches;
+use cli_arguments::argument_names::{
+    BALANCE, FLOOR, GUID, LMC, MAX_LOAD, ORDER, PORT, PRIORITY, ROOTS, ROUTING, SM_KEY, SPREAD,
+    UPDOWN,
+};
+use serve_lines::hex_number;
+use sm_cli::RuleAsked;
+use smp_bytes::{Generation, Guid, PortNum};
+
+/// The SM_Key that OpenSM has unless its options set another.
+const OPENSM_KEY: u64 = 1;
+
+/// Returns the LMC that `words` ask for, or 0 if `words` name no LMC. Returns `None` if the named LMC is not from 0 to
+/// 7.
+fn lmc_of(words: &ArgMatches<'_>) -> Option<Lmc>
+    ensures { result ≡ lmc_asked (first_value (found_of words.now) (codes "lmc")) }
+{
+    Lmc::new(u8::try_from(number_or(words, LMC, 0)?).ok()?)
+}
+
+/// Returns the number after the option `name`, or `otherwise` if the option is not given. Returns `None` if the option
+/// is not followed by a number of 32 bits.
+fn number_or(words: &ArgMatches<'_>, name: &str, otherwise: u32) -> Option<u32>
+    ensures { result ≡ number_or otherwise (first_value (found_of words.now) name.now) }
+{
+    match words.get_str(name) {
+        Some(text) => number_in(text),
+        None => Some(otherwise),
+    }
+}
+
+/// Returns the number that `text` writes in decimal, with or without a sign, as the parser of words reads it. Returns
+/// `None` if `text` does not write a number of 32 bits.
+fn number_in(text: &str) -> Option<u32>
+    ensures { result ≡ option_and_then (within 0 4294967295) (number_in text.now) }
+{
+    u32::try_from(text.parse::<i64>().ok()?).ok()
+}
+
+/// Returns the rule of routing that `words` ask for, or `UpDown` if `words` name no rule, no roots and no order.
+/// Returns `None` if the named rule is unknown, if roots and an order are both named, or if roots or an order are named
+/// without a rule that takes them.
+fn rule_of(words: &ArgMatches<'_>) -> Option<RuleAsked>
+    ensures { result ≡ rule_asked (first_value (found_of words.now) (codes "routing"))
+        (is_some (first_value (found_of words.now) (codes "roots")))
+        (is_some (first_value (found_of words.now) (codes "order"))) }
+{
+    let rooted = words.get_str(ROOTS).is_some();
+    let ordered = words.get_str(ORDER).is_some();
+    match words.get_str(ROUTING) {
+        None | Some(UPDOWN) if !rooted && !ordered => Some(RuleAsked::UpDown),
+        Some(BALANCE) if !rooted => Some(balance_by(ordered)),
+        Some(SPREAD) => spread_by(rooted, ordered),
+        _ => None,
+    }
+}
+
+/// Returns the rule that spreads: from roots if `rooted`, in a named order if `ordered`. Returns `None` if `rooted` and
+/// `ordered` are both true.
+fn spread_by(rooted: bool, ordered: bool) -> Option<RuleAsked>
+    ensures { result ≡ spread_asked rooted ordered }
+{
+    match (rooted, ordered) {
+        (false, false) => Some(RuleAsked::Spread),
+        (true, false) => Some(RuleAsked::SpreadFromRoots),
+        (false, true) => Some(RuleAsked::SpreadInOrder),
+        (true, true) => None,
+    }
+}
+
+/// Returns the rule that spreads with balanced loads, in a named order if `ordered`.
+fn balance_by(ordered: bool) -> RuleAsked
+    ensures { result ≡ balance_asked ordered }
+{
+    if ordered {
+        RuleAsked::BalanceInOrder
+    } else {
+        RuleAsked::Balance
+    }
+}
+
+/// Returns the LMC and the rule of routing that `words` ask for. Returns `None` if the words for the LMC or for the
+/// rule are wrong.
+pub(crate) fn planning_of(words: &ArgMatches<'_>) -> Option<(Lmc, RuleAsked)>
+    ensures { result ≡ planning_asked (first_value (found_of words.now)) }
+{
+    let lmc = lmc_of(words)?;
+    let rule = rule_of(words)?;
+    Some((lmc, rule))
+}
+
+/// Returns the rule whose order `words` ask for, or the rule that spreads if `words` name no rule. Returns `None` if
+/// the named rule is unknown, if roots and an order are both named, or if roots or an order are named with a rule that
+/// does not take them.
+pub(crate) fn order_of(words: &ArgMatches<'_>) -> Option<RuleAsked>
+    ensures { result ≡ order_asked (first_value (found_of words.now)) }
+{
+    match words.get_str(ROUTING) {
+        Some(_) => rule_of(words),
+        None => spread_by(
+            words.get_str(ROOTS).is_some(),
+            words.get_str(ORDER).is_some(),
+        ),
+    }
+}
+
+/// Returns the floor that `words` ask for, or 1 if `words` name no floor. Returns `None` if the named floor is not from
+/// 1 to 2^32 - 1.
+pub(crate) fn floor_of(words: &ArgMatches<'_>) -> Option<Generation>
+    ensures { result ≡ floor_asked (first_value (found_of words.now) (codes "floor")) }
+{
+    Generation::new(number_or(words, FLOOR, 1)?)
+}
+
+/// Returns the GUID that `words` name. Returns `None` if `words` name no GUID, or if the GUID is not written as 1 to 16
+/// hex digits.
+pub(crate) fn guid_of(words: &ArgMatches<'_>) -> Option<Guid>
+    ensures { result ≡ guid_asked (first_value (found_of words.now) (codes "GUID")) }
+{
+    Some(Guid::new(hex_number(words.get_str(GUID)?.as_bytes())?))
+}
+
+/// Returns the port number that `words` name. Returns `None` if `words` name no port number, or if the number is not
+/// from 1 to 254.
+pub(crate) fn port_of(words: &ArgMatches<'_>) -> Option<PortNum>
+    ensures { result ≡ port_asked (first_value (found_of words.now) (codes "PORT")) }
+{
+    let port = number_in(words.get_str(PORT)?)?;
+    if port == 0 || port > 254 {
+        return None;
+    }
+    Some(PortNum::new(port as u8))
+}
+
+/// Returns the priority that `words` name. Returns `None` if `words` name no priority, or if the priority is not from 0
+/// to 15.
+pub(crate) fn priority_of(words: &ArgMatches<'_>) -> Option<Priority>
+    ensures { result ≡ priority_asked (first_value (found_of words.now) (codes "PRIORITY")) }
+{
+    let priority = number_in(words.get_str(PRIORITY)?)?;
+    if priority > 15 {
+        return None;
+    }
+    Priority::new(priority as u8)
+}
+
+/// Returns the SM_Key that `words` name, or that of OpenSM if `words` name no SM_Key. Returns `None` if the SM_Key is
+/// not written as 1 to 16 hex digits.
+pub(crate) fn sm_key_of(words: &ArgMatches<'_>) -> Option<u64>
+    ensures { result ≡ sm_key_asked (first_value (found_of words.now) (codes "sm-key")) }
+{
+    match words.get_str(SM_KEY) {
+        Some(word) => hex_number(word.as_bytes()),
+        None => Some(OPENSM_KEY),
+    }
+}
+
+/// Returns the maximum load that passes, as asked by `words`, which are those after a subcommand. The inner value is
+/// `None` if the words name no maximum load. Returns `None` if the maximum load is not a number of 32 bits.
+pub(crate) fn max_load_of(words: &ArgMatches<'_>) -> Option<Option<u64>>
+    ensures { result ≡ max_load_asked (first_value (found_of words.now) (codes "max-load")) }
+{
+    match words.get_str(MAX_LOAD) {
+        Some(text) => Some(Some(u64::from(number_in(text)?))),
+        None => Some(None),
+    }
+}
