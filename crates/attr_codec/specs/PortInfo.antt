@@ -1,9 +1,10 @@
 -- PortInfo: where its fields are, the LID with its LMC, and the numbers of port states. InfiniBand Architecture
 -- Specification, Volume 1: subnet management, PortInfo.
-use Rattle.std.specs.Prelude.{ℕ, List, Option, [], ◌∷◌, find, ◌==◌}
+use Rattle.std.specs.Prelude.{ℕ, List, Option, [], ◌∷◌, find, ◌==◌, Bool}
 use Rattle.smp_bytes.specs.Field.{Field, Bits, number_in, bits_in}
 use Rattle.attr_codec.specs.declared.port_state.PortState.{PortState}
 use Rattle.attr_codec.specs.declared.port_state.PortState.TheVariants.{NoChange, Down, Initialize, Armed, Active}
+use Rattle.sweep.specs.declared.request.Question.TheVariants as ask
 
 -- M_Key, a component of PortInfo
 abbrev pub m_key : Field
@@ -73,3 +74,39 @@ number_of_state Active = 4
 abbrev pub state_of_number : ℕ → Option PortState
 state_of_number number =
     find (λ state. number == number_of_state state) (NoChange ∷ Down ∷ Initialize ∷ Armed ∷ Active ∷ [])
+
+-- LinkWidthEnabled, a component of PortInfo
+abbrev pub link_width_enabled : Bits
+link_width_enabled = record { at = 29; shift = 0; width = 8 }
+
+-- NeighborMTU, a component of PortInfo
+abbrev pub neighbor_mtu : Bits
+neighbor_mtu = record { at = 36; shift = 4; width = 4 }
+
+-- MTUCap, a component of PortInfo
+abbrev pub mtu_cap : Bits
+mtu_cap = record { at = 41; shift = 0; width = 4 }
+
+-- LinkSpeedEnabled, a component of PortInfo
+abbrev pub link_speed_enabled : Bits
+link_speed_enabled = record { at = 35; shift = 0; width = 4 }
+
+-- LinkSpeedExtEnabled, a component of PortInfo
+abbrev pub link_speed_ext_enabled : Bits
+link_speed_ext_enabled = record { at = 63; shift = 0; width = 5 }
+
+-- HOQLife, a component of PortInfo
+abbrev pub hoq_life : Bits
+hoq_life = record { at = 42; shift = 0; width = 5 }
+
+-- ClientReregister, a component of PortInfo
+abbrev pub client_reregister : Bits
+client_reregister = record { at = 51; shift = 7; width = 1 }
+
+-- SubnetTimeOut, a component of PortInfo
+abbrev pub subnet_timeout : Bits
+subnet_timeout = record { at = 51; shift = 0; width = 5 }
+
+-- whether PortInfo says that a manager sits at the port
+abbrev pub has_manager : List ℕ → Bool
+has_manager info = bits_in is_sm_bit info == 1

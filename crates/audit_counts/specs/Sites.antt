@@ -1,11 +1,11 @@
 -- Which end ports lie in one component: end ports at switches of one component, and two adapter ports with a wire
 -- between them.
-use Rattle.std.specs.Prelude.{◌≡◌, ℕ, Bool, true, false, ◌==◌, ◌&&◌, ◌||◌, List, [], ◌∷◌, Option, None, Some, Contains, count_by, option_map, option_and_then}
+use Rattle.std.specs.Prelude.{◌≡◌, ℕ, Bool, true, false, ◌==◌, ◌&&◌, ◌||◌, List, [], ◌∷◌, Option, None, Some}
+use Rattle.std.specs.Prelude.{Contains, count_by, option_map, option_and_then}
 use Rattle.std.specs.List.{list_all, list_any}
-use Rattle.std.specs.Option.{option_map_or}
 use Rattle.subnet_view.specs.declared.end_port.EndPort.{EndPort}
 use Rattle.subnet_view.specs.Reading.{Cells}
-use Rattle.subnet_view.specs.Wires.{across, is_at}
+use Rattle.subnet_view.specs.Wires.{across, leads_to}
 use Rattle.subnet_view.specs.Graph.{graph_of}
 use Rattle.subnet_view.specs.Components.{root_of}
 use Rattle.lft_blocks.specs.Entries.{attachment_of}
@@ -41,10 +41,6 @@ abbrev pub is_one_root : Option ℕ → Option ℕ → Bool
 is_one_root None s = false
 is_one_root (Some r) None = false
 is_one_root (Some r) (Some s) = r == s
-
--- the wire to the port `far` leads to `e`; false if there is no wire
-abbrev pub leads_to : Option (ℕ × ℕ) → EndPort → Bool
-leads_to far e = option_map_or (is_at e.node e.port) far false
 
 -- `a` and `b` are sites of one port, at switches of one component, or joined by a wire
 abbrev pub are_joined : Site → Site → Bool

@@ -8,7 +8,8 @@ ghost use Rattle.subnet_view.specs.Components.{root_of};
 ghost use Rattle.audit_ways.specs.Ways.{is_adapter};
 ghost use Rattle.audit_counts.specs.Sites.{IsCensus, IsSiteOf, is_of};
 ghost use Rattle.audit_counts.specs.Sites.{are_adapters, are_joined, are_joined_adapters};
-ghost use Rattle.audit_counts.specs.Sites.{are_one_component, first_root, is_one_root, leads_to, root_at};
+ghost use Rattle.audit_counts.specs.Sites.{are_one_component, first_root, is_one_root, root_at};
+ghost use Rattle.subnet_view.specs.Wires.{leads_to};
 ghost use Rattle.audit_counts.specs.Sites.{site_of, switch_of};
 
 use audit_ways::is_adapter;

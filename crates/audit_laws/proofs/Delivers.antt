@@ -19,7 +19,7 @@ use Rattle.subnet_view.specs.declared.end_port.EndPort.{EndPort}
 use Rattle.subnet_view.specs.EndPorts.{end_ports}
 use Rattle.reply_facts.specs.Known.{cap_of}
 use Rattle.subnet_view.specs.Reading.{Cells, is_switch_node, is_usable}
-use Rattle.subnet_view.specs.Wires.{across, attached}
+use Rattle.subnet_view.specs.Wires.{across, attached, leads_to}
 use Rattle.subnet_view.specs.Agreement.{Part, IsEndPortIn, IsPortNamed}
 use Rattle.subnet_view.proofs.EndPortList.{end_ports_law}
 use Rattle.subnet_view.proofs.WireLaws.{wire_law}
@@ -43,7 +43,7 @@ use Rattle.held_tables.specs.Tables.{is_same_end}
 use Rattle.audit_laws.specs.Laws.{MissedPacketsMiss, PassingAuditsDeliver}
 use Rattle.audit_report.proofs.Judged.{brought}
 use Rattle.audit_counts.specs.Packets.{arrives}
-use Rattle.audit_counts.specs.Sites.{in_one_component, is_one_root, leads_to, root_at}
+use Rattle.audit_counts.specs.Sites.{in_one_component, is_one_root, root_at}
 
 -- what is delivered stays within what is joined -----------------------------------------------
 

@@ -6,7 +6,7 @@ use Rattle.std.proofs.lemmas.Bool.{eqb-true}
 use Rattle.fact_store.specs.View.{Facts, cells_of, AreInRange}
 use Rattle.subnet_view.specs.declared.end_port.EndPort.{EndPort}
 use Rattle.subnet_view.specs.Reading.{Cells}
-use Rattle.subnet_view.specs.Wires.{across}
+use Rattle.subnet_view.specs.Wires.{across, leads_to}
 use Rattle.subnet_view.proofs.Members.{contains_none}
 use Rattle.subnet_view.proofs.WireEnds.{same_port}
 use Rattle.lid_assign.specs.Lids.{IsNoRoom, lids, top_of}
@@ -22,7 +22,7 @@ use Rattle.held_tables.proofs.HeldPlans.{made}
 use Rattle.packet_walks.proofs.Judged.{same_ends}
 use Rattle.packet_walks.proofs.PlanPackets.{HasRoot, Meets, itself, of_root, by_wire, brought}
 use Rattle.audit_report.specs.Passing.{EachArrives}
-use Rattle.audit_counts.specs.Sites.{in_one_component, root_at, is_one_root, leads_to}
+use Rattle.audit_counts.specs.Sites.{in_one_component, root_at, is_one_root}
 
 roots : (a b : Option ℕ) → is_one_root a b ≡ true → (r : ℕ) × (a ≡ Some r) × (b ≡ Some r)
 roots None b h = absurd (cc)

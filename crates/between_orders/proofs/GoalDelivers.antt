@@ -50,8 +50,9 @@ use Rattle.two_orders.specs.declared.labels.Sides.{Sides}
 use Rattle.two_orders.specs.Labels.{both_down, goes_on, is_side, label_at, leads, leads_on, may_follow}
 use Rattle.two_orders.specs.TwoOrders.{TwoOrders}
 use Rattle.two_orders.proofs.LabelLaws.{labelled_go_on}
-use Rattle.between_orders.specs.GoalLaws.{GoalDelivers, IsGoalLine, labels_of_line}
-use Rattle.between_orders.specs.TablesBetween.{arrives, column_between, column_for, entry_between, entry_to, entry_with, first_label, fits, port_of}
+use Rattle.between_orders.specs.GoalLaws.{GoalDelivers, IsGoalLine}
+use Rattle.between_orders.specs.TablesBetween.{labels_of_line, arrives, column_between, column_for, entry_between}
+use Rattle.between_orders.specs.TablesBetween.{entry_to, entry_with, first_label, fits, port_of}
 use Rattle.between_orders.specs.Orders.{edges_in}
 use Rattle.between_orders.proofs.GoalEntries.{entry_within, index_is, pair, towards_at}
 use Rattle.between_orders.proofs.GoalTurns.{columns, find_found, goal, goal_is}

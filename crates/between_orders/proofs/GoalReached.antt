@@ -30,8 +30,8 @@ use Rattle.two_orders.specs.declared.labels.Sides.{Sides}
 use Rattle.two_orders.specs.LabelLaws.{grown_twice}
 use Rattle.two_orders.specs.Labels.{label_at}
 use Rattle.two_orders.specs.TwoOrders.{TwoOrders}
-use Rattle.between_orders.specs.GoalLaws.{AreGoalSteps, GoalEndsRight, GoalIsReached, IsGoalLine, labels_of_line}
-use Rattle.between_orders.specs.TablesBetween.{arrives, entry_with, tables_between}
+use Rattle.between_orders.specs.GoalLaws.{AreGoalSteps, GoalEndsRight, GoalIsReached, IsGoalLine}
+use Rattle.between_orders.specs.TablesBetween.{labels_of_line, arrives, entry_with, tables_between}
 use Rattle.between_orders.specs.Orders.{edges_in}
 use Rattle.between_orders.proofs.Agreement.{p_same}
 use Rattle.between_orders.proofs.Arrivals.{arrives_at, walk_of, wired_head}

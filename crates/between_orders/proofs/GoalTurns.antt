@@ -39,8 +39,8 @@ use Rattle.two_orders.specs.Trees.{is_earlier}
 use Rattle.two_orders.specs.TwoOrders.{TwoOrders}
 use Rattle.two_orders.proofs.LabelLaws.{labels_turn_well}
 use Rattle.between_orders.specs.GoalLaws.{GoalTurnsWell}
-use Rattle.between_orders.specs.TablesBetween.{arrives, column_between, column_for, entry_between, entry_to, entry_with, fits, labels_towards, port_of}
-use Rattle.between_orders.specs.TablesBetween.{tables_between}
+use Rattle.between_orders.specs.TablesBetween.{arrives, column_between, column_for, entry_between, entry_to}
+use Rattle.between_orders.specs.TablesBetween.{entry_with, fits, labels_towards, port_of, tables_between}
 use Rattle.between_orders.specs.Orders.{edges_in}
 use Rattle.between_orders.proofs.GoalEntries.{entry_made, pair, towards_at}
 

@@ -22,8 +22,9 @@ use Rattle.ordered_steps.proofs.Turns.{not_true}
 use Rattle.two_orders.specs.declared.labels.Sides.{Sides}
 use Rattle.two_orders.specs.Labels.{label_at, leads_on}
 use Rattle.two_orders.specs.TwoOrders.{TwoOrders}
-use Rattle.between_orders.specs.GoalLaws.{GoalStandsStill, IsGoalLine, labels_of_line}
-use Rattle.between_orders.specs.TablesBetween.{arrives, entry_between, entry_with, fits, port_of, tables_between}
+use Rattle.between_orders.specs.GoalLaws.{GoalStandsStill, IsGoalLine}
+use Rattle.between_orders.specs.TablesBetween.{labels_of_line, arrives, entry_between, entry_with, fits, port_of}
+use Rattle.between_orders.specs.TablesBetween.{tables_between}
 use Rattle.between_orders.specs.Orders.{edges_in}
 use Rattle.between_orders.proofs.GoalDelivers.{entry_is, fits_to}
 use Rattle.between_orders.proofs.GoalEntries.{pair}

@@ -1,5 +1,5 @@
 -- Laws of tables between two orders, and of steps towards them: right by both orders, and reached in 2n steps.
-use Rattle.std.specs.Prelude.{◌≡◌, ◌≤◌, ◌<◌, ◌⊎◌, ◌*◌, ℕ, suc, Contains, List, Option, Some, length, map, slice_get}
+use Rattle.std.specs.Prelude.{◌≡◌, ◌≤◌, ◌<◌, ◌⊎◌, ◌*◌, ℕ, suc, Contains, List, Some, length, slice_get}
 use Rattle.fact_store.specs.View.{AreInRange, Facts, cells_of}
 use Rattle.port_graph.specs.Heads.{heads}
 use Rattle.port_graph.specs.Walks.{Walk}
@@ -9,7 +9,6 @@ use Rattle.held_tables.specs.declared.held.HeldLid.{HeldLid}
 use Rattle.held_tables.specs.Tables.{entry_for, owners_of, top_of}
 use Rattle.packet_walks.specs.declared.packet_end.End.TheVariants.{Taken}
 use Rattle.packet_walks.specs.declared.next_hop.NextHop.TheVariants.{Ends}
-use Rattle.packet_walks.specs.HopsByTables.{switch_step}
 use Rattle.next_tables.specs.OrderRule.{IsNextByOrder}
 use Rattle.next_tables.specs.SwitchPositions.{AreRight, IsOrder, position_at, switch_at}
 use Rattle.next_tables.specs.SettledRule.{step_at}
@@ -20,7 +19,7 @@ use Rattle.two_orders.specs.LabelLaws.{grown_twice}
 use Rattle.two_orders.specs.Labels.{label_at}
 use Rattle.two_orders.specs.TwoOrders.{TwoOrders}
 use Rattle.between_orders.specs.Between.{Goal, IsGoal}
-use Rattle.between_orders.specs.TablesBetween.{labels_towards, tables_between}
+use Rattle.between_orders.specs.TablesBetween.{tables_between, labels_of_line}
 use Rattle.between_orders.specs.Orders.{edges_in}
 
 -- the tables between two orders are right by both for every LID, whatever the orders, the held tables and the plan are
@@ -31,11 +30,6 @@ GoalTurnsWell =
     (tables_between (cells_of facts) (edges_in (cells_of facts)) orders held plan) lid
     × AreRight (cells_of facts) (position_at orders.second)
     (tables_between (cells_of facts) (edges_in (cells_of facts)) orders held plan) lid
-
--- the label of each usable switch on the way to the end port of `line`, by two orders
-abbrev pub labels_of_line : Cells → TwoOrders → HeldPlan → HeldLid → List (Option Sides)
-labels_of_line cells orders plan line =
-    labels_towards line.port (edges_in cells) orders (map (switch_step cells plan line.lid) (switches cells))
 
 -- the port of `line` is the first that has its LID in the plan. The LID is not 0, and no usable switch has a top below
 -- the LID in the plan

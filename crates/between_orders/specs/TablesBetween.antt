@@ -1,5 +1,6 @@
 -- Tables between two orders, which lead packets up and then down by both.
-use Rattle.std.specs.Prelude.{ℕ, ◌*◌, Bool, false, List, [], ◌∷◌, Option, None, Some, length, map, replicate, if◌then◌else◌}
+use Rattle.std.specs.Prelude.{ℕ, ◌*◌, Bool, false, List, [], ◌∷◌, Option, None, Some, length, map, replicate}
+use Rattle.std.specs.Prelude.{if◌then◌else◌}
 use Rattle.std.specs.List.{enumerate_from, find, range_with_len, zip}
 use Rattle.port_graph.specs.declared.edge.Edge.{Edge}
 use Rattle.port_graph.specs.Heads.{edges_at}
@@ -16,6 +17,8 @@ use Rattle.next_tables.specs.SettledComputed.{Both}
 use Rattle.two_orders.specs.declared.labels.Sides.{Sides}
 use Rattle.two_orders.specs.Labels.{both_down, label_at, labels_from, leads_on}
 use Rattle.two_orders.specs.TwoOrders.{TwoOrders}
+use Rattle.held_tables.specs.declared.held.HeldLid.{HeldLid}
+use Rattle.between_orders.specs.Orders.{edges_in}
 
 -- the hop ends at `port`
 abbrev pub arrives : EndPort → NextHop → Bool
@@ -62,6 +65,10 @@ labels_towards port edges orders plan = labels_from edges orders (map (first_lab
 -- the entries of all switches towards `port`, by two orders, from what each switch does by the held tables and by the
 -- plan
 unfoldable pub entries_towards : EndPort → List (List Edge) → TwoOrders → List SwitchStep → List SwitchStep → List ℕ
+-- the tables between two orders, from held tables and a plan: the plan's LIDs, the greater tops, and for each LID
+-- entries that lead up and then down by both orders
+unfoldable pub tables_between : Cells → List (List Edge) → TwoOrders → HeldPlan → HeldPlan → HeldPlan
+
 entries_towards port edges orders held plan =
     map (entry_between port edges orders (labels_towards port edges orders plan)) (enumerate_from 0 (zip held plan))
 
@@ -77,9 +84,11 @@ column_for cells edges orders held plan lid (port ∷ ports) =
 abbrev pub column_between : Cells → List (List Edge) → TwoOrders → HeldPlan → HeldPlan → ℕ → List ℕ
 column_between cells edges orders held plan lid = column_for cells edges orders held plan lid (owners_of plan lid)
 
--- the tables between two orders, from held tables and a plan: the plan's LIDs, the greater tops, and for each LID
--- entries that lead up and then down by both orders
-unfoldable pub tables_between : Cells → List (List Edge) → TwoOrders → HeldPlan → HeldPlan → HeldPlan
 tables_between cells edges orders held plan =
     tables_with cells held plan
     (map (column_between cells edges orders held plan) (range_with_len 0 (64 * most_blocks cells held plan)))
+
+-- the label of each usable switch on the way to the end port of `line`, by two orders
+abbrev pub labels_of_line : Cells → TwoOrders → HeldPlan → HeldLid → List (Option Sides)
+labels_of_line cells orders plan line =
+    labels_towards line.port (edges_in cells) orders (map (switch_step cells plan line.lid) (switches cells))

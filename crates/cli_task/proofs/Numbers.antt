@@ -14,7 +14,7 @@ use Rattle.text_words.specs.Number.{number_of}
 use Rattle.text_words.proofs.Digits.{all_digits, is_within}
 use Rattle.text_words.proofs.Names.{both}
 use Rattle.text_words.proofs.NumbersPrinted.{number_from}
-use Rattle.cli_task.specs.Asked.{number_in, within}
+use Rattle.cli_task.specs.OptionValues.{number_in, within}
 
 -- digits, and nothing else
 numeral_is : (ds : List ℕ) → (leb 1 (length ds) && list_all (λ b. is_digit b 10) ds) ≡ true → IsNumeral 10 ds

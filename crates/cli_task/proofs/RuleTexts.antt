@@ -5,7 +5,7 @@ use Rattle.std.specs.Prelude.{codes, option_map}
 use Rattle.sm_cli.specs.Asked.{texts_for}
 use Rattle.sm_cli.specs.declared.asked.RuleAsked.{RuleAsked}
 use Rattle.sm_cli.specs.declared.asked.RuleAsked.TheVariants.{UpDown, Spread, SpreadFromRoots, SpreadInOrder, Balance, BalanceInOrder}
-use Rattle.cli_task.specs.Asked.{texts_of_rule}
+use Rattle.cli_task.specs.InputNames.{texts_of_rule}
 
 pub one_word : (o : Option (List ℕ)) (xs : List (List ℕ)) → option_map (λ w. w ∷ []) o ≡ Some xs → length xs ≡ 1
 one_word None xs e = absurd (cc)

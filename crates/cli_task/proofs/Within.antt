@@ -8,7 +8,7 @@ use Rattle.clap.specs.Values.{IsSignedIn}
 use Rattle.text_words.specs.Number.{number_of}
 use Rattle.text_words.proofs.Digits.{is_within}
 use Rattle.text_words.proofs.NumbersPrinted.{number_from}
-use Rattle.cli_task.specs.Asked.{number_in, within}
+use Rattle.cli_task.specs.OptionValues.{number_in, within}
 
 -- a test that passed
 told : (b : Bool) → T b → b ≡ true

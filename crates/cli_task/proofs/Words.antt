@@ -8,7 +8,7 @@ use Rattle.clap.specs.declared.parser.matches.ArgMatches.{ArgMatches}
 use Rattle.clap.specs.declared.parser.matches.Found.{Found}
 use Rattle.cli_arguments.proofs.FoundWords.{values_are, words_are}
 use Rattle.cli_arguments.specs.Words.{files_named, word_named}
-use Rattle.cli_task.specs.Asked.{names_asked, names_in}
+use Rattle.cli_task.specs.InputNames.{names_asked, names_in}
 use Rattle.cli_task.specs.declared.task.Task.{Task}
 
 -- the names of inputs are those that a subcommand's matches hold

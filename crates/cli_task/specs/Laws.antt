@@ -2,7 +2,7 @@
 use Rattle.std.specs.Prelude.{◌≡◌, true, is_some}
 use Rattle.clap.specs.declared.parser.matches.ArgMatches.{ArgMatches}
 use Rattle.cli_arguments.specs.WellFormed.{IsWellFormed}
-use Rattle.cli_task.specs.Asked.{inputs_asked}
+use Rattle.cli_task.specs.InputNames.{inputs_asked}
 
 -- well-formed words ask for a task, and name each of its inputs
 abbrev pub WellFormedWordsAsk : Type 0

@@ -1,2 +1,4 @@
-pub mod Asked
+pub mod InputNames
 pub mod Laws
+pub mod OptionValues
+pub mod Tasks

@@ -14,7 +14,8 @@ use Rattle.fabric_sim.specs.declared.flight.Flight.{Flight}
 use Rattle.fabric_sim.specs.declared.flight.Whereabouts.{Whereabouts}
 use Rattle.fabric_sim.specs.declared.packet.Packet.{Packet}
 use Rattle.fabric_sim.specs.PacketOutcome.{Outcome, Moves, Asks, HandsUp, Represses, Drops}
-use Rattle.fabric_sim.specs.Simulation.{Simulation, IsSimulation, Finds, flight_with}
+use Rattle.fabric_sim.specs.Simulation.{Simulation, IsSimulation}
+use Rattle.fabric_sim.specs.Flights.{Finds, flight_with}
 use Rattle.fabric_sim.specs.Called.{Called}
 use Rattle.fabric_sim.specs.Delivery.{CanFare, IsEnvelopeAt, after_deliver, after_outcome, delivered_flight, envelope_of, flight_in, outcome_by, outcome_of, packet_in, without}
 use Rattle.fabric_sim.proofs.Kept.{fares}

@@ -21,7 +21,9 @@ use Rattle.fabric_sim.specs.declared.fault.FabricFault.TheVariants.{NoSuchPacket
 use Rattle.fabric_sim.specs.declared.delivered.Delivered.TheVariants.{Answered}
 use Rattle.fabric_sim.specs.declared.delivered.Reason.TheVariants.{Down, Unreadable, Course as OffCourse}
 use Rattle.fabric_sim.specs.PacketOutcome.{Outcome, Moves, Asks, HandsUp, Represses, Drops}
-use Rattle.fabric_sim.specs.Simulation.{Simulation, IsSimulation, IsWaiting, CanWait, across, is_seat_at, fabric_of, port_of, is_at_seat, is_by_wire, is_numbered, flight_with}
+use Rattle.fabric_sim.specs.Simulation.{Simulation, IsSimulation, IsWaiting, CanWait, across, is_seat_at, fabric_of}
+use Rattle.fabric_sim.specs.Simulation.{port_of, is_at_seat, is_by_wire}
+use Rattle.fabric_sim.specs.Flights.{is_numbered, flight_with}
 use Rattle.fabric_sim.specs.Called.{refused}
 use Rattle.fabric_sim.specs.Notices.{trap_repress}
 use Rattle.fabric_sim.specs.Delivery.{CanFare, carrying, leaving, is_for_manager, here_at, at_agent, by_verdict, directed_outcome, by_course, lid_routed_outcome, outcome_of, with_flight, without, asked, after_enqueue, after_outcome, delivered_flight, after_deliver}

@@ -22,7 +22,9 @@ use Rattle.fabric_sim.specs.PacketOutcome.{Represses}
 use Rattle.fabric_sim.specs.Called.{Called}
 use Rattle.fabric_sim.specs.Delivery.{after_deliver, after_outcome, by_course, delivered_flight, is_for_manager, is_trap, outcome_of}
 use Rattle.fabric_sim.specs.Notices.{trap_repress}
-use Rattle.fabric_sim.specs.Simulation.{Simulation, IsSimulation, across, agent_at, fabric_of, is_at_seat, is_seat_at, flight_with, port_of}
+use Rattle.fabric_sim.specs.Simulation.{Simulation, IsSimulation, across, agent_at, fabric_of, is_at_seat, is_seat_at}
+use Rattle.fabric_sim.specs.Simulation.{port_of}
+use Rattle.fabric_sim.specs.Flights.{flight_with}
 use Rattle.fabric_sim.specs.Traps.{Traps, is_waiting, trap_at, without_trap}
 use Rattle.fabric_sim.specs.TrapLaws.{EndsTrap, IsRepress, RepressesEndTraps}
 use Rattle.fabric_sim.proofs.TripShapes.{agent_there}

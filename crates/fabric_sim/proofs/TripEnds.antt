@@ -32,7 +32,9 @@ use Rattle.fabric_sim.specs.declared.flight.Whereabouts.TheVariants.{Seat}
 use Rattle.fabric_sim.specs.declared.flight.Flight.{Flight}
 use Rattle.fabric_sim.specs.declared.delivered.Delivered.TheVariants as delivered_is
 use Rattle.fabric_sim.specs.PacketOutcome.{Asks}
-use Rattle.fabric_sim.specs.Simulation.{Simulation, IsSimulation, IsWaiting, agent_at, port_count, is_seat_at, fabric_of, port_of, flight_with, without_flight, answer_whereabouts}
+use Rattle.fabric_sim.specs.Simulation.{Simulation, IsSimulation, IsWaiting, agent_at, port_count, is_seat_at}
+use Rattle.fabric_sim.specs.Simulation.{fabric_of, port_of, answer_whereabouts}
+use Rattle.fabric_sim.specs.Flights.{flight_with, without_flight}
 use Rattle.fabric_sim.specs.declared.delivered.Delivered.{Delivered}
 use Rattle.fabric_sim.specs.Called.{Called}
 use Rattle.fabric_sim.specs.Notices.{trap}

@@ -4,7 +4,7 @@ use Rattle.std.proofs.lemmas.Bool.{eqb-true, eq-eqb, ne_eqb}
 use Rattle.std.proofs.lemmas.Option.{same_Some}
 use Rattle.std.specs.Prelude.{Option, Some, None}
 use Rattle.fabric_sim.specs.declared.flight.Flight.{Flight}
-use Rattle.fabric_sim.specs.Simulation.{is_numbered, flight_with, without_flight, with_moved}
+use Rattle.fabric_sim.specs.Flights.{is_numbered, flight_with, without_flight, with_moved}
 
 -- by cases of a test that a list's first flight is asked
 by_first : (b : Bool) (P : Option Flight → Option Flight → Type 0) (x y : Flight) (m n : Option Flight) → P (Some x) (Some y) → P m n

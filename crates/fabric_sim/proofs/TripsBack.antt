@@ -13,7 +13,8 @@ use Rattle.fabric_sim.specs.declared.flight.Whereabouts.TheVariants.{Arrived, Ma
 use Rattle.fabric_sim.specs.declared.flight.Flight.{Flight}
 use Rattle.fabric_sim.specs.declared.delivered.Delivered.TheVariants.{ToManager}
 use Rattle.fabric_sim.specs.PacketOutcome.{Moves}
-use Rattle.fabric_sim.specs.Simulation.{Simulation, port_count, across, fabric_of, port_of, answer_whereabouts, flight_with, with_moved}
+use Rattle.fabric_sim.specs.Simulation.{Simulation, port_count, across, fabric_of, port_of, answer_whereabouts}
+use Rattle.fabric_sim.specs.Flights.{flight_with, with_moved}
 use Rattle.fabric_sim.specs.Delivery.{carrying, here_at, by_verdict, directed_outcome, outcome_of, after_outcome, delivered_flight, after_deliver}
 use Rattle.fabric_sim.specs.ThereAndBack.{BeginsWith}
 use Rattle.fabric_sim.proofs.TripFlights.{found_given, found_moved}

@@ -17,7 +17,8 @@ use Rattle.fabric_sim.specs.declared.flight.Whereabouts.TheVariants.{Seat, Arriv
 use Rattle.fabric_sim.specs.declared.flight.Flight.{Flight}
 use Rattle.fabric_sim.specs.declared.delivered.Reason.TheVariants.{Down}
 use Rattle.fabric_sim.specs.PacketOutcome.{Moves, Drops}
-use Rattle.fabric_sim.specs.Simulation.{Simulation, AreCables, port_count, across, fabric_of, port_of, is_at_seat, flight_with, with_moved}
+use Rattle.fabric_sim.specs.Simulation.{Simulation, AreCables, port_count, across, fabric_of, port_of, is_at_seat}
+use Rattle.fabric_sim.specs.Flights.{flight_with, with_moved}
 use Rattle.fabric_sim.specs.Delivery.{carrying, leaving, here_at, by_verdict, directed_outcome, outcome_of, after_outcome, delivered_flight, after_deliver}
 use Rattle.fabric_sim.proofs.TripFlights.{found_given, found_moved}
 use Rattle.fabric_sim.proofs.TripShapes.{IsAlong, port_count_stays, switch_stays}

@@ -14,7 +14,9 @@ use Rattle.fabric_sim.specs.PacketOutcome.{Moves, Drops}
 use Rattle.fabric_sim.specs.declared.delivered.Reason.TheVariants.{Down}
 use Rattle.fabric_sim.specs.declared.flight.Flight.{Flight}
 use Rattle.fabric_sim.specs.declared.packet.Packet.{Packet}
-use Rattle.fabric_sim.specs.Simulation.{Simulation, IsSimulation, CanWait, IsWaiting, IsFlightAt, without_flight, HasPeerSlot, is_seat_at, across, has_cable_port, port_of, answer_whereabouts, next_serial}
+use Rattle.fabric_sim.specs.Simulation.{Simulation, IsSimulation, CanWait, IsWaiting, HasPeerSlot, is_seat_at, across}
+use Rattle.fabric_sim.specs.Simulation.{has_cable_port, port_of, answer_whereabouts, next_serial}
+use Rattle.fabric_sim.specs.Flights.{IsFlightAt, without_flight}
 use Rattle.fabric_sim.specs.Delivery.{with_changed, with_flight, without, moved_to, asked, answer_at, leaving}
 use Rattle.fabric_sim.specs.Changes.{with_peer, changed_at}
 use Rattle.fabric_sim.proofs.AgentLists.{at_agent, length-changed, cable_ports_stay}

@@ -9,7 +9,8 @@ use Rattle.fabric_sim.specs.declared.packet.Packet.{Packet}
 use Rattle.fabric_sim.specs.declared.flight.Whereabouts.TheVariants.{Seat}
 use Rattle.fabric_sim.specs.declared.flight.Flight.{Flight}
 use Rattle.fabric_sim.specs.declared.fault.FabricFault.TheVariants.{NoSuchPacket, NoSuchPort, PortTaken}
-use Rattle.fabric_sim.specs.Simulation.{Simulation, is_cable_port, is_seat_at, across, fabric_of, flight_with}
+use Rattle.fabric_sim.specs.Simulation.{Simulation, is_cable_port, is_seat_at, across, fabric_of}
+use Rattle.fabric_sim.specs.Flights.{flight_with}
 use Rattle.fabric_sim.specs.Called.{Called, refused}
 use Rattle.fabric_sim.specs.Delivery.{with_changed, after_enqueue, without}
 

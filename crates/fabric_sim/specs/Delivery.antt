@@ -34,7 +34,9 @@ use Rattle.fabric_sim.specs.PacketOutcome.{Outcome, Moves, Asks, HandsUp, Repres
 use Rattle.fabric_sim.specs.Traps.{without_trap}
 use Rattle.fabric_sim.specs.Notices.{trap, trap_repress}
 use Rattle.fabric_sim.specs.declared.fault.FabricFault.TheVariants.{NoSuchPacket, SerialsSpent}
-use Rattle.fabric_sim.specs.Simulation.{Simulation, agent_at, port_count, is_seat_at, across, fabric_of, port_of, is_at_seat, is_by_wire, answer_whereabouts, flight_with, without_flight, with_moved, CanWait}
+use Rattle.fabric_sim.specs.Simulation.{Simulation, agent_at, port_count, is_seat_at, across, fabric_of, port_of}
+use Rattle.fabric_sim.specs.Simulation.{is_at_seat, is_by_wire, answer_whereabouts, CanWait}
+use Rattle.fabric_sim.specs.Flights.{flight_with, without_flight, with_moved}
 
 -- where the packet goes ---------------------------------------------------------------------
 

@@ -4,6 +4,7 @@ pub mod Calls
 pub mod Changes
 pub mod Delivery
 pub mod FabricFault
+pub mod Flights
 pub mod Notices
 pub mod PacketOutcome
 pub mod Ping

@@ -1,5 +1,6 @@
 -- A simulated fabric: the agents of its nodes, the cables between their ports, and the packets on their way.
-use Rattle.std.specs.Prelude.{◌≡◌, ℕ, ◌+◌, ◌^◌, ◌<◌, ◌≤◌, ◌↔◌, ◌&&◌, ◌||◌, not, Bool, true, false, List, [], map, length, All, AllPairs, find, filter, slice_get, slice_index_or, nat_le, ◌==◌, if◌then◌else◌, Option, Some, None, option_map}
+use Rattle.std.specs.Prelude.{◌≡◌, ℕ, ◌+◌, ◌^◌, ◌<◌, ◌≤◌, ◌↔◌, ◌&&◌, ◌||◌, Bool, true, false, List, [], map, length}
+use Rattle.std.specs.Prelude.{All, AllPairs, slice_get, slice_index_or, nat_le, Option, Some, None}
 use Rattle.std.specs.Option.{option_map_or}
 use Rattle.smp_bytes.specs.Ports.{is_within}
 use Rattle.fabric_model.specs.declared.cable.NodePort.{NodePort}
@@ -95,34 +96,6 @@ abbrev pub answer_whereabouts : Whereabouts → Whereabouts
 answer_whereabouts (Seat p) = Seat p
 answer_whereabouts (Arrived p) = Made p
 answer_whereabouts (Made p) = Made p
-
--- packets in flight -----------------------------------------------------------------------
-
--- the packet in flight has the serial number `serial`
-abbrev pub is_numbered : ℕ → Flight → Bool
-is_numbered serial flight = flight.serial == serial
-
--- the packet in flight with the number `serial`; None if no packet has this number
-abbrev pub flight_with : List Flight → ℕ → Option Flight
-flight_with flights serial = find (is_numbered serial) flights
-
--- the packet at index `i` of `flights` has the number `serial`
-abbrev pub IsFlightAt : List Flight → ℕ → ℕ → Type 0
-IsFlightAt flights i serial = option_map (λ flight. flight.serial) (slice_get flights i) ≡ Some serial
-
--- the given index is the first at which a packet has the number `serial`; for None, no packet has this number
-abbrev pub Finds : List Flight → ℕ → Option ℕ → Type 0
-Finds flights serial None = flight_with flights serial ≡ None
-Finds flights serial (Some i) = IsFlightAt flights i serial × (slice_get flights i ≡ flight_with flights serial)
-    × ((j : ℕ) → j < i → IsFlightAt flights j serial → ⊥)
-
--- the packets in flight without the one that has the number `serial`
-abbrev pub without_flight : List Flight → ℕ → List Flight
-without_flight flights serial = filter (λ flight. not (is_numbered serial flight)) flights
-
--- the packets in flight, with the one that has the serial number of `moved` replaced by `moved`
-abbrev pub with_moved : List Flight → Flight → List Flight
-with_moved flights moved = map (λ flight. if is_numbered moved.serial flight then moved else flight) flights
 
 -- what holds of each simulation ---------------------------------------------------------
 

@@ -13,7 +13,8 @@ use Rattle.fabric_sim.specs.declared.flight.Flight.{Flight}
 use Rattle.fabric_sim.specs.Called.{Called}
 use Rattle.fabric_sim.specs.Delivery.{after_deliver}
 use Rattle.fabric_sim.specs.Notices.{trap_repress}
-use Rattle.fabric_sim.specs.Simulation.{Simulation, IsSimulation, across, fabric_of, flight_with, is_by_wire, port_of}
+use Rattle.fabric_sim.specs.Simulation.{Simulation, IsSimulation, across, fabric_of, is_by_wire, port_of}
+use Rattle.fabric_sim.specs.Flights.{flight_with}
 use Rattle.fabric_sim.specs.Traps.{trap_at}
 
 -- the packet of `flight` parses, is LID-routed, and is a TrapRepress with the TransactionID `number`. It waits at a

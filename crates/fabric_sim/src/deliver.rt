@@ -2,7 +2,7 @@ ghost use Rattle.std.specs.Prelude.{◌≡◌, ◌<◌};
 ghost use Rattle.fabric_sim.specs.PacketOutcome.{Asks};
 ghost use Rattle.fabric_sim.specs.declared.packet.Packet.{Packet};
 ghost use Rattle.fabric_sim.specs.declared.delivered.Delivered.TheVariants.{Discarded};
-ghost use Rattle.fabric_sim.specs.Simulation.{IsFlightAt};
+ghost use Rattle.fabric_sim.specs.Flights.{IsFlightAt};
 ghost use Rattle.fabric_sim.specs.Delivery.{packet_in, flight_in, IsEnvelopeAt, outcome_by, CanFare, after_outcome};
 ghost use Rattle.fabric_sim.specs.Delivery.{after_deliver, repressed_at, without};
 

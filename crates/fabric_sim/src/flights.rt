@@ -1,5 +1,6 @@
 ghost use Rattle.std.specs.Prelude.{◌≡◌};
-ghost use Rattle.fabric_sim.specs.Simulation.{Finds, IsFlightAt, CanWait};
+ghost use Rattle.fabric_sim.specs.Simulation.{CanWait};
+ghost use Rattle.fabric_sim.specs.Flights.{Finds, IsFlightAt};
 ghost use Rattle.fabric_sim.specs.Called.{ComesTo};
 ghost use Rattle.fabric_sim.specs.Delivery.{after_enqueue, moved_to, without};
 ghost use Rattle.fabric_sim.specs.Changes.{after_repeat, after_lose};

@@ -30,7 +30,9 @@ use Rattle.std.specs.List.{filter_map}
 use Rattle.std.specs.List.Sorted.{IsStrictlyIncreasing}
 use Rattle.std.proofs.lemmas.Nat.{pow_pos}
 use Rattle.lid_assign.specs.Ranges.{lmc_at}
-use Rattle.lid_assign.specs.Lids.{lids, owner_of, top_of, rising_lids, room, AreLids, IsNoRoom}
+use Rattle.lid_assign.specs.Lids.{lids, owner_of, top_of, rising_lids, IsNoRoom}
+use Rattle.lid_assign.specs.LidLaws.{AreLids}
+use Rattle.lid_assign.specs.Claims.{room}
 use Rattle.lid_assign.proofs.FreeLids.{at_most}
 use Rattle.lid_assign.proofs.LidLaws.{lids_law}
 use Rattle.lid_assign.proofs.Owners.{given-from_owner}

@@ -1,15 +1,17 @@
 -- What a plan holds, as the lines of its text say it: LIDs, switches and blocks.
-use Rattle.std.specs.Prelude.{ℕ, suc, ◌+◌, List, [], ◌∷◌, ◌++◌, map, Option}
+use Rattle.std.specs.Prelude.{ℕ, suc, ◌+◌, List, [], ◌∷◌, ◌++◌, map, Option, option_map}
 use Rattle.std.specs.Option.{option_map_or}
 use Rattle.std.specs.List.{enumerate_from, filter_map, flat_map}
-use Rattle.std.specs.Prelude.{option_map}
 use Rattle.subnet_view.specs.declared.end_port.EndPort.{EndPort}
 use Rattle.lid_assign.specs.Lids.{Given, lmc_of, owner_of, top_of, rising_lids}
-use Rattle.lft_blocks.specs.Plan.{SwitchTable, PlanValue}
+use Rattle.lft_blocks.specs.Plan.{SwitchTable, PlanValue, plan_of}
 use Rattle.held_tables.specs.declared.held.HeldLid.{HeldLid}
 use Rattle.held_tables.specs.declared.held.HeldSwitch.{HeldSwitch}
 use Rattle.held_tables.specs.declared.held.HeldBlock.{HeldBlock}
 use Rattle.held_tables.specs.Held.{HeldPlan, LidRange, lids_of, nothing_held}
+use Rattle.fact_store.specs.View.{Facts, cells_of}
+use Rattle.lft_blocks.specs.Rules.{RuleValue}
+use Rattle.next_tables.specs.declared.fault.StepFault.TheVariants as steps
 
 -- the range of the LIDs of `port`, from `lid` on, under its LMC
 abbrev pub range_from : Given → ℕ → EndPort → LidRange
@@ -46,3 +48,7 @@ held_plan plan =
       switches = map (with_top top) plan.tables;
       blocks = blocks_of 0 plan.tables;
     }) (top_of plan.given) nothing_held
+
+-- the tables of the plan of `facts`, under `lmc` and by `rule`
+abbrev pub planned : ℕ → RuleValue → Facts → HeldPlan
+planned lmc rule facts = held_plan (plan_of rule lmc (cells_of facts))

@@ -9,7 +9,8 @@ use Rattle.sm_cli.specs.Asked.{rule_for}
 use Rattle.sm_cli.specs.InputOrders.{texts_if}
 use Rattle.next_run.specs.Asked.{has_lanes, is_named}
 use Rattle.cli_arguments.specs.Words.{files_named, word_named}
-use Rattle.cli_task.specs.Asked.{followed_by, names_asked, names_in, step_texts, text_if, texts_asked, texts_of_rule}
+use Rattle.cli_task.specs.InputNames.{followed_by, names_asked, names_in, step_texts, text_if, texts_asked}
+use Rattle.cli_task.specs.InputNames.{texts_of_rule}
 use Rattle.cli_task.specs.declared.task.Task.{Task}
 use Rattle.cli_task.specs.declared.task.Task.TheVariants.{Answer, Audit, AuditByLane, OrderOf, Next, Run, Serve}
 use Rattle.cli_task.proofs.RuleTexts.{one_word, texts_counted}

@@ -18,7 +18,8 @@ use Rattle.order_run.specs.OrderRun.{HasTold, IsOrderFault}
 use Rattle.record_file.specs.declared.file_fault.FileFault.TheVariants.{Read}
 use Rattle.schedule_run.specs.Run.{HasRun, IsRunFault}
 use Rattle.serve_task.specs.RunServe.{HasServedLines, IsServeFault}
-use Rattle.cli_task.specs.Asked.{names_asked, task_asked}
+use Rattle.cli_task.specs.Tasks.{task_asked}
+use Rattle.cli_task.specs.InputNames.{names_asked}
 use Rattle.ibsm.specs.declared.opener.OpenFault.{OpenFault}
 use Rattle.cli_task.specs.declared.task.Task.{Task}
 use Rattle.cli_task.specs.declared.task.Task.TheVariants.{Answer, Audit, AuditByLane, OrderOf, Next, Run, Serve}

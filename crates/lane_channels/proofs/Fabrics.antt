@@ -34,7 +34,10 @@ use Rattle.packet_walks.proofs.FabricParts.{indexed, listed, wire_told, switch_e
 use Rattle.packet_walks.proofs.FarRows.{has, row_at}
 use Rattle.packet_walks.proofs.Told.{IsClosed, switch_goes, joined_closed}
 use Rattle.audit_channels.specs.Fabrics.{IsChannel}
-use Rattle.lane_channels.specs.Fabrics.{HoldLanes, IsCarried, IsLaneChannel, LaneChannelsRise, LaneMaps, StepLaneChannelsRise, came_by, lane_at}
+use Rattle.lane_channels.specs.Fabrics.{HoldLanes, IsCarried, IsLaneChannel, LaneMaps, came_by}
+use Rattle.lane_channels.specs.LaneStepLaws.{StepLaneChannelsRise}
+use Rattle.lane_channels.specs.Fabrics.{lane_at}
+use Rattle.lane_channels.specs.LaneLaws.{LaneChannelsRise}
 use Rattle.lanes_file.specs.Lanes.{lane_of}
 use Rattle.lane_channels.specs.LaneNetwork.{SeenByLane}
 use Rattle.lane_channels.specs.LaneTurns.{TakesByLane}

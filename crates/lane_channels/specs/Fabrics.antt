@@ -1,24 +1,17 @@
 -- The lanes that packets take in a fabric, and the numbers of their channels. InfiniBand Architecture Specification,
 -- Volume 1: link layer, virtual lanes, service level and SL-to-VL mapping, flow control by credits.
-use Rattle.std.specs.Prelude.{◌≡◌, ◌<◌, ◌≤◌, ◌+◌, ◌*◌, ℕ, zero, suc, Bool, List, [], ◌∷◌, Some, IsTrue, slice_get}
+use Rattle.std.specs.Prelude.{◌≡◌, ◌<◌, ◌≤◌, ◌+◌, ◌*◌, ℕ, zero, suc, Bool, List, Some, IsTrue, slice_get}
 use Rattle.std.specs.Option.{option_map_or}
 use Rattle.fabric_model.specs.declared.cable.NodePort.{NodePort}
 use Rattle.smp_bytes.specs.NodeType.{is_switch}
-use Rattle.fabric_model.specs.Fabric.{Node, Fabric, IsEndPort}
-use Rattle.fabric_model.specs.FabricWalks.{IsJoinedTo}
+use Rattle.fabric_model.specs.Fabric.{Node, Fabric}
 use Rattle.fabric_model.specs.Forwarding.{Standing, sent_from, Hop, Goes}
-use Rattle.fact_store.specs.View.{cells_of}
 use Rattle.subnet_view.specs.Reading.{Cells}
 use Rattle.subnet_view.specs.Agreement.{Part, IsEndPortIn}
-use Rattle.packet_walks.specs.Fabrics.{IsSeenIn}
 use Rattle.audit_channels.specs.Fabrics.{IsChannel}
-use Rattle.held_tables.specs.Held.{HeldPlan}
-use Rattle.next_tables.specs.Mixtures.{IsMixed}
 use Rattle.lanes_file.specs.Lanes.{LanesSaid, lane_of}
-use Rattle.lane_channels.specs.AnyTables.{RiseByAny}
 use Rattle.lane_channels.specs.LaneNetwork.{SeenByLane}
 use Rattle.lane_channels.specs.Levels.{HasLevel}
-use Rattle.lane_channels.specs.Waiting.{RiseByLane}
 
 -- the lane of a packet, by the node, the port by which the packet comes in, the port by which it leaves, and its
 -- service level
@@ -66,35 +59,3 @@ pub record TravelsAt (s : SeenByLane) (answers : Bool) (part : Part) (f : Fabric
     pub has_level : HasLevel s.said answers s.seen.held (record { node = node.guid; port = source.port }) lid level
     pub end : Standing
     pub goes : Goes f lid (sent_from source) hops end
-
--- of two channels by lane that a packet takes one right after the other, without being dropped, the second has the
--- greater number. An end port that is joined to the end port `origin` sends the packet, at a level that it has.
--- Premises: numbers rise by facts, tables and lanes; the facts describe all that is joined to `origin`; and the end
--- ports and switches there hold the tables and the lanes
-abbrev pub LaneChannelsRise : Type 0
-LaneChannelsRise =
-    (s : SeenByLane) (answers : Bool) (f : Fabric) (origin : NodePort) (vl : LaneMaps) → IsEndPort f origin
-    → IsSeenIn (IsJoinedTo f origin) (cells_of s.seen.facts) s.seen.held f
-    → HoldLanes (IsJoinedTo f origin) s.said f vl → (r : RiseByLane s answers) (level : ℕ) (hops : List Hop)
-    → TravelsAt s answers (IsJoinedTo f origin) f level hops → (nth channel next : ℕ)
-    → IsCarried (cells_of s.seen.facts) f vl level hops (nth + 2)
-    → IsLaneChannel (cells_of s.seen.facts) f vl level hops nth channel
-    → IsLaneChannel (cells_of s.seen.facts) f vl level hops (nth + 1) next
-    → r.number channel < r.number next
-
--- in a step, of two channels by lane that a packet takes one right after the other, without being dropped, the second
--- has the greater number. An end port that is joined to the end port `origin` sends the packet, at a level that it has.
--- Premises: numbers rise by the tables of `s` and by those of `next_held`; the facts describe all that is joined to
--- `origin`; and this part holds the lanes, and tables that are a mixture of both for the packet's LID
-abbrev pub StepLaneChannelsRise : Type 0
-StepLaneChannelsRise =
-    (s : SeenByLane) (next_held : HeldPlan) (answers : Bool) (f : Fabric) (origin : NodePort) (vl : LaneMaps)
-    → IsEndPort f origin → HoldLanes (IsJoinedTo f origin) s.said f vl
-    → (r : RiseByAny s (next_held ∷ []) answers) (level : ℕ) (hops : List Hop)
-    → (t : TravelsAt s answers (IsJoinedTo f origin) f level hops) (mixed : HeldPlan)
-    → IsMixed (cells_of s.seen.facts) s.seen.held next_held t.lid mixed
-    → IsSeenIn (IsJoinedTo f origin) (cells_of s.seen.facts) mixed f → (nth channel next : ℕ)
-    → IsCarried (cells_of s.seen.facts) f vl level hops (nth + 2)
-    → IsLaneChannel (cells_of s.seen.facts) f vl level hops nth channel
-    → IsLaneChannel (cells_of s.seen.facts) f vl level hops (nth + 1) next
-    → r.number channel < r.number next

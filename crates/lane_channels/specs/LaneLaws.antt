@@ -1,5 +1,5 @@
 -- Numbers of channels by lane rule out credit loops, and lanes below 15 rule out drops.
-use Rattle.std.specs.Prelude.{ℕ, Bool, List}
+use Rattle.std.specs.Prelude.{ℕ, Bool, List, ◌<◌, ◌+◌}
 use Rattle.fact_store.specs.View.{cells_of}
 use Rattle.audit_channels.specs.Waiting.{RiseOnWays}
 use Rattle.held_tables.specs.Held.{HeldPlan}
@@ -8,6 +8,12 @@ use Rattle.lane_channels.specs.declared.stop.Dropped.{Dropped}
 use Rattle.lane_channels.specs.LaneNetwork.{SeenByLane}
 use Rattle.lane_channels.specs.AnyTables.{IsDroppedByAny}
 use Rattle.lane_channels.specs.Waiting.{RiseByLane, WaitInCycle}
+use Rattle.fabric_model.specs.declared.cable.NodePort.{NodePort}
+use Rattle.fabric_model.specs.Fabric.{Fabric, IsEndPort}
+use Rattle.fabric_model.specs.FabricWalks.{IsJoinedTo}
+use Rattle.fabric_model.specs.Forwarding.{Hop}
+use Rattle.packet_walks.specs.Fabrics.{IsSeenIn}
+use Rattle.lane_channels.specs.Fabrics.{LaneMaps, HoldLanes, IsLaneChannel, IsCarried, TravelsAt}
 
 -- if numbers of channels rise on one lane by the held tables, numbers of channels by lane rise, whatever the lanes and
 -- the service levels are
@@ -26,3 +32,18 @@ abbrev pub AllCarried : Type 0
 AllCarried =
     (s : SeenByLane) (others : List HeldPlan) (answers : Bool) → CarriesAll s.said → (dropped : Dropped)
     → ¬ (IsDroppedByAny s others answers dropped)
+
+-- of two channels by lane that a packet takes one right after the other, without being dropped, the second has the
+-- greater number. An end port that is joined to the end port `origin` sends the packet, at a level that it has.
+-- Premises: numbers rise by facts, tables and lanes; the facts describe all that is joined to `origin`; and the end
+-- ports and switches there hold the tables and the lanes
+abbrev pub LaneChannelsRise : Type 0
+LaneChannelsRise =
+    (s : SeenByLane) (answers : Bool) (f : Fabric) (origin : NodePort) (vl : LaneMaps) → IsEndPort f origin
+    → IsSeenIn (IsJoinedTo f origin) (cells_of s.seen.facts) s.seen.held f
+    → HoldLanes (IsJoinedTo f origin) s.said f vl → (r : RiseByLane s answers) (level : ℕ) (hops : List Hop)
+    → TravelsAt s answers (IsJoinedTo f origin) f level hops → (nth channel next : ℕ)
+    → IsCarried (cells_of s.seen.facts) f vl level hops (nth + 2)
+    → IsLaneChannel (cells_of s.seen.facts) f vl level hops nth channel
+    → IsLaneChannel (cells_of s.seen.facts) f vl level hops (nth + 1) next
+    → r.number channel < r.number next

@@ -1,5 +1,6 @@
 //! The laws of channels by lane.
-ghost use Rattle.lane_channels.specs.Fabrics.{LaneChannelsRise, StepLaneChannelsRise};
+ghost use Rattle.lane_channels.specs.LaneStepLaws.{StepLaneChannelsRise};
+ghost use Rattle.lane_channels.specs.LaneLaws.{LaneChannelsRise};
 ghost use Rattle.lane_channels.specs.LaneLaws.{AllCarried, NeverBothByLane, OneLaneSuffices};
 ghost use Rattle.lane_channels.specs.LaneStepLaws.{HeldRiseInStep, NeverBothByLaneInStep, OneLaneSufficesInStep};
 

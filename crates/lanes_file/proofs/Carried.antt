@@ -9,8 +9,9 @@ use Rattle.std.proofs.lemmas.Option.{same_Some}
 use Rattle.smp_bytes.proofs.Members.{list_all_at}
 use Rattle.lanes_file.specs.declared.lanes.LaneMap.{LaneMap}
 use Rattle.lanes_file.specs.declared.lanes.LevelBlock.{LevelBlock}
-use Rattle.lanes_file.specs.Carried.{CarriesAll, block_gives, carries, carries_all, gives, has_lane, is_level, map_has_lane}
-use Rattle.lanes_file.specs.Lanes.{LanesSaid, is_block, is_map, lane_of, lanes_by, level_by}
+use Rattle.lanes_file.specs.Carried.{CarriesAll, carries, carries_all, has_lane, map_has_lane}
+use Rattle.lanes_file.specs.Lanes.{block_gives, gives, is_level, LanesSaid, is_block, is_map, lane_of, lanes_by}
+use Rattle.lanes_file.specs.Lanes.{level_by}
 use Rattle.lanes_file.specs.WellFormed.{IsWellFormed}
 
 -- a number below n is one of the first n

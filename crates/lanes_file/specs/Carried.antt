@@ -1,9 +1,9 @@
 -- Whether packets that have a service level have a lane below 15, on which they are carried.
-use Rattle.std.specs.Prelude.{◌≡◌, ◌<◌, ℕ, Bool, false, List, Option, None, Some, ◌==◌, ◌&&◌, ◌||◌, not, is_some, nat_lt, slice_index, slice_index_or}
-use Rattle.std.specs.List.{list_all, list_any, range_with_len}
+use Rattle.std.specs.Prelude.{◌≡◌, ◌<◌, ℕ, Bool, List, Option, Some, ◌&&◌, ◌||◌, not, is_some, nat_lt, slice_index_or}
+use Rattle.std.specs.List.{list_all, range_with_len}
 use Rattle.lanes_file.specs.declared.lanes.LaneMap.{LaneMap}
 use Rattle.lanes_file.specs.declared.lanes.LevelBlock.{LevelBlock}
-use Rattle.lanes_file.specs.Lanes.{LanesSaid, lane_of, level_of}
+use Rattle.lanes_file.specs.Lanes.{LanesSaid, lane_of, level_of, gives}
 
 -- `lanes` gives packets of service level `level` a lane below 15; false past the end
 abbrev pub has_lane : ℕ → List ℕ → Bool
@@ -16,20 +16,6 @@ map_has_lane level map = has_lane level map.lanes
 -- packets of service level `level` have a lane below 15 by each of `maps` and, without a map, by `lanes`
 abbrev pub carries : List ℕ → List LaneMap → ℕ → Bool
 carries lanes maps level = has_lane level lanes && list_all (map_has_lane level) maps
-
--- a LID of `block` has the service level `level`
-abbrev pub block_gives : ℕ → LevelBlock → Bool
-block_gives level block = list_any (λ index. slice_index block.levels index == level) (range_with_len 0 64)
-
--- packets that no block gives a level have the service level `level`; false if they have none (None)
-abbrev pub is_level : Option ℕ → ℕ → Bool
-is_level None level = false
-is_level (Some own) level = own == level
-
--- some packets have the service level `level`: a block of `blocks` gives it, or it is `own`, the level of packets that
--- no block gives one
-abbrev pub gives : Option ℕ → List LevelBlock → ℕ → Bool
-gives own blocks level = is_level own level || list_any (block_gives level) blocks
 
 -- each service level that some packets have has a lane below 15 by each of `maps` and, for packets without a map, by
 -- `lanes`

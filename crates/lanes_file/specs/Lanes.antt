@@ -1,7 +1,9 @@
 -- What a text of lanes says, and the lane and the service level of packets.
-use Rattle.std.specs.Prelude.{ℕ, ◌/◌, ◌%◌, ◌==◌, ◌&&◌, Bool, List, [], Option, None, Some, find, nat_lt, slice_index, slice_index_or, if◌then◌else◌}
+use Rattle.std.specs.Prelude.{ℕ, ◌/◌, ◌%◌, ◌==◌, ◌&&◌, Bool, List, [], Option, None, Some, find, nat_lt, slice_index}
+use Rattle.std.specs.Prelude.{slice_index_or, if◌then◌else◌, false, ◌||◌}
 use Rattle.lanes_file.specs.declared.lanes.LaneMap.{LaneMap}
 use Rattle.lanes_file.specs.declared.lanes.LevelBlock.{LevelBlock}
+use Rattle.std.specs.List.{list_any, range_with_len}
 
 -- what a text of lanes says: lanes, maps, a level, and blocks of levels
 pub record LanesSaid : Type 0 where
@@ -57,3 +59,17 @@ level_by level index (Some block) =
 -- the service level of packets from `port` of `node` to `lid`; None if the text says none
 abbrev pub level_of : LanesSaid → ℕ → ℕ → ℕ → Option ℕ
 level_of said node port lid = level_by said.level (lid % 64) (find (is_block node port (lid / 64)) said.levels)
+
+-- a LID of `block` has the service level `level`
+abbrev pub block_gives : ℕ → LevelBlock → Bool
+block_gives level block = list_any (λ index. slice_index block.levels index == level) (range_with_len 0 64)
+
+-- packets that no block gives a level have the service level `level`; false if they have none (None)
+abbrev pub is_level : Option ℕ → ℕ → Bool
+is_level None level = false
+is_level (Some own) level = own == level
+
+-- some packets have the service level `level`: a block of `blocks` gives it, or it is `own`, the level of packets that
+-- no block gives one
+abbrev pub gives : Option ℕ → List LevelBlock → ℕ → Bool
+gives own blocks level = is_level own level || list_any (block_gives level) blocks

@@ -1,8 +1,10 @@
 //! What a text of lanes says.
 ghost use Rattle.std.specs.Prelude.{◌≡◌, ◌<◌, ◌%◌, IfSome, IsTrue, find, option_copied, slice_index_or};
 ghost use Rattle.std.specs.List.{list_all, list_any};
-ghost use Rattle.lanes_file.specs.Carried.{CarriesAll, block_gives, carries, carries_all, each_is_carried};
-ghost use Rattle.lanes_file.specs.Carried.{gives, has_lane, has_level_for_all, map_has_lane};
+ghost use Rattle.lanes_file.specs.Carried.{CarriesAll, carries, carries_all, each_is_carried};
+ghost use Rattle.lanes_file.specs.Lanes.{block_gives};
+ghost use Rattle.lanes_file.specs.Carried.{has_lane, has_level_for_all, map_has_lane};
+ghost use Rattle.lanes_file.specs.Lanes.{gives};
 ghost use Rattle.lanes_file.specs.Lanes.{is_block, is_map, lane_of, lanes_between, level_by, level_of};
 ghost use Rattle.lanes_file.specs.WellFormed.{AreLanes, HasLanes, IsWellFormed};
 

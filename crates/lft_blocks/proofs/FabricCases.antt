@@ -33,7 +33,7 @@ use Rattle.updown_routes.specs.Updown.{updown}
 use Rattle.lft_blocks.specs.Rules.{up_and_down}
 use Rattle.lft_blocks.specs.Plan.{plan_of, block_at}
 use Rattle.lft_blocks.specs.PlanLaws.{HasBlock, block_of}
-use Rattle.lft_blocks.specs.Arrival.{HoldsBlock, HoldsPlan}
+use Rattle.lft_blocks.specs.InForce.{HoldsBlock, HoldsPlan}
 use Rattle.lft_blocks.proofs.BlockLaws.{made_at}
 use Rattle.lft_blocks.proofs.BlockOwners.{blocks_are_of_switches}
 use Rattle.lft_blocks.proofs.HeldEntries.{entry_of}

@@ -10,14 +10,15 @@ use Rattle.subnet_view.specs.declared.end_port.EndPort.{EndPort}
 use Rattle.subnet_view.specs.Reading.{Cells, is_usable}
 use Rattle.subnet_view.specs.Agreement.{Part, IsEndPortIn}
 use Rattle.subnet_view.proofs.UsableSwitches.{usable_law}
-use Rattle.lid_assign.specs.Lids.{Given, lids, owner_of, top_of, AreLids}
+use Rattle.lid_assign.specs.Lids.{Given, lids, owner_of, top_of}
+use Rattle.lid_assign.specs.LidLaws.{AreLids}
 use Rattle.lid_assign.proofs.Owners.{given-from_owner}
 use Rattle.lid_assign.proofs.Tops.{at_most_top}
 use Rattle.subnet_view.specs.Routing.{Routing}
 use Rattle.lft_blocks.specs.Entries.{attachment_of, attachment_of_lid, port_to, entry, block_count}
 use Rattle.lft_blocks.specs.Plan.{plan_by, block_at}
 use Rattle.lft_blocks.specs.PlanLaws.{HasBlock, block_of}
-use Rattle.lft_blocks.specs.Arrival.{HoldsPlan}
+use Rattle.lft_blocks.specs.InForce.{HoldsPlan}
 use Rattle.lft_blocks.proofs.BlockLaws.{made_at}
 use Rattle.lft_blocks.proofs.BlockOwners.{blocks_are_of_switches}
 

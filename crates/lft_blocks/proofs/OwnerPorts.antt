@@ -16,14 +16,15 @@ use Rattle.subnet_view.specs.Wires.{across, attached}
 use Rattle.subnet_view.specs.Agreement.{IsEndPortIn, IsPortNamed, HasEndPort, AgreesOn}
 use Rattle.subnet_view.proofs.Apart.{contains_map}
 use Rattle.subnet_view.proofs.WireLaws.{wire_law}
-use Rattle.lid_assign.specs.Lids.{lids, lid_of, lmc_of, owner_of, AreLids}
+use Rattle.lid_assign.specs.Lids.{lids, lid_of, lmc_of, owner_of}
+use Rattle.lid_assign.specs.LidLaws.{AreLids}
 use Rattle.lid_assign.proofs.Owners.{given-from_owner}
 use Rattle.subnet_view.specs.Routing.{Routing}
 use Rattle.subnet_view.proofs.PartWires.{IsTold, switch_at_index, switch_port, switch_known, switch_usable, known_type}
 use Rattle.subnet_view.proofs.Joined.{LiesAt, HasAttachment, itself, by_wire}
 use Rattle.lft_blocks.specs.Entries.{attachment_of}
 use Rattle.lft_blocks.specs.Plan.{plan_by}
-use Rattle.lft_blocks.specs.Arrival.{HoldsPlan}
+use Rattle.lft_blocks.specs.InForce.{HoldsPlan}
 use Rattle.lft_blocks.proofs.HeldEntries.{HasBlocks}
 
 -- the LID has this owner in the plan, and the part holds the plan

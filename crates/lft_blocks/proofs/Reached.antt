@@ -30,7 +30,9 @@ use Rattle.subnet_view.proofs.Graphs.{graph_law}
 use Rattle.subnet_view.proofs.PartWires.{IsTold, SwitchIn, one_index, switch_at_index}
 use Rattle.subnet_view.proofs.Joined.{LiesAt, HasAttachment, itself, by_wire, Meets, same, wired, apart, own_attachment, switch_in_graph, joined_meet}
 use Rattle.lft_blocks.specs.Plan.{lid_routing, plan_by, plan_of}
-use Rattle.lft_blocks.specs.Arrival.{guid_at, is_between_switches, switch_hops, switches_met, HoldsPlan, IsInForceWithin, IsRoutedWay, EveryPacketArrives, PacketsArriveByEachRouting, PacketsArriveWhereCovered}
+use Rattle.lft_blocks.specs.Arrival.{guid_at, is_between_switches, switch_hops, switches_met, IsRoutedWay}
+use Rattle.lft_blocks.specs.Arrival.{EveryPacketArrives, PacketsArriveByEachRouting, PacketsArriveWhereCovered}
+use Rattle.lft_blocks.specs.InForce.{HoldsPlan, IsInForceWithin}
 use Rattle.lft_blocks.proofs.HeldEntries.{entry_of, planned_block}
 use Rattle.lft_blocks.proofs.OwnerPorts.{IsPlanned, OwnerPort, owner_port, owner_there, lid_is_owners, owner_attachment}
 use Rattle.lft_blocks.proofs.Courses.{WayTaken, guid_there, way_taken, goes_on, switch_takes, switch_sends, entry_at_attachment}

@@ -6,7 +6,8 @@ use Rattle.subnet_view.specs.EndPorts.{end_ports}
 use Rattle.subnet_view.specs.Reading.{Cells}
 use Rattle.lid_assign.specs.declared.fault.NoRoom.{NoRoom as Room}
 use Rattle.lid_assign.specs.LidFault.{lid_fault, no_room}
-use Rattle.lid_assign.specs.Lids.{IsNoRoom, is_no_room, room}
+use Rattle.lid_assign.specs.Lids.{IsNoRoom, is_no_room}
+use Rattle.lid_assign.specs.Claims.{room}
 
 pub has_room : (lmc : ℕ) (cells : Cells) → lid_fault (no_room lmc cells) ≡ None → ¬ (IsNoRoom lmc cells)
 has_room lmc cells e h =

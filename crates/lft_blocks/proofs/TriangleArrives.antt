@@ -22,7 +22,8 @@ use Rattle.updown_routes.specs.Updown.{updown}
 use Rattle.lft_blocks.specs.Rules.{up_and_down}
 use Rattle.lft_blocks.specs.Entries.{attachment_of, port_to}
 use Rattle.lft_blocks.specs.Plan.{plan_of}
-use Rattle.lft_blocks.specs.Arrival.{Arrives, IsInForce}
+use Rattle.lft_blocks.specs.Arrival.{Arrives}
+use Rattle.lft_blocks.specs.InForce.{IsInForce}
 use Rattle.lft_blocks.proofs.HeldEntries.{owned_to_top}
 use Rattle.lft_blocks.proofs.Reached.{every_packet_arrives}
 use Rattle.lft_blocks.proofs.WholeFabrics.{packets_arrive_if_connected}

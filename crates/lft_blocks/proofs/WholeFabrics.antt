@@ -8,7 +8,8 @@ use Rattle.fabric_model.proofs.FabricWalks.{vertex_is_end}
 use Rattle.subnet_view.specs.Reading.{Cells}
 use Rattle.subnet_view.specs.Agreement.{WholeFabric, IsEndPortIn, HasEndPort, HasWire, AgreesOn}
 use Rattle.lft_blocks.specs.Plan.{PlanValue, plan_of}
-use Rattle.lft_blocks.specs.Arrival.{HoldsPlan, IsInForce, PacketsArriveIfConnected}
+use Rattle.lft_blocks.specs.Arrival.{PacketsArriveIfConnected}
+use Rattle.lft_blocks.specs.InForce.{HoldsPlan, IsInForce}
 use Rattle.lft_blocks.proofs.Reached.{every_packet_arrives}
 
 module _ (f : Fabric) (origin : NodePort) (fab : IsFabric f) (connected : IsConnected f) (is_end : IsEndPort f origin) where

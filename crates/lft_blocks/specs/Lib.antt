@@ -1,6 +1,7 @@
 pub mod Arrival
 pub mod Attachments
 pub mod Entries
+pub mod InForce
 pub mod LidNumbers
 pub mod Plan
 pub mod PlanLaws

@@ -11,7 +11,10 @@ use Rattle.subnet_view.specs.EndPorts.{end_ports}
 use Rattle.subnet_view.proofs.Apart.{Apart, contains_map, contains-from_map}
 use Rattle.subnet_view.proofs.Members.{contains_cases, contains_as}
 use Rattle.lid_assign.specs.Ranges.{width_of, Range, range_at, meets, IsIn, Fits}
-use Rattle.lid_assign.specs.Lids.{room, kept, least_open, hand_out, handed_out, lids, is_no_room, IsNoRoom, NoRoomAtLmc0, count_up}
+use Rattle.lid_assign.specs.Lids.{least_open, hand_out, handed_out, lids, is_no_room, IsNoRoom}
+use Rattle.lid_assign.specs.LidLaws.{NoRoomAtLmc0}
+use Rattle.lid_assign.specs.Lids.{count_up}
+use Rattle.lid_assign.specs.Claims.{room, kept}
 use Rattle.lid_assign.proofs.Ranges.{some_width, meets_at, common_number, multiples_apart}
 use Rattle.lid_assign.proofs.Rising.{apart-from_rising, rising-count_up, within-count_up, contains-count_up, length-count_up, no_more_than}
 use Rattle.lid_assign.proofs.KeptClaims.{Ports, kept_fits, ports-with_kept}

@@ -7,7 +7,8 @@ use Rattle.subnet_view.specs.Reading.{Cells}
 use Rattle.subnet_view.specs.EndPorts.{end_ports, ports_after}
 use Rattle.lid_assign.specs.declared.hand_out.Next.{Next}
 use Rattle.lid_assign.specs.Ranges.{width_of}
-use Rattle.lid_assign.specs.Lids.{room, kept_claim, with_kept, kept, handed_out, is_no_room}
+use Rattle.lid_assign.specs.Lids.{handed_out, is_no_room}
+use Rattle.lid_assign.specs.Claims.{room, kept_claim, with_kept, kept}
 use Rattle.lid_assign.specs.Marks.{from_on, fitting, unmarked, AreMarkedMore, AreTaken, ArePassed, NoneUnmarked, IsLeastUnmarked}
 use Rattle.lid_assign.proofs.Giving.{IsGiving, giving_start, given_kept, given_open, given_none, given_all}
 use Rattle.lid_assign.proofs.HandOut.{GivenLids}

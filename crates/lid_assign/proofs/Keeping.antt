@@ -12,7 +12,7 @@ use Rattle.subnet_view.specs.Reading.{Cells}
 use Rattle.subnet_view.specs.EndPorts.{end_ports}
 use Rattle.subnet_view.proofs.Members.{list_any_true, list_any_at}
 use Rattle.lid_assign.specs.Ranges.{width_of, Range, range_at, is_in}
-use Rattle.lid_assign.specs.Lids.{room, fitting_claim, claims, if_first, kept_claim, with_kept, kept, kept_range}
+use Rattle.lid_assign.specs.Claims.{room, fitting_claim, claims, if_first, kept_claim, with_kept, kept, kept_range}
 use Rattle.lid_assign.specs.Marks.{is_marked, any_marked, from_on, is_in_some, fitting, if_unmarked, unmarked, AreMarkedMore, AreTaken}
 use Rattle.lid_assign.proofs.KeptClaims.{Ports, claims_fitting, claims_at, claims_from}
 use Rattle.lid_assign.proofs.LidLaws.{ranges_of}

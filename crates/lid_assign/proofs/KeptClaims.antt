@@ -11,7 +11,8 @@ use Rattle.subnet_view.specs.EndPorts.{end_ports}
 use Rattle.subnet_view.proofs.Apart.{Apart, split_once}
 use Rattle.subnet_view.proofs.Members.{contains_here, contains_later, contains_cases, contains_none, list_any_true, list_any_at, contains_first, contains_in}
 use Rattle.lid_assign.specs.Ranges.{Range, range_at, meets, fits, Fits}
-use Rattle.lid_assign.specs.Lids.{room, if_fits, fitting_claim, claims, if_first, kept_claim, with_kept, kept, ClaimsFitting, Keeps}
+use Rattle.lid_assign.specs.LidLaws.{ClaimsFitting, Keeps}
+use Rattle.lid_assign.specs.Claims.{room, if_fits, fitting_claim, claims, if_first, kept_claim, with_kept, kept}
 use Rattle.lid_assign.proofs.Ranges.{some_width, meets_at, common_number, meets_turned, fits_from_test, test_from_fits}
 
 -- claims that fit ------------------------------------------------------------------

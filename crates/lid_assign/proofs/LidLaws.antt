@@ -12,7 +12,9 @@ use Rattle.subnet_view.proofs.EndPorts.{end_ports_apart}
 use Rattle.subnet_view.proofs.Members.{contains_in}
 use Rattle.subnet_view.proofs.Taken.{taken_from, is_taken}
 use Rattle.lid_assign.specs.Ranges.{width_of, Range, range_at, IsIn, Fits}
-use Rattle.lid_assign.specs.Lids.{room, kept, kept_range, handed_out, lids, IsNoRoom, Keeps, KeepsNothing, WasTaken, AreLids, LidsLaw}
+use Rattle.lid_assign.specs.Lids.{handed_out, lids, IsNoRoom}
+use Rattle.lid_assign.specs.LidLaws.{Keeps, KeepsNothing, WasTaken, AreLids, LidsLaw}
+use Rattle.lid_assign.specs.Claims.{room, kept, kept_range}
 use Rattle.lid_assign.proofs.Ranges.{some_width, meets_at, common_number}
 use Rattle.lid_assign.proofs.KeptClaims.{Ports, kept_apart, kept_fits, kept_from_keeps, keeps_from_kept, ports-with_kept}
 use Rattle.lid_assign.proofs.HandOut.{GivenLids, numbers_of, IsOther, Hands, hands_from, hands_ports, given_from, kept_given, PairsApart, given_apart, same_from_pairs, lesser_met}

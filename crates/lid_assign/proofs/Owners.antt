@@ -9,7 +9,8 @@ use Rattle.subnet_view.specs.declared.end_port.EndPort.{EndPort}
 use Rattle.subnet_view.proofs.Apart.{Apart, found_there, find_only, same_from_apart}
 use Rattle.subnet_view.proofs.Members.{contains_as}
 use Rattle.lid_assign.specs.Ranges.{lmc_at, range_at, is_in, IsIn}
-use Rattle.lid_assign.specs.Lids.{Given, IsNoRoom, lids, has_number, owner_of, is_end_port_at, lid_of, OwnersAreInverse}
+use Rattle.lid_assign.specs.Lids.{Given, IsNoRoom, lids, has_number, owner_of, is_end_port_at, lid_of}
+use Rattle.lid_assign.specs.LidLaws.{OwnersAreInverse}
 use Rattle.lid_assign.proofs.Ranges.{in_from_test, test_from_in, meets_at}
 use Rattle.lid_assign.proofs.HandOut.{PairsApart, same_from_pairs}
 use Rattle.lid_assign.proofs.LidLaws.{handed, each_fits, pairs, ports_apart}

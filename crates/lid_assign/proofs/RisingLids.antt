@@ -7,7 +7,8 @@ use Rattle.std.specs.List.{AllPairs}
 use Rattle.subnet_view.specs.declared.end_port.EndPort.{EndPort}
 use Rattle.subnet_view.proofs.Members.{contains_filter, contains-from_filter, contains_as, list_any_true, list_any_at}
 use Rattle.subnet_view.proofs.Taken.{all_from}
-use Rattle.lid_assign.specs.Lids.{Given, count_up, is_lid, top_of, end_of, rising_lids, RisingLidsLaw}
+use Rattle.lid_assign.specs.Lids.{Given, count_up, is_lid, top_of, end_of, rising_lids}
+use Rattle.lid_assign.specs.LidLaws.{RisingLidsLaw}
 use Rattle.lid_assign.proofs.Ranges.{some_width}
 use Rattle.lid_assign.proofs.Rising.{Rising, rising-filter, rising-count_up, contains-count_up}
 use Rattle.lid_assign.proofs.Tops.{below_end}

@@ -14,7 +14,9 @@ use Rattle.subnet_view.proofs.BesideClaims.{is_claim, cap_same, switches_same, e
 use Rattle.subnet_view.proofs.EndPorts.{end_ports_apart}
 use Rattle.subnet_view.proofs.Members.{contains_as, contains_in}
 use Rattle.lid_assign.specs.Ranges.{range_at, Fits}
-use Rattle.lid_assign.specs.Lids.{IsNoRoom, least_room, room, handed_out, lids, lid_of, top_of, ClaimsFitting, Keeps, AreLids}
+use Rattle.lid_assign.specs.Lids.{IsNoRoom, handed_out, lids, lid_of, top_of}
+use Rattle.lid_assign.specs.LidLaws.{ClaimsFitting, Keeps, AreLids}
+use Rattle.lid_assign.specs.Claims.{least_room, room}
 use Rattle.lid_assign.specs.Stability.{DifferInClaims, LidsSettle, LidsStay}
 use Rattle.lid_assign.proofs.LidLaws.{ports-lids, ports_apart, lids_law}
 use Rattle.lid_assign.proofs.Owners.{given-from_lid, lid-from_given}

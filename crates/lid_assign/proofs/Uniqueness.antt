@@ -12,7 +12,9 @@ use Rattle.subnet_view.proofs.Apart.{Apart, contains_at, contains_map, contains-
 use Rattle.subnet_view.proofs.EndPorts.{end_ports_apart}
 use Rattle.subnet_view.proofs.Members.{contains_here, contains_later, contains_cases, contains_none, contains_as, contains_in}
 use Rattle.lid_assign.specs.Ranges.{width_of, Range, range_at, meets, IsIn, IsInBoth, Fits}
-use Rattle.lid_assign.specs.Lids.{room, kept, least_open, handed_out, lids, is_no_room, Keeps, KeepsNothing, AreLids, LidsAreUnique, NoRoomLaw, OthersRise}
+use Rattle.lid_assign.specs.Lids.{least_open, handed_out, lids, is_no_room}
+use Rattle.lid_assign.specs.LidLaws.{Keeps, KeepsNothing, AreLids, LidsAreUnique, NoRoomLaw, OthersRise}
+use Rattle.lid_assign.specs.Claims.{room, kept}
 use Rattle.lid_assign.proofs.Ranges.{some_width, meets_at, common_number}
 use Rattle.lid_assign.proofs.KeptClaims.{Ports, kept_from_keeps, keeps_from_kept, with_kept_has, ports-with_kept}
 use Rattle.lid_assign.proofs.HandOut.{GivenLids, numbers_of, IsBlocked, Hands, hands_to, is_least_open}

@@ -1,7 +1,9 @@
-pub mod Ranges
-pub mod Lids
-pub mod LidFault
-pub mod Rooms
-pub mod Marks
+pub mod Claims
 pub mod Indexed
+pub mod LidFault
+pub mod LidLaws
+pub mod Lids
+pub mod Marks
+pub mod Ranges
+pub mod Rooms
 pub mod Stability

@@ -5,7 +5,8 @@ use Rattle.subnet_view.specs.EndPorts.{end_ports}
 use Rattle.lid_assign.specs.declared.fault.NoRoom.{NoRoom as Room}
 use Rattle.lid_assign.specs.declared.fault.LidFault.{LidFault}
 use Rattle.lid_assign.specs.declared.fault.LidFault.TheVariants.{NoRoom, Memory}
-use Rattle.lid_assign.specs.Lids.{room, is_no_room}
+use Rattle.lid_assign.specs.Lids.{is_no_room}
+use Rattle.lid_assign.specs.Claims.{room}
 
 -- the name of a fault of assigning LIDs
 abbrev pub lid_fault_name : LidFault → List ℕ

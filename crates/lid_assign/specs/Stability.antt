@@ -7,7 +7,8 @@ use Rattle.subnet_view.specs.declared.end_port.EndPort.{EndPort}
 use Rattle.reply_facts.specs.Known.{claim_of}
 use Rattle.subnet_view.specs.Reading.{Cells}
 use Rattle.subnet_view.specs.EndPorts.{end_ports}
-use Rattle.lid_assign.specs.Lids.{IsNoRoom, room, lids, lid_of, top_of}
+use Rattle.lid_assign.specs.Lids.{IsNoRoom, lids, lid_of, top_of}
+use Rattle.lid_assign.specs.Claims.{room}
 
 -- the facts `x` and `y` have equal cells for all keys but claims
 abbrev pub DifferInClaims : Facts → Facts → Type 0

@@ -1,6 +1,7 @@
 ghost use Rattle.std.specs.Prelude.{◌≡◌, ◌+◌, ◌<◌, ◌≤◌, ◌^◌, length, option_map, IfOk, MatchOption};
 ghost use Rattle.std.specs.List.{filter_map};
-ghost use Rattle.lid_assign.specs.Lids.{hand_out, kept_range};
+ghost use Rattle.lid_assign.specs.Lids.{hand_out};
+ghost use Rattle.lid_assign.specs.Claims.{kept_range};
 ghost use Rattle.lid_assign.specs.Ranges.{width_of};
 ghost use Rattle.lid_assign.specs.Marks.{from_on, AreMarkedMore, ArePassed, AreTaken, IsFound, IsLeastUnmarked};
 ghost use Rattle.lid_assign.specs.Marks.{IsPassed, NoneUnmarked};

@@ -3,7 +3,7 @@ ghost use Rattle.std.specs.List.{filter_map};
 ghost use Rattle.reply_facts.specs.Known.{claim_of};
 ghost use Rattle.fact_store.specs.View.{cells_of};
 ghost use Rattle.subnet_view.specs.EndPorts.{end_ports};
-ghost use Rattle.lid_assign.specs.Lids.{room, kept, kept_range};
+ghost use Rattle.lid_assign.specs.Claims.{room, kept, kept_range};
 ghost use Rattle.lid_assign.specs.Marks.{fitting, from_on, unmarked, AreMarkedMore, AreTaken};
 
 use crate::lid_marks::{any_marked, fits, mark, width};

@@ -1,6 +1,6 @@
 //! The laws of the LIDs that are assigned.
-ghost use Rattle.lid_assign.specs.Lids.{LidsLaw, LidsAreUnique, NoRoomAtLmc0, NoRoomLaw, OthersRise};
-ghost use Rattle.lid_assign.specs.Lids.{OwnersAreInverse, RisingLidsLaw};
+ghost use Rattle.lid_assign.specs.LidLaws.{LidsLaw, LidsAreUnique, NoRoomAtLmc0, NoRoomLaw, OthersRise};
+ghost use Rattle.lid_assign.specs.LidLaws.{OwnersAreInverse, RisingLidsLaw};
 ghost use Rattle.lid_assign.specs.Ranges.{RangesLaw};
 ghost use Rattle.lid_assign.specs.Stability.{LidsSettle, LidsStay};
 

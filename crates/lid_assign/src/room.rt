@@ -2,7 +2,8 @@ ghost use Rattle.std.specs.Prelude.{◌≡◌, Some, length};
 ghost use Rattle.fact_store.specs.View.{cell_for, cells_of};
 ghost use Rattle.subnet_view.specs.EndPorts.{end_ports};
 ghost use Rattle.lid_assign.specs.LidFault.{no_room};
-ghost use Rattle.lid_assign.specs.Lids.{is_no_room, room};
+ghost use Rattle.lid_assign.specs.Lids.{is_no_room};
+ghost use Rattle.lid_assign.specs.Claims.{room};
 ghost use Rattle.lid_assign.specs.Rooms.{usable_cap};
 
 use crate::fault::NoRoom;

@@ -2,7 +2,8 @@
 ghost use Rattle.std.specs.Prelude.{◌≡◌, ◌≤◌, false, replicate};
 ghost use Rattle.std.specs.List.{filter_map};
 ghost use Rattle.fact_store.specs.View.{cells_of};
-ghost use Rattle.lid_assign.specs.Lids.{is_no_room, kept, kept_range, room};
+ghost use Rattle.lid_assign.specs.Lids.{is_no_room};
+ghost use Rattle.lid_assign.specs.Claims.{kept, kept_range, room};
 ghost use Rattle.lid_assign.specs.Marks.{AreTaken};
 
 use crate::hand_out::{first, take};

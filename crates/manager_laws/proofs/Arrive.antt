@@ -9,7 +9,7 @@ use Rattle.fabric_sim.specs.Simulation.{fabric_of}
 use Rattle.fact_store.specs.View.{cells_of}
 use Rattle.subnet_view.specs.Agreement.{AgreesOn}
 use Rattle.subnet_view.specs.EndPorts.{IsEndPort}
-use Rattle.lft_blocks.specs.Arrival.{HoldsPlan}
+use Rattle.lft_blocks.specs.InForce.{HoldsPlan}
 use Rattle.sweep.specs.Sweep.{Sweep, path_to}
 use Rattle.sm_manager.specs.Writing.{is_written}
 use Rattle.manager_laws.specs.Pings.{EachPingArrives}

@@ -35,8 +35,9 @@ use Rattle.sm_manager.specs.declared.pending.Pending.{Pending}
 use Rattle.sm_manager.specs.declared.pending.Purpose.{Purpose}
 use Rattle.sm_manager.specs.declared.pending.Purpose.TheVariants as purpose
 use Rattle.sm_state.specs.declared.standing.Standing.{Standing}
-use Rattle.sm_manager.specs.Election.{asked, control_sent, after_handover, handed_to, handover_fault, handover_move, successor_lid, poll_fault, after_poll, after_message}
-use Rattle.sm_manager.specs.Election.{if_way_out, is_way_out, path_seen, poll_out, poll_path, polled, polled_path, unless_way}
+use Rattle.sm_manager.specs.Election.{asked, control_sent, after_handover, handed_to, handover_fault, handover_move}
+use Rattle.sm_manager.specs.Election.{successor_lid, poll_fault, after_poll, after_message, if_way_out, is_way_out}
+use Rattle.sm_manager.specs.Election.{path_seen, poll_out, poll_path, polled, polled_path, unless_way}
 use Rattle.sm_manager.specs.PlanFaults.{number_fault, or_else}
 use Rattle.sm_manager.specs.declared.fault.ManagerFault.{ManagerFault}
 use Rattle.sm_manager.specs.declared.fault.ManagerFault.TheVariants.{NotStandby, SequenceSpent}

@@ -11,7 +11,7 @@ use Rattle.fabric_model.specs.FabricWalks.{IsJoinedTo}
 use Rattle.lid_assign.specs.Lids.{IsNoRoom}
 use Rattle.lft_blocks.specs.Rules.{RuleValue}
 use Rattle.lft_blocks.specs.Plan.{plan_of}
-use Rattle.lft_blocks.specs.Arrival.{HoldsPlan}
+use Rattle.lft_blocks.specs.InForce.{HoldsPlan}
 use Rattle.reply_facts.specs.declared.report.Report.{Report}
 use Rattle.reply_facts.specs.Report.{sightings_of}
 use Rattle.fact_store.specs.View.{cells_of}

@@ -20,7 +20,7 @@ use Rattle.subnet_view.specs.declared.end_port.EndPort.{EndPort}
 use Rattle.subnet_view.proofs.Members.{contains_none}
 use Rattle.subnet_view.specs.Agreement.{IsPortNamed}
 use Rattle.lid_assign.specs.Lids.{range_of, top_of}
-use Rattle.lft_blocks.specs.Arrival.{HoldsBlock}
+use Rattle.lft_blocks.specs.InForce.{HoldsBlock}
 use Rattle.lft_blocks.specs.Plan.{PlanValue, plan_of, block_at, switches_of}
 use Rattle.sweep.specs.Sweep.{Sweep, path_to, seen_state, switch_image}
 use Rattle.plan_steps.specs.declared.step.Step.{Step}

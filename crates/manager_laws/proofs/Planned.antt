@@ -23,7 +23,7 @@ use Rattle.subnet_view.proofs.UsableSwitches.{switches_law}
 use Rattle.lid_assign.specs.Lids.{IsNoRoom, lids, lid_of, lmc_of, range_of, top_of}
 use Rattle.lid_assign.proofs.LidLaws.{lids_law, ports_apart}
 use Rattle.lid_assign.proofs.Owners.{lid-from_given}
-use Rattle.lft_blocks.specs.Arrival.{HoldsBlock, HoldsPlan, HoldsPlanAt}
+use Rattle.lft_blocks.specs.InForce.{HoldsBlock, HoldsPlan, HoldsPlanAt}
 use Rattle.lft_blocks.specs.Plan.{SwitchTable, plan_of, block_at, switches_of, lid_routing}
 use Rattle.lft_blocks.specs.Entries.{attachment_of_lid, block_count, blocks}
 use Rattle.lft_blocks.specs.Rules.{RuleValue}

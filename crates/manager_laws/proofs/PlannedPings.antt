@@ -15,7 +15,7 @@ use Rattle.fabric_sim.specs.Simulation.{Simulation, port_count, is_port, fabric_
 use Rattle.fabric_sim.proofs.PingsFind.{pings_find}
 use Rattle.fabric_sim.proofs.SeenFabrics.{agent_seen, simulations_are_fabrics}
 use Rattle.lft_blocks.specs.Plan.{plan_of}
-use Rattle.lft_blocks.specs.Arrival.{IsInForce}
+use Rattle.lft_blocks.specs.InForce.{IsInForce}
 use Rattle.lft_blocks.proofs.Reached.{every_packet_arrives}
 use Rattle.manager_laws.specs.Pings.{PingsArrive}
 

@@ -14,7 +14,7 @@ use Rattle.sweep.specs.Sweep.{Sweep, is_done, path_to}
 use Rattle.lid_assign.specs.Lids.{IsNoRoom}
 use Rattle.lft_blocks.specs.Rules.{RuleValue}
 use Rattle.lft_blocks.specs.Plan.{plan_of}
-use Rattle.lft_blocks.specs.Arrival.{HoldsPlan}
+use Rattle.lft_blocks.specs.InForce.{HoldsPlan}
 use Rattle.manager_laws.specs.Pings.{EachPingArrives}
 use Rattle.manager_laws.specs.Sweeping.{Sweeping, SweepEvent, CanBe, Begins, after_sweep_events}
 

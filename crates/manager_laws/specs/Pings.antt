@@ -11,7 +11,8 @@ use Rattle.subnet_view.specs.Agreement.{Part, AgreesOn}
 use Rattle.lid_assign.specs.Lids.{IsNoRoom, owner_of}
 use Rattle.lft_blocks.specs.Rules.{RuleValue}
 use Rattle.lft_blocks.specs.Plan.{PlanValue, plan_of}
-use Rattle.lft_blocks.specs.Arrival.{HoldsPlan, Arrives}
+use Rattle.lft_blocks.specs.Arrival.{Arrives}
+use Rattle.lft_blocks.specs.InForce.{HoldsPlan}
 use Rattle.fabric_sim.specs.declared.ping.Ping.TheVariants.{Reached}
 use Rattle.fabric_sim.specs.Simulation.{Simulation, IsSimulation, fabric_of}
 use Rattle.fabric_sim.specs.Ping.{ping, ping_fault}

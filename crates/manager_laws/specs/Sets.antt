@@ -18,7 +18,8 @@ use Rattle.plan_steps.specs.declared.step.Step.{Step}
 use Rattle.plan_steps.specs.Phases.{Phase}
 use Rattle.fabric_sim.specs.declared.flight.Flight.{Flight}
 use Rattle.fabric_sim.specs.declared.delivered.Delivered.TheVariants.{Answered}
-use Rattle.fabric_sim.specs.Simulation.{Simulation, agent_at, port_of, flight_with}
+use Rattle.fabric_sim.specs.Simulation.{Simulation, agent_at, port_of}
+use Rattle.fabric_sim.specs.Flights.{flight_with}
 use Rattle.fabric_sim.specs.Delivery.{after_deliver}
 use Rattle.manager_laws.specs.Scene.{Event, Deliver}
 

@@ -16,7 +16,7 @@ use Rattle.reply_facts.specs.Report.{Sightings}
 use Rattle.fact_store.specs.View.{cells_of, no_facts}
 use Rattle.subnet_view.specs.Agreement.{AgreesOn, Part}
 use Rattle.subnet_view.specs.Reading.{Cells}
-use Rattle.lft_blocks.specs.Arrival.{HoldsPlan}
+use Rattle.lft_blocks.specs.InForce.{HoldsPlan}
 use Rattle.plan_steps.specs.Phases.{Phase}
 use Rattle.sm_manager.specs.Writing.{begun_with, is_written}
 use Rattle.lft_blocks.specs.Plan.{plan_of}

@@ -37,8 +37,10 @@ use Rattle.fabric_sim.specs.Changes.{addressed, after_inject, after_lose, after_
 use Rattle.fabric_sim.specs.Delivery.{after_deliver, after_enqueue, after_outcome, answer_at, asked, by_course, by_verdict, carrying, delivered_flight, here_at}
 use Rattle.fabric_sim.specs.Delivery.{is_for_manager, leaving, outcome_of, with_changed}
 use Rattle.fabric_sim.specs.PacketOutcome.{Outcome, Moves, Asks, HandsUp, Represses, Drops}
-use Rattle.fabric_sim.specs.Simulation.{Simulation, AreCables, IsSimulation, across, agent_at, fabric_of, flight_with, is_at_seat, is_by_wire, is_cable_port}
-use Rattle.fabric_sim.specs.Simulation.{is_numbered, is_seat_at, port_count, port_of, with_moved, without_flight}
+use Rattle.fabric_sim.specs.Simulation.{Simulation, AreCables, IsSimulation, across, agent_at, fabric_of, is_at_seat}
+use Rattle.fabric_sim.specs.Simulation.{is_by_wire, is_cable_port}
+use Rattle.fabric_sim.specs.Flights.{flight_with, is_numbered, with_moved, without_flight}
+use Rattle.fabric_sim.specs.Simulation.{is_seat_at, port_count, port_of}
 use Rattle.fabric_sim.proofs.Kept.{found_waits}
 use Rattle.fabric_sim.proofs.Traced.{Fares, IsForAgent, IsOnCourse, fares_well}
 use Rattle.fabric_sim.proofs.TracedCalls.{AreTraced}

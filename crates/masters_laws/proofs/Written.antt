@@ -11,7 +11,7 @@ use Rattle.fact_store.specs.View.{Facts, cells_of}
 use Rattle.fabric_sim.specs.Simulation.{fabric_of}
 use Rattle.subnet_view.specs.Agreement.{AgreesOn, HasEndPort, Part}
 use Rattle.subnet_view.specs.Reading.{Cells}
-use Rattle.lft_blocks.specs.Arrival.{HoldsPlan, HoldsPlanAt}
+use Rattle.lft_blocks.specs.InForce.{HoldsPlan, HoldsPlanAt}
 use Rattle.lft_blocks.specs.Plan.{PlanValue}
 use Rattle.lft_blocks.specs.Planning.{Planning}
 use Rattle.sweep.specs.Sweep.{Sweep}

@@ -10,7 +10,7 @@ use Rattle.fabric_sim.specs.Simulation.{fabric_of}
 use Rattle.subnet_view.specs.Agreement.{Part, IsEndPortIn, TellsEndPort, AgreesOn}
 use Rattle.lid_assign.specs.Lids.{IsNoRoom, range_of}
 use Rattle.lft_blocks.specs.Plan.{PlanValue}
-use Rattle.lft_blocks.specs.Arrival.{HoldsPlan}
+use Rattle.lft_blocks.specs.InForce.{HoldsPlan}
 use Rattle.lft_blocks.specs.Planning.{Planning}
 use Rattle.sm_manager.specs.Manager.{new_manager}
 use Rattle.sm_manager.specs.PlanFaults.{writing_fault}

@@ -1,6 +1,7 @@
 -- What a step from held tables towards a plan does: it reads its inputs in order and writes the tables to write next,
 -- or returns a fault.
-use Rattle.std.specs.Prelude.{◌≡◌, ◌⊎◌, ◌↔◌, ◌+◌, ◌++◌, ℕ, Bool, true, false, List, Option, None, Some, IsTrue, if◌then◌else◌}
+use Rattle.std.specs.Prelude.{◌≡◌, ◌⊎◌, ◌↔◌, ◌+◌, ◌++◌, ℕ, Bool, true, false, List, Option, None, Some, IsTrue}
+use Rattle.std.specs.Prelude.{if◌then◌else◌}
 use Rattle.std.specs.Io.KnownBytes.{Appends}
 use Rattle.byte_io.specs.Source.{SourceState}
 use Rattle.fact_store.specs.View.{Facts, cells_of}
@@ -9,7 +10,7 @@ use Rattle.lid_assign.specs.LidFault.{no_room}
 use Rattle.lft_blocks.specs.Plan.{plan_of}
 use Rattle.lft_blocks.specs.Rules.{RuleValue}
 use Rattle.held_tables.specs.Held.{HeldPlan}
-use Rattle.held_tables.specs.PlanTables.{held_plan}
+use Rattle.held_tables.specs.PlanTables.{planned}
 use Rattle.tables_file.specs.TablesText.{next_text}
 use Rattle.next_tables.specs.SwitchPositions.{position_at}
 use Rattle.between_orders.specs.Between.{Goal, IsGoal}
@@ -34,10 +35,6 @@ use Rattle.next_run.specs.StepOrderText.{items_of, order_of_step, step_order_tex
 use Rattle.next_run.specs.declared.step_choice.StepChoice.{StepChoice}
 
 -- steps -----------------------------------------------------------------------------------------
-
--- the tables of the plan of `facts`, under `lmc` and by `rule`
-abbrev pub planned : ℕ → RuleValue → Facts → HeldPlan
-planned lmc rule facts = held_plan (plan_of rule lmc (cells_of facts))
 
 -- the rule by which a step towards a plan chooses entries: the order that `positions` give if the held tables are right
 -- by it, otherwise settled entries

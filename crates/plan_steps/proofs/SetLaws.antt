@@ -11,7 +11,10 @@ use Rattle.smp_bytes.proofs.CopyLaws.{byte_at_offset, with_number-twice}
 use Rattle.byteorder.specs.Numbers.{big_from-lt}
 use Rattle.smp_bytes.proofs.Members.{contains_cases, contains_none}
 use Rattle.smp_bytes.proofs.FieldLaws.{number_in-with_number, number_in-with_number_apart}
-use Rattle.attr_codec.specs.PortInfo.{base_lid, gid_prefix, link_down_default_state, lmc, master_sm_lid, number_of_state, port_physical_state, port_state, range_in}
+use Rattle.attr_codec.specs.PortInfo.{base_lid, gid_prefix, link_down_default_state, lmc, master_sm_lid}
+use Rattle.attr_codec.specs.PortInfo.{number_of_state, port_physical_state, port_state, range_in, client_reregister}
+use Rattle.attr_codec.specs.PortInfo.{hoq_life, link_speed_enabled, link_speed_ext_enabled, link_width_enabled}
+use Rattle.attr_codec.specs.PortInfo.{subnet_timeout, mtu_cap, neighbor_mtu}
 use Rattle.attr_codec.specs.Spelling.{Are64Bytes}
 use Rattle.attr_codec.specs.SwitchInfo.{life_time_value, linear_fdb_top, port_state_change}
 use Rattle.attr_codec.specs.declared.port_state.PortState.{PortState}
@@ -20,7 +23,8 @@ use Rattle.smp_bytes.specs.Header.{port_info}
 use Rattle.sweep.specs.Sweep.{Sweep, path_to, seen_state}
 use Rattle.plan_steps.specs.declared.step.Step.{Step}
 use Rattle.attr_codec.proofs.PortStates.{state_small}
-use Rattle.plan_steps.specs.Carried.{Change, carried_port, carried_switch, client_reregister, copied, hoq_life, link_local_prefix, link_speed_enabled, link_speed_ext_enabled, link_width_enabled, or_default, port_changes, subnet_timeout, switch_changes, mtu_cap, mtu_of, neighbor_mtu, port_read}
+use Rattle.plan_steps.specs.Carried.{Change, carried_port, carried_switch, copied, link_local_prefix, or_default}
+use Rattle.plan_steps.specs.Carried.{port_changes, switch_changes, mtu_of, port_read}
 use Rattle.plan_steps.specs.LidSets.{port_data}
 use Rattle.plan_steps.specs.States.{is_due, state_data, vertex_port}
 use Rattle.plan_steps.specs.Step.{step_at}

@@ -1,47 +1,16 @@
 -- What a Set of PortInfo or SwitchInfo carries besides what its step sets: the image that was read, with some changes.
 -- InfiniBand Architecture Specification, Volume 1: subnet management, PortInfo and SwitchInfo.
-use Rattle.std.specs.Prelude.{ℕ, min, List, [], ◌∷◌, Option, Some, None, option_and_then, option_map, ◌==◌, if◌then◌else◌, replicate}
+use Rattle.std.specs.Prelude.{ℕ, min, List, [], ◌∷◌, Option, Some, None, option_and_then, option_map, ◌==◌}
+use Rattle.std.specs.Prelude.{if◌then◌else◌, replicate}
 use Rattle.smp_bytes.specs.Field.{Bits, Field, bits_in, number_in, with_bits, with_number}
-use Rattle.attr_codec.specs.PortInfo.{gid_prefix, link_down_default_state, port_physical_state}
+use Rattle.attr_codec.specs.PortInfo.{gid_prefix, link_down_default_state, port_physical_state, link_width_enabled}
+use Rattle.attr_codec.specs.PortInfo.{neighbor_mtu, mtu_cap, link_speed_enabled, link_speed_ext_enabled, hoq_life}
+use Rattle.attr_codec.specs.PortInfo.{client_reregister, subnet_timeout}
 use Rattle.attr_codec.specs.SwitchInfo.{life_time_value, port_state_change}
 use Rattle.subnet_view.specs.Reading.{Cells}
 use Rattle.subnet_view.specs.Wires.{across}
 use Rattle.sweep.specs.Sweep.{Sweep, port_image}
 use Rattle.plan_steps.specs.declared.carried.PortRead.{PortRead}
-
--- further fields of PortInfo -------------------------------------------------------------------
-
--- LinkWidthEnabled, a component of PortInfo
-abbrev pub link_width_enabled : Bits
-link_width_enabled = record { at = 29; shift = 0; width = 8 }
-
--- NeighborMTU, a component of PortInfo
-abbrev pub neighbor_mtu : Bits
-neighbor_mtu = record { at = 36; shift = 4; width = 4 }
-
--- MTUCap, a component of PortInfo
-abbrev pub mtu_cap : Bits
-mtu_cap = record { at = 41; shift = 0; width = 4 }
-
--- LinkSpeedEnabled, a component of PortInfo
-abbrev pub link_speed_enabled : Bits
-link_speed_enabled = record { at = 35; shift = 0; width = 4 }
-
--- LinkSpeedExtEnabled, a component of PortInfo
-abbrev pub link_speed_ext_enabled : Bits
-link_speed_ext_enabled = record { at = 63; shift = 0; width = 5 }
-
--- HOQLife, a component of PortInfo
-abbrev pub hoq_life : Bits
-hoq_life = record { at = 42; shift = 0; width = 5 }
-
--- ClientReregister, a component of PortInfo
-abbrev pub client_reregister : Bits
-client_reregister = record { at = 51; shift = 7; width = 1 }
-
--- SubnetTimeOut, a component of PortInfo
-abbrev pub subnet_timeout : Bits
-subnet_timeout = record { at = 51; shift = 0; width = 5 }
 
 -- what is changed of what was read ---------------------------------------------------------------
 

@@ -7,8 +7,8 @@ use Rattle.std.specs.Prelude.{Option, None, Some, is_some, option_map, Contains,
 use Rattle.std.specs.List.{filter_map, cons_option}
 use Rattle.port_graph.specs.declared.edge.Edge.{Edge}
 use Rattle.port_graph.specs.Heads.{edges_at}
-use Rattle.port_graph.specs.Slopes.{lesser, least_of}
-use Rattle.port_graph.specs.NextPorts.{LeadToLesser, AreLess, AreCosts, cost_of, lesser_of}
+use Rattle.port_graph.specs.Slopes.{lesser, least_of, lesser_of}
+use Rattle.port_graph.specs.NextPorts.{LeadToLesser, AreLess, AreCosts, cost_of}
 use Rattle.port_graph.proofs.Lists.{filter_map_same, contains-from_filter_map, least_is_one}
 
 -- the least of those seen and of the rest

@@ -7,8 +7,7 @@ use Rattle.std.proofs.lemmas.Option.{none-some, same_Some}
 use Rattle.std.specs.Prelude.{Option, None, Some, option_map, nat_lt, slice_index, slice_set}
 use Rattle.std.specs.List.{filter_map, find}
 use Rattle.port_graph.specs.declared.edge.Edge.{Edge}
-use Rattle.port_graph.specs.Slopes.{least_of, same_number}
-use Rattle.port_graph.specs.NextPorts.{lesser_of}
+use Rattle.port_graph.specs.Slopes.{least_of, same_number, lesser_of}
 use Rattle.port_graph.specs.Lanes.{number_in, port_in, IsOneMore, nearer, nearest_from, nearest_by}
 use Rattle.port_graph.proofs.CostSteps.{least_more, least_all}
 use Rattle.port_graph.proofs.Lists.{find_none}

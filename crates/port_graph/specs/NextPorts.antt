@@ -1,9 +1,10 @@
 -- Slopes of vertices that are numbered from 0 on, and their costs and next ports.
-use Rattle.std.specs.Prelude.{◌≡◌, ◌<◌, ℕ, suc, List, [], ◌∷◌, length, map, Contains, Option, None, Some, is_some, option_map, slice_index_or, if◌then◌else◌}
+use Rattle.std.specs.Prelude.{◌≡◌, ◌<◌, ℕ, suc, List, [], ◌∷◌, length, map, Contains, Option, None, Some, is_some}
+use Rattle.std.specs.Prelude.{option_map, slice_index_or, if◌then◌else◌}
 use Rattle.std.specs.List.{filter_map, find}
 use Rattle.port_graph.specs.declared.edge.Edge.{Edge}
 use Rattle.port_graph.specs.Heads.{edges_at, heads}
-use Rattle.port_graph.specs.Slopes.{Slope, lesser, least_of, same_number, cost, next_port}
+use Rattle.port_graph.specs.Slopes.{Slope, least_of, same_number, cost, next_port}
 use Rattle.port_graph.specs.Routes.{Way}
 
 -- the slopes of vertices numbered from `first` on, with the edges up `ups` and the edges down `downs`; as many as the
@@ -29,11 +30,6 @@ pub record AreSlopes (ups downs : List (List Edge)) : Type 0 where
   pub rise : LeadToLesser ups
   pub back_up : (a b : ℕ) → Contains (heads downs a) b → Contains (heads ups b) a
   pub back_down : (a b : ℕ) → Contains (heads ups a) b → Contains (heads downs b) a
-
--- the lesser of two numbers, or the only one; None if there is neither
-abbrev pub lesser_of : Option ℕ → Option ℕ → Option ℕ
-lesser_of None other = other
-lesser_of (Some n) other = Some (lesser n other)
 
 -- each of `numbers` that is not None is less than `bound`
 abbrev pub AreLess : ℕ → List (Option ℕ) → Type 0

@@ -1,5 +1,6 @@
 -- Down distances, costs and next ports in a graph whose edges lead up or down, as functions.
-use Rattle.std.specs.Prelude.{ℕ, zero, suc, Bool, false, List, [], ◌∷◌, min, map, length, Option, None, Some, is_some, ◌==◌, option_map, if◌then◌else◌}
+use Rattle.std.specs.Prelude.{ℕ, zero, suc, Bool, false, List, [], ◌∷◌, min, map, length, Option, None, Some, is_some}
+use Rattle.std.specs.Prelude.{◌==◌, option_map, if◌then◌else◌}
 use Rattle.std.specs.List.{filter_map, find}
 use Rattle.port_graph.specs.declared.edge.Edge.{Edge}
 use Rattle.port_graph.specs.Walks.{shortest}
@@ -77,3 +78,8 @@ port_up slopes s t =
 abbrev pub next_port : List Slope → ℕ → ℕ → Option ℕ
 next_port slopes s t =
     if s == t then None else (if is_some (down_distance slopes s t) then port_down slopes s t else port_up slopes s t)
+
+-- the lesser of two numbers, or the only one; None if there is neither
+abbrev pub lesser_of : Option ℕ → Option ℕ → Option ℕ
+lesser_of None other = other
+lesser_of (Some n) other = Some (lesser n other)

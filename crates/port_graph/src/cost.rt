@@ -1,7 +1,8 @@
 ghost use Rattle.std.specs.Prelude.{◌≡◌, ◌<◌, length, All, IfOk, slice_index_or};
 ghost use Rattle.std.specs.List.{filter_map};
 ghost use Rattle.port_graph.specs.Slopes.{least_of};
-ghost use Rattle.port_graph.specs.NextPorts.{LeadToLesser, AreLess, AreCosts, cost_of, lesser_of};
+ghost use Rattle.port_graph.specs.NextPorts.{LeadToLesser, AreLess, AreCosts, cost_of};
+ghost use Rattle.port_graph.specs.Slopes.{lesser_of};
 
 use crate::adjacency::Adjacency;
 use crate::edge::Edge;

@@ -12,7 +12,7 @@ use Rattle.subnet_view.specs.Agreement.{AgreesOn, IsPortNamed}
 use Rattle.lid_assign.specs.Lids.{IsNoRoom, owner_of}
 use Rattle.lft_blocks.specs.Rules.{RuleValue}
 use Rattle.lft_blocks.specs.Plan.{PlanValue, plan_of}
-use Rattle.lft_blocks.specs.Arrival.{HoldsPlan}
+use Rattle.lft_blocks.specs.InForce.{HoldsPlan}
 use Rattle.manager_laws.specs.Managing.{Managing, ManagerEvent}
 use Rattle.manager_laws.specs.WritingPings.{BringsUp}
 use Rattle.manager_laws.specs.Written.{at_end, at_writing, plan_at}

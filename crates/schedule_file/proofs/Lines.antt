@@ -6,7 +6,7 @@ use Rattle.std.specs.Option.{option_map_or}
 use Rattle.std.specs.Str.{bytes_eq}
 use Rattle.std.proofs.lemmas.Bool.{leb-true}
 use Rattle.text_words.specs.NodeName.{is_name, name_in, is_name_byte}
-use Rattle.text_words.specs.Number.{number_of}
+use Rattle.text_words.specs.Number.{number_of, number_up_to}
 use Rattle.text_words.specs.Quoted.{alone, enclosed}
 use Rattle.text_words.specs.Text.{words}
 use Rattle.text_words.proofs.Ranges.{always, mapped, name_range, tested, then_some}
@@ -23,11 +23,11 @@ use Rattle.schedule_file.specs.declared.line.NewManager.{NewManager}
 use Rattle.schedule_file.specs.declared.line.ScheduleLine.{ScheduleLine}
 use Rattle.schedule_file.specs.declared.line.ScheduleLine.TheVariants as line
 use Rattle.schedule_file.specs.declared.named_command.PortName.{PortName}
-use Rattle.schedule_file.specs.Command.{fate_word, named_words, port_word, shown_word, which_word}
+use Rattle.schedule_file.specs.Printed.{fate_word, named_words, port_word, shown_word, which_word, sm_key_words}
 use Rattle.schedule_file.specs.Command.{NamedCommand, ask, bare_of, bracketed_number, command_in, floor, line_in, line_of, merge}
 use Rattle.schedule_file.specs.Command.{new_manager, of_one, of_two, packet, ping, plug, poll, port_name, show, to_manager}
-use Rattle.schedule_file.specs.Command.{sm_key_in, sm_key_words, which_of}
-use Rattle.schedule_file.specs.ManagerWords.{asked_by, generation_of, number_up_to, shown_by}
+use Rattle.schedule_file.specs.Command.{sm_key_in, which_of}
+use Rattle.schedule_file.specs.ManagerWords.{asked_by, generation_of, shown_by}
 use Rattle.schedule_file.specs.ManagerName.{is_manager_name, manager_name_in}
 use Rattle.std.specs.Char.{digit_value, is_ascii_alphanumeric}
 use Rattle.std.specs.List.{AllByRecursion, list_all}

@@ -24,8 +24,9 @@ use Rattle.schedule_file.specs.declared.line.ScheduleLine.{ScheduleLine}
 use Rattle.schedule_file.specs.declared.line.ScheduleLine.TheVariants as line
 use Rattle.schedule_file.specs.declared.named_command.PortName.{PortName}
 use Rattle.schedule_file.specs.declared.schedule.Seat.{Seat}
-use Rattle.schedule_file.specs.Command.{NamedCommand, line_of, named_words, port_word, sm_key_words}
-use Rattle.schedule_file.specs.Printed.{PrintedSchedulesAreRead, command_words, manager_at, port_at, seat_words}
+use Rattle.schedule_file.specs.Command.{NamedCommand, line_of}
+use Rattle.schedule_file.specs.Printed.{named_words, port_word, sm_key_words, PrintedSchedulesAreRead, command_words}
+use Rattle.schedule_file.specs.Printed.{manager_at, port_at, seat_words}
 use Rattle.schedule_file.specs.Schedule.{◌>>=◌, Script, SeatCommand, command_of, is_free, new_seat, port_of, schedule_of, schedule_of_lines, seat_at}
 use Rattle.schedule_file.specs.Schedule.{seat_of, where_known, with_command, with_line, with_lines, with_seat}
 use Rattle.schedule_file.proofs.Lines.{IsLine, IsNamed, IsNew, line_range, named_are_words, named_is_read, new_are_words, new_is_read, new_words}

@@ -1,19 +1,18 @@
 -- What a line of a schedule says: nothing, a new manager, or a command with its names.
-use Rattle.std.specs.Prelude.{ℕ, ◌-◌, ◌^◌, List, [], ◌∷◌, Option, None, Some, option_map, option_and_then, codes, decimal, if◌then◌else◌}
+use Rattle.std.specs.Prelude.{ℕ, ◌-◌, ◌^◌, List, [], ◌∷◌, Option, None, Some, option_map, option_and_then, codes}
+use Rattle.std.specs.Prelude.{if◌then◌else◌}
 use Rattle.std.specs.Option.{option_map_or}
 use Rattle.std.specs.Str.{bytes_eq}
 use Rattle.text_words.specs.Text.{words}
 use Rattle.text_words.specs.NodeName.{name_in}
-use Rattle.text_words.specs.Printed.{named_text}
 use Rattle.text_words.specs.Quoted.{enclosed, alone}
 use Rattle.schedule_file.specs.declared.command.Ask.{Ask}
-use Rattle.schedule_file.specs.declared.command.Ask.TheVariants.{Sweep, Write, Handover, Poll}
+use Rattle.schedule_file.specs.declared.command.Ask.TheVariants.{Poll}
 use Rattle.schedule_file.specs.declared.command.Command.{Command}
 use Rattle.schedule_file.specs.declared.command.Command.TheVariants as command
 use Rattle.schedule_file.specs.declared.command.Fate.{Fate}
 use Rattle.schedule_file.specs.declared.command.Fate.TheVariants.{Deliver, Lose, Repeat}
 use Rattle.schedule_file.specs.declared.command.Shown.{Shown}
-use Rattle.schedule_file.specs.declared.command.Shown.TheVariants.{Facts, Plan, Progress, Silent, State, Written}
 use Rattle.schedule_file.specs.declared.command.Which.{Which}
 use Rattle.schedule_file.specs.declared.command.Which.TheVariants.{Last, Serial}
 use Rattle.schedule_file.specs.declared.line.ScheduleLine.{ScheduleLine}
@@ -21,7 +20,8 @@ use Rattle.schedule_file.specs.declared.line.ScheduleLine.TheVariants as line
 use Rattle.schedule_file.specs.declared.line.NewManager.{NewManager}
 use Rattle.schedule_file.specs.declared.named_command.PortName.{PortName}
 use Rattle.schedule_file.specs.ManagerName.{manager_name_in}
-use Rattle.schedule_file.specs.ManagerWords.{asked_by, generation_of, lid_of, number_up_to, shown_by}
+use Rattle.schedule_file.specs.ManagerWords.{asked_by, generation_of, shown_by}
+use Rattle.text_words.specs.Number.{lid_of, number_up_to}
 
 -- a command as its line gives it: managers and nodes by their names
 abbrev pub NamedCommand : Type 0
@@ -139,63 +139,6 @@ of_two word one other =
     else if bytes_eq word (codes "ping") then ping one other
     else None
 
--- the words of commands ---------------------------------------------------------------------
-
--- the word for a port: the name of its node in quotes, and its number in brackets
-abbrev pub port_word : PortName → List ℕ
-port_word p = named_text p.node p.port
-
--- the word for a packet in flight
-abbrev pub which_word : Which → List ℕ
-which_word Last = codes "last"
-which_word (Serial serial) = decimal serial
-
--- the word for what becomes of a packet
-abbrev pub fate_word : Fate → List ℕ
-fate_word Deliver = codes "deliver"
-fate_word Lose = codes "lose"
-fate_word Repeat = codes "repeat"
-
--- the word for what is shown of a manager
-abbrev pub shown_word : Shown → List ℕ
-shown_word Facts = codes "facts"
-shown_word Plan = codes "plan"
-shown_word Progress = codes "progress"
-shown_word Silent = codes "silent"
-shown_word Written = codes "written"
-shown_word State = codes "state"
-
--- the words of a request to the manager `name`
-abbrev pub ask_words : Ask → List ℕ → List (List ℕ)
-ask_words Sweep name = codes "sweep" ∷ name ∷ []
-ask_words Write name = codes "write" ∷ name ∷ []
-ask_words Handover name = codes "handover" ∷ name ∷ []
-ask_words (Poll None) name = codes "poll" ∷ name ∷ []
-ask_words (Poll (Some lid)) name = codes "poll" ∷ name ∷ decimal lid ∷ []
-
--- the words after the priority of a new manager
-abbrev pub sm_key_words : Option ℕ → List (List ℕ)
-sm_key_words None = []
-sm_key_words (Some key) = codes "live" ∷ decimal key ∷ []
-
--- the words of a command; none for a new manager, whose line says more than the command
-abbrev pub named_words : NamedCommand → List (List ℕ)
-named_words (command.Manager name) = []
-named_words (command.Ask name what) = ask_words what name
-named_words (command.Timeout name) = codes "timeout" ∷ name ∷ []
-named_words (command.Floor name floor) = codes "floor" ∷ name ∷ decimal floor ∷ []
-named_words (command.Merge one other) = codes "merge" ∷ one ∷ other ∷ []
-named_words (command.Show name what) = shown_word what ∷ name ∷ []
-named_words (command.Packet which fate) = fate_word fate ∷ which_word which ∷ []
-named_words (command.Drain most) = codes "drain" ∷ decimal most ∷ []
-named_words (command.Cut p) = codes "cut" ∷ port_word p ∷ []
-named_words (command.Plug p q) = codes "plug" ∷ port_word p ∷ port_word q ∷ []
-named_words (command.Ping p lid) = codes "ping" ∷ port_word p ∷ decimal lid ∷ []
-named_words command.Traps = codes "traps" ∷ []
-named_words command.Resend = codes "resend" ∷ []
-named_words command.Tables = codes "tables" ∷ []
-named_words command.Flight = codes "flight" ∷ []
-
 -- lines ----------------------------------------------------------------------------------------
 
 -- the command of the word `word` and the words after it; None if they are no command
@@ -214,4 +157,5 @@ line_in (word ∷ args) =
 
 -- what a line says; None if the grammar has no such line
 unfoldable pub line_of : List ℕ → Option ScheduleLine
+
 line_of line = line_in (words line)

@@ -1,7 +1,7 @@
 -- Words about one manager: what it is asked for, what is shown of it, and the numbers that follow.
-use Rattle.std.specs.Prelude.{ℕ, List, Option, None, Some, option_and_then, codes, nat_le, ◌==◌, if◌then◌else◌}
+use Rattle.std.specs.Prelude.{ℕ, List, Option, None, Some, option_and_then, codes, ◌==◌, if◌then◌else◌}
 use Rattle.std.specs.Str.{bytes_eq}
-use Rattle.text_words.specs.Number.{number_of}
+use Rattle.text_words.specs.Number.{number_up_to}
 use Rattle.schedule_file.specs.declared.command.Ask.{Ask}
 use Rattle.schedule_file.specs.declared.command.Ask.TheVariants.{Sweep, Write, Handover, Poll}
 use Rattle.schedule_file.specs.declared.command.Shown.{Shown}
@@ -26,14 +26,6 @@ shown_by word =
     else if bytes_eq word (codes "written") then Some Written
     else if bytes_eq word (codes "state") then Some State
     else None
-
--- the number that `word` writes in decimal, if it is at most `most`; otherwise None
-abbrev pub number_up_to : ℕ → List ℕ → Option ℕ
-number_up_to most word = option_and_then (λ n. if nat_le n most then Some n else None) (number_of 10 word)
-
--- the LID that `word` writes in decimal, up to 65,535; otherwise None
-abbrev pub lid_of : List ℕ → Option ℕ
-lid_of word = number_up_to 0xFFFF word
 
 -- the generation that `word` writes in decimal, from 1 to 2^32 - 1; otherwise None
 abbrev pub generation_of : List ℕ → Option ℕ

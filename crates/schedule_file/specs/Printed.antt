@@ -1,15 +1,24 @@
 -- The text of a schedule, which is read as that schedule again.
-use Rattle.std.specs.Prelude.{◌≡◌, ℕ, List, [], ◌∷◌, Ok, codes, decimal, map, slice_get}
+use Rattle.std.specs.Prelude.{◌≡◌, ℕ, List, [], ◌∷◌, Ok, codes, decimal, map, slice_get, Option, None, Some}
 use Rattle.std.specs.Option.{option_map_or}
 use Rattle.fabric_model.specs.declared.cable.NodePort.{NodePort}
-use Rattle.text_words.specs.Printed.{lines_text}
+use Rattle.text_words.specs.Printed.{lines_text, named_text}
 use Rattle.topo_file.specs.declared.node.Node.{Node}
 use Rattle.topo_file.specs.Printed.{name_at}
 use Rattle.schedule_file.specs.declared.command.Command.TheVariants as command
 use Rattle.schedule_file.specs.declared.named_command.PortName.{PortName}
 use Rattle.schedule_file.specs.declared.schedule.Seat.{Seat}
-use Rattle.schedule_file.specs.Command.{named_words, port_word, sm_key_words}
+use Rattle.schedule_file.specs.Command.{NamedCommand}
 use Rattle.schedule_file.specs.Schedule.{Script, SeatCommand, schedule_of}
+use Rattle.schedule_file.specs.declared.command.Ask.{Ask}
+use Rattle.schedule_file.specs.declared.command.Ask.TheVariants.{Sweep, Write, Handover, Poll}
+use Rattle.schedule_file.specs.declared.command.Fate.{Fate}
+use Rattle.schedule_file.specs.declared.command.Fate.TheVariants.{Deliver, Lose, Repeat}
+use Rattle.schedule_file.specs.declared.command.Shown.{Shown}
+use Rattle.schedule_file.specs.declared.command.Shown.TheVariants.{Facts, Plan, Progress, Silent, State, Written}
+use Rattle.schedule_file.specs.declared.command.Which.{Which}
+use Rattle.schedule_file.specs.declared.command.Which.TheVariants.{Last, Serial}
+use Rattle.schedule_file.specs.declared.line.ScheduleLine.TheVariants as line
 
 -- the name of the manager at the index `seat`; empty if there is no such manager
 abbrev pub manager_at : List Seat → ℕ → List ℕ
@@ -51,3 +60,58 @@ abbrev pub PrintedSchedulesAreRead : Type 0
 PrintedSchedulesAreRead =
     (nodes : List Node) (text : List ℕ) (script : Script) → schedule_of nodes text ≡ Ok script
     → schedule_of nodes (schedule_text nodes script) ≡ Ok script
+
+-- the word for a port: the name of its node in quotes, and its number in brackets
+abbrev pub port_word : PortName → List ℕ
+port_word p = named_text p.node p.port
+
+-- the word for a packet in flight
+abbrev pub which_word : Which → List ℕ
+which_word Last = codes "last"
+which_word (Serial serial) = decimal serial
+
+-- the word for what becomes of a packet
+abbrev pub fate_word : Fate → List ℕ
+fate_word Deliver = codes "deliver"
+fate_word Lose = codes "lose"
+fate_word Repeat = codes "repeat"
+
+-- the word for what is shown of a manager
+abbrev pub shown_word : Shown → List ℕ
+shown_word Facts = codes "facts"
+shown_word Plan = codes "plan"
+shown_word Progress = codes "progress"
+shown_word Silent = codes "silent"
+shown_word Written = codes "written"
+shown_word State = codes "state"
+
+-- the words of a request to the manager `name`
+abbrev pub ask_words : Ask → List ℕ → List (List ℕ)
+ask_words Sweep name = codes "sweep" ∷ name ∷ []
+ask_words Write name = codes "write" ∷ name ∷ []
+ask_words Handover name = codes "handover" ∷ name ∷ []
+ask_words (Poll None) name = codes "poll" ∷ name ∷ []
+ask_words (Poll (Some lid)) name = codes "poll" ∷ name ∷ decimal lid ∷ []
+
+-- the words after the priority of a new manager
+abbrev pub sm_key_words : Option ℕ → List (List ℕ)
+sm_key_words None = []
+sm_key_words (Some key) = codes "live" ∷ decimal key ∷ []
+
+-- the words of a command; none for a new manager, whose line says more than the command
+abbrev pub named_words : NamedCommand → List (List ℕ)
+named_words (command.Manager name) = []
+named_words (command.Ask name what) = ask_words what name
+named_words (command.Timeout name) = codes "timeout" ∷ name ∷ []
+named_words (command.Floor name floor) = codes "floor" ∷ name ∷ decimal floor ∷ []
+named_words (command.Merge one other) = codes "merge" ∷ one ∷ other ∷ []
+named_words (command.Show name what) = shown_word what ∷ name ∷ []
+named_words (command.Packet which fate) = fate_word fate ∷ which_word which ∷ []
+named_words (command.Drain most) = codes "drain" ∷ decimal most ∷ []
+named_words (command.Cut p) = codes "cut" ∷ port_word p ∷ []
+named_words (command.Plug p q) = codes "plug" ∷ port_word p ∷ port_word q ∷ []
+named_words (command.Ping p lid) = codes "ping" ∷ port_word p ∷ decimal lid ∷ []
+named_words command.Traps = codes "traps" ∷ []
+named_words command.Resend = codes "resend" ∷ []
+named_words command.Tables = codes "tables" ∷ []
+named_words command.Flight = codes "flight" ∷ []

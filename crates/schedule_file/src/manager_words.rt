@@ -1,6 +1,7 @@
 //! Words about one manager: what it is asked for, what is shown of it, and the numbers that follow.
 ghost use Rattle.std.specs.Prelude.{◌≡◌};
-ghost use Rattle.schedule_file.specs.ManagerWords.{asked_by, generation_of, lid_of, shown_by};
+ghost use Rattle.schedule_file.specs.ManagerWords.{asked_by, generation_of, shown_by};
+ghost use Rattle.text_words.specs.Number.{lid_of};
 
 use crate::command::{Ask, Shown};
 use crate::numbers::number_up_to;

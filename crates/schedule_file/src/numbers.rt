@@ -1,5 +1,5 @@
 ghost use Rattle.std.specs.Prelude.{◌≡◌, ◌^◌, ◌-◌};
-ghost use Rattle.schedule_file.specs.ManagerWords.{number_up_to};
+ghost use Rattle.text_words.specs.Number.{number_up_to};
 
 use text_words::number;
 

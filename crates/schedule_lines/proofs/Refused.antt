@@ -5,7 +5,7 @@ use Rattle.smp_bytes.specs.Judges.{JudgesButFor}
 use Rattle.sm_manager.specs.Fault.{is_memory}
 use Rattle.sm_manager.specs.declared.fault.ManagerFault.{ManagerFault}
 use Rattle.sm_manager.specs.declared.fault.ManagerFault.TheVariants as manager
-use Rattle.schedule_lines.specs.ManagerAsks.{manager_line}
+use Rattle.schedule_lines.specs.Refusals.{manager_line}
 use Rattle.schedule_lines.specs.Outcome.{Outcome, shows}
 use Rattle.schedule_lines.specs.Prints.{PrintsUnless}
 use Rattle.schedule_lines.specs.declared.run_fault.RunFault.{RunFault}

@@ -11,13 +11,12 @@ use Rattle.schedule_file.specs.declared.command.Ask.TheVariants.{Sweep, Write, H
 use Rattle.schedule_file.specs.declared.command.Shown.{Shown}
 use Rattle.schedule_file.specs.declared.command.Shown.TheVariants.{Facts, Plan, Progress, Silent, State, Written}
 use Rattle.sm_manager.specs.Election.{after_handover, after_poll, handover_fault, poll_fault}
-use Rattle.sm_manager.specs.Fault.{manager_fault_name}
 use Rattle.sm_manager.specs.Manager.{Manager, after_begin_sweep, begin_fault, progress_of, silent_in}
 use Rattle.sm_manager.specs.PlanFaults.{plan_fault, writing_fault}
 use Rattle.sm_manager.specs.Writing.{after_write_steps, is_written}
 use Rattle.sm_manager.specs.declared.fault.ManagerFault.{ManagerFault}
 use Rattle.schedule_lines.specs.Lines.{progress_line, silent_line, state_line, written_line}
-use Rattle.schedule_lines.specs.Refusals.{refusal_line}
+use Rattle.schedule_lines.specs.Refusals.{manager_line}
 
 -- the fault for which a manager refuses the request `sweep`, `write`, `handover` or `poll`; None if it may take the
 -- request
@@ -37,10 +36,6 @@ after_asked (Poll lid) m = after_poll m lid
 -- the manager with no packets queued
 abbrev pub emptied : Manager → Manager
 emptied m = record m { outgoing = [] }
-
--- the line of a manager's refusal
-abbrev pub manager_line : ManagerFault → List ℕ
-manager_line fault = refusal_line (manager_fault_name fault)
 
 -- the text of the plan of the facts `cells` by `planning`, or the line of the given fault
 abbrev pub plan_or_refusal : Planning → Cells → Option ManagerFault → List ℕ

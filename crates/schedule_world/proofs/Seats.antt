@@ -22,7 +22,8 @@ use Rattle.schedule_lines.specs.Outcome.{Outcome}
 use Rattle.schedule_world.specs.World.{Does, SeatedValue, WorldValue, after_ask, after_inject_all, after_manager_call, after_send, after_send_by}
 use Rattle.schedule_lines.specs.Outcome.{and_then, quiet}
 use Rattle.schedule_world.specs.World.{at_seat, seated_value, value_of, with_manager}
-use Rattle.schedule_lines.specs.ManagerAsks.{emptied, manager_line}
+use Rattle.schedule_lines.specs.ManagerAsks.{emptied}
+use Rattle.schedule_lines.specs.Refusals.{manager_line}
 use Rattle.schedule_lines.specs.declared.run_fault.RunFault.{RunFault}
 use Rattle.schedule_lines.specs.declared.run_fault.RunFault.TheVariants.{Memory}
 use Rattle.schedule_world.specs.declared.world.Seated.{Seated}

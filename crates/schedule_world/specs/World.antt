@@ -12,10 +12,10 @@ use Rattle.fabric_sim.specs.Simulation.{Simulation}
 use Rattle.sm_manager.specs.declared.fault.ManagerFault.{ManagerFault}
 use Rattle.sm_manager.specs.declared.outgoing.Outgoing.{Outgoing}
 use Rattle.sm_manager.specs.Manager.{Manager}
-use Rattle.schedule_lines.specs.ManagerAsks.{emptied, manager_line}
+use Rattle.schedule_lines.specs.ManagerAsks.{emptied}
+use Rattle.schedule_lines.specs.Refusals.{manager_line, refusal_line}
 use Rattle.schedule_lines.specs.Outcome.{Outcome, and_then, quiet, shows}
 use Rattle.schedule_lines.specs.Prints.{PrintsUnless}
-use Rattle.schedule_lines.specs.Refusals.{refusal_line}
 use Rattle.schedule_lines.specs.declared.run_fault.RunFault.{RunFault}
 use Rattle.schedule_world.specs.NamedPackets.{packet_out}
 use Rattle.schedule_world.specs.declared.world.Seated.{Seated}

@@ -53,7 +53,7 @@ use Rattle.sm_manager.specs.declared.progress.Progress.{Progress}
 use Rattle.sm_manager.specs.declared.progress.Progress.TheVariants.{Never, Running, Done}
 use Rattle.schedule_lines.specs.Lines.{answer_word, counts_text, silent_text, stage_text}
 use Rattle.schedule_lines.specs.ManagerAsks.{plan_or_refusal, text_of}
-use Rattle.schedule_lines.specs.ManagerAsks.{manager_line}
+use Rattle.schedule_lines.specs.Refusals.{manager_line}
 use Rattle.serve_lines.specs.declared.line.ServeLine.TheVariants as is
 use Rattle.schedule_file.specs.declared.command.Shown.TheVariants as shown
 use Rattle.serve_lines.specs.declared.line.ServeLine.{ServeLine}

@@ -6,8 +6,8 @@ use Rattle.std.specs.Result.{result_ok}
 use Rattle.std.specs.Str.{bytes_eq}
 use Rattle.hex.specs.Hex.{decode_sized}
 use Rattle.text_words.specs.Text.{words}
-use Rattle.text_words.specs.Number.{number_of}
-use Rattle.schedule_file.specs.ManagerWords.{asked_by, generation_of, lid_of, shown_by}
+use Rattle.text_words.specs.Number.{number_of, lid_of}
+use Rattle.schedule_file.specs.ManagerWords.{asked_by, generation_of, shown_by}
 use Rattle.schedule_file.specs.declared.command.Ask.TheVariants.{Poll}
 use Rattle.serve_lines.specs.declared.line.ServeLine.{ServeLine}
 use Rattle.serve_lines.specs.declared.line.ServeLine.TheVariants.{Ask, Floor, Packet, Timeout, GiveUp, Show, Managers, Empty, Wrong}

@@ -10,7 +10,8 @@ use Rattle.sm_manager.specs.declared.fault.ManagerFault.TheVariants as manager
 use Rattle.sm_manager.specs.declared.traps.Trap.{Trap}
 use Rattle.sm_manager.proofs.Refusals.{RefusalLeaves}
 use Rattle.schedule_file.specs.declared.command.Ask.{Ask}
-use Rattle.schedule_lines.specs.ManagerAsks.{after_asked, asked_fault, manager_line}
+use Rattle.schedule_lines.specs.ManagerAsks.{after_asked, asked_fault}
+use Rattle.schedule_lines.specs.Refusals.{manager_line}
 use Rattle.schedule_lines.specs.Outcome.{Outcome}
 use Rattle.schedule_lines.specs.Prints.{PrintsUnless}
 use Rattle.schedule_lines.specs.declared.run_fault.RunFault.{RunFault}

@@ -5,7 +5,8 @@ use Rattle.std.specs.Option.{option_map_or}
 use Rattle.hex.specs.Hex.{encode_lower}
 use Rattle.smp_bytes.specs.Text.{guid_text, port_text}
 use Rattle.schedule_file.specs.declared.command.Ask.{Ask as Asking}
-use Rattle.schedule_lines.specs.ManagerAsks.{after_asked, asked_fault, emptied, manager_line, text_of}
+use Rattle.schedule_lines.specs.ManagerAsks.{after_asked, asked_fault, emptied, text_of}
+use Rattle.schedule_lines.specs.Refusals.{manager_line}
 use Rattle.schedule_lines.specs.Lines.{trap_text}
 use Rattle.schedule_lines.specs.Outcome.{Outcome, and_then, quiet, shows}
 use Rattle.serve_lines.specs.ServeLine.{lines_told}

@@ -12,7 +12,7 @@ use Rattle.sm_state.specs.Controls.{control_of_modifier}
 use Rattle.sm_state.specs.Transitions.{status_of}
 use Rattle.sm_state.proofs.Moves.{handovers_are_taken}
 use Rattle.sm_manager.specs.HandoverLaws.{HandoversLeaveAMaster, move_of}
-use Rattle.sm_manager.specs.Packets.{after_control_end, is_handover}
+use Rattle.sm_manager.specs.Election.{after_control_end, is_handover}
 
 none_of_three : (a b : Bool) → (a && (b && false)) ≡ false
 none_of_three true true = refl

@@ -1,6 +1,7 @@
 -- What a manager sends to other managers: polls, and controls when it hands over or takes over. InfiniBand Architecture
 -- Specification, Volume 1: subnet management, subnet manager (polling, handover); SMInfo.
-use Rattle.std.specs.Prelude.{ℕ, ◌+◌, Bool, false, ◌&&◌, List, [], ◌∷◌, ◌++◌, length, replicate, is_none, nat_lt, ◌==◌, if◌then◌else◌, Option, Some, None, option_and_then}
+use Rattle.std.specs.Prelude.{ℕ, ◌+◌, Bool, false, ◌&&◌, List, [], ◌∷◌, ◌++◌, length, replicate, is_none, nat_lt}
+use Rattle.std.specs.Prelude.{◌==◌, if◌then◌else◌, Option, Some, None, option_and_then}
 use Rattle.smp_bytes.specs.Header.{get, set, sm_info}
 use Rattle.smp_bytes.specs.Packet.{max_hops}
 use Rattle.smp_bytes.specs.Requests.{directed, lid_routed}
@@ -29,7 +30,13 @@ use Rattle.sweep.specs.Sweep.{Sweep, path_to}
 use Rattle.sm_manager.specs.Manager.{Manager}
 use Rattle.sm_manager.specs.PlanFaults.{number_fault, or_else, plan_fault}
 use Rattle.sm_state.specs.Election.{polled_of, successor_of}
-use Rattle.sm_state.specs.Standing.{info_of, info_with, is_in, moved_to}
+use Rattle.sm_state.specs.Standing.{info_of, info_with, is_in, moved_to, moved_by}
+use Rattle.smp_bytes.specs.Answers as smp
+use Rattle.sm_manager.specs.declared.pending.Purpose.TheVariants.{Control}
+use Rattle.sm_state.specs.declared.control.Control.TheVariants as control
+use Rattle.sm_state.specs.declared.event.Event.TheVariants as event
+use Rattle.sm_state.specs.Conducts.{is_live}
+use Rattle.sm_manager.specs.Writing.{is_done_by}
 
 -- requests for SMInfo ---------------------------------------------------------------------------
 
@@ -197,3 +204,17 @@ handed_to m lid =
 -- the manager once HANDOVER to its successor's LID is queued, and its state has moved
 abbrev pub after_handover : Manager → Manager
 after_handover m = handed_to m (successor_lid m)
+
+-- whether the request `p` has the modifier of a HANDOVER
+abbrev pub is_handover : Pending → Bool
+is_handover p = p.modifier == modifier_of_control control.Handover
+
+-- whether `answer`, the status of the answer to the request `p` or None, relieves the manager `s`: its conduct is live,
+-- `p` is a HANDOVER, and the status is 0
+abbrev pub is_relieved : Standing → Pending → Option ℕ → Bool
+is_relieved s p answer = is_live s.conduct && (is_handover p && is_done_by answer)
+
+-- the standing `s` after a control was answered or timed out: it moves as by ACKNOWLEDGE if `is_relieved`, else not
+abbrev pub after_control_end : Bool → Standing → Standing
+after_control_end is_relieved s =
+    if is_relieved then moved_by (event.Control (modifier_of_control control.Acknowledge)) s else s

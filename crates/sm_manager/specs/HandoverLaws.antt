@@ -6,7 +6,7 @@ use Rattle.sm_state.specs.declared.state.SmState.TheVariants.{Master}
 use Rattle.sm_state.specs.declared.transition.Transition.{Transition}
 use Rattle.sm_state.specs.Transitions.{status_of, stepped}
 use Rattle.sm_manager.specs.declared.pending.Pending.{Pending}
-use Rattle.sm_manager.specs.Packets.{after_control_end, is_handover, is_relieved}
+use Rattle.sm_manager.specs.Election.{after_control_end, is_handover, is_relieved}
 
 -- how a manager with the standing `other` moves by the control that the request `control` sends
 abbrev pub move_of : Standing → Pending → Transition

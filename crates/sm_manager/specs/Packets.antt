@@ -1,10 +1,12 @@
 -- What a manager does with a packet that reaches its port, and with a timeout. InfiniBand Architecture Specification,
 -- Volume 1: subnet management methods; directed route SMPs.
-use Rattle.std.specs.Prelude.{◌≡◌, ℕ, ◌^◌, Bool, true, false, ◌&&◌, not, List, find, nat_le, ◌==◌, if◌then◌else◌, Option, Some, None, is_some, IsSome, option_map, Result, Ok, Err}
+use Rattle.std.specs.Prelude.{◌≡◌, ℕ, ◌^◌, Bool, true, false, ◌&&◌, not, List, find, nat_le, ◌==◌, if◌then◌else◌}
+use Rattle.std.specs.Prelude.{Option, Some, None, is_some, IsSome, option_map, Result, Ok, Err}
 use Rattle.smp_bytes.specs.Answers as smp
 use Rattle.smp_bytes.specs.Header.{get_resp, sm_info}
 use Rattle.smp_bytes.specs.Field.{number_in}
-use Rattle.smp_bytes.specs.Packet.{fault_of, method, status, transaction_id, attribute_id, is_directed, is_lid_routed, is_response}
+use Rattle.smp_bytes.specs.Packet.{fault_of, method, status, transaction_id, attribute_id, is_directed, is_lid_routed}
+use Rattle.smp_bytes.specs.Packet.{is_response}
 use Rattle.smp_bytes.specs.declared.header.Status.{Status}
 use Rattle.smp_bytes.specs.declared.smp_fault.SmpFault.{SmpFault}
 use Rattle.fact_store.specs.Merge.{merge}
@@ -29,10 +31,9 @@ use Rattle.sm_manager.specs.Served.{served}
 use Rattle.sm_manager.specs.Traps.{represses, repressing, trap_in}
 use Rattle.sm_state.specs.declared.control.Control.TheVariants as control
 use Rattle.sm_state.specs.declared.event.Event.TheVariants as event
-use Rattle.sm_state.specs.Conducts.{is_live}
-use Rattle.sm_state.specs.Controls.{modifier_of_control}
-use Rattle.sm_state.specs.Standing.{moved_by, poll_answered, poll_lost}
+use Rattle.sm_state.specs.Standing.{poll_answered, poll_lost}
 use Rattle.sm_manager.specs.Writing.{is_done_by, is_spent, after_step, without}
+use Rattle.sm_manager.specs.Election.{is_relieved, after_control_end}
 
 -- the outcome of a call: the manager afterwards, and why the call was refused; None if it was not refused
 pub record Called : Type 0 where
@@ -92,20 +93,6 @@ unless_spent m after = if is_spent after then refused m fault.SequenceSpent else
 abbrev pub after_poll_end : Bool → Standing → Standing
 after_poll_end true s = poll_answered s
 after_poll_end false s = poll_lost s
-
--- whether the request `p` has the modifier of a HANDOVER
-abbrev pub is_handover : Pending → Bool
-is_handover p = p.modifier == modifier_of_control control.Handover
-
--- whether `answer`, the status of the answer to the request `p` or None, relieves the manager `s`: its conduct is live,
--- `p` is a HANDOVER, and the status is 0
-abbrev pub is_relieved : Standing → Pending → Option ℕ → Bool
-is_relieved s p answer = is_live s.conduct && (is_handover p && is_done_by answer)
-
--- the standing `s` after a control was answered or timed out: it moves as by ACKNOWLEDGE if `is_relieved`, else not
-abbrev pub after_control_end : Bool → Standing → Standing
-after_control_end is_relieved s =
-    if is_relieved then moved_by (event.Control (modifier_of_control control.Acknowledge)) s else s
 
 -- the number of the given status; None without a status
 abbrev pub status_number : Option Status → Option ℕ

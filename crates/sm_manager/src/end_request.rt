@@ -3,8 +3,10 @@ ghost use Rattle.std.specs.Prelude.{◌≡◌, ◌<◌, OnOk, OnErr, length, sli
 ghost use Rattle.smp_bytes.specs.Judges.{JudgesButFor};
 ghost use Rattle.sm_manager.specs.declared.pending.Pending.{Pending};
 ghost use Rattle.sm_manager.specs.Fault.{is_memory};
-ghost use Rattle.sm_manager.specs.Packets.{after_control_end, after_poll_end, after_request, is_handover};
-ghost use Rattle.sm_manager.specs.Packets.{is_relieved, pending_for, request_answered};
+ghost use Rattle.sm_manager.specs.Packets.{after_poll_end, after_request};
+ghost use Rattle.sm_manager.specs.Election.{after_control_end, is_handover};
+ghost use Rattle.sm_manager.specs.Packets.{pending_for, request_answered};
+ghost use Rattle.sm_manager.specs.Election.{is_relieved};
 ghost use Rattle.sm_manager.specs.Packets.{status_number};
 ghost use Rattle.sm_manager.specs.Writing.{is_done_by};
 

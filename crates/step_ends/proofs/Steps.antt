@@ -16,7 +16,8 @@ use Rattle.next_tables.proofs.Whole.{entry_next, top_next}
 use Rattle.ordered_steps.specs.Rightness.{are_right}
 use Rattle.ordered_steps.proofs.ToldRight.{rightness_is_told}
 use Rattle.plan_order_laws.specs.PlanLaws.{plan_position}
-use Rattle.next_run.specs.RunNext.{planned, step_rule, stepped}
+use Rattle.next_run.specs.RunNext.{step_rule, stepped}
+use Rattle.held_tables.specs.PlanTables.{planned}
 use Rattle.step_ends.specs.StepEnds.{AreEnough}
 use Rattle.step_ends.proofs.Alone.{each_alone}
 use Rattle.step_ends.proofs.Ended.{steps_end}

@@ -1,5 +1,5 @@
 -- When repeated steps of whole tables towards a plan end: what `next` prints is what it was given.
-use Rattle.std.specs.Prelude.{◌≡◌, ◌≤◌, ◌+◌, ◌*◌, ℕ, Bool, zero, suc, true, Contains, List, [], ◌∷◌, Option, Some, length}
+use Rattle.std.specs.Prelude.{◌≡◌, ◌≤◌, ◌+◌, ◌*◌, ℕ, zero, suc, Contains, List, [], ◌∷◌, Some, length}
 use Rattle.fact_store.specs.View.{Facts, cells_of, AreInRange}
 use Rattle.subnet_view.specs.Reading.{Cells, switches}
 use Rattle.lid_assign.specs.Lids.{IsNoRoom, lids, top_of as greatest_of}
@@ -8,7 +8,7 @@ use Rattle.lft_blocks.specs.PlanText.{plan_text}
 use Rattle.lft_blocks.specs.Rules.{RuleValue}
 use Rattle.held_tables.specs.declared.held.HeldLid.{HeldLid}
 use Rattle.held_tables.specs.Held.{HeldPlan}
-use Rattle.held_tables.specs.PlanTables.{held_plan}
+use Rattle.held_tables.specs.PlanTables.{held_plan, planned}
 use Rattle.tables_file.specs.Reading.{held_of}
 use Rattle.held_tables.specs.Tables.{owners_of, top_of}
 use Rattle.packet_walks.specs.declared.packet_end.End.TheVariants.{Taken}
@@ -17,12 +17,7 @@ use Rattle.packet_walks.specs.HopsByTables.{next_hops_of}
 use Rattle.packet_walks.specs.EndsBySwitch.{after}
 use Rattle.next_tables.specs.NextTables.{IsKept}
 use Rattle.next_tables.specs.SettledStepLaws.{stepped as settled}
-use Rattle.ordered_steps.specs.Rightness.{are_right}
-use Rattle.plan_order_laws.specs.PlanLaws.{plan_position}
-use Rattle.between_orders.specs.Between.{Goal}
-use Rattle.next_tables.specs.SwitchPositions.{position_at}
-use Rattle.next_run.specs.StepLoops.{IsLoopInStep}
-use Rattle.next_run.specs.RunNext.{IsGoalOf, IsNextStep, next_towards, planned, step_text, stepped}
+use Rattle.next_run.specs.RunNext.{step_text}
 
 -- if some tables deliver from a switch to the end port that alone holds a LID in these tables and in the plan, the plan
 -- delivers from that switch too
@@ -52,42 +47,6 @@ abbrev pub PlansDeliverWhatTablesCan : Type 0
 PlansDeliverWhatTablesCan =
     (rule : RuleValue) (lmc : ℕ) (facts : Facts) → AreInRange facts → ¬ (IsNoRoom lmc (cells_of facts))
     → DeliversWhatTablesCan (cells_of facts) (held_plan (plan_of rule lmc (cells_of facts)))
-
--- the step from `held` towards the plan of `facts` makes no credit loop, and the next tables are right by the order of
--- the plan's switches
-pub record IsFreeOfLoops (lmc : ℕ) (rule : RuleValue) (facts : Facts) (held : HeldPlan) : Type 0 where
-  pub loops : (cycle lids : List ℕ) → IsLoopInStep (cells_of facts) held (stepped lmc rule facts held) cycle lids
-      → cycle ≡ []
-  pub right : are_right (cells_of facts) (plan_position rule (cells_of facts)) (stepped lmc rule facts held) ≡ true
-
--- if facts are in range and have room, a step towards their plan from tables that are right by the order of the plan's
--- switches makes no credit loop, and leads to tables that are right by this order
-abbrev pub RightTablesMakeNoLoop : Type 0
-RightTablesMakeNoLoop =
-    (rule : RuleValue) (lmc : ℕ) (facts : Facts) (held : HeldPlan) → AreInRange facts
-    → ¬ (IsNoRoom lmc (cells_of facts)) → are_right (cells_of facts) (plan_position rule (cells_of facts)) held ≡ true
-    → IsFreeOfLoops lmc rule facts held
-
--- equal facts, options, held tables and plans give equal goals and equal next tables
-abbrev pub StepsHaveOneResult : Type 0
-StepsHaveOneResult =
-    (told : Bool) (rule preferred : RuleValue) (facts : Facts) (held plan : HeldPlan)
-    (goal other_goal : Option Goal) (next other : HeldPlan)
-    → IsNextStep told rule preferred facts held plan goal next
-    → IsNextStep told rule preferred facts held plan other_goal other → (goal ≡ other_goal) × (next ≡ other)
-
--- the step from `held` to `next` makes no credit loop, and `next` is right by the positions of `goal`, an order that
--- the held tables imply
-pub record IsFreeByTold (facts : Facts) (held next : HeldPlan) (goal : Goal) : Type 0 where
-  pub loops : (cycle lids : List ℕ) → IsLoopInStep (cells_of facts) held next cycle lids → cycle ≡ []
-  pub right : are_right (cells_of facts) (position_at goal.positions) next ≡ true
-
--- a step by the order that the held tables imply makes no credit loop, and the next tables are right by this order
-abbrev pub ToldStepsMakeNoLoop : Type 0
-ToldStepsMakeNoLoop =
-    (rule preferred : RuleValue) (lmc : ℕ) (facts : Facts) (held : HeldPlan) (goal : Goal)
-    → IsGoalOf true rule preferred facts held (planned lmc rule facts) (Some goal)
-    → IsFreeByTold facts held (next_towards rule facts held (planned lmc rule facts) (Some goal)) goal
 
 -- the text that `next` prints after the given number of steps from the tables of `text`, each step from the text that
 -- was printed before; `text` itself after no step

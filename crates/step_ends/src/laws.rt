@@ -1,7 +1,9 @@
 //! The laws of repeated steps: how they end, and that an order of switches keeps them free of credit loops.
 ghost use Rattle.step_ends.specs.StepEnds.{LastTextIsThePlans, PlansDeliverWhatTablesCan, PrintedStepsEnd};
-ghost use Rattle.step_ends.specs.StepEnds.{RightTablesMakeNoLoop, StepsEnd, StepsHaveOneResult};
-ghost use Rattle.step_ends.specs.StepEnds.{ToldStepsMakeNoLoop, WaysMeetAtMostAll};
+ghost use Rattle.step_ends.specs.StepEnds.{StepsEnd};
+ghost use Rattle.step_ends.specs.StepLaws.{RightTablesMakeNoLoop, StepsHaveOneResult};
+ghost use Rattle.step_ends.specs.StepEnds.{WaysMeetAtMostAll};
+ghost use Rattle.step_ends.specs.StepLaws.{ToldStepsMakeNoLoop};
 ghost use Rattle.step_ends.specs.WholePlans.{PlansAreWhole, PlansGiveOwnLids};
 
 /// After n steps by settled entries, `next_tables` returns what it was given, if three conditions hold: n is at least

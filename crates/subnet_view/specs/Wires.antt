@@ -1,11 +1,13 @@
 -- The wires between the ports of a subnet.
-use Rattle.std.specs.Prelude.{◌≡◌, ◌≢◌, ◌↔◌, ◌≤◌, ℕ, Bool, false, Option, None, Some, IsTrue, IsSome, ◌==◌, ◌&&◌, not, MatchBool, option_and_then, if◌then◌else◌}
+use Rattle.std.specs.Prelude.{◌≡◌, ◌≢◌, ◌↔◌, ◌≤◌, ℕ, Bool, false, Option, None, Some, IsTrue, IsSome, ◌==◌, ◌&&◌, not}
+use Rattle.std.specs.Prelude.{MatchBool, option_and_then, if◌then◌else◌}
 use Rattle.std.specs.Option.{option_map_or}
 use Rattle.smp_bytes.specs.declared.node_type.NodeType.{NodeType}
 use Rattle.smp_bytes.specs.NodeType.{is_switch}
 use Rattle.reply_facts.specs.Known.{port_guid_of, link_of, cap_of}
 use Rattle.subnet_view.specs.Reading.{Cells, is_up, is_switch_node, is_usable, is_port_of, IsUsable}
 use Rattle.subnet_view.specs.EndPorts.{is_end_port, IsNodeWith}
+use Rattle.subnet_view.specs.declared.end_port.EndPort.{EndPort}
 
 -- whether port `p` of node `g` can have a wire: it is up, `p` is from 1 to the node's number of ports, and the node is
 -- a usable switch or the port an end port
@@ -68,3 +70,7 @@ pub record IsAttached (cells : Cells) (g p h q : ℕ) : Type 0 where
 -- `attached` gives a port of a switch exactly if the adapter port is attached to it (`IsAttached`)
 abbrev pub AttachedLaw : Type 0
 AttachedLaw = (cells : Cells) (g p h q : ℕ) → (attached cells g p ≡ Some (h, q)) ↔ IsAttached cells g p h q
+
+-- the wire to the port `far` leads to `e`; false if there is no wire
+abbrev pub leads_to : Option (ℕ × ℕ) → EndPort → Bool
+leads_to far e = option_map_or (is_at e.node e.port) far false

@@ -1,6 +1,7 @@
 -- What a reply to a sweep brings up: a new vertex or a port's state, and what is asked next. InfiniBand Architecture
 -- Specification, Volume 1: subnet management, NodeInfo and PortInfo; topology discovery.
-use Rattle.std.specs.Prelude.{◌≡◌, ℕ, zero, suc, ◌+◌, ◌<◌, Bool, true, false, ◌&&◌, ◌||◌, not, List, [], ◌∷◌, ◌++◌, length, nat_lt, ◌==◌, if◌then◌else◌, Option, Some, None, is_some}
+use Rattle.std.specs.Prelude.{◌≡◌, ℕ, zero, suc, ◌+◌, ◌<◌, Bool, true, false, ◌&&◌, ◌||◌, not, List, [], ◌∷◌, ◌++◌}
+use Rattle.std.specs.Prelude.{length, nat_lt, ◌==◌, if◌then◌else◌, Option, Some, None, is_some}
 use Rattle.std.specs.Option.{option_map_or}
 use Rattle.smp_bytes.specs.declared.node_type.NodeType.{NodeType}
 use Rattle.smp_bytes.specs.NodeType.{is_switch}
@@ -9,7 +10,7 @@ use Rattle.smp_bytes.specs.Packet.{max_hops}
 use Rattle.attr_codec.specs.declared.node_info.NodeInfo.{NodeInfo}
 use Rattle.attr_codec.specs.declared.port_state.PortState.{PortState}
 use Rattle.attr_codec.specs.NodeTypeNumber.{type_of_number}
-use Rattle.attr_codec.specs.PortInfo.{is_sm_bit, port_state, state_of_number}
+use Rattle.attr_codec.specs.PortInfo.{port_state, state_of_number, has_manager}
 use Rattle.reply_facts.specs.declared.report.Context.{Context}
 use Rattle.reply_facts.specs.declared.report.Context.TheVariants.{Via, About}
 use Rattle.reply_facts.specs.Report.{about_of, guid_port, is_up_state, node_info_of, payload_of}
@@ -93,10 +94,6 @@ onward s path guid port info =
     if not (leads_on s path guid port info) then Stays
     else if nat_lt (length path) max_hops then Leads
     else TooFar
-
--- whether PortInfo says that a manager sits at the port
-abbrev pub has_manager : List ℕ → Bool
-has_manager info = bits_in is_sm_bit info == 1
 
 -- whether node `guid` is known to be no switch, by its first reply
 abbrev pub is_of_adapter : Sweep → ℕ → Bool

@@ -1,5 +1,6 @@
 ghost use Rattle.std.specs.Prelude.{◌≡◌, ◌≤◌, ℕ, List, length};
-ghost use Rattle.sweep.specs.Finding.{asks_manager, finding, goes_by, has_manager, is_of_adapter, leads_on};
+ghost use Rattle.sweep.specs.Finding.{asks_manager, finding, goes_by, is_of_adapter, leads_on};
+ghost use Rattle.attr_codec.specs.PortInfo.{has_manager};
 ghost use Rattle.sweep.specs.Finding.{node_found, onward, port_found_questions, port_found_of, questions};
 ghost use Rattle.sweep.specs.Finding.{vertex_of, vertex_questions};
 

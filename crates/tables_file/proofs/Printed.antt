@@ -21,8 +21,8 @@ use Rattle.tables_file.specs.declared.last_lines.LastLines.{LastLines}
 use Rattle.held_tables.specs.Held.{HeldPlan, LidRange, lids_of, nothing_held}
 use Rattle.held_tables.specs.PlanTables.{range_from, owned_range, owned_lids, blocks_from, blocks_of, held_plan}
 use Rattle.held_tables.specs.PlanRanges.{IsLidInRange, IsBlock, IsTableInRange, IsPlanInRange}
-use Rattle.tables_file.specs.Printed.{PrintedPlansAreRead}
-use Rattle.tables_file.specs.PrintedTextIsRead.{AreTops, PrintedTablesAreRead, Says, held_under, with_own_top}
+use Rattle.tables_file.specs.PrintedTextIsRead.{PrintedPlansAreRead, AreTops, PrintedTablesAreRead, Says, held_under}
+use Rattle.tables_file.specs.PrintedTextIsRead.{with_own_top}
 use Rattle.tables_file.specs.TablesText.{next_text}
 use Rattle.tables_file.specs.Reading.{start, last_lines_after, first_fault_from, items_from, held_by, first_fault, held_of}
 use Rattle.held_tables.specs.HeldItem.{held_with}

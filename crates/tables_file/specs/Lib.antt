@@ -1,4 +1,3 @@
-pub mod Printed
 pub mod PrintedTextIsRead
 pub mod Reading
 pub mod Reads

@@ -1,13 +1,17 @@
 -- A text of tables is read back as these tables, even if switches have tops of their own.
 use Rattle.std.specs.Prelude.{◌≡◌, ◌≤◌, ℕ, List, map, None}
 use Rattle.std.specs.List.{AllByRecursion}
-use Rattle.lft_blocks.specs.Plan.{PlanValue, SwitchTable}
+use Rattle.lft_blocks.specs.Plan.{PlanValue, SwitchTable, plan_of}
 use Rattle.held_tables.specs.declared.held.HeldSwitch.{HeldSwitch}
 use Rattle.held_tables.specs.Held.{HeldPlan}
 use Rattle.held_tables.specs.PlanRanges.{IsBlock, IsPlanInRange}
-use Rattle.held_tables.specs.PlanTables.{blocks_of, owned_lids, with_top}
+use Rattle.held_tables.specs.PlanTables.{blocks_of, owned_lids, with_top, held_plan}
 use Rattle.tables_file.specs.Reading.{first_fault, held_of}
 use Rattle.tables_file.specs.TablesText.{next_text}
+use Rattle.fact_store.specs.View.{Facts, cells_of, AreInRange}
+use Rattle.lid_assign.specs.Lids.{IsNoRoom}
+use Rattle.lft_blocks.specs.Rules.{RuleValue}
+use Rattle.lft_blocks.specs.PlanText.{plan_text}
 
 -- the text has no fault, and what it says is `held`
 abbrev pub Says : List ℕ → HeldPlan → Type 0
@@ -44,3 +48,18 @@ pub record IsHeldInRange (held : HeldPlan) : Type 0 where
 -- the tops and blocks that a text gives are in range, whatever the text is
 abbrev pub TextsAreInRange : Type 0
 TextsAreInRange = (text : List ℕ) → IsHeldInRange (held_of text)
+
+-- the text of a plan has no fault, and says what the plan holds
+abbrev pub IsRead : PlanValue → Type 0
+IsRead plan = (first_fault (plan_text plan) ≡ None) × (held_of (plan_text plan) ≡ held_plan plan)
+
+-- the text of each plan whose numbers are in range has no fault, and says what the plan holds
+abbrev pub PrintedPlansAreRead : Type 0
+PrintedPlansAreRead = (plan : PlanValue) → IsPlanInRange plan → IsRead plan
+
+-- the text of the plan of facts has no fault, and says what the plan holds, by each rule and under each LMC up to 7, if
+-- the facts are in range and have room for the LIDs
+abbrev pub PlansAreRead : Type 0
+PlansAreRead =
+    (rule : RuleValue) (lmc : ℕ) (facts : Facts) → lmc ≤ 7 → AreInRange facts → ¬ (IsNoRoom lmc (cells_of facts))
+    → IsRead (plan_of rule lmc (cells_of facts))

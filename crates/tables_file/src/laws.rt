@@ -1,5 +1,5 @@
 //! The laws of plans' texts.
-ghost use Rattle.tables_file.specs.Printed.{PlansAreRead, PrintedPlansAreRead};
+ghost use Rattle.tables_file.specs.PrintedTextIsRead.{PlansAreRead, PrintedPlansAreRead};
 ghost use Rattle.tables_file.specs.PrintedTextIsRead.{PrintedTablesAreRead, TextsAreInRange};
 
 /// The text of a plan whose numbers are in their ranges has no fault, and is read as the plan's LIDs and tables. Each

@@ -14,7 +14,7 @@ use Rattle.subnet_view.proofs.Members.{contains_here, contains_later, contains_c
 use Rattle.subnet_view.proofs.Components.{same_tests}
 use Rattle.subnet_view.proofs.UsableSwitches.{switches_law, usable_law}
 use Rattle.subnet_view.proofs.WireLaws.{wire_law}
-use Rattle.lid_assign.specs.Lids.{room, least_room}
+use Rattle.lid_assign.specs.Claims.{room, least_room}
 use Rattle.takeover_laws.specs.OnePlan.{IsAlike}
 
 -- two options that hold the same values are the same

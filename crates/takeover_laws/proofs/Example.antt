@@ -25,11 +25,12 @@ use Rattle.fact_store.proofs.Entries.{cells_of_view}
 use Rattle.subnet_view.specs.Agreement.{AgreesOn, Part}
 use Rattle.subnet_view.specs.Reading.{Cells}
 use Rattle.lid_assign.specs.Lids.{IsNoRoom}
-use Rattle.lft_blocks.specs.Arrival.{HoldsPlan, HoldsPlanAt}
+use Rattle.lft_blocks.specs.InForce.{HoldsPlan, HoldsPlanAt}
 use Rattle.lft_blocks.specs.Plan.{PlanValue, block_at, plan_of}
 use Rattle.plan_steps.specs.Phases.{Phase}
 use Rattle.fabric_sim.specs.declared.flight.Flight.{Flight}
-use Rattle.fabric_sim.specs.Simulation.{Simulation, fabric_of, flight_with}
+use Rattle.fabric_sim.specs.Simulation.{Simulation, fabric_of}
+use Rattle.fabric_sim.specs.Flights.{flight_with}
 use Rattle.fabric_sim.specs.Delivery.{outcome_of, after_deliver}
 use Rattle.fabric_sim.specs.Changes.{after_inject, after_lose, cabled_at}
 use Rattle.lft_blocks.specs.Planning.{Planning}

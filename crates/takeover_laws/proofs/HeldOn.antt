@@ -24,7 +24,7 @@ use Rattle.fabric_sim.proofs.SeenFabrics.{agent_seen}
 use Rattle.fabric_sim.proofs.TracedCalls.{AsksAnAgent}
 use Rattle.fabric_sim.proofs.TripShapes.{IsAlong, agent_there}
 use Rattle.lid_assign.specs.Lids.{range_of, top_of}
-use Rattle.lft_blocks.specs.Arrival.{HoldsPlan, HoldsPlanAt}
+use Rattle.lft_blocks.specs.InForce.{HoldsPlan, HoldsPlanAt}
 use Rattle.lft_blocks.specs.Plan.{PlanValue, block_at, switches_of}
 use Rattle.subnet_view.specs.Agreement.{Part, IsEndPortIn}
 use Rattle.manager_laws.proofs.Alike.{holding, joined_there, nodes_along}

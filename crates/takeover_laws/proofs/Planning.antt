@@ -22,7 +22,8 @@ use Rattle.spread_routes.specs.Adapters.{adapters_at, adapters_of, has_adapter_a
 use Rattle.lft_blocks.specs.Rules.{RuleValue}
 use Rattle.lft_blocks.proofs.RulesRoute.{rules_stay}
 use Rattle.lid_assign.specs.Ranges.{range_at, meets}
-use Rattle.lid_assign.specs.Lids.{IsNoRoom, if_fits, fitting_claim, claims, with_kept, kept, kept_range, hand_out, handed_out, lids, owner_of, top_of}
+use Rattle.lid_assign.specs.Lids.{IsNoRoom, hand_out, handed_out, lids, owner_of, top_of}
+use Rattle.lid_assign.specs.Claims.{if_fits, fitting_claim, claims, with_kept, kept, kept_range}
 use Rattle.lid_assign.proofs.Staying.{still_room, lids_same}
 use Rattle.lft_blocks.specs.Entries.{attachment_of, block_count}
 use Rattle.lft_blocks.specs.Plan.{tables_of, plan_of}

@@ -30,7 +30,9 @@ use Rattle.subnet_view.proofs.Members.{contains_as, contains_cases, contains_her
 use Rattle.subnet_view.proofs.Taken.{is_taken, taken_from}
 use Rattle.subnet_view.proofs.UsableSwitches.{switches_law}
 use Rattle.lid_assign.specs.Ranges.{range_at, Fits}
-use Rattle.lid_assign.specs.Lids.{ClaimsFitting, Given, IsNoRoom, Keeps, least_room, lids, lid_of, lmc_of, range_of, room, top_of}
+use Rattle.lid_assign.specs.Lids.{Given, IsNoRoom, lids, lid_of, lmc_of, range_of, top_of}
+use Rattle.lid_assign.specs.LidLaws.{ClaimsFitting, Keeps}
+use Rattle.lid_assign.specs.Claims.{least_room, room}
 use Rattle.lid_assign.proofs.LidLaws.{lids_law, ports-lids, ports_apart}
 use Rattle.lid_assign.proofs.FreeLids.{at_most}
 use Rattle.lid_assign.proofs.Owners.{lid-from_given}

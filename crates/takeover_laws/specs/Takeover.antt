@@ -7,7 +7,7 @@ use Rattle.fabric_sim.specs.Simulation.{fabric_of}
 use Rattle.subnet_view.specs.Agreement.{AgreesOn}
 use Rattle.lid_assign.specs.Lids.{IsNoRoom}
 use Rattle.lft_blocks.specs.Plan.{PlanValue, plan_of}
-use Rattle.lft_blocks.specs.Arrival.{HoldsPlan}
+use Rattle.lft_blocks.specs.InForce.{HoldsPlan}
 use Rattle.sweep.specs.Sweep.{Sweep}
 use Rattle.sm_manager.specs.Manager.{new_manager}
 use Rattle.lft_blocks.specs.Planning.{Planning}

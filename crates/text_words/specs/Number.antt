@@ -1,5 +1,6 @@
 -- Numbers that words spell.
-use Rattle.std.specs.Prelude.{ℕ, List, Option, None, Some, length, take, drop, codes, option_map, ◌&&◌, nat_le, if◌then◌else◌}
+use Rattle.std.specs.Prelude.{ℕ, List, Option, None, Some, length, take, drop, codes, option_map, ◌&&◌, nat_le}
+use Rattle.std.specs.Prelude.{if◌then◌else◌, option_and_then}
 use Rattle.std.specs.Char.{is_digit, digit_value}
 use Rattle.std.specs.List.{list_all}
 use Rattle.std.specs.Str.{bytes_eq}
@@ -27,3 +28,11 @@ count_of most word = option_map (up_to most) (number_of 10 word)
 abbrev pub guid_of : List ℕ → Option ℕ
 guid_of word = if bytes_eq (take 2 word) (codes "0x")
     && nat_le (length word) 18 then number_of 16 (drop 2 word) else None
+
+-- the number that `word` writes in decimal, if it is at most `most`; otherwise None
+abbrev pub number_up_to : ℕ → List ℕ → Option ℕ
+number_up_to most word = option_and_then (λ n. if nat_le n most then Some n else None) (number_of 10 word)
+
+-- the LID that `word` writes in decimal, up to 65,535; otherwise None
+abbrev pub lid_of : List ℕ → Option ℕ
+lid_of word = number_up_to 0xFFFF word

@@ -2,7 +2,7 @@
 use Rattle.std.proofs.Common.{◌≡◌, ◌∙◌, ℕ, IsSome, List, Some, ap, inl, inr, subst, sym}
 use Rattle.std.specs.Borrow.{Bor}
 use Rattle.std.specs.Prelude.{map, option_map}
-use Rattle.cli_task.specs.Asked.{names_asked}
+use Rattle.cli_task.specs.InputNames.{names_asked}
 use Rattle.ibsm.proofs.EnoughNames.{inputs_suffice}
 use Rattle.ibsm.proofs.Statuses.{not_usage}
 use Rattle.ibsm.proofs.WordsAsk.{names_there, task_there, was_there}

@@ -3,7 +3,7 @@ use Rattle.std.proofs.Common.{ap, ◌∙◌, arith}
 use Rattle.std.specs.List.{filter_map}
 use Rattle.fact_store.specs.View.{cells_of}
 use Rattle.fact_store.specs.Walk.{cells_left}
-use Rattle.lid_assign.specs.Lids.{least_room}
+use Rattle.lid_assign.specs.Claims.{least_room}
 use Rattle.lid_assign.specs.Rooms.{usable_cap}
 use Rattle.lid_assign.proofs.FreeLids.{at_most}
 use Rattle.lid_assign.proofs.FreeLids.{room_walked}

@@ -2,7 +2,7 @@ use Rattle.std.proofs.Common.{◌≡◌, ◌≤◌, ◌++◌, min}
 use Rattle.fact_store.specs.View.{cells_of}
 use Rattle.std.specs.List.{filter_map}
 use Rattle.fact_store.specs.Walk.{cells_left}
-use Rattle.lid_assign.specs.Lids.{least_room}
+use Rattle.lid_assign.specs.Claims.{least_room}
 use Rattle.lid_assign.specs.Rooms.{usable_cap}
 use Rattle.lid_assign.proofs.room.room.Given as goal
 

@@ -4,12 +4,12 @@ use Rattle.std.specs.Io.KnownBytes.{Appends}
 use Rattle.fact_store.specs.View.{Facts}
 use Rattle.lid_assign.specs.Lids.{Given}
 use Rattle.lft_blocks.specs.Rules.{RuleValue, value_of}
-use Rattle.held_tables.specs.PlanTables.{held_plan}
+use Rattle.held_tables.specs.PlanTables.{held_plan, planned}
 use Rattle.sm_cli.specs.declared.fault.Fault.{Fault}
 use Rattle.tables_file.specs.TablesText.{next_text}
 use Rattle.next_tables.specs.NextTables.{first_moved}
 use Rattle.next_run.specs.Asked.{has_answers, is_told, preferred_rule}
-use Rattle.next_run.specs.RunNext.{IsMade, IsSaid, StopsBy, StopsStep, planned, texts_before}
+use Rattle.next_run.specs.RunNext.{IsMade, IsSaid, StopsBy, StopsStep, texts_before}
 use Rattle.next_run.specs.StepOrderText.{items_of}
 use Rattle.next_run.specs.StepVerdict.{IsVerdict, verdict_of}
 use Rattle.next_run.proofs.StepIs.{not_written, step_is, stops, stops_by, was_said}

@@ -1,7 +1,9 @@
 use Rattle.std.proofs.Common.{ℕ, List, ap, sym, ◌∙◌}
 use Rattle.smp_bytes.specs.Field.{bits_in, number_in, with_bits, with_number}
-use Rattle.attr_codec.specs.PortInfo.{gid_prefix, link_down_default_state, port_physical_state}
-use Rattle.plan_steps.specs.Carried.{client_reregister, hoq_life, link_local_prefix, link_speed_enabled, link_speed_ext_enabled, link_width_enabled, mtu_of, neighbor_mtu, one_second, or_default, quarter_second, subnet_timeout}
+use Rattle.attr_codec.specs.PortInfo.{gid_prefix, link_down_default_state, port_physical_state, client_reregister}
+use Rattle.attr_codec.specs.PortInfo.{hoq_life, link_speed_enabled, link_speed_ext_enabled, link_width_enabled}
+use Rattle.attr_codec.specs.PortInfo.{neighbor_mtu, subnet_timeout}
+use Rattle.plan_steps.specs.Carried.{link_local_prefix, mtu_of, one_second, or_default, quarter_second}
 use Rattle.plan_steps.proofs.Whole.{copied_is}
 use Rattle.plan_steps.proofs.carried.carried_port_of.Goals as goal
 

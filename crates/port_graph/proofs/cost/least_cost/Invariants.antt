@@ -1,8 +1,7 @@
 use Rattle.std.proofs.Common.{◌≡◌, drop}
 use Rattle.std.specs.Prelude.{None, slice_index_or}
 use Rattle.std.specs.List.{filter_map}
-use Rattle.port_graph.specs.Slopes.{least_of}
-use Rattle.port_graph.specs.NextPorts.{lesser_of}
+use Rattle.port_graph.specs.Slopes.{least_of, lesser_of}
 use Rattle.port_graph.proofs.cost.least_cost.Given as goal
 
 -- the least so far, and the least of the rest

@@ -1,6 +1,7 @@
 use Rattle.std.proofs.Common.{◌≡◌, sym, subst}
 use Rattle.std.specs.Prelude.{remove}
-use Rattle.fabric_sim.specs.Simulation.{Simulation, IsFlightAt}
+use Rattle.fabric_sim.specs.Simulation.{Simulation}
+use Rattle.fabric_sim.specs.Flights.{IsFlightAt}
 use Rattle.fabric_sim.proofs.Written.{removed, without_now, without_valid}
 use Rattle.fabric_sim.proofs.fabric.Fabric.remove.Goals as goal
 

@@ -1,7 +1,8 @@
 use Rattle.std.proofs.lemmas.Fn.{always_returns_same}
 use Rattle.std.proofs.Common.{◌≡◌, ℕ, rules, of_calls, sym, subst}
 use Rattle.fabric_sim.specs.declared.flight.Flight.{Flight}
-use Rattle.fabric_sim.specs.Simulation.{Simulation, Finds}
+use Rattle.fabric_sim.specs.Simulation.{Simulation}
+use Rattle.fabric_sim.specs.Flights.{Finds}
 use Rattle.fabric_sim.proofs.Serials.{searched}
 use Rattle.fabric_sim.proofs.fabric.Fabric.search.Goals as goal
 

@@ -1,0 +1,89 @@
+-- The names of the inputs that a task reads, in their order.
+use Rattle.std.specs.Prelude.{ℕ, Bool, true, false, List, [], ◌∷◌, ◌++◌, Option, Some, codes, option_map}
+use Rattle.std.specs.Prelude.{option_and_then, if◌then◌else◌}
+use Rattle.clap.specs.declared.parser.matches.ArgMatches.{ArgMatches}
+use Rattle.cli_arguments.specs.Words.{files_named, word_named}
+use Rattle.sm_cli.specs.Asked.{rule_for}
+use Rattle.sm_cli.specs.declared.asked.RuleAsked.{RuleAsked}
+use Rattle.sm_cli.specs.declared.asked.RuleAsked.TheVariants.{UpDown, Spread, SpreadFromRoots, SpreadInOrder, Balance}
+use Rattle.sm_cli.specs.declared.asked.RuleAsked.TheVariants.{BalanceInOrder}
+use Rattle.next_run.specs.Asked.{has_lanes, is_named}
+use Rattle.cli_task.specs.declared.task.Task.{Task}
+use Rattle.cli_task.specs.declared.task.Task.TheVariants.{Answer, Audit, AuditByLane, OrderOf, Next, Run, Serve}
+use Rattle.cli_task.specs.Tasks.{task_asked}
+
+-- the names of the texts that a rule takes, from the words for roots and order; None if one is missing
+abbrev pub texts_of_rule : (List ℕ → Option (List ℕ)) → RuleAsked → Option (List (List ℕ))
+texts_of_rule word UpDown = Some []
+texts_of_rule word Spread = Some []
+texts_of_rule word SpreadFromRoots = option_map (λ roots. roots ∷ []) (word (codes "roots"))
+texts_of_rule word SpreadInOrder = option_map (λ order. order ∷ []) (word (codes "order"))
+texts_of_rule word Balance = Some []
+texts_of_rule word BalanceInOrder = option_map (λ order. order ∷ []) (word (codes "order"))
+
+-- the rule that a task plans by; a rule that takes no text if the task does not plan
+abbrev pub rule_of_task : Task → RuleAsked
+rule_of_task (Answer request) = rule_for request.output
+rule_of_task (Audit asked) = UpDown
+rule_of_task (AuditByLane asked) = UpDown
+rule_of_task (OrderOf floor) = UpDown
+rule_of_task (Next asked) = asked.rule
+rule_of_task (Run lmc rule) = rule
+rule_of_task (Serve asked) = asked.rule
+
+-- the names `first` and then `later`; None if one of the lists is None
+abbrev pub followed_by : Option (List (List ℕ)) → Option (List (List ℕ)) → Option (List (List ℕ))
+followed_by first later = option_and_then (λ names. option_map (λ others. names ++ others) later) first
+
+-- the name of a text that is asked for (true), None if the name is missing; empty if no text is asked for (false)
+abbrev pub text_if : Bool → Option (List ℕ) → Option (List (List ℕ))
+text_if false name = Some []
+text_if true name = option_map (λ text. text ∷ []) name
+
+-- the names of the texts of a step: the text of lanes and that of the last step's order, each only if it is asked for,
+-- and the tables; None if one is missing
+abbrev pub step_texts : (List ℕ → Option (List ℕ)) → Bool → Bool → Option (List (List ℕ))
+step_texts word by_lane ordered =
+    followed_by (text_if by_lane (word (codes "lanes"))) (followed_by (text_if ordered (word (codes "last-order")))
+    (option_map (λ tables. tables ∷ []) (word (codes "TABLES"))))
+
+-- the names of the texts that a task takes after that of its rule; None if one is missing; for `serve`, standard input
+abbrev pub texts_asked : (List ℕ → Option (List ℕ)) → Task → Option (List (List ℕ))
+texts_asked word (Answer request) = Some []
+texts_asked word (Audit asked) = option_map (λ tables. tables ∷ []) (word (codes "TABLES"))
+texts_asked word (AuditByLane asked) =
+    option_and_then (λ lanes. option_map (λ tables. lanes ∷ tables ∷ []) (word (codes "TABLES"))) (word (codes "lanes"))
+texts_asked word (OrderOf floor) = option_map (λ tables. tables ∷ []) (word (codes "TABLES"))
+texts_asked word (Next asked) = step_texts word (has_lanes asked.lanes) (is_named asked.held_order)
+texts_asked word (Run lmc rule) =
+    option_and_then (λ topology. option_map (λ schedule. topology ∷ schedule ∷ []) (word (codes "SCHEDULE")))
+    (word (codes "TOPOLOGY"))
+texts_asked word (Serve asked) = option_map (λ guid. codes "/dev/stdin" ∷ []) (word (codes "GUID"))
+
+-- a task takes files
+abbrev pub takes_files : Task → Bool
+takes_files (Answer request) = true
+takes_files (Audit asked) = true
+takes_files (AuditByLane asked) = true
+takes_files (OrderOf floor) = true
+takes_files (Next asked) = true
+takes_files (Run lmc rule) = false
+takes_files (Serve asked) = false
+
+-- the names of the files that a task takes, None if they are missing; empty if it takes no files
+abbrev pub files_asked : Option (List (List ℕ)) → Task → Option (List (List ℕ))
+files_asked files task = if takes_files task then files else Some []
+
+-- the names of the inputs of a task, in the order in which they are read: the rule's text, other texts, and files; None
+-- if one is missing
+abbrev pub names_in : (List ℕ → Option (List ℕ)) → Option (List (List ℕ)) → Task → Option (List (List ℕ))
+names_in word files task =
+    followed_by (texts_of_rule word (rule_of_task task)) (followed_by (texts_asked word task) (files_asked files task))
+
+-- the names of the inputs of a task, by the words after the subcommand; None if one is missing
+abbrev pub names_asked : ArgMatches → Task → Option (List (List ℕ))
+names_asked matches task = names_in (word_named matches) (files_named matches) task
+
+-- the names of the inputs of the task that is asked for; None if no task is asked for, or a name is missing
+abbrev pub inputs_asked : ArgMatches → Option (List (List ℕ))
+inputs_asked matches = option_and_then (names_asked matches) (task_asked matches)
