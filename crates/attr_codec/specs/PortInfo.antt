@@ -4,7 +4,6 @@ use Rattle.std.specs.Prelude.{ℕ, List, Option, [], ◌∷◌, find, ◌==◌, 
 use Rattle.smp_bytes.specs.Field.{Field, Bits, number_in, bits_in}
 use Rattle.attr_codec.specs.declared.port_state.PortState.{PortState}
 use Rattle.attr_codec.specs.declared.port_state.PortState.TheVariants.{NoChange, Down, Initialize, Armed, Active}
-use Rattle.sweep.specs.declared.request.Question.TheVariants as ask
 
 -- M_Key, a component of PortInfo
 abbrev pub m_key : Field

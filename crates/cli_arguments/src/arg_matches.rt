@@ -3,6 +3,8 @@ ghost use Rattle.std.specs.Prelude.{◌≡◌, false, is_some};
 ghost use Rattle.clap.specs.Matches.{first_value, found_of};
 ghost use Rattle.cli_arguments.specs.Words.{is_set};
 
+use clap::ArgMatches;
+
 /// Returns whether `words`, after a subcommand, set the flag `name`.
 pub fn is_set(words: &ArgMatches<'_>, name: &str) -> bool
     ensures { result ≡ is_set (first_value (found_of words.now) name.now) }

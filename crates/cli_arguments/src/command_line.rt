@@ -9,8 +9,17 @@ ghost use Rattle.cli_arguments.specs.CommandLine.{of_report, of_step, text_rule}
 ghost use Rattle.cli_arguments.specs.WellFormed.{IsWellFormed};
 ghost use Rattle.cli_arguments.specs.Words.{has_conflict};
 
-use crate::argument_names::{BALANCE, GUID, SPREAD, TABLES, UPDOWN};
-use crate::arguments::{all, files, lanes, port};
+use crate::argument_names::{
+    AUDIT, BALANCE, FACTS, GUID, JOIN, NEXT, ORDER, ORDER_OF, PLAN, RUN, SCHEDULE, SERVE, SPREAD,
+    TABLES, TOPOLOGY, UPDOWN,
+};
+use crate::arguments::{
+    all, answers_as_asked, files, floor, lanes, last_order, lmc, max_load, order_file, port,
+    priority, roots, routing, sm_key, text, told_order,
+};
+use crate::conflicts::{conflict, has_conflict};
+use clap::{ArgMatches, Command, Error};
+use std::alloc::{AllocError, Global};
 
 const RULES: [&str; 3] = [UPDOWN, SPREAD, BALANCE];
 

@@ -11,7 +11,6 @@ use Rattle.held_tables.specs.declared.held.HeldBlock.{HeldBlock}
 use Rattle.held_tables.specs.Held.{HeldPlan, LidRange, lids_of, nothing_held}
 use Rattle.fact_store.specs.View.{Facts, cells_of}
 use Rattle.lft_blocks.specs.Rules.{RuleValue}
-use Rattle.next_tables.specs.declared.fault.StepFault.TheVariants as steps
 
 -- the range of the LIDs of `port`, from `lid` on, under its LMC
 abbrev pub range_from : Given → ℕ → EndPort → LidRange
