@@ -24,7 +24,7 @@ use std::alloc::{AllocError, Global};
 /// each other if roots and an order are both named, if roots or an order are named without a rule of routing that takes
 /// them, or if `--answers-as-asked` is set without a file of lanes. The subcommand `order` needs no rule. The GUID must
 /// be 1 to 16 hex digits, and an SM_Key too if it is named.
-fn has_conflict(matches: &ArgMatches<'_>) -> bool
+pub(crate) fn has_conflict(matches: &ArgMatches<'_>) -> bool
     ensures { result ≡ has_conflict_behind (subcommand_rows_of matches.now) }
 {
     match matches.subcommand() {
@@ -120,7 +120,7 @@ fn lacks_rule(name: &str, words: &ArgMatches<'_>, rooted: bool, ordered: bool) -
 
 /// Returns the error for a command line for which `has_conflict` returns true: options contradict each other, or a GUID
 /// or an SM_Key is not 1 to 16 hex digits. Returns an outer `Err` if memory is refused.
-fn conflict(alloc: Global, matches: &ArgMatches<'_>) -> Result<Error, AllocError>
+pub(crate) fn conflict(alloc: Global, matches: &ArgMatches<'_>) -> Result<Error, AllocError>
     ensures { IfOk result (λ error. kind_of error ≡ ErrorKind.ArgumentConflict) }
 {
     let mut command = subcommand(alloc, matches.subcommand_name())?;
