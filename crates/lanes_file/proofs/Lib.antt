@@ -1,4 +1,3 @@
-pub mod BareGuids
 pub mod Carried
 pub mod Folds
 pub mod KeySearch

@@ -21,12 +21,13 @@ use Rattle.lanes_file.specs.declared.lines_before.LinesBefore.{LinesBefore}
 use Rattle.lanes_file.specs.Keys.{Key, key_cmp, is_after, map_key, block_key}
 use Rattle.lanes_file.specs.Lanes.{LanesSaid, nothing_said}
 use Rattle.lanes_file.specs.LanesItem.{said_by, said_with}
-use Rattle.lanes_file.specs.LanesLine.{alone, block_line, lanes_line, line_in, line_of, map_line}
+use Rattle.lanes_file.specs.LanesLine.{block_line, lanes_line, line_in, line_of, map_line}
 use Rattle.lanes_file.specs.LanesTextFault.{LanesLineFault}
 use Rattle.lanes_file.specs.WellFormed.{AreLanes, HasLanes, IsWellFormed}
 use Rattle.lanes_file.specs.Reading.{block_after, block_with, is_no_lane, is_no_level, item_of, items_from, lanes_said, lanes_with, level_with, lines_after}
 use Rattle.lanes_file.specs.Reading.{map_after, map_with, start, then_or}
-use Rattle.lanes_file.specs.Words.{at_most, small_of}
+use Rattle.text_words.specs.Number.{at_most, small_of}
+use Rattle.text_words.specs.Text.{only_word}
 use Rattle.lanes_file.proofs.KeySearch.{key_total}
 
 -- keys that rise up to `last` ---------------------------------------------------------------
@@ -97,7 +98,7 @@ line_in_range [] = tt
 line_in_range (word ∷ rest) =
     cond_both (bytes_eq word (codes "lanes")) _ _ IsLine (λ _. lanes_by line.Lanes (lanes_line rest) (λ a. tt))
     (λ _. cond_both (bytes_eq word (codes "sl2vl")) _ _ IsLine (λ _. lanes_by line.Map (map_line rest) (λ a. tt))
-    (λ _. cond_both (bytes_eq word (codes "level")) _ _ IsLine (λ _. level_by_word (alone rest))
+    (λ _. cond_both (bytes_eq word (codes "level")) _ _ IsLine (λ _. level_by_word (only_word rest))
     (λ _. cond_both (bytes_eq word (codes "levels")) _ _ IsLine (λ _. lanes_by line.Block (block_line rest) (λ a. tt)) (λ _. tt))))
 
 line_is : (line : List ℕ) → IsLine (line_of line)

@@ -6,16 +6,13 @@ use Rattle.lanes_file.specs.declared.line.LanesLine.{LanesLine}
 use Rattle.lanes_file.specs.declared.line.LanesLine.TheVariants.{Empty, Lanes, Map, Level, Block}
 use Rattle.lanes_file.specs.declared.line.MapLine.{MapLine}
 use Rattle.lanes_file.specs.declared.line.LevelsLine.{LevelsLine}
-use Rattle.lanes_file.specs.Words.{small_of, bare_guid_of, port_of, bytes_of}
-
--- the only word of a list; None if the list has no word or several
-abbrev pub alone : List (List ℕ) → Option (List ℕ)
-alone (word ∷ []) = Some word
-alone _ = None
+use Rattle.text_words.specs.NodePort.{port_of}
+use Rattle.text_words.specs.Number.{bare_guid_of, bytes_of, small_of}
+use Rattle.text_words.specs.Text.{only_word}
 
 -- the 16 bytes of a `lanes` line, given the words after its first; None if these are not one word that spells 16 bytes
 abbrev pub lanes_line : List (List ℕ) → Option (List ℕ)
-lanes_line words = option_and_then (bytes_of 16) (alone words)
+lanes_line words = option_and_then (bytes_of 16) (only_word words)
 
 -- the `sl2vl` line with these words after its first; None if one of them does not spell a GUID, a number for each port,
 -- or 16 bytes. A port above 254 is None in the line
@@ -30,12 +27,12 @@ abbrev pub map_line : List (List ℕ) → Option MapLine
 map_line [] = None
 map_line (node ∷ []) = None
 map_line (node ∷ into ∷ []) = None
-map_line (node ∷ into ∷ out ∷ rest) = option_and_then (map_of node into out) (alone rest)
+map_line (node ∷ into ∷ out ∷ rest) = option_and_then (map_of node into out) (only_word rest)
 
 -- the level of a `level` line, given the words after its first: one word, a decimal number; None for other words. The
 -- inner value is None if the number is above 15
 abbrev pub level_line : List (List ℕ) → Option (Option ℕ)
-level_line words = option_and_then (small_of 15) (alone words)
+level_line words = option_and_then (small_of 15) (only_word words)
 
 -- the `levels` line with these words after its first; None if one of them does not spell a node with a port, a number,
 -- or 64 bytes. A port above 254 or a number above 767 is None in the line
@@ -49,7 +46,7 @@ block_of port number levels =
 abbrev pub block_line : List (List ℕ) → Option LevelsLine
 block_line [] = None
 block_line (port ∷ []) = None
-block_line (port ∷ number ∷ rest) = option_and_then (block_of port number) (alone rest)
+block_line (port ∷ number ∷ rest) = option_and_then (block_of port number) (only_word rest)
 
 -- the line with these words; None if the grammar has no such line
 abbrev pub line_in : List (List ℕ) → Option LanesLine

@@ -7,4 +7,3 @@ pub mod LanesTextFault
 pub mod Reading
 pub mod Reads
 pub mod WellFormed
-pub mod Words

@@ -8,7 +8,6 @@ mod lanes_item;
 mod line;
 mod lines_before;
 mod text;
-mod words;
 
 pub use fault::{LanesLineFault, LanesTextError, LanesTextFault};
 pub use lanes::{LaneMap, Lanes, LevelBlock};

@@ -1,10 +1,11 @@
 ghost use Rattle.std.specs.Prelude.{◌≡◌, option_map};
 ghost use Rattle.text_words.specs.Text.{words};
-ghost use Rattle.lanes_file.specs.LanesLine.{alone, block_line, lanes_line, level_line, line_of, map_line};
+ghost use Rattle.lanes_file.specs.LanesLine.{block_line, lanes_line, level_line, line_of, map_line};
 
-use crate::words::{bare_guid, block_number, bytes, node_port, port, small};
-use smp_bytes::{Guid, PortNum};
-use text_words::{is_word, split_word};
+use smp_bytes::{Guid, LAST_BLOCK, PortNum};
+use text_words::{
+    bare_guid, hex_bytes, is_word, node_port, only_word, plain_port, small, small_byte, split_word,
+};
 
 /// What a line says. Ranges and the order of lines are not checked yet.
 #[derive(Clone, Copy)]
@@ -58,22 +59,11 @@ pub(crate) fn read_line(line: &[u8]) -> Option<LanesLine>
     }
 }
 
-/// Returns the only word of `line`, or `None` if `line` has no word or more than one.
-fn alone(line: &[u8]) -> Option<&[u8]>
-    ensures { option_map (λ x. x.now) result ≡ alone (words line.now) }
-{
-    let (word, line) = split_word(line)?;
-    if split_word(line).is_some() {
-        return None;
-    }
-    Some(word)
-}
-
 /// Parses the part of a `lanes` line after its first word. Returns `None` if the grammar has no such line.
 fn lanes_line(line: &[u8]) -> Option<[u8; 16]>
     ensures { result ≡ lanes_line (words line.now) }
 {
-    bytes(alone(line)?)
+    hex_bytes(only_word(line)?)
 }
 
 /// Parses the part of a `sl2vl` line after its first word. Returns `None` if the grammar has no such line.
@@ -83,11 +73,11 @@ fn map_line(line: &[u8]) -> Option<MapLine>
     let (node, line) = split_word(line)?;
     let (into, line) = split_word(line)?;
     let (out, line) = split_word(line)?;
-    let lanes = alone(line)?;
+    let lanes = only_word(line)?;
     let node = bare_guid(node)?;
-    let into = port(into)?;
-    let out = port(out)?;
-    let lanes = bytes(lanes)?;
+    let into = plain_port(into)?;
+    let out = plain_port(out)?;
+    let lanes = hex_bytes(lanes)?;
     Some(MapLine {
         node,
         into,
@@ -101,7 +91,7 @@ fn map_line(line: &[u8]) -> Option<MapLine>
 fn level_line(line: &[u8]) -> Option<Option<u8>>
     ensures { result ≡ level_line (words line.now) }
 {
-    small(alone(line)?, 15)
+    small_byte(only_word(line)?, 15)
 }
 
 /// Parses the part of a `levels` line after its first word. Returns `None` if the grammar has no such line.
@@ -110,10 +100,10 @@ fn block_line(line: &[u8]) -> Option<LevelsLine>
 {
     let (port, line) = split_word(line)?;
     let (number, line) = split_word(line)?;
-    let levels = alone(line)?;
+    let levels = only_word(line)?;
     let (node, port) = node_port(port)?;
-    let number = block_number(number)?;
-    let levels = bytes(levels)?;
+    let number = small(number, LAST_BLOCK)?;
+    let levels = hex_bytes(levels)?;
     Some(LevelsLine {
         node,
         port,

@@ -27,11 +27,6 @@ use Rattle.text_words.specs.Number.{lid_of, number_up_to}
 abbrev pub NamedCommand : Type 0
 NamedCommand = Command (List ℕ) PortName
 
--- the two words of a list of two; None for any other list
-abbrev pub pair : List (List ℕ) → Option (List ℕ × List ℕ)
-pair (one ∷ other ∷ []) = Some (one, other)
-pair _ = None
-
 -- a packet in flight: the packet sent last, or the packet with a serial number; None if the word names neither
 abbrev pub which_of : List ℕ → Option Which
 which_of word = if bytes_eq word (codes "last") then Some Last else option_map Serial (number_up_to (2 ^ 64 - 1) word)
@@ -157,5 +152,4 @@ line_in (word ∷ args) =
 
 -- what a line says; None if the grammar has no such line
 unfoldable pub line_of : List ℕ → Option ScheduleLine
-
 line_of line = line_in (words line)

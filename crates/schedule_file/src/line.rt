@@ -4,10 +4,10 @@ ghost use Rattle.schedule_file.specs.Command.{line_of, new_manager, sm_key_in};
 ghost use Rattle.text_words.specs.Number.{number_up_to};
 
 use crate::manager_name::ManagerName;
-use crate::named_command::{NamedCommand, PortName, named_command, pair, port_name};
+use crate::named_command::{NamedCommand, PortName, named_command, port_name};
 use crate::numbers::{number_up_to, serial};
 use attr_codec::Priority;
-use text_words::{is_word, split_word};
+use text_words::{is_word, split_word, two_words};
 
 /// What a line of a schedule says: nothing, a new manager or a command.
 #[derive(Drop)]
@@ -65,7 +65,7 @@ fn sm_key_in(line: &[u8]) -> Option<Option<u64>>
     if split_word(line).is_none() {
         return Some(None);
     }
-    let (word, key) = pair(line)?;
+    let (word, key) = two_words(line)?;
     if is_word(word, "live") {
         Some(Some(serial(key)?))
     } else {

@@ -2,7 +2,7 @@
 ghost use Rattle.std.specs.Prelude.{◌≡◌, option_map};
 ghost use Rattle.text_words.specs.Text.{words};
 ghost use Rattle.schedule_file.specs.Command.{ask, bare_of, bracketed_number, command_in, floor};
-ghost use Rattle.schedule_file.specs.Command.{merge, of_one, of_two, packet, pair, ping, plug, poll};
+ghost use Rattle.schedule_file.specs.Command.{merge, of_one, of_two, packet, ping, plug, poll};
 ghost use Rattle.schedule_file.specs.Command.{port_name, show, to_manager, which_of};
 
 use crate::command::{Ask, Command, Fate, Shown, Which};
@@ -193,16 +193,4 @@ fn bracketed_number(word: &[u8]) -> Option<u8>
         return None;
     }
     Some(number_up_to(port, 255)? as u8)
-}
-
-/// Splits `line` into two words. Returns `None` if `line` has more words, or fewer.
-pub(crate) fn pair(line: &[u8]) -> Option<(&[u8], &[u8])>
-    ensures { option_map (λ x. (x.0.now, x.1.now)) result ≡ pair (words line.now) }
-{
-    let (one, rest) = split_word(line)?;
-    let (other, rest) = split_word(rest)?;
-    if split_word(rest).is_some() {
-        return None;
-    }
-    Some((one, other))
 }

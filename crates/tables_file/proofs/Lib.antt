@@ -1,4 +1,3 @@
-pub mod BareGuids
 pub mod Folds
 pub mod LinesPrinted
 pub mod Passes

@@ -26,8 +26,9 @@ use Rattle.held_tables.specs.PlanRanges.{IsBlock}
 use Rattle.tables_file.specs.PrintedTextIsRead.{IsHeldInRange, TextsAreInRange}
 use Rattle.tables_file.specs.Reading.{start, is_behind, lid_after, lid_with, switch_after, switch_with, block_below, item_of, last_lines_after, then_or, items_from, held_by, held_of}
 use Rattle.held_tables.specs.HeldItem.{held_with}
-use Rattle.tables_file.specs.TablesLine.{both, top_line, switch_line, lid_line, line_in, line_of}
-use Rattle.tables_file.specs.Words.{at_most, small_of, bare_guid_of, entries_of}
+use Rattle.tables_file.specs.TablesLine.{top_line, switch_line, lid_line, line_in, line_of}
+use Rattle.text_words.specs.Number.{at_most, bare_guid_of, bytes_of, small_of}
+use Rattle.text_words.specs.Text.{two_words}
 
 -- a top, entries, and a line
 abbrev IsTop : Option ℕ → Type 0
@@ -67,14 +68,14 @@ with_top_words guid (Some x) =
 
 switch_is_line : (rest : List (List ℕ)) → IsLine (option_map line.Switch (switch_line rest))
 switch_is_line [] = tt
-switch_is_line (guid ∷ rest) = with_top_words guid (both rest)
+switch_is_line (guid ∷ rest) = with_top_words guid (two_words rest)
 
 -- that of a block
 pairs_are : (word : List ℕ) (r : Result (List ℕ) FromHexError) → decode_pairs 0 word ≡ r → length word / 2 ≡ 64 → AreEntries (result_ok r)
 pairs_are word (Err fault) e half = tt
 pairs_are word (Ok bytes) e half = let read = decode_pairs-ok 0 word bytes e in record { whole = omega (arith, read.1, half); bytes = read.2 }
 
-entries_are : (word : List ℕ) → AreEntries (entries_of word)
+entries_are : (word : List ℕ) → AreEntries (bytes_of 64 word)
 entries_are word =
     let P : Result (List ℕ) FromHexError → Type 0 = λ r. AreEntries (result_ok r) in
     let pairs : Result (List ℕ) FromHexError = decode_pairs 0 word in
@@ -87,13 +88,13 @@ with_entries number None h = tt
 with_entries number (Some entries) h = h
 
 with_small : (o : Option (Option ℕ)) (word : List ℕ)
-    → IsLine (option_map line.Block (option_and_then (λ n. option_map (λ e. record { number = n; entries = e }) (entries_of word)) o))
+    → IsLine (option_map line.Block (option_and_then (λ n. option_map (λ e. record { number = n; entries = e }) (bytes_of 64 word)) o))
 with_small None word = tt
-with_small (Some number) word = with_entries number (entries_of word) (entries_are word)
+with_small (Some number) word = with_entries number (bytes_of 64 word) (entries_are word)
 
 with_block_words : (o : Option (List ℕ × List ℕ))
     → IsLine (option_map line.Block
-    (option_and_then (λ x. option_and_then (λ n. option_map (λ e. record { number = n; entries = e }) (entries_of x.1)) (small_of 767 x.0)) o))
+    (option_and_then (λ x. option_and_then (λ n. option_map (λ e. record { number = n; entries = e }) (bytes_of 64 x.1)) (small_of 767 x.0)) o))
 with_block_words None = tt
 with_block_words (Some x) = with_small (small_of 767 x.0) x.1
 
@@ -102,7 +103,7 @@ line_in_range [] = tt
 line_in_range (word ∷ rest) =
     cond_both (bytes_eq word (codes "lid")) _ _ IsLine (λ _. lid_is_line (lid_line rest))
     (λ _. cond_both (bytes_eq word (codes "switch")) _ _ IsLine (λ _. switch_is_line rest)
-    (λ _. cond_both (bytes_eq word (codes "block")) _ _ IsLine (λ _. with_block_words (both rest)) (λ _. tt)))
+    (λ _. cond_both (bytes_eq word (codes "block")) _ _ IsLine (λ _. with_block_words (two_words rest)) (λ _. tt)))
 
 -- what a line says by those before it
 abbrev IsItem : HeldItem → Type 0

@@ -14,7 +14,8 @@ use Rattle.text_words.proofs.Splits.{differs}
 use Rattle.text_words.proofs.NumbersPrinted.{decimal_digits, decimal_is_read, hex_digits, guid_is_read}
 use Rattle.text_words.proofs.Printed.{IsWord, is_bare, is_plain, all_append, bare_on, digit_apart, digits_all, digit_bare, digit_plain, until_then}
 use Rattle.held_tables.specs.PlanRanges.{IsBlock}
-use Rattle.tables_file.specs.Words.{small_of, port_of, entries_of}
+use Rattle.text_words.specs.NodePort.{port_of}
+use Rattle.text_words.specs.Number.{bytes_of, small_of}
 
 -- bytes that are all bare and plain, some of them, are a word
 bare_word : (word : List ℕ) → 0 < length word → list_all is_bare word ≡ true → list_all is_plain word ≡ true → IsWord word
@@ -97,5 +98,5 @@ entries_are_word entries is =
     (each_digit is_bare entries (λ d h. (hex_digit d h).bare) is.bytes)
     (each_digit is_plain entries (λ d h. (hex_digit d h).plain) is.bytes)
 
-pub entries_are_read : (entries : List ℕ) → IsBlock entries → entries_of (encode_lower entries) ≡ Some entries
+pub entries_are_read : (entries : List ℕ) → IsBlock entries → bytes_of 64 (encode_lower entries) ≡ Some entries
 entries_are_read entries is = ap result_ok (decode_sized-encode_lower entries 64 is.whole is.bytes)

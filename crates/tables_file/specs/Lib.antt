@@ -4,4 +4,3 @@ pub mod Reads
 pub mod TablesLine
 pub mod TablesText
 pub mod TablesTextFault
-pub mod Words

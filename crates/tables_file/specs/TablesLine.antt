@@ -8,12 +8,9 @@ use Rattle.tables_file.specs.declared.line.TextLine.TheVariants.{Empty, Lid, Swi
 use Rattle.tables_file.specs.declared.line.LidLine.{LidLine}
 use Rattle.tables_file.specs.declared.line.SwitchLine.{SwitchLine}
 use Rattle.tables_file.specs.declared.line.BlockLine.{BlockLine}
-use Rattle.tables_file.specs.Words.{small_of, bare_guid_of, port_of, entries_of}
-
--- the two words of a list of two; None if it has more or fewer
-abbrev pub both : List (List ℕ) → Option (List ℕ × List ℕ)
-both (one ∷ other ∷ []) = Some (one, other)
-both _ = None
+use Rattle.text_words.specs.NodePort.{port_of}
+use Rattle.text_words.specs.Number.{bare_guid_of, bytes_of, small_of}
+use Rattle.text_words.specs.Text.{two_words}
 
 -- reads `lmc N`: the inner value is N, or None if N is above 7; None if the words are others
 abbrev pub lmc_in : List ℕ × List ℕ → Option (Option ℕ)
@@ -23,7 +20,7 @@ lmc_in x = if bytes_eq x.0 (codes "lmc") then small_of 7 x.1 else None
 -- the result is None for other words
 abbrev pub lmc_line : List (List ℕ) → Option (Option ℕ)
 lmc_line [] = Some (Some 0)
-lmc_line (word ∷ rest) = option_and_then lmc_in (both (word ∷ rest))
+lmc_line (word ∷ rest) = option_and_then lmc_in (two_words (word ∷ rest))
 
 -- a `lid` line with the LID `lid`, the port `p` and the LMC that `rest` gives; None if `rest` gives none
 abbrev pub lid_of_port : Option ℕ → List (List ℕ) → ℕ × Option ℕ → Option LidLine
@@ -47,13 +44,13 @@ top_line guid x =
 -- reads the part of a `switch` line after its first word: a GUID and a top; None for other words
 abbrev pub switch_line : List (List ℕ) → Option SwitchLine
 switch_line [] = None
-switch_line (guid ∷ rest) = option_and_then (top_line guid) (both rest)
+switch_line (guid ∷ rest) = option_and_then (top_line guid) (two_words rest)
 
 -- reads the part of a `block` line after its first word: a number and the entries; None for other words
 abbrev pub block_line : List (List ℕ) → Option BlockLine
 block_line words =
-    option_and_then (λ x. option_and_then (λ n. option_map (λ e. record { number = n; entries = e }) (entries_of x.1))
-    (small_of 767 x.0)) (both words)
+    option_and_then (λ x. option_and_then (λ n. option_map (λ e. record { number = n; entries = e }) (bytes_of 64 x.1))
+    (small_of 767 x.0)) (two_words words)
 
 -- the line with these words; None if the grammar has no such line
 abbrev pub line_in : List (List ℕ) → Option TextLine

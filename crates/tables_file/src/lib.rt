@@ -7,7 +7,6 @@ pub mod laws;
 mod line;
 mod tables_text;
 mod text;
-mod words;
 
 pub use fault::{TablesLineFault, TablesTextError, TablesTextFault};
 pub use tables_text::{write_next, write_tables};

@@ -1,11 +1,10 @@
-ghost use Rattle.std.specs.Prelude.{◌≡◌, ◌∷◌, option_map};
+ghost use Rattle.std.specs.Prelude.{◌≡◌, ◌≤◌, ◌∷◌, IfSome, option_map};
 ghost use Rattle.text_words.specs.Text.{words};
-ghost use Rattle.tables_file.specs.TablesLine.{line_of, both, lid_line, lmc_line, switch_line, block_line};
+ghost use Rattle.tables_file.specs.TablesLine.{block_line, lid_line, line_of, lmc_line, switch_line};
 
-use crate::words::{bare_guid, entries, lmc_of, node_port, small};
 use attr_codec::Lmc;
 use smp_bytes::{Guid, LAST_BLOCK, Lid, PortNum};
-use text_words::{count, is_word, split_word};
+use text_words::{bare_guid, count, hex_bytes, is_word, node_port, small, split_word, two_words};
 
 /// The greatest LID of an end port.
 const MAX_LID: u16 = Lid::UNICAST_END - 1;
@@ -66,18 +65,6 @@ pub(crate) fn read_line(line: &[u8]) -> Option<TextLine>
     }
 }
 
-/// Returns the two words of `line`, or `None` if `line` has more words, or fewer.
-fn two_words(line: &[u8]) -> Option<(&[u8], &[u8])>
-    ensures { option_map (λ x. (x.0.now, x.1.now)) result ≡ both (words line.now) }
-{
-    let (one, line) = split_word(line)?;
-    let (other, line) = split_word(line)?;
-    if split_word(line).is_some() {
-        return None;
-    }
-    Some((one, other))
-}
-
 /// Parses the part of a `lid` line after its first word. Returns `None` if the grammar has no such line.
 fn lid_line(line: &[u8]) -> Option<LidLine>
     ensures { result ≡ lid_line (words line.now) }
@@ -111,6 +98,17 @@ fn lmc_line(line: &[u8]) -> Option<Option<Lmc>>
     Some(lmc_of(number))
 }
 
+/// Returns the LMC with the number `number`, which must be at most 7, or `None` if `number` is `None`.
+fn lmc_of(number: Option<u16>) -> Option<Lmc>
+    requires { IfSome number (λ n. n ≤ 7) }
+    ensures { result ≡ number }
+{
+    match number {
+        Some(number) => Lmc::new(number as u8),
+        None => None,
+    }
+}
+
 /// Parses the part of a `switch` line after its first word. Returns `None` if the grammar has no such line.
 fn switch_line(line: &[u8]) -> Option<SwitchLine>
     ensures { result ≡ switch_line (words line.now) }
@@ -131,6 +129,6 @@ fn block_line(line: &[u8]) -> Option<BlockLine>
 {
     let (number, word) = two_words(line)?;
     let number = small(number, LAST_BLOCK)?;
-    let entries = entries(word)?;
+    let entries = hex_bytes(word)?;
     Some(BlockLine { number, entries })
 }

@@ -1,3 +1,4 @@
+pub mod BareGuids
 pub mod Digits
 pub mod Names
 pub mod NumbersPrinted

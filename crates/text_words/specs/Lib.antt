@@ -1,5 +1,6 @@
 pub mod Faults
 pub mod NodeName
+pub mod NodePort
 pub mod Number
 pub mod Printed
 pub mod Quoted

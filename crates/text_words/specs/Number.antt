@@ -1,10 +1,12 @@
 -- Numbers that words spell.
 use Rattle.std.specs.Prelude.{ℕ, List, Option, None, Some, length, take, drop, codes, option_map, ◌&&◌, nat_le}
-use Rattle.std.specs.Prelude.{if◌then◌else◌, option_and_then}
+use Rattle.std.specs.Prelude.{◌++◌, if◌then◌else◌, option_and_then}
 use Rattle.std.specs.Char.{is_digit, digit_value}
 use Rattle.std.specs.List.{list_all}
 use Rattle.std.specs.Str.{bytes_eq}
+use Rattle.std.specs.Result.{result_ok}
 use Rattle.std.specs.Str.Parse.{digits_value}
+use Rattle.hex.specs.Hex.{decode_sized}
 
 -- the value of the digit `b` in `base`; None if `b` is no digit of `base`
 abbrev pub digit_of : ℕ → ℕ → Option ℕ
@@ -29,10 +31,26 @@ abbrev pub guid_of : List ℕ → Option ℕ
 guid_of word = if bytes_eq (take 2 word) (codes "0x")
     && nat_le (length word) 18 then number_of 16 (drop 2 word) else None
 
+-- the GUID that `word` spells in one to sixteen hex digits, without `0x` in front; None if `word` is anything else
+abbrev pub bare_guid_of : List ℕ → Option ℕ
+bare_guid_of word = guid_of (codes "0x" ++ word)
+
+-- `n` if it is at most `most`, else None
+abbrev pub at_most : ℕ → ℕ → Option ℕ
+at_most most n = if nat_le n most then Some n else None
+
+-- the number that `word` spells in decimal; None if `word` spells none, and an inner None if the number is above `most`
+abbrev pub small_of : ℕ → List ℕ → Option (Option ℕ)
+small_of most word = option_map (at_most most) (number_of 10 word)
+
 -- the number that `word` writes in decimal, if it is at most `most`; otherwise None
 abbrev pub number_up_to : ℕ → List ℕ → Option ℕ
-number_up_to most word = option_and_then (λ n. if nat_le n most then Some n else None) (number_of 10 word)
+number_up_to most word = option_and_then (at_most most) (number_of 10 word)
 
 -- the LID that `word` writes in decimal, up to 65,535; otherwise None
 abbrev pub lid_of : List ℕ → Option ℕ
 lid_of word = number_up_to 0xFFFF word
+
+-- the `count` bytes that `word` spells, each in two hex digits of either case; None if `word` is anything else
+abbrev pub bytes_of : ℕ → List ℕ → Option (List ℕ)
+bytes_of count word = result_ok (decode_sized word count)

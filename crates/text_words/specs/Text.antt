@@ -1,5 +1,5 @@
 -- A text as lines, and a line as words: a `#` outside quotes begins a comment.
-use Rattle.std.specs.Prelude.{ℕ, Bool, false, List, [], ◌∷◌, ◌==◌, ◌&&◌, ◌||◌, not, if◌then◌else◌}
+use Rattle.std.specs.Prelude.{ℕ, Bool, false, List, [], ◌∷◌, Option, None, Some, ◌==◌, ◌&&◌, ◌||◌, not, if◌then◌else◌}
 
 -- whether the bytes begin with `b`
 abbrev pub begins_with : ℕ → List ℕ → Bool
@@ -51,6 +51,16 @@ parts quoted (b ∷ bytes) =
 -- the words of `line`
 abbrev pub words : List ℕ → List (List ℕ)
 words line = words_in (parts false line)
+
+-- the only word of a list; None if the list has no word or several
+abbrev pub only_word : List (List ℕ) → Option (List ℕ)
+only_word (word ∷ []) = Some word
+only_word _ = None
+
+-- the two words of a list of two; None if the list has more words, or fewer
+abbrev pub two_words : List (List ℕ) → Option (List ℕ × List ℕ)
+two_words (one ∷ other ∷ []) = Some (one, other)
+two_words _ = None
 
 -- a line without the carriage return at its end, if it ends with one
 abbrev pub without_return : List ℕ → List ℕ

@@ -1,5 +1,5 @@
 ghost use Rattle.std.specs.Prelude.{◌≡◌, ◌^◌, ◌-◌, ◌+◌, ◌*◌, ◌<◌, ◌≤◌, min, option_map};
-ghost use Rattle.text_words.specs.Number.{digit_of, number_of, count_of, guid_of};
+ghost use Rattle.text_words.specs.Number.{bare_guid_of, bytes_of, count_of, digit_of, guid_of, number_of, small_of};
 
 use smp_bytes::Guid;
 
@@ -69,4 +69,52 @@ pub fn guid(word: &[u8]) -> Option<Guid>
         return None;
     }
     Some(Guid::new(number(digits, 16)?))
+}
+
+/// Parses a GUID of 1 to 16 hex digits, without `0x` in front. Returns `None` if the word is anything else.
+#[tactic(auto, using(crate::proofs::BareGuids::bare_guid_is, crate::proofs::BareGuids::long_is_none))]
+pub fn bare_guid(word: &[u8]) -> Option<Guid>
+    ensures { result ≡ bare_guid_of word.now }
+{
+    if word.len() > 16 {
+        return None;
+    }
+    Some(Guid::new(number(word, 16)?))
+}
+
+/// Parses a word of decimal digits as a number up to `most`. Returns `None` if the word is not a number, and
+/// `Some(None)` if the number is over `most`.
+pub fn small(word: &[u8], most: u16) -> Option<Option<u16>>
+    ensures { result ≡ small_of most word.now }
+{
+    let number = number(word, 10)?;
+    Some(if number <= u64::from(most) {
+        Some(number as u16)
+    } else {
+        None
+    })
+}
+
+/// Parses a word of decimal digits as a number up to `most`. Returns `None` if the word is not a number, and
+/// `Some(None)` if the number is over `most`.
+pub fn small_byte(word: &[u8], most: u8) -> Option<Option<u8>>
+    ensures { result ≡ small_of most word.now }
+{
+    let number = number(word, 10)?;
+    Some(if number <= u64::from(most) {
+        Some(number as u8)
+    } else {
+        None
+    })
+}
+
+/// Parses `N` bytes, each as two hex digits of either case. Returns `None` if the word is not 2 * `N` hex digits.
+pub fn hex_bytes<const N: usize>(word: &[u8]) -> Option<[u8; N]>
+    ensures { result ≡ bytes_of N word.now }
+{
+    let mut bytes = [0; N];
+    match hex::decode_to_slice(word, &mut bytes) {
+        Ok(()) => Some(bytes),
+        Err(_) => None,
+    }
 }

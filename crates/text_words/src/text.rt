@@ -1,8 +1,8 @@
 ghost use Rattle.std.specs.Prelude.{◌≡◌, ◌<◌, ◌≤◌, ◌∷◌, ◌==◌, [], false, not, length, take, drop, position};
-ghost use Rattle.std.specs.Prelude.{MatchOption};
+ghost use Rattle.std.specs.Prelude.{MatchOption, option_map};
 ghost use Rattle.std.specs.Str.{bytes_eq};
 ghost use Rattle.text_words.specs.Text.{lines, words, is_blank, parts, is_behind_word, is_quoted_after};
-ghost use Rattle.text_words.specs.Text.{without_return};
+ghost use Rattle.text_words.specs.Text.{only_word, two_words, without_return};
 
 /// Returns the first line of `text` without its line end, and the text after the line end. Returns `None` if `text` is
 /// empty.
@@ -44,6 +44,29 @@ pub fn split_word(line: &[u8]) -> Option<(&[u8], &[u8])>
     } else {
         Some(line.split_at(word_len(line)))
     }
+}
+
+/// Returns the only word of `line`, or `None` if `line` has no word or more than one.
+pub fn only_word(line: &[u8]) -> Option<&[u8]>
+    ensures { option_map (λ x. x.now) result ≡ only_word (words line.now) }
+{
+    let (word, rest) = split_word(line)?;
+    if split_word(rest).is_some() {
+        return None;
+    }
+    Some(word)
+}
+
+/// Returns the two words of `line`, or `None` if `line` has more words, or fewer.
+pub fn two_words(line: &[u8]) -> Option<(&[u8], &[u8])>
+    ensures { option_map (λ x. (x.0.now, x.1.now)) result ≡ two_words (words line.now) }
+{
+    let (one, rest) = split_word(line)?;
+    let (other, rest) = split_word(rest)?;
+    if split_word(rest).is_some() {
+        return None;
+    }
+    Some((one, other))
 }
 
 /// Returns the index of the first byte of `line` that is neither a blank nor a tab, or `None` if `line` has no such

@@ -1,9 +1,8 @@
 -- GUIDs without the prefix `0x` are read like the numbers of words.
 use Rattle.std.proofs.Common.{◌≡◌, ℕ, ◌-◌, ◌<◌, ◌≤◌, ◌^◌, false, leb, List, ◌++◌, length, min, None, Some, refl, arith}
 use Rattle.std.specs.Prelude.{codes, option_map}
-use Rattle.text_words.specs.Number.{number_of}
+use Rattle.text_words.specs.Number.{bare_guid_of, number_of}
 use Rattle.text_words.proofs.Digits.{guid_is, not_within}
-use Rattle.lanes_file.specs.Words.{bare_guid_of}
 
 -- up to sixteen digits
 pub bare_guid_is : (word : List ℕ) (n : ℕ) → length word ≤ 16 → Some n ≡ option_map (min (2 ^ 64 - 1)) (number_of 16 word) → Some n ≡ bare_guid_of word
