@@ -3,14 +3,14 @@
 
 mod fault;
 mod name;
-mod node_port;
+mod node_ports;
 mod numbers;
 mod quoted;
 mod text;
 
 pub use fault::{LineError, LineFault, LinesFault};
 pub use name::NodeName;
-pub use node_port::{node_port, plain_port};
+pub use node_ports::{node_port, plain_port};
 pub use numbers::{bare_guid, count, guid, hex_bytes, number, port_number, small, small_byte};
 pub use quoted::{bracketed_port, enclosed, named_port, quoted_name};
 pub use text::{is_word, only_word, split_line, split_word, two_words};
