@@ -10,7 +10,7 @@ mod reading;
 mod root;
 mod switch;
 mod switch_graph;
-mod wire;
+mod wire_lookup;
 mod wire_table;
 
 pub use end_port::{EndPort, count_end_ports, end_ports, is_end_port};
@@ -18,5 +18,5 @@ pub use end_port_walk::next_end_port;
 pub use reading::port_count;
 pub use switch::{is_usable, switches, usable_guid};
 pub use switch_graph::SwitchGraph;
-pub use wire::{attached, wire};
+pub use wire_lookup::{attached, wire};
 pub use wire_table::Wires;
