@@ -7,7 +7,7 @@ use Rattle.subnet_view.specs.Reading.{Cells, is_usable, switches}
 use Rattle.fact_gaps.specs.Gaps.{unjoined_ports, unusable_nodes}
 use Rattle.held_tables.specs.declared.held.HeldLid.{HeldLid}
 use Rattle.held_tables.specs.Held.{HeldPlan}
-use Rattle.held_tables.specs.Owners.{is_told_twice}
+use Rattle.held_tables.specs.Owners.{has_several_owners}
 use Rattle.held_tables.specs.Tables.{is_owner, is_same_end, lines_of}
 use Rattle.audit_counts.specs.declared.unmatched.Unmatched.{Unmatched}
 use Rattle.audit_counts.specs.FirstFew.{Listed, all_listed, listed_of}
@@ -22,7 +22,7 @@ unowned most cells held = unowned_among most cells (lines_of held)
 
 -- more than one end port holds the LID of `line`
 abbrev pub is_twice : HeldPlan → HeldLid → Bool
-is_twice held line = is_told_twice (lines_of held) line.lid
+is_twice held line = has_several_owners (lines_of held) line.lid
 
 -- the held LIDs that several end ports hold, each with one of these, the first `most` of them
 abbrev pub twice : ℕ → HeldPlan → Listed HeldLid

@@ -141,7 +141,7 @@ fn twice(alloc: Global, most: usize, network: &Network) -> Result<FirstFew<HeldL
 {
     let mut few = FirstFew::new(alloc, most);
     for line in network.lids() {
-        if network.is_told_twice(line.lid) {
+        if network.has_several_owners(line.lid) {
             few.add(*line)?;
         }
     }

@@ -14,8 +14,8 @@ use Rattle.sm_cli.specs.InputTables.{AreNoTablesAndFiles, AreTablesAndFiles}
 use Rattle.sm_cli.specs.declared.input_tables.TablesAndFacts.{TablesAndFacts}
 
 -- the maximum number of listed items of each kind: 20, or 2^64 - 1 if `all`; no list has that many
-abbrev pub most_told : Bool → ℕ
-most_told all = if all then 18446744073709551615 else 20
+abbrev pub most_lines : Bool → ℕ
+most_lines all = if all then 18446744073709551615 else 20
 
 -- `prints` holds of the audit's text, with a shortest credit loop if there is one; `passed` says whether the tables
 -- pass and, if `asked` has a maximum load, no channel has a greater load
@@ -25,7 +25,7 @@ pub record IsAudited (asked : AuditAsked) (facts : Facts) (held : HeldPlan) (pri
   pub waits : IsCycle (cells_of facts) held cycle
   pub shortest : NoneShorter (cells_of facts) held cycle
   pub answered : prints
-      (audit_text (record { most = most_told asked.all; facts = facts; held = held; cycle = cycle }))
+      (audit_text (record { most = most_lines asked.all; facts = facts; held = held; cycle = cycle }))
   pub judged : IsTrue passed ↔ PassesWithin asked.max_load (cells_of facts) held
 
 -- the tables and then the files were read, and `prints` holds of their audit's text; `passed` says whether the tables

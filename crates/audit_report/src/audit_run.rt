@@ -4,7 +4,7 @@ ghost use Rattle.std.specs.Io.KnownBytes.{Appends};
 ghost use Rattle.fact_store.specs.View.{cells_of};
 ghost use Rattle.audit_report.specs.AuditText.{audit_text};
 ghost use Rattle.audit_report.specs.Passing.{PassesWithin};
-ghost use Rattle.audit_report.specs.RunAudit.{HasAudited, IsAnswerFault, IsAuditFault, IsAudited, most_told};
+ghost use Rattle.audit_report.specs.RunAudit.{HasAudited, IsAnswerFault, IsAuditFault, IsAudited, most_lines};
 
 use crate::{Audit, write_audit};
 use byte_io::{Sink, Source};
@@ -77,15 +77,15 @@ fn answer<W: Sink>(
     let Ok(subnet) = Subnet::of(alloc, store) else {
         return Err(Fault::Memory);
     };
-    match Audit::of(alloc, most_told(asked.all), &subnet, held) {
+    match Audit::of(alloc, most_lines(asked.all), &subnet, held) {
         Ok(audit) => tell(sink, asked.max_load, &audit),
         Err(_) => Err(Fault::Memory),
     }
 }
 
 /// Returns the maximum number of lines of each kind that are written: 20, or 2^64 - 1 if `all` is true.
-pub fn most_told(all: bool) -> usize
-    ensures { result ≡ most_told all }
+pub fn most_lines(all: bool) -> usize
+    ensures { result ≡ most_lines all }
 {
     if all { usize::MAX } else { MOST_TOLD }
 }

@@ -12,7 +12,7 @@ ghost use Rattle.audit_report.specs.Passing.{IsSound, IsWholeFor, Passes, Passes
 
 use audit_channels::{ChannelOrder, channel_order};
 use audit_counts::{PacketSurvey, PacketTally, Unmatched, disputed, sites, survey};
-use audit_ways::{Figures, WayFigures, figures_of_ways_told};
+use audit_ways::{Figures, WayFigures, figures_of_ways_known};
 use fact_store::Refused;
 use held_tables::{Held, Subnet};
 use packet_walks::Network;
@@ -220,7 +220,7 @@ fn packets_and_ways(
     ensures ways { IfOk result (λ both. IsToldOfWays (cells_of network.now.facts) network.now.held both.1) }
 {
     let survey = survey_of(alloc, most, network)?;
-    let ways = figures_of_ways_told(alloc, network, &survey.told)?;
+    let ways = figures_of_ways_known(alloc, network, &survey.told)?;
     Ok((survey.tally, ways))
 }
 

@@ -6,6 +6,6 @@ mod audit_run;
 mod audit_text;
 mod findings;
 
-pub use audit_run::{AuditAsked, most_told, run_audit};
+pub use audit_run::{AuditAsked, most_lines, run_audit};
 pub use audit_text::{write_audit, write_cycle, write_findings, write_more};
 pub use findings::Audit;

@@ -6,9 +6,9 @@ mod channel_loads;
 mod mean;
 mod roster;
 mod sender_groups;
-mod way_tally;
 mod way_figures;
+mod way_tally;
 
 pub use mean::Figures;
 pub use sender_groups::is_adapter;
-pub use way_figures::{WayFigures, figures_of_ways, figures_of_ways_told};
+pub use way_figures::{WayFigures, figures_of_ways, figures_of_ways_known};

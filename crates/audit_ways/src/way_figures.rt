@@ -34,13 +34,13 @@ pub struct WayFigures {
 pub fn figures_of_ways(alloc: Global, network: &Network) -> Result<WayFigures, AllocError>
     ensures { IfOk result (IsToldOfWays (cells_of network.now.facts) network.now.held) }
 {
-    figures_of_ways_told(alloc, network, &[])
+    figures_of_ways_known(alloc, network, &[])
 }
 
 /// Returns the figures of `figures_of_ways`, with less work for lines whose packets are known to arrive. If `told` is
 /// true at the index of a line, all packets for the line's LID must be delivered at its port. For such a line
 /// `LidCursor::ends` is not called.
-pub fn figures_of_ways_told(
+pub fn figures_of_ways_known(
     alloc: Global,
     network: &Network,
     told: &[bool],

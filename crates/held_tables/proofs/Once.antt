@@ -13,7 +13,7 @@ use Rattle.subnet_view.proofs.Members.{contains_later, contains_cases, contains_
 use Rattle.lid_assign.proofs.Tables.{eq_then, same_number}
 use Rattle.held_tables.specs.declared.held.HeldLid.{HeldLid}
 use Rattle.held_tables.specs.Owners.{SoleOwnersAreAlone, is_sole}
-use Rattle.held_tables.specs.Tables.{holders, is_owner, is_same_end, is_same_line, owners_of, told_once}
+use Rattle.held_tables.specs.Tables.{holders, is_owner, is_same_end, is_same_line, owners_of, without_repetitions}
 
 -- two lines differ
 abbrev differs : HeldLid → HeldLid → Bool
@@ -50,12 +50,12 @@ last_kept x y true = gone (is_same_line x y) (y ∷ [])
 last_kept x y false = kept (is_same_line x y) (y ∷ [])
 
 -- one line more is kept if no line before it agrees with it
-pub once_more : (xs : List HeldLid) (y : HeldLid) → told_once (xs ++ y ∷ []) ≡ told_once xs ++ cond (list_any (λ x. is_same_line x y) xs) [] (y ∷ [])
+pub once_more : (xs : List HeldLid) (y : HeldLid) → without_repetitions (xs ++ y ∷ []) ≡ without_repetitions xs ++ cond (list_any (λ x. is_same_line x y) xs) [] (y ∷ [])
 once_more [] y = refl
 once_more (x ∷ xs) y =
     let before : Bool = list_any (λ z. is_same_line z y) xs in
-    ap (λ zs. x ∷ filter (differs x) zs) (once_more xs y) ∙ ap (λ zs. x ∷ zs) (filter-append (differs x) (told_once xs) (cond before [] (y ∷ [])))
-    ∙ ap (λ zs. x ∷ (filter (differs x) (told_once xs) ++ zs)) (last_kept x y before)
+    ap (λ zs. x ∷ filter (differs x) zs) (once_more xs y) ∙ ap (λ zs. x ∷ zs) (filter-append (differs x) (without_repetitions xs) (cond before [] (y ∷ [])))
+    ∙ ap (λ zs. x ∷ (filter (differs x) (without_repetitions xs) ++ zs)) (last_kept x y before)
 
 -- the kept lines, as a set of keys ----------------------------------------------------------------
 
@@ -106,34 +106,34 @@ old_line true e = refl
 old_line false e = absurd (cc)
 
 pub line_kept : (lines : List HeldLid) (x : HeldLid) (told : BTreeSet (ℕ × (ℕ × ℕ))) → AreKeys lines told → not (contains key_cmp told (key_of x)) ≡ true
-    → told_once (lines ++ x ∷ []) ≡ told_once lines ++ x ∷ []
+    → without_repetitions (lines ++ x ∷ []) ≡ without_repetitions lines ++ x ∷ []
 line_kept lines x told are e =
-    once_more lines x ∙ ap (λ t. told_once lines ++ cond t [] (x ∷ [])) (sym (are x) ∙ new_line (contains key_cmp told (key_of x)) e)
+    once_more lines x ∙ ap (λ t. without_repetitions lines ++ cond t [] (x ∷ [])) (sym (are x) ∙ new_line (contains key_cmp told (key_of x)) e)
 
 pub line_left : (lines : List HeldLid) (x : HeldLid) (told : BTreeSet (ℕ × (ℕ × ℕ))) → AreKeys lines told → not (contains key_cmp told (key_of x)) ≡ false
-    → told_once (lines ++ x ∷ []) ≡ told_once lines
+    → without_repetitions (lines ++ x ∷ []) ≡ without_repetitions lines
 line_left lines x told are e =
-    once_more lines x ∙ ap (λ t. told_once lines ++ cond t [] (x ∷ [])) (sym (are x) ∙ old_line (contains key_cmp told (key_of x)) e)
-    ∙ append-nil (told_once lines)
+    once_more lines x ∙ ap (λ t. without_repetitions lines ++ cond t [] (x ∷ [])) (sym (are x) ∙ old_line (contains key_cmp told (key_of x)) e)
+    ∙ append-nil (without_repetitions lines)
 
 -- the lines without repetitions are the same lines
-pub once_has : (xs : List HeldLid) (x : HeldLid) → Contains xs x → Contains (told_once xs) x
+pub once_has : (xs : List HeldLid) (x : HeldLid) → Contains xs x → Contains (without_repetitions xs) x
 once_has [] x h = absurd (contains_none x h)
 once_has (y ∷ xs) x h =
     elim (contains_cases y x xs h) [
-      | inl same ↦ contains_first (filter (differs y) (told_once xs)) same
-      | inr later ↦ (elim (is_same_line y x) as (λ t. is_same_line y x ≡ t → Contains (told_once (y ∷ xs)) x) [
-        | true ↦ λ e. contains_first (filter (differs y) (told_once xs)) (same_line y x e)
-        | false ↦ λ e. contains_later y x (filter (differs y) (told_once xs)) (contains_filter (differs y) (told_once xs) x (once_has xs x later) (ap not e))
+      | inl same ↦ contains_first (filter (differs y) (without_repetitions xs)) same
+      | inr later ↦ (elim (is_same_line y x) as (λ t. is_same_line y x ≡ t → Contains (without_repetitions (y ∷ xs)) x) [
+        | true ↦ λ e. contains_first (filter (differs y) (without_repetitions xs)) (same_line y x e)
+        | false ↦ λ e. contains_later y x (filter (differs y) (without_repetitions xs)) (contains_filter (differs y) (without_repetitions xs) x (once_has xs x later) (ap not e))
       ] refl)
     ]
 
-pub once_from : (xs : List HeldLid) (x : HeldLid) → Contains (told_once xs) x → Contains xs x
+pub once_from : (xs : List HeldLid) (x : HeldLid) → Contains (without_repetitions xs) x → Contains xs x
 once_from [] x h = absurd (contains_none x h)
 once_from (y ∷ xs) x h =
-    elim (contains_cases y x (filter (differs y) (told_once xs)) h) [
+    elim (contains_cases y x (filter (differs y) (without_repetitions xs)) h) [
       | inl same ↦ contains_first xs same
-      | inr later ↦ contains_later y x xs (once_from xs x (contains-from_filter (differs y) (told_once xs) x later).0)
+      | inr later ↦ contains_later y x xs (once_from xs x (contains-from_filter (differs y) (without_repetitions xs) x later).0)
     ]
 
 -- after a line of the only end port that holds the LID, no kept line is for the LID
@@ -175,11 +175,11 @@ unmoved x lid (y ∷ ys) apart =
     ] refl
 
 -- if no other end port holds a LID, it has one owner at most
-pub sole_once : (xs : List HeldLid) (lid : ℕ) (port : EndPort) → is_sole port (holders (told_once xs) lid) ≡ true
-    → (holders (told_once xs) lid ≡ []) ⊎ (holders (told_once xs) lid ≡ port ∷ [])
+pub sole_once : (xs : List HeldLid) (lid : ℕ) (port : EndPort) → is_sole port (holders (without_repetitions xs) lid) ≡ true
+    → (holders (without_repetitions xs) lid ≡ []) ⊎ (holders (without_repetitions xs) lid ≡ port ∷ [])
 sole_once [] lid port h = inl refl
 sole_once (x ∷ xs) lid port h =
-    let rest : List HeldLid = filter (differs x) (told_once xs) in
+    let rest : List HeldLid = filter (differs x) (without_repetitions xs) in
     elim (x.lid == lid) as (λ t. (x.lid == lid) ≡ t
     → is_sole port (map (λ z. z.port) (cond t (x ∷ filter (λ z. z.lid == lid) rest) (filter (λ z. z.lid == lid) rest))) ≡ true
     → (map (λ (z : HeldLid). z.port) (cond t (x ∷ filter (λ z. z.lid == lid) rest) (filter (λ z. z.lid == lid) rest)) ≡ [])
@@ -187,10 +187,10 @@ sole_once (x ∷ xs) lid port h =
       | true ↦ λ q k.
           let parts = and_parts (is_same_end port x.port) (is_sole port (holders rest lid)) k in
           let its : port ≡ x.port = same_port port x.port parts.0 in
-          let none = none_else x lid (told_once xs) (eqb-true x.lid lid q) (subst (λ (e : EndPort). is_sole e (holders rest lid) ≡ true) its parts.1) in
+          let none = none_else x lid (without_repetitions xs) (eqb-true x.lid lid q) (subst (λ (e : EndPort). is_sole e (holders rest lid) ≡ true) its parts.1) in
           inr (ap (λ es. x.port ∷ es) none ∙ ap (λ (e : EndPort). e ∷ []) (sym its))
       | false ↦ λ q k.
-          let same = unmoved x lid (told_once xs) q in
+          let same = unmoved x lid (without_repetitions xs) q in
           elim (sole_once xs lid port (ap (is_sole port) (sym same) ∙ k)) [
             | inl none ↦ inl (same ∙ none)
             | inr one ↦ inr (same ∙ one)

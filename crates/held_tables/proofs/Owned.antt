@@ -10,7 +10,7 @@ use Rattle.subnet_view.specs.declared.end_port.EndPort.{EndPort}
 use Rattle.held_tables.specs.declared.held.HeldLid.{HeldLid}
 use Rattle.held_tables.specs.declared.owners.Owner.{Owner}
 use Rattle.held_tables.specs.declared.owners.Owner.TheVariants.{Nobody, Several}
-use Rattle.held_tables.specs.Owners.{AreOwners, is_several, is_told_twice, owner_among, owner_more}
+use Rattle.held_tables.specs.Owners.{AreOwners, is_several, has_several_owners, owner_among, owner_more}
 use Rattle.held_tables.specs.Tables.{holders}
 
 port_more : (es : List EndPort) (e : EndPort) → owner_among (es ++ e ∷ []) ≡ owner_more (owner_among es) e
@@ -74,6 +74,6 @@ several_told (e ∷ x ∷ es) = sym (lt-ltb 1 (length (e ∷ x ∷ es)) (omega a
 
 -- several end ports hold a LID exactly if more than one line is for it
 pub told_twice : (lines : List HeldLid) (owners : List Owner) (lid : ℕ) (owner : Owner) → AreOwners lines owners → lid < length owners
-    → owner ≡ slice_index_or owners lid Several → is_several owner ≡ is_told_twice lines lid
+    → owner ≡ slice_index_or owners lid Several → is_several owner ≡ has_several_owners lines lid
 told_twice lines owners lid owner h less is =
     ap is_several (is ∙ h.each lid less) ∙ several_told (holders lines lid) ∙ ap (nat_lt 1) (sym (as_many lines lid))

@@ -43,8 +43,8 @@ SoleOwnersAreAlone =
     → IsTrue (is_sole port (owners_of held lid)) ↔ (owners_of held lid ≡ port ∷ [])
 
 -- more than one of `lines` is for the LID; if the lines are distinct, more than one end port then holds it
-abbrev pub is_told_twice : List HeldLid → ℕ → Bool
-is_told_twice lines lid = nat_lt 1 (count_by (λ (line : HeldLid). line.lid == lid) lines)
+abbrev pub has_several_owners : List HeldLid → ℕ → Bool
+has_several_owners lines lid = nat_lt 1 (count_by (λ (line : HeldLid). line.lid == lid) lines)
 
 -- each entry of `owners` says who holds its LID by `lines`
 pub record AreOwners (lines : List HeldLid) (owners : List Owner) : Type 0 where

@@ -16,13 +16,13 @@ abbrev pub is_same_line : HeldLid → HeldLid → Bool
 is_same_line x y = y.lid == x.lid && is_same_end x.port y.port
 
 -- the lines of a list without repetitions; the first of equal lines stays
-abbrev pub told_once : List HeldLid → List HeldLid
-told_once [] = []
-told_once (x ∷ xs) = x ∷ filter (λ y. not (is_same_line x y)) (told_once xs)
+abbrev pub without_repetitions : List HeldLid → List HeldLid
+without_repetitions [] = []
+without_repetitions (x ∷ xs) = x ∷ filter (λ y. not (is_same_line x y)) (without_repetitions xs)
 
 -- the held LIDs with their end ports, in the order of the lines; each pair of a LID and an end port occurs once
 abbrev pub lines_of : HeldPlan → List HeldLid
-lines_of held = told_once held.lids
+lines_of held = without_repetitions held.lids
 
 -- the end ports of the `lines` for `lid`, in the order of the lines
 abbrev pub holders : List HeldLid → ℕ → List EndPort

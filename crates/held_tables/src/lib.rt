@@ -25,7 +25,7 @@ pub use held::{Held, HeldBlock, HeldLid, HeldSwitch};
 pub use held_item::{HeldItem, HeldRange};
 pub use lines::lines_of;
 pub use owners::{
-    Owner, is_same_end, is_sole_owner, is_told_twice, lid_owners, owners_of, sole_owner,
+    Owner, has_several_owners, is_same_end, is_sole_owner, lid_owners, owners_of, sole_owner,
 };
 pub use senders::Sender;
 pub use subnet::Subnet;

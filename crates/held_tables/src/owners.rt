@@ -1,7 +1,7 @@
 //! Who holds each LID.
 ghost use Rattle.std.specs.Prelude.{◌≡◌, [], ◌∷◌, IfOk, slice_index_or, slice_set};
 ghost use Rattle.held_tables.specs.declared.owners.Owner.TheVariants.{Several};
-ghost use Rattle.held_tables.specs.Owners.{AreOwners, is_several, is_sole, is_told_twice, owner_more, sole_among};
+ghost use Rattle.held_tables.specs.Owners.{AreOwners, is_several, is_sole, has_several_owners, owner_more, sole_among};
 ghost use Rattle.held_tables.specs.Tables.{holders, is_same_end};
 
 use crate::held::HeldLid;
@@ -120,9 +120,9 @@ fn all_owners_of(alloc: Global, lines: &[HeldLid], lid: Lid) -> Result<Vec<EndPo
 
 /// Returns whether more than one of `lines` is for `lid`. Each item of `owners` must say who holds its LID by `lines`.
 /// Takes constant time if `owners` has an item for `lid`, and otherwise time linear in the number of `lines`.
-pub fn is_told_twice(lines: &[HeldLid], owners: &[Owner], lid: Lid) -> bool
+pub fn has_several_owners(lines: &[HeldLid], owners: &[Owner], lid: Lid) -> bool
     requires { AreOwners lines.now owners.now }
-    ensures { result ≡ is_told_twice lines.now lid }
+    ensures { result ≡ has_several_owners lines.now lid }
 {
     match owners.get(usize::from(lid.number())) {
         Some(owner) => is_several(owner),
@@ -142,7 +142,7 @@ fn is_several(owner: &Owner) -> bool
 
 /// Returns whether more than one of `lines` is for `lid`. Takes time linear in the number of `lines`.
 fn is_told_twice_by(lines: &[HeldLid], lid: Lid) -> bool
-    ensures { result ≡ is_told_twice lines.now lid }
+    ensures { result ≡ has_several_owners lines.now lid }
 {
     1 < lines.iter().filter(|line| line.lid == lid).count()
 }

@@ -7,7 +7,7 @@ use Rattle.held_tables.specs.Held.{HeldPlan}
 use Rattle.audit_counts.specs.FirstFew.{Listed, all_listed}
 use Rattle.audit_report.specs.AuditText.{findings_text}
 use Rattle.audit_report.specs.Passing.{DeliversWithin}
-use Rattle.audit_report.specs.RunAudit.{IsAnswerFault, most_told}
+use Rattle.audit_report.specs.RunAudit.{IsAnswerFault, most_lines}
 use Rattle.lanes_file.specs.Lanes.{LanesSaid}
 use Rattle.lane_channels.specs.declared.stop.Dropped.{Dropped}
 use Rattle.lane_channels.specs.LaneNetwork.{SeenByLane}
@@ -64,8 +64,8 @@ pub record IsAuditedByLane (asked : LaneAuditAsked) (facts : Facts) (held : Held
   pub missing : Listed PacketPair
   pub dropped : Option Dropped
   pub cycle : List ℕ
-  pub found : IsFoundByLane (most_told asked.audit.all) (seen_of facts held said) asked.answers missing dropped cycle
-  pub told : IsTold asked (most_told asked.audit.all) (seen_of facts held said) missing dropped cycle prints passed
+  pub found : IsFoundByLane (most_lines asked.audit.all) (seen_of facts held said) asked.answers missing dropped cycle
+  pub told : IsTold asked (most_lines asked.audit.all) (seen_of facts held said) missing dropped cycle prints passed
 
 -- the lanes, the tables and then the files were read, and `prints` holds of the text of their audit by lane; `passed`
 -- says whether the tables pass

@@ -13,7 +13,7 @@ ghost use Rattle.sm_cli.specs.InputLanes.{AreLanesAndFiles, AreNoLanesAndFiles};
 
 use crate::lane_findings::LaneFindings;
 use crate::levels_missing::pairs_without_level;
-use audit_report::{Audit, AuditAsked, most_told, write_findings};
+use audit_report::{Audit, AuditAsked, most_lines, write_findings};
 use byte_io::{Sink, Source, WriteFault};
 use fact_store::Refused;
 use held_tables::Subnet;
@@ -102,7 +102,7 @@ fn answer<W: Sink>(
     ensures refused { IfErr result (IsAnswerFault (W.has_failed sink.new)) }
     ensures nothing_written { OnErr result ((result ≡ Err Fault.Write) ⊎ (sink.new ≡ sink.old)) }
 {
-    let most = most_told(asked.audit.all);
+    let most = most_lines(asked.audit.all);
     let Ok(subnet) = Subnet::of(alloc, &read.store) else {
         return Err(Fault::Memory);
     };

@@ -4,7 +4,7 @@ use Rattle.fact_store.specs.View.{Facts, cells_of}
 use Rattle.subnet_view.specs.Reading.{Cells}
 use Rattle.held_tables.specs.Held.{HeldPlan}
 use Rattle.audit_counts.specs.FirstFew.{Listed, all_listed}
-use Rattle.audit_report.specs.RunAudit.{most_told}
+use Rattle.audit_report.specs.RunAudit.{most_lines}
 use Rattle.lanes_file.specs.Lanes.{LanesSaid}
 use Rattle.lane_channels.specs.AnyTables.{IsCycleByAny, IsSomeDropByAny, NoneShorterByAny}
 use Rattle.lane_channels.specs.declared.stop.Dropped.{Dropped}
@@ -41,7 +41,7 @@ pub record IsOrderInStep (said : LanesSaid) (answers : Bool) (facts : Facts) (he
 -- a packet that is dropped for want of a lane, and a shortest credit loop, each if there is one
 pub record IsFoundInStep (said : LanesSaid) (answers : Bool) (facts : Facts) (held next : HeldPlan)
     (missing : Listed PacketPair) (dropped : Option Dropped) (cycle : List ℕ) : Type 0 where
-  pub missing_are : missing ≡ all_listed (most_told false) (missing_levels said (cells_of facts) next)
+  pub missing_are : missing ≡ all_listed (most_lines false) (missing_levels said (cells_of facts) next)
   pub order : IsOrderInStep said answers facts held next dropped cycle
 
 -- the verdict is right for the step from `held` to `next`: on one lane, if no text gives lanes (None), or else by lane

@@ -137,7 +137,7 @@ fn step<W: Sink, E: Sink>(
         return Err(Fault::Memory);
     };
     write_next(sink, plan.lids(), &made.next)?;
-    let _ = write_told(told, &from, &verdict, &made.order);
+    let _ = write_reported(told, &from, &verdict, &made.order);
     Ok(verdict.is_sound())
 }
 
@@ -163,7 +163,7 @@ fn named_rule(
 }
 
 /// Writes to `told` what can happen while the step is written, and the line of `order`, if `order` is not `None`.
-fn write_told<E: Sink>(
+fn write_reported<E: Sink>(
     told: &mut E,
     from: &Network,
     verdict: &StepVerdict,

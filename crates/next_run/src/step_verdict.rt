@@ -6,7 +6,7 @@ ghost use Rattle.next_run.specs.StepVerdict.{IsFoundInStep, IsOrderInStep, IsSou
 ghost use Rattle.next_run.specs.StepVerdict.{verdict_text};
 
 use crate::step_loop::StepLoop;
-use audit_report::most_told;
+use audit_report::most_lines;
 use byte_io::{Sink, WriteFault};
 use fact_store::Refused;
 use held_tables::Held;
@@ -86,7 +86,7 @@ fn lane_findings(
     ensures { IfOk result (λ found. IsFoundInStep lanes.now answers from.now.facts from.now.held after.now.held
         found.missing found.order.dropped found.order.cycle.items) }
 {
-    let missing = pairs_without_level(alloc, most_told(false), after, lanes)?;
+    let missing = pairs_without_level(alloc, most_lines(false), after, lanes)?;
     let order = order_in_step(alloc, lanes, answers, from, after)?;
     Ok(LaneFindings { missing, order })
 }

@@ -9,7 +9,7 @@ ghost use Rattle.packet_walks.specs.Edges.{edges_of, greatest_top};
 ghost use Rattle.held_tables.specs.Switches.{far_by, node_of, sender_of};
 ghost use Rattle.held_tables.specs.Blocks.{AreBlocks};
 ghost use Rattle.packet_walks.specs.HopsByTables.{AreBrought, LineArrives, entry_by, switch_step};
-ghost use Rattle.held_tables.specs.Owners.{AreOwners, is_told_twice, is_sole};
+ghost use Rattle.held_tables.specs.Owners.{AreOwners, has_several_owners, is_sole};
 ghost use Rattle.held_tables.specs.Tables.{entry_for, lines_of, owners_of, top_of};
 
 use crate::block_deliveries::{Deliveries, delivered};
@@ -20,7 +20,7 @@ use crate::hops_by_tables::{edges, entries, steps, switch_steps};
 use crate::next_hop::SwitchStep;
 use held_tables::{
     AuditedSwitch, Chains, Far, Held, HeldLid, Owner, Sender, Subnet, block_chains, block_rows,
-    is_sole_owner, is_told_twice, lid_owners, lines_of, owners_of,
+    has_several_owners, is_sole_owner, lid_owners, lines_of, owners_of,
 };
 use port_graph::Edge;
 use smp_bytes::{Guid, Lid};
@@ -208,10 +208,10 @@ impl<'a> Network<'a> {
 
     /// Returns whether more than one end port holds `lid`. Takes constant time if `lid` is below 49,152. Does not
     /// allocate.
-    pub fn is_told_twice(&self, lid: Lid) -> bool
-        ensures { result ≡ is_told_twice (lines_of self.now.held) lid }
+    pub fn has_several_owners(&self, lid: Lid) -> bool
+        ensures { result ≡ has_several_owners (lines_of self.now.held) lid }
     {
-        is_told_twice(&self.lines, &self.owners, lid)
+        has_several_owners(&self.lines, &self.owners, lid)
     }
 
     /// Returns the subnet, without its tables.

@@ -85,7 +85,7 @@ after_timeout_line w seat =
 -- the line of the trap in `packet` if the manager of a seat represses it, else empty
 abbrev pub heard_text : WorldValue → ℕ → Packet → List ℕ
 heard_text w seat packet =
-    option_map_or (λ s. trap_text (Some s.name) (manager.trap_told s.manager packet.bytes)) (slice_get w.managers seat) []
+    option_map_or (λ s. trap_text (Some s.name) (manager.noted_trap s.manager packet.bytes)) (slice_get w.managers seat) []
 
 -- the manager of a seat takes in a packet, and the line of a trap that it represses is printed; or it refuses the
 -- packet, and the line of its fault is printed

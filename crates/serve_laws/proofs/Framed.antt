@@ -45,7 +45,7 @@ use Rattle.sm_state.specs.declared.election.SeenManager.{SeenManager}
 use Rattle.sm_state.specs.declared.state.SmState.{SmState}
 use Rattle.sm_state.specs.declared.state.SmState.TheVariants.{NotActive, Discovering, Standby, Master}
 use Rattle.sm_manager.specs.Manager.{outstanding, progress_of, silent_in}
-use Rattle.sm_manager.specs.Packets.{after_packet, after_timeout, trap_told}
+use Rattle.sm_manager.specs.Packets.{after_packet, after_timeout, noted_trap}
 use Rattle.sm_manager.specs.declared.traps.Trap.{Trap}
 use Rattle.sm_manager.specs.PlanFaults.{plan_fault}
 use Rattle.sm_manager.specs.Writing.{is_written}
@@ -379,7 +379,7 @@ giving_up_passes m (transaction ∷ later) =
 line_passes : (m : Manager) (line : ServeLine) → Passes true (after_line m line).text true
 line_passes m (is.Ask what) = fault_passes (asked m what).fault
 line_passes m (is.Floor floor) = nothing
-line_passes m (is.Packet bytes from) = heard_passes (trap_told m bytes) (after_packet m bytes (Some from)).fault
+line_passes m (is.Packet bytes from) = heard_passes (noted_trap m bytes) (after_packet m bytes (Some from)).fault
 line_passes m (is.Timeout transaction) = fault_passes (after_timeout m transaction).fault
 line_passes m is.GiveUp = giving_up_passes m (outstanding m)
 line_passes m (is.Show what) = shown_passes what m

@@ -19,7 +19,7 @@ use Rattle.serve_lines.specs.declared.line.ServeLine.{ServeLine}
 use Rattle.serve_lines.specs.declared.line.ServeLine.TheVariants.{Ask, Floor, Packet, Timeout, GiveUp, Show, Managers, Empty, Wrong}
 use Rattle.serve_laws.specs.Told.{Who}
 use Rattle.serve_laws.specs.Told.{given_by}
-use Rattle.serve_laws.specs.Live.{LiveEvent, Around, Tell, Hear, Send, after_live, events_by, events_of, events_told, given_heard, takes_of}
+use Rattle.serve_laws.specs.Live.{LiveEvent, Around, Tell, Hear, Send, after_live, events_by, events_of, events_of_line, given_heard, takes_of}
 use Rattle.serve_laws.specs.LivePings.{AllKeepLive, BringsUpLive, IsNoSweepLine, IsNoWriteLine, KeepsLive, LivePingsArrive, TellsNoSweep, all_live, live_after_write, live_at_end, live_at_writing, sweep_line}
 use Rattle.serve_laws.proofs.Managed.{all_can, takes_can}
 use Rattle.manager_laws.proofs.Arrive.{pings_arrive_once_written}
@@ -37,7 +37,7 @@ module _ (plan : PlanValue) (own : OwnSets) where
   timeouts_keep [] w = tt
   timeouts_keep (transaction ∷ later) w = (tt, timeouts_keep later (after_manager_event w (managing.TimeOut transaction)))
 
-  told_keep : (w : Managing) (line : ServeLine) → IsNoWriteLine line → AllKeep plan own (events_told w.manager line) w
+  told_keep : (w : Managing) (line : ServeLine) → IsNoWriteLine line → AllKeep plan own (events_of_line w.manager line) w
   told_keep w (Ask ask.Write) none = absurd none
   told_keep w (Packet bytes from) none = tt
   told_keep w GiveUp none = timeouts_keep (outstanding w.manager) w
@@ -50,8 +50,8 @@ module _ (plan : PlanValue) (own : OwnSets) where
   event_keep : (w : Managing) (event : LiveEvent) → KeepsLive plan own w event → AllKeep plan own (events_by w event) w
   event_keep w (Around event) keep = (keep, tt)
   event_keep w (Tell line) keep =
-      keep_behind plan own (events_told w.manager line) (takes_of (given_by w.manager line)) w (told_keep w line keep)
-      (takes_keep (given_by w.manager line) (after_manager_events (events_told w.manager line) w))
+      keep_behind plan own (events_of_line w.manager line) (takes_of (given_by w.manager line)) w (told_keep w line keep)
+      (takes_keep (given_by w.manager line) (after_manager_events (events_of_line w.manager line) w))
   event_keep w (Hear which) keep =
       (tt, takes_keep (given_heard w (slice_get w.scene.handed which)) (after_manager_event w (managing.Hear which)))
   event_keep w (Send which) keep = (tt, tt)
@@ -72,7 +72,7 @@ timeouts_alone : (transactions : List ℕ) (w : Managing) → AreNoSweeps (map m
 timeouts_alone [] w = tt
 timeouts_alone (transaction ∷ later) w = (tt, timeouts_alone later (after_manager_event w (managing.TimeOut transaction)))
 
-told_alone : (w : Managing) (line : ServeLine) → IsNoSweepLine line → AreNoSweeps (events_told w.manager line) w
+told_alone : (w : Managing) (line : ServeLine) → IsNoSweepLine line → AreNoSweeps (events_of_line w.manager line) w
 told_alone w (Ask ask.Sweep) none = absurd none
 told_alone w (Ask ask.Write) none = (tt, tt)
 told_alone w (Ask ask.Handover) none = (tt, tt)
@@ -85,8 +85,8 @@ told_alone w line none = tt
 event_alone : (w : Managing) (event : LiveEvent) → TellsNoSweep event → AreNoSweeps (events_by w event) w
 event_alone w (Around event) none = (tt, tt)
 event_alone w (Tell line) none =
-    alone_behind (events_told w.manager line) (takes_of (given_by w.manager line)) w (told_alone w line none)
-    (takes_alone (given_by w.manager line) (after_manager_events (events_told w.manager line) w))
+    alone_behind (events_of_line w.manager line) (takes_of (given_by w.manager line)) w (told_alone w line none)
+    (takes_alone (given_by w.manager line) (after_manager_events (events_of_line w.manager line) w))
 event_alone w (Hear which) none =
     (tt, takes_alone (given_heard w (slice_get w.scene.handed which)) (after_manager_event w (managing.Hear which)))
 event_alone w (Send which) none = (tt, tt)

@@ -20,7 +20,7 @@ use Rattle.serve_lines.specs.declared.line.ServeLine.TheVariants.{Ask, Floor, Pa
 use Rattle.serve_run.specs.Served.{after_giving_up, after_line, served, served_all}
 use Rattle.serve_laws.specs.Told.{call_asked, given_by}
 use Rattle.serve_laws.specs.Live.{CanLive, IsOrder, LiveEvent, Around, Tell, Hear, Send, ServedIsManaging, after_live}
-use Rattle.serve_laws.specs.Live.{event_asked, events_by, events_of, events_told, given_all, given_heard, lines_by, lines_heard, lines_of, takes_of}
+use Rattle.serve_laws.specs.Live.{event_asked, events_by, events_of, events_of_line, given_all, given_heard, lines_by, lines_heard, lines_of, takes_of}
 use Rattle.serve_laws.proofs.Behind.{now_behind}
 use Rattle.serve_laws.proofs.Lived.{asked_lives}
 
@@ -48,7 +48,7 @@ asked_so w ask.Handover = refl
 asked_so w (ask.Poll lid) = refl
 
 told_so : (w : Managing) (line : ServeLine) → IsOrder line
-    → after_manager_events (events_told w.manager line) w ≡ record w { manager = (after_line w.manager line).now }
+    → after_manager_events (events_of_line w.manager line) w ≡ record w { manager = (after_line w.manager line).now }
 told_so w (Ask what) order =
     asked_so w what ∙ ap (λ (m : Manager). record w { manager = m }) (sym (asked_lives w.manager what))
 told_so w (Packet bytes from) order = absurd order
@@ -87,14 +87,14 @@ given_so w line = taken_all w (after_line w.manager line).now w.out (given_by w.
 pub tell_so : (w : Managing) (line : ServeLine) → IsOrder line
     → after_live w (Tell line) ≡ record w { manager = (served w.manager line).now; out = w.out ++ given_by w.manager line }
 tell_so w line order =
-    events_behind (events_told w.manager line) (takes_of (given_by w.manager line)) w
+    events_behind (events_of_line w.manager line) (takes_of (given_by w.manager line)) w
     ∙ ap (after_manager_events (takes_of (given_by w.manager line))) (told_so w line order)
     ∙ given_so w line
 
 tell_steps : (w : Managing) (line : ServeLine) → IsOrder line → Steps w (after_live w (Tell line)) (line ∷ [])
 tell_steps w line order =
     one_line w (after_live w (Tell line)) line
-    (events_behind (events_told w.manager line) (takes_of (given_by w.manager line)) w
+    (events_behind (events_of_line w.manager line) (takes_of (given_by w.manager line)) w
     ∙ ap (after_manager_events (takes_of (given_by w.manager line))) (told_so w line order) ∙ given_so w line)
 
 hear_steps : (w : Managing) (h : Option Handed)
@@ -173,7 +173,7 @@ module _ (seat : NodePort) where
   asked_can ask.Handover = tt
   asked_can (ask.Poll lid) = tt
 
-  told_can : (m : Manager) (line : ServeLine) → IsOrder line → All (CanBe seat) (events_told m line)
+  told_can : (m : Manager) (line : ServeLine) → IsOrder line → All (CanBe seat) (events_of_line m line)
   told_can m (Ask what) order = one_can (event_asked what) (asked_can what)
   told_can m (Floor floor) order = one_can (managing.Raise floor) order
   told_can m (Timeout transaction) order = one_can (managing.TimeOut transaction) tt
@@ -183,7 +183,7 @@ module _ (seat : NodePort) where
   event_can : (w : Managing) (event : LiveEvent) → CanLive seat event → All (CanBe seat) (events_by w event)
   event_can w (Around event) can = one_can (managing.Around event) can
   event_can w (Tell line) can =
-      All-append (CanBe seat) (events_told w.manager line) (takes_of (given_by w.manager line)) (told_can w.manager line can)
+      All-append (CanBe seat) (events_of_line w.manager line) (takes_of (given_by w.manager line)) (told_can w.manager line can)
       (takes_can (given_by w.manager line))
   event_can w (Hear which) can =
       All-cons (CanBe seat) (managing.Hear which) (takes_of (given_heard w (slice_get w.scene.handed which))) tt

@@ -63,12 +63,12 @@ event_asked ask.Handover = managing.HandOver
 event_asked (ask.Poll lid) = managing.Poll lid
 
 -- the events of the manager `m` for what a line other than a packet asks; none for lines that only show something
-abbrev pub events_told : Manager → ServeLine → List ManagerEvent
-events_told m (Ask what) = event_asked what ∷ []
-events_told m (Floor floor) = managing.Raise floor ∷ []
-events_told m (Timeout transaction) = managing.TimeOut transaction ∷ []
-events_told m GiveUp = map managing.TimeOut (outstanding m)
-events_told m line = []
+abbrev pub events_of_line : Manager → ServeLine → List ManagerEvent
+events_of_line m (Ask what) = event_asked what ∷ []
+events_of_line m (Floor floor) = managing.Raise floor ∷ []
+events_of_line m (Timeout transaction) = managing.TimeOut transaction ∷ []
+events_of_line m GiveUp = map managing.TimeOut (outstanding m)
+events_of_line m line = []
 
 -- the events that take printed packets, one for each
 abbrev pub takes_of : List Outgoing → List ManagerEvent
@@ -84,7 +84,7 @@ given_heard w (Some h) =
 -- the events of the manager for an event of the process
 abbrev pub events_by : Managing → LiveEvent → List ManagerEvent
 events_by w (Around event) = managing.Around event ∷ []
-events_by w (Tell line) = events_told w.manager line ++ takes_of (given_by w.manager line)
+events_by w (Tell line) = events_of_line w.manager line ++ takes_of (given_by w.manager line)
 events_by w (Hear which) = managing.Hear which ∷ takes_of (given_heard w (slice_get w.scene.handed which))
 events_by w (Send which) = managing.Send which ∷ []
 

@@ -16,7 +16,7 @@ use Rattle.attr_codec.specs.declared.sm_info.SmInfo.{SmInfo}
 use Rattle.sm_state.specs.States.{state_of_number, state_word}
 use Rattle.sm_state.specs.declared.election.SeenManager.{SeenManager}
 use Rattle.sm_manager.specs.Manager.{Manager, after_raise_floor, outstanding}
-use Rattle.sm_manager.specs.Packets.{Called, after_packet, after_timeout, done, refused, trap_told}
+use Rattle.sm_manager.specs.Packets.{Called, after_packet, after_timeout, done, refused, noted_trap}
 use Rattle.sm_manager.specs.declared.fault.ManagerFault.{ManagerFault}
 use Rattle.sm_manager.specs.declared.outgoing.Outgoing.{Outgoing}
 use Rattle.sm_manager.specs.declared.traps.Trap.{Trap}
@@ -92,7 +92,7 @@ after_giving_up m (transaction ∷ later) =
 abbrev pub after_line : Manager → ServeLine → Outcome Manager
 after_line m (Ask what) = after_called (asked m what)
 after_line m (Floor floor) = quiet (after_raise_floor m floor)
-after_line m (Packet bytes from) = after_heard (after_packet m bytes (Some from)) (trap_told m bytes)
+after_line m (Packet bytes from) = after_heard (after_packet m bytes (Some from)) (noted_trap m bytes)
 after_line m (Timeout transaction) = after_called (after_timeout m transaction)
 after_line m GiveUp = after_giving_up m (outstanding m)
 after_line m (Show what) = shows (text_of what None m) m

@@ -26,7 +26,7 @@ fn write_seen<W: Sink>(sink: &mut W, seen: &SeenManager) -> Result<(), WriteFaul
     ensures writes { Writes W.written W.has_failed result sink.old sink.new (seen_line seen.now) }
 {
     write_where(sink, seen)?;
-    write_told(sink, &seen.info)
+    write_reported(sink, &seen.info)
 }
 
 /// Writes the port at which the manager `seen` was seen, and the port GUID that it reported.
@@ -40,7 +40,7 @@ fn write_where<W: Sink>(sink: &mut W, seen: &SeenManager) -> Result<(), WriteFau
 }
 
 /// Writes the priority, the SM_Key and the state in `info`, which a manager reported, and ends the line.
-fn write_told<W: Sink>(sink: &mut W, info: &SmInfo) -> Result<(), WriteFault>
+fn write_reported<W: Sink>(sink: &mut W, info: &SmInfo) -> Result<(), WriteFault>
     ensures writes { Writes W.written W.has_failed result sink.old sink.new (told_text info.now) }
 {
     sink.write(b" priority ")?;

@@ -1,6 +1,6 @@
 //! Handling of one line: the line is answered, the queued packets are written, and the answer ends.
 ghost use Rattle.std.specs.Prelude.{◌≡◌, OnOk, IsTrue, Some};
-ghost use Rattle.sm_manager.specs.Packets.{after_packet, after_timeout, trap_told};
+ghost use Rattle.sm_manager.specs.Packets.{after_packet, after_timeout, noted_trap};
 ghost use Rattle.sm_manager.specs.Manager.{outstanding};
 ghost use Rattle.schedule_lines.specs.Prints.{PrintsUnless};
 ghost use Rattle.serve_run.specs.Lives.{Lives};
@@ -99,7 +99,7 @@ fn take_in<W: Sink>(
     sink: &mut W,
 ) -> Result<(), RunFault>
     ensures does { Lives W.written W.has_failed manager.new result sink.old sink.new
-        (after_heard (after_packet manager.old bytes.now (Some from)) (trap_told manager.old bytes.now)) }
+        (after_heard (after_packet manager.old bytes.now (Some from)) (noted_trap manager.old bytes.now)) }
 {
     match manager.on_packet(bytes, Some(from)) {
         Ok(trap) => show_trap(sink, None, trap),

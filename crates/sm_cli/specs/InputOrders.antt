@@ -4,7 +4,7 @@ use Rattle.byte_io.specs.Source.{SourceState}
 use Rattle.sm_cli.specs.declared.fault.Fault.{Fault}
 use Rattle.sm_cli.specs.declared.input_orders.OrderAndTables.{OrderAndTables}
 use Rattle.sm_cli.specs.InputTables.{AreNoTablesAndFiles, AreTablesAndFiles}
-use Rattle.sm_cli.specs.Inputs.{IsRoots, IsRootsFault}
+use Rattle.sm_cli.specs.Inputs.{IsSwitchList, IsSwitchListFault}
 use Rattle.sm_cli.specs.Sources.{AreReadInParts, IsOneRead}
 
 -- the number of texts that an option adds to the inputs: 1 if the option is given (true), otherwise 0
@@ -16,12 +16,12 @@ texts_if true = 1
 -- input was touched
 abbrev pub AreSwitches : {S : Type 0} → (S → SourceState) → Bool → List S → List S → List ℕ → Type 0
 AreSwitches state false olds news switches = (news ≡ olds) × (switches ≡ [])
-AreSwitches state true olds news switches = IsOneRead olds news (λ old new. IsRoots state old new switches)
+AreSwitches state true olds news switches = IsOneRead olds news (λ old new. IsSwitchList state old new switches)
 
 -- reading the text of an order, the input `at`, fails with `fault`; never if there is no such text (false)
 abbrev pub AreNoSwitches : {S : Type 0} → (S → SourceState) → Bool → ℕ → List S → List S → Fault → Type 0
 AreNoSwitches state false at olds news fault = ⊥
-AreNoSwitches state true at olds news fault = IsOneRead olds news (λ old new. IsRootsFault state at old new fault)
+AreNoSwitches state true at olds news fault = IsOneRead olds news (λ old new. IsSwitchListFault state at old new fault)
 
 -- the text of the order, if `has_order` is true, then the tables and then the files were read, and say `told`
 abbrev pub AreOrderAndTables : {S : Type 0} → (S → SourceState) → ℕ → Bool → List S → List S → OrderAndTables → Type 0

@@ -55,7 +55,7 @@ rule_fault usable BalanceInOrder rule = None
 -- rules ------------------------------------------------------------------------------------------
 
 -- the source was read to its end, and its text has no fault and names the switches `roots`
-pub record IsRoots {S : Type 0} (state : S → SourceState) (old new : S) (roots : List ℕ) : Type 0 where
+pub record IsSwitchList {S : Type 0} (state : S → SourceState) (old new : S) (roots : List ℕ) : Type 0 where
   pub text : List ℕ
   pub read : IsReadWhole state old new text
   pub told : roots_of text ≡ Ok roots
@@ -78,19 +78,19 @@ IsTextRefused state old new fault = ⊥
 
 -- reading the text of roots or of an order, the input `at`, fails with a fault of the run: the source fails, or its
 -- text is refused
-abbrev pub IsRootsFault : {S : Type 0} → (S → SourceState) → ℕ → S → S → Fault → Type 0
-IsRootsFault state at old new (File input fault) =
+abbrev pub IsSwitchListFault : {S : Type 0} → (S → SourceState) → ℕ → S → S → Fault → Type 0
+IsSwitchListFault state at old new (File input fault) =
     (input ≡ at) × FailsToRead state old new fault
-IsRootsFault state at old new (Text input fault) =
+IsSwitchListFault state at old new (Text input fault) =
     (input ≡ at) × IsTextRefused state old new fault
-IsRootsFault state at old new fault = ⊥
+IsSwitchListFault state at old new fault = ⊥
 
 -- there is one source, and its text, of roots or of an order, names `guids`; `rule` spreads in the order that `grows`
 -- makes of them
 pub record IsOrderRead {S : Type 0} (state : S → SourceState) (grows : List ℕ → OrderValue) (olds news : List S)
     (rule : RuleValue) : Type 0 where
   pub guids : List ℕ
-  pub read : IsOneRead olds news (λ old new. IsRoots state old new guids)
+  pub read : IsOneRead olds news (λ old new. IsSwitchList state old new guids)
   pub is : rule ≡ spread_in (grows guids)
 
 -- `rule` is the rule that was asked for. If the rule takes a text, this text was read; otherwise no input was touched
@@ -109,12 +109,12 @@ abbrev pub IsRuleFault : {S : Type 0} → (S → SourceState) → RuleAsked → 
 IsRuleFault state UpDown olds news fault = ⊥
 IsRuleFault state Spread olds news fault = ⊥
 IsRuleFault state SpreadFromRoots olds news fault =
-    IsOneRead olds news (λ old new. IsRootsFault state 0 old new fault)
+    IsOneRead olds news (λ old new. IsSwitchListFault state 0 old new fault)
 IsRuleFault state SpreadInOrder olds news fault =
-    IsOneRead olds news (λ old new. IsRootsFault state 0 old new fault)
+    IsOneRead olds news (λ old new. IsSwitchListFault state 0 old new fault)
 IsRuleFault state Balance olds news fault = ⊥
 IsRuleFault state BalanceInOrder olds news fault =
-    IsOneRead olds news (λ old new. IsRootsFault state 0 old new fault)
+    IsOneRead olds news (λ old new. IsSwitchListFault state 0 old new fault)
 
 -- inputs ----------------------------------------------------------------------------------------
 

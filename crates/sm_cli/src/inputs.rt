@@ -2,7 +2,7 @@
 ghost use Rattle.std.specs.Prelude.{◌≡◌, ◌+◌, ◌-◌, ◌≤◌, ℕ, length, IfErr, IfOk};
 ghost use Rattle.lft_blocks.specs.Rules.{value_of};
 ghost use Rattle.sm_cli.specs.Asked.{texts_for};
-ghost use Rattle.sm_cli.specs.Inputs.{AreInputs, IsInputFault, IsRoots, IsRootsFault, IsRuleFault, IsRuleRead};
+ghost use Rattle.sm_cli.specs.Inputs.{AreInputs, IsInputFault, IsSwitchList, IsSwitchListFault, IsRuleFault, IsRuleRead};
 ghost use Rattle.sm_cli.specs.Inputs.{fault_of_first, first_unusable, order_fault, rule_fault};
 ghost use Rattle.spread_routes.specs.SwitchOrders.{order_value_of};
 
@@ -125,9 +125,9 @@ pub(crate) fn read_switches<S: Source>(
     source: &mut S,
 ) -> Result<Vec<Guid>, Fault>
     ensures read { IfOk result (λ found.
-        IsRoots S.state source.old source.new found.items) }
+        IsSwitchList S.state source.old source.new found.items) }
     ensures refused { IfErr result
-        (IsRootsFault S.state input source.old source.new) }
+        (IsSwitchListFault S.state input source.old source.new) }
 {
     let text = match read_whole(alloc, source) {
         Ok(text) => text,

@@ -137,8 +137,8 @@ abbrev pub after_packet : Manager → List ℕ → Option ℕ → Called
 after_packet m packet from = packet_taken m packet from (fault_of packet)
 
 -- the content of `packet` if it is a trap that the manager represses, else None
-abbrev pub trap_told : Manager → List ℕ → Option Trap
-trap_told m packet = if not (is_info_request packet) && represses m packet then Some (trap_in packet) else None
+abbrev pub noted_trap : Manager → List ℕ → Option Trap
+noted_trap m packet = if not (is_info_request packet) && represses m packet then Some (trap_in packet) else None
 
 -- timeouts --------------------------------------------------------------------------------------
 

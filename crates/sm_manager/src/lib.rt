@@ -2,10 +2,10 @@
 //! state machine does no input or output itself.
 #![tactic(auto)]
 
-mod handover;
 mod end_request;
 mod fault;
 mod generation;
+mod handover;
 pub mod laws;
 mod manager;
 mod manager_requests;

@@ -1,12 +1,12 @@
 ghost use Rattle.std.specs.Prelude.{◌≡◌, ◌-◌, None, IfOk, OnOk, OnErr};
 ghost use Rattle.sm_manager.specs.Packets.{HasSender, IsFaultWithoutRoom, is_for_sweep, is_info_request};
-ghost use Rattle.sm_manager.specs.Packets.{sweep_answered, after_packet, packet_taken, trap_told};
+ghost use Rattle.sm_manager.specs.Packets.{sweep_answered, after_packet, packet_taken, noted_trap};
 ghost use Rattle.smp_bytes.specs.Judges.{JudgesButFor};
 ghost use Rattle.sm_manager.specs.Fault.{is_memory, refusal_of};
 ghost use Rattle.sweep.specs.Replies.{judged};
 
-use crate::handover::end_sweep;
 use crate::fault::ManagerFault;
+use crate::handover::end_sweep;
 use crate::manager::Manager;
 use crate::note_seen::note_seen;
 use crate::outgoing::send_queued;
@@ -41,7 +41,7 @@ impl Manager {
         ensures judged { JudgesButFor is_memory result (after_packet self.old bytes.now from).fault }
         ensures ok { OnOk result (self.new ≡ (after_packet self.old bytes.now from).manager) }
         ensures err { OnErr result (self.new ≡ self.old) }
-        ensures trap { IfOk result (λ trap. trap ≡ trap_told self.old bytes.now) }
+        ensures trap { IfOk result (λ trap. trap ≡ noted_trap self.old bytes.now) }
     {
         let smp = match Smp::parse(bytes) {
             Ok(smp) => smp,
@@ -49,7 +49,7 @@ impl Manager {
                 return Err(ManagerFault::Sweep(SweepFault::Bad(ReportFault::Smp(fault))));
             }
         };
-        let trap = self.trap_told(&smp);
+        let trap = self.noted_trap(&smp);
         match self.take(&smp, from) {
             Ok(()) => Ok(trap),
             Err(fault) => Err(fault),
@@ -75,8 +75,8 @@ impl Manager {
     }
 
     /// Returns the content of the trap `smp`, or `None` if `smp` is not a trap that the manager represses.
-    fn trap_told(&self, smp: &Smp) -> Option<Trap>
-        ensures { result ≡ trap_told self.now smp.now }
+    fn noted_trap(&self, smp: &Smp) -> Option<Trap>
+        ensures { result ≡ noted_trap self.now smp.now }
     {
         if !is_info_request(smp) && self.represses(smp) {
             Some(Trap::of(smp))

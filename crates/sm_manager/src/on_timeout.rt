@@ -4,8 +4,8 @@ ghost use Rattle.smp_bytes.specs.Judges.{JudgesButFor};
 ghost use Rattle.sm_manager.specs.Fault.{is_memory};
 ghost use Rattle.sweep.specs.Replies.{judged};
 
-use crate::handover::end_sweep;
 use crate::fault::ManagerFault;
+use crate::handover::end_sweep;
 use crate::manager::Manager;
 
 impl Manager {

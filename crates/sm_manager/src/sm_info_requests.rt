@@ -10,8 +10,8 @@ ghost use Rattle.sm_manager.specs.Served.{status_for};
 ghost use Rattle.sm_state.specs.Standing.{moved_to};
 ghost use Rattle.sm_state.specs.Transitions.{status_of};
 
-use crate::handover::send_message;
 use crate::fault::ManagerFault;
+use crate::handover::send_message;
 use crate::manager::Manager;
 use crate::manager_requests::make_room;
 use crate::outgoing::Outgoing;

@@ -5,7 +5,7 @@ use Rattle.std.specs.Prelude.{◌↔◌}
 use Rattle.std.specs.Io.KnownBytes.{Appends}
 use Rattle.fact_store.specs.View.{Facts, cells_of}
 use Rattle.audit_report.specs.AuditText.{audit_text}
-use Rattle.audit_report.specs.RunAudit.{most_told}
+use Rattle.audit_report.specs.RunAudit.{most_lines}
 use Rattle.audit_channels.specs.Waiting.{NoneShorter}
 use Rattle.audit_report.specs.Passing.{Audited, IsCycle, PassesWithin}
 use Rattle.audit_report.proofs.audit_run.answer.Goals as goal
@@ -16,12 +16,12 @@ returns-in-Ok-of-clause-audited g c =
     let found = c.in-Ok-of.ensures in
     let written = g.W.Sink.written in
     let same : ◌≡◌ {A = Audited} c.in-Ok-of.audit (record {
-      most = most_told c.args.asked.all;
+      most = most_lines c.args.asked.all;
       facts = c.args.store.now;
       held = c.args.held.now;
       cycle = c.in-Ok-of.audit.cycle;
     }) =
-    λ i. record { most = (found.most ∙ c.most_told.ensures) i; facts = (found.facts ∙ subnet_is) i; held = found.held i; cycle = c.in-Ok-of.audit.cycle } in
+    λ i. record { most = (found.most ∙ c.most_lines.ensures) i; facts = (found.facts ∙ subnet_is) i; held = found.held i; cycle = c.in-Ok-of.audit.cycle } in
     IfOk-weaker c.tell.result _ _ (λ passed told. record {
       cycle = c.in-Ok-of.audit.cycle;
       waits = subst (λ (f : Facts). IsCycle (cells_of f) c.args.held.now c.in-Ok-of.audit.cycle) subnet_is found.cycle;

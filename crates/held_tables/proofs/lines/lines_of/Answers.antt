@@ -2,7 +2,7 @@
 use Rattle.std.proofs.Common.{◌≡◌, ◌∙◌, ◌+◌, ◌++◌, ◌∷◌, [], Global, List, Vec, ap, subst, sym, take}
 use Rattle.std.proofs.lemmas.List.{take_more}
 use Rattle.held_tables.specs.declared.held.HeldLid.{HeldLid}
-use Rattle.held_tables.specs.Tables.{told_once}
+use Rattle.held_tables.specs.Tables.{without_repetitions}
 use Rattle.held_tables.proofs.Once.{AreKeys, keys_more, line_kept, line_left}
 use Rattle.held_tables.proofs.lines.lines_of.Goals as goal
 use Rattle.held_tables.proofs.lines.lines_of.Goals.{then-branch+in_ok-push, else-branch}
@@ -24,7 +24,7 @@ loop-line-preserved c =
         | else-branch w ↦
             ap (λ (v : Vec HeldLid Global). v.items) w.lines-is ∙ so_far
             ∙ sym (line_left before line c.loop-line.told are (sym c.in_ok-insert.ensures.added ∙ w.if-branch.false))
-      ]) ∙ ap told_once (sym more),
+      ]) ∙ ap without_repetitions (sym more),
       subst (λ (xs : List HeldLid). AreKeys xs c.insert.new.self) (sym more)
           (keys_more before c.loop-line.told c.insert.new.self line are c.in_ok-insert.ensures.updates),
     )

@@ -35,11 +35,11 @@ returns-clause-done g c =
     store found.others.read.held c.in_ok-plan.plan c.in_ok-plan.ensures.plan c.in-Ok-of.from.held made.next (items_of made.order)
     c.in-Ok-of.ensures.held is_made
     (Appends (g.W.Sink.written c.args.sink.now) (g.W.Sink.written c.write_next.new.sink))
-    (IsSaid g.E.Sink.written g.E.Sink.has_failed c.args.told.now c.write_told.new.told)
+    (IsSaid g.E.Sink.written g.E.Sink.has_failed c.args.told.now c.write_reported.new.told)
     c.is_sound.result c.in-Ok-of.from.facts (verdict_of c.in-Ok-of-2.verdict) facts_is c.in_ok-plan.ensures.judged
     c.in-Ok-made_step.ensures.still (subst Judged (λ i. (c.has_answers-answers.ensures i, facts_is i)) c.in-Ok-of-2.ensures)
     (subst Printed c.lids.ensures c.in_ok-write_next.ensures.writes.ok)
-    (was_said g.E.Sink.written g.E.Sink.has_failed c.write_told.result _ _ _ c.write_told.ensures.ok c.write_told.ensures.err)
+    (was_said g.E.Sink.written g.E.Sink.has_failed c.write_reported.result _ _ _ c.write_reported.ensures.ok c.write_reported.ensures.err)
     c.is_sound.ensures
 
 pub returns-in-Err-clause-refused : goal.returns-in-Err-clause-refused

@@ -1,6 +1,6 @@
 use Rattle.std.proofs.Common.{◌≡◌, ◌∙◌, [], Some, refl, ap, sym}
 use Rattle.std.specs.Option.{option_map_or}
-use Rattle.sm_manager.specs.Packets.{after_packet, trap_told}
+use Rattle.sm_manager.specs.Packets.{after_packet, noted_trap}
 use Rattle.schedule_lines.specs.Lines.{trap_text}
 use Rattle.schedule_lines.specs.Outcome.{shows}
 use Rattle.schedule_lines.proofs.Printing.{prints_same}
@@ -19,7 +19,7 @@ returns-in-Ok g c =
     let text : trap_text (Some c.as_str.result.now) c.in-Ok.trap ≡ heard_text w c.args.seat packet =
     ap (λ n. trap_text (Some n) c.in-Ok.trap) c.as_str.ensures.name
     ∙ (ap (trap_text (Some s.seat.now.name)) c.in-Ok.ensures.trap
-    ∙ ap (λ o. option_map_or (λ x. trap_text (Some x.name) (trap_told x.manager packet.bytes)) o [])
+    ∙ ap (λ o. option_map_or (λ x. trap_text (Some x.name) (noted_trap x.manager packet.bytes)) o [])
     (sym (sits c.args.self.now.managers.items c.args.seat s c.requires c.index_mut.ensures.value))) in
     record {
       does = done_does c.args.self.now c.args.seat s c.requires c.index_mut.ensures.value (shows (heard_text w c.args.seat packet))

@@ -4,7 +4,7 @@ use Rattle.fact_store.specs.View.{cells_of}
 use Rattle.audit_ways.specs.Figures.{IsTotal}
 use Rattle.audit_ways.specs.Ways.{channels_of}
 use Rattle.audit_ways.proofs.Loads.{told}
-use Rattle.audit_ways.proofs.way_figures.figures_of_ways_told.Goals as goal
+use Rattle.audit_ways.proofs.way_figures.figures_of_ways_known.Goals as goal
 
 pub returns : goal.returns
 returns c =
