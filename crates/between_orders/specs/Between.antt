@@ -31,7 +31,7 @@ pub record IsGoalBetween (cells : Cells) (held plan : HeldPlan) (by preferred : 
   pub are : AreOrders cells held (edges_in cells) by preferred (Some orders)
   pub is : goal ≡ goal_between cells orders held plan
 
--- the goal of a step from `held`; None exactly if the held tables imply no order
+-- the goal of a step from `held`; None exactly when the held tables imply no order
 abbrev pub IsGoal : Cells → HeldPlan → HeldPlan → List ℕ → List ℕ → Option Goal → Type 0
 IsGoal cells held plan by preferred None = AreOrders cells held (edges_in cells) by preferred None
 IsGoal cells held plan by preferred (Some goal) = IsGoalBetween cells held plan by preferred goal

@@ -37,8 +37,8 @@ abbrev pub orders_from : Cells → HeldPlan → List (List Edge) → List ℕ �
 orders_from cells held edges plan told = orders_by cells held edges plan told (grown_by edges told)
 
 -- the two orders of a step from `held`, by the order that it implies; of several switches that may be last, the one
--- that comes last in the order that grows by the positions `preferred` is taken first. None exactly if `held` implies
--- no order
+-- that comes last in the order that grows by the positions `preferred` is taken first. None exactly when `held`
+-- implies no order
 abbrev pub AreOrders : Cells → HeldPlan → List (List Edge) → List ℕ → List ℕ → Option TwoOrders → Type 0
 AreOrders cells held edges plan preferred None = IsTold cells held (grown_by edges preferred) None
 AreOrders cells held edges plan preferred (Some orders) =

@@ -67,8 +67,8 @@ fn columns(
 }
 
 /// Returns the entries between the two orders of all usable switches, for the LID of both cursors. `held` and `plan`
-/// must be at one LID, and have the same facts. `labelled` has the labels for an earlier LID at first. If the LID has
-/// an owner in the plan, `labelled` has the labels for this LID afterwards.
+/// must be at the same LID, and have the same facts. `labelled` has the labels for an earlier LID at first. If the LID
+/// has an owner in the plan, `labelled` has the labels for this LID afterwards.
 fn column(
     alloc: Global,
     edges: &Adjacency,

@@ -21,7 +21,7 @@ number_in word =
     if starts_with_minus word then option_and_then (within 0 0) (number_of 10 (drop 1 word))
     else number_of 10 (without_leading_plus word)
 
--- the number of the word if it fits 32 bits, and otherwise None; `otherwise` if there is no word
+-- the number of the word if it fits in 32 bits, and otherwise None; `otherwise` if there is no word
 abbrev pub number_or : ℕ → Option (List ℕ) → Option ℕ
 number_or otherwise None = Some otherwise
 number_or otherwise (Some word) = option_and_then (within 0 4294967295) (number_in word)
@@ -68,7 +68,7 @@ order_asked word =
     rule_asked (order_rule (word (codes "routing"))) (is_some (word (codes "roots"))) (is_some (word (codes "order")))
 
 -- the greatest load that passes, as the word names it; the inner value is None if there is no word. None if the word
--- names no number of 32 bits
+-- names no 32-bit number
 abbrev pub max_load_asked : Option (List ℕ) → Option (Option ℕ)
 max_load_asked None = Some None
 max_load_asked (Some word) = option_map Some (option_and_then (within 0 4294967295) (number_in word))

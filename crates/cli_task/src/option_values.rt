@@ -27,7 +27,7 @@ fn lmc_of(words: &ArgMatches<'_>) -> Option<Lmc>
 }
 
 /// Returns the number after the option `name`, or `otherwise` if the option is not given. Returns `None` if the option
-/// is not followed by a number of 32 bits.
+/// is not followed by a 32-bit number.
 fn number_or(words: &ArgMatches<'_>, name: &str, otherwise: u32) -> Option<u32>
     ensures { result ≡ number_or otherwise (first_value (found_of words.now) name.now) }
 {
@@ -38,7 +38,7 @@ fn number_or(words: &ArgMatches<'_>, name: &str, otherwise: u32) -> Option<u32>
 }
 
 /// Returns the number that `text` writes in decimal, with or without a sign, as the parser of words reads it. Returns
-/// `None` if `text` does not write a number of 32 bits.
+/// `None` if `text` does not write a 32-bit number.
 fn number_in(text: &str) -> Option<u32>
     ensures { result ≡ option_and_then (within 0 4294967295) (number_in text.now) }
 {
@@ -164,7 +164,7 @@ pub(crate) fn sm_key_of(words: &ArgMatches<'_>) -> Option<u64>
 }
 
 /// Returns the maximum load that passes, as asked by `words`, which are those after a subcommand. The inner value is
-/// `None` if the words name no maximum load. Returns `None` if the maximum load is not a number of 32 bits.
+/// `None` if the words name no maximum load. Returns `None` if the maximum load is not a 32-bit number.
 pub(crate) fn max_load_of(words: &ArgMatches<'_>) -> Option<Option<u64>>
     ensures { result ≡ max_load_asked (first_value (found_of words.now) (codes "max-load")) }
 {

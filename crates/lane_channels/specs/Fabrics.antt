@@ -13,8 +13,8 @@ use Rattle.lanes_file.specs.Lanes.{LanesSaid, lane_of}
 use Rattle.lane_channels.specs.LaneNetwork.{SeenByLane}
 use Rattle.lane_channels.specs.Levels.{HasLevel}
 
--- the lane of a packet, by the node, the port by which the packet comes in, the port by which it leaves, and its
--- service level
+-- the lane of a packet; it depends on the node, the port by which the packet comes in, the port by which it leaves,
+-- and its service level
 abbrev pub LaneMaps : Type 0
 LaneMaps = ℕ → ℕ → ℕ → ℕ → ℕ
 
@@ -29,7 +29,7 @@ abbrev pub came_by : ℕ → List Hop → ℕ
 came_by zero hops = 0
 came_by (suc nth) hops = option_map_or (λ (h : Hop). h.into.port) (slice_get hops nth) 0
 
--- the lane by which a packet of `level` takes `hop`, the one at index `nth`
+-- the lane on which a packet of `level` takes `hop`, the hop at index `nth`
 abbrev pub lane_at : LaneMaps → ℕ → List Hop → ℕ → Hop → ℕ
 lane_at vl level hops nth hop = vl hop.out.node (came_by nth hops) hop.out.port level
 

@@ -15,8 +15,8 @@ use Rattle.fabric_model.specs.Forwarding.{Hop}
 use Rattle.packet_walks.specs.Fabrics.{IsSeenIn}
 use Rattle.lane_channels.specs.Fabrics.{LaneMaps, HoldLanes, IsLaneChannel, IsCarried, TravelsAt}
 
--- if numbers of channels rise on one lane by the held tables, numbers of channels by lane rise, whatever the lanes and
--- the service levels are
+-- if numbers of channels on one lane rise by the held tables, channels by lane also have numbers that rise, whatever
+-- the lanes and the service levels are
 abbrev pub OneLaneSuffices : Type 0
 OneLaneSuffices =
     (s : SeenByLane) (answers : Bool) (numbers : List ℕ) → RiseOnWays (cells_of s.seen.facts) s.seen.held numbers

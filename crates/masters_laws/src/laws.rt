@@ -11,15 +11,15 @@ pub fn what_is_given_out_can_be_sent()
     ensures { WhatIsGivenOutCanBeSent }
 {}
 
-/// One of several managers, if it had not swept at the start of a run, has swept at the end exactly if in the run it
+/// One of several managers, if it had not swept at the start of a run, has swept at the end exactly when in the run it
 /// began a sweep that was not refused.
 pub fn has_swept_means()
     ensures { HasSweptMeans }
 {}
 
-/// One of several managers, if it knew no sweep at the start of a run, knows one sweep at the end exactly if in the run
-/// it began that sweep while it held no facts, and since then began no other sweep, merged no facts of others and was
-/// given no floor above its own.
+/// One of several managers, if it knew no sweep at the start of a run, knows one sweep at the end exactly when in the
+/// run it began that sweep while it held no facts, and since then began no other sweep, merged no facts of others and
+/// was given no floor above its own.
 pub fn knows_one_sweep_means()
     ensures { KnowsOneSweepMeans }
 {}

@@ -26,7 +26,7 @@ abbrev pub are_right : Cells → (ℕ → ℕ) → HeldPlan → Bool
 are_right cells q tables =
     list_all (λ lid. is_right_column q (edges_of cells tables lid)) (range_with_len 1 (greatest_top cells tables))
 
--- `are_right` is true exactly if tables are right by the order for every LID
+-- `are_right` is true exactly when tables are right by the order for every LID
 abbrev pub RightnessIsTold : Type 0
 RightnessIsTold =
     (cells : Cells) (q : ℕ → ℕ) (tables : HeldPlan)

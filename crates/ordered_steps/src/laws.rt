@@ -95,7 +95,7 @@ pub fn ordered_tables_are_next()
     ensures law { OrderedTablesAreNext }
 {}
 
-/// `are_right` is true exactly if tables are right by an order for every LID.
+/// `are_right` is true exactly when tables are right by an order for every LID.
 pub fn rightness_is_told()
     ensures law { RightnessIsTold }
 {}

@@ -68,7 +68,7 @@ MergedManagersPlanAlike =
     < length script.seats
     → PrintsPlansAlike planning topology (and_lines script (Merge seat other ∷ Merge other seat ∷ [])) seat other
 
--- `written` prints `yes` exactly if the manager's plan is written at that moment
+-- `written` prints `yes` exactly when the manager's plan is written at that moment
 abbrev pub WrittenLinesTell : Type 0
 WrittenLinesTell =
     (w : WorldValue) (seat : ℕ) (s : SeatedValue) → slice_get w.managers seat ≡ Some s
@@ -81,8 +81,8 @@ pub record SayAllAnswered (w : WorldValue) (seat : ℕ) (name : List ℕ) (unans
   pub progress : shown_of w seat Progress ≡ progress_line (Some name) (Done unanswered 0)
   pub silent : shown_of w seat Silent ≡ silent_line (Some name) (Some unanswered)
 
--- `progress` and `silent` print that all but managers answered exactly if the manager's last sweep has every answer at
--- that moment
+-- `progress` and `silent` print that all but managers answered exactly when the manager's last sweep has every answer
+-- at that moment
 abbrev pub SweepLinesTell : Type 0
 SweepLinesTell =
     (w : WorldValue) (seat : ℕ) (s : SeatedValue) (sweep : Sweep) → slice_get w.managers seat ≡ Some s

@@ -52,15 +52,15 @@ pub fn merged_managers_plan_alike()
     ensures { MergedManagersPlanAlike }
 {}
 
-/// If a manager has begun a sweep, its last sweep has every answer exactly if two lines say so at that moment:
+/// If a manager has begun a sweep, its last sweep has every answer exactly when two lines say so at that moment:
 /// `progress` prints that the sweep is done, that no port is too far, and how many requests have no answer; and
 /// `silent` prints that this many managers are silent.
 pub fn sweep_lines_tell()
     ensures { SweepLinesTell }
 {}
 
-/// The line `written` prints `yes` exactly if the manager's plan counts as written at that moment: each Set of a LID,
-/// block or top of its last writing was answered with status 0.
+/// The line `written` prints `yes` exactly when the manager's plan counts as written at that moment: each Set of a
+/// LID, block or top of its last writing was answered with status 0.
 #[tactic(auto, using(crate::proofs::WrittenLines::written_lines_tell))]
 pub fn written_lines_tell()
     ensures { WrittenLinesTell }

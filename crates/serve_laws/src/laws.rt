@@ -69,7 +69,7 @@ pub fn packets_are_printed()
     ensures { PacketsArePrinted }
 {}
 
-/// The line `written` prints `written yes` exactly if the manager's plan counts as written.
+/// The line `written` prints `written yes` exactly when the manager's plan counts as written.
 #[tactic(auto, using(crate::proofs::Said::written_says_yes))]
 pub fn written_says_yes()
     ensures { WrittenSaysYes }
