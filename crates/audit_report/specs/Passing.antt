@@ -67,7 +67,7 @@ abbrev pub EachHasTables : Cells → HeldPlan → Type 0
 EachHasTables cells held =
     (e : EndPort) (g : ℕ) → Contains (end_ports cells) e → Contains (switches cells) g → HoldsTables held g
 
--- the type of each node that the facts name is known, and the table room of each switch
+-- the type of each node that the facts name is known and, for a switch, the table room too
 abbrev pub EachNodeIsKnown : Cells → Type 0
 EachNodeIsKnown cells = (g : ℕ) → IsNamedNode cells g → IsKnownNode cells g
 

@@ -37,8 +37,8 @@ row_of said sites number = filter (λ sender. not (is_full sender.block)) (map (
 abbrev pub IsRow : LanesSaid → List Site → ℕ → List RowSender → Type 0
 IsRow said sites number senders = senders ≡ row_of said sites number
 
--- `sender` and `owner` are different adapter ports of one component, and by the block of `sender` its packets for the
--- LID of `line` have no service level
+-- `sender` and `owner` are of different adapter ports in the same component, and the block of `sender` gives no
+-- service level to its packets for the LID of `line`
 abbrev pub sender_lacks : LanesSaid → HeldLid → Site → RowSender → Bool
 sender_lacks said line owner sender = lacks sender.site owner (level_by said.level (line.lid % 64) sender.block)
 
