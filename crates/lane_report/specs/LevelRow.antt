@@ -1,5 +1,5 @@
--- The end ports whose packets may lack a service level, for 64 LIDs at a time: what an audit by lane looks at instead of
--- all end ports.
+-- The end ports whose packets may lack a service level, for 64 LIDs at a time. An audit by lane looks at these instead
+-- of all end ports.
 use Rattle.std.specs.Prelude.{ℕ, ◌%◌, ◌≡◌, Bool, false, not, List, filter, find, map, Option, None, Some, nat_lt}
 use Rattle.std.specs.Prelude.{slice_index}
 use Rattle.std.specs.List.{list_all, range_with_len}
