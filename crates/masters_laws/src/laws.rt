@@ -33,8 +33,8 @@ pub fn each_runs_on_its_own()
 
 /// After a cut, the end ports that are left have the LIDs of the plan of what is left, if three conditions hold: they
 /// have the LIDs and the LMC of the plan of earlier facts, which have room and have each of these end ports; the facts
-/// of what is left describe it exactly and have room; and these facts claim the LIDs that the end ports have. The other
-/// laws of shared LIDs therefore hold after a cut too.
+/// of what is left describe what is left exactly, and have room; and these facts claim the LIDs that the end ports
+/// have. The other laws of shared LIDs therefore hold after a cut too.
 pub fn rest_shares_lids()
     ensures { RestSharesLids }
 {}
