@@ -68,7 +68,8 @@ are_adapters e x = is_adapter e && is_adapter x
 abbrev pub are_joined_adapters : Site → Site → Bool
 are_joined_adapters a b = are_joined a b && are_adapters a.port b.port
 
--- `census` says whether all sites lie in one component, and how many of them are sites of adapter ports
+-- `census` says whether all sites lie at usable switches of the same component, and how many of them are sites of
+-- adapter ports
 pub record IsCensus (sites : List Site) (census : Census) : Type 0 where
   pub whole : census.whole ≡ are_one_component sites
   pub adapters : census.adapters ≡ count_by (λ site. is_adapter site.port) sites

@@ -62,8 +62,8 @@ fn leads_to(far: Option<(Guid, PortNum)>, port: &EndPort) -> bool
     }
 }
 
-/// Returns whether the end ports of all `sites` lie at usable switches of one component. Returns true if `sites` is
-/// empty.
+/// Returns whether the end ports of all `sites` lie at usable switches of the same component. Returns true if `sites`
+/// is empty.
 pub(crate) fn are_one_component(sites: &[Site]) -> bool
     ensures { result ≡ are_one_component sites.now }
 {
@@ -81,11 +81,11 @@ fn first_root(sites: &[Site]) -> Option<Guid>
     }
 }
 
-/// Whether all end ports lie in one component, and how many of them are ports of adapters.
+/// Whether all end ports lie at usable switches of the same component, and how many of them are ports of adapters.
 #[derive(Clone, Copy, Debug, PartialEq, Eq)]
 pub(crate) struct Census {
-    /// Whether each end port lies at a usable switch, and all these switches lie in one component. True if there is no
-    /// end port.
+    /// Whether each end port lies at a usable switch, and all these switches lie in the same component. True if there
+    /// is no end port.
     pub whole: bool,
     /// How many of the end ports are ports of adapters.
     pub adapters: usize,

@@ -98,7 +98,7 @@ abbrev pub packet_line : Cells → HeldPlan → List ℕ → SentPacket → List
 packet_line cells held word packet =
     sent_text word packet ++ end_text cells held packet.line.lid packet.end ++ codes "\n"
 
--- a line for each packet, with `word`, its sender, its LID and where it ends
+-- a line for each packet: `word`, the packet's sender, its LID, and where it ends
 abbrev pub packets_text : Cells → HeldPlan → List ℕ → List SentPacket → List ℕ
 packets_text cells held word packets = flat_map (packet_line cells held word) packets
 

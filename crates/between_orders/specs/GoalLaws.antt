@@ -38,8 +38,8 @@ pub record IsGoalLine (cells : Cells) (plan : HeldPlan) (line : HeldLid) : Type 
   pub first : slice_get (owners_of plan line.lid) 0 ≡ Some line.port
   pub within : (g : ℕ) → Contains (switches cells) g → line.lid ≤ top_of plan g
 
--- for the LID of a goal line, the tables between two orders deliver from each switch with a label, if the facts are in
--- range and the first order gives each switch a position below the number of switches
+-- for the LID of a goal line (`IsGoalLine`), the tables between two orders deliver from each switch with a label, if
+-- the facts are in range and the first order gives each switch a position below the number of switches
 abbrev pub GoalDelivers : Type 0
 GoalDelivers =
     (facts : Facts) → AreInRange facts → (orders : TwoOrders) → IsOrder (cells_of facts) (position_at orders.first)
@@ -47,9 +47,9 @@ GoalDelivers =
     → (i : ℕ) (label : Sides) → label_at (labels_of_line (cells_of facts) orders plan line) i ≡ Some label
     → DeliverFrom (cells_of facts) (tables_between (cells_of facts) (edges_in (cells_of facts)) orders held plan) line i
 
--- for the LID of a goal line, the tables between two orders deliver from each switch from which wires lead to a switch
--- whose plan entry leads to the end port, if two conditions hold: the facts are in range; and the first order grows,
--- and the second grows over its tree
+-- for the LID of a goal line (`IsGoalLine`), the tables between two orders deliver from each switch from which wires
+-- lead to a switch whose plan entry leads to the end port, if two conditions hold: the facts are in range; and the
+-- first order grows, and the second grows over the tree of the first
 abbrev pub GoalReachesAll : Type 0
 GoalReachesAll =
     (facts : Facts) → AreInRange facts → (told by : List ℕ) (held plan : HeldPlan) (line : HeldLid)

@@ -39,7 +39,7 @@ pub fn goal_delivers()
 
 /// The tables between two orders deliver from each switch from which wires lead, directly or over other switches, to a
 /// switch whose plan entry leads to the end port, if three conditions hold: the facts are in range; no usable switch
-/// has a top below the LID in the plan; and the first order grows, and the second grows over its tree.
+/// has a top below the LID in the plan; and the first order grows, and the second grows over the tree of the first.
 pub fn goal_reaches_all()
     ensures law { GoalReachesAll }
 {}
@@ -83,10 +83,10 @@ pub fn goal_stands_still()
     ensures law { GoalStandsStill }
 {}
 
-/// In steps towards goals between an order that grows and one that grows over its tree (`AreGoalSteps`), each switch
-/// from which the first goal delivers has that goal's entry after 2n or more steps, for n switches, and the tables then
-/// deliver from it. At first the tables have the plan's owners of the LID and are right by the first order, and each
-/// entry is 255 or delivers. Facts and tops are as in `goal_delivers`.
+/// In steps towards goals between an order that grows and one that grows over the tree of the first (`AreGoalSteps`),
+/// each switch from which the first goal delivers has that goal's entry after 2n or more steps, for n switches, and
+/// the tables then deliver from it. At first the tables have the plan's owners of the LID and are right by the first
+/// order, and each entry is 255 or delivers. Facts and tops are as in `goal_delivers`.
 pub fn goal_is_reached()
     ensures law { GoalIsReached }
 {}

@@ -40,10 +40,10 @@ pub fn step_lane_order(
     Ok(LaneOrder { cycle, dropped })
 }
 
-/// Follows the packets that each end port sends for each LID, at their service level. At each switch, these packets
-/// are followed both by its entry in the held tables and by its entry in the tables of `next`. `next` must have the
-/// facts of `by_lane`. If `answers` is true, packets that answer other packets also have the levels of those packets.
-/// Takes the time that `lane_waits` takes for both tables together, up to a constant factor.
+/// Follows the packets that each end port sends for each LID, at their service level. At each switch, follows them
+/// both by the switch's entry in the held tables and by its entry in the tables of `next`. `next` must have the facts
+/// of `by_lane`. If `answers` is true, packets that answer other packets also have the levels of those packets. Takes
+/// the time that `lane_waits` takes for both tables together, up to a constant factor.
 fn step_lane_waits(
     alloc: Global,
     by_lane: &LaneNetwork,

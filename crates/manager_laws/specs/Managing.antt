@@ -53,7 +53,7 @@ IsElsewhere seat (around.Send other sending) = other ≢ seat
 IsElsewhere seat event = Unit {0}
 
 -- the event is possible: an event on the fabric can happen (`CanHappen`), and no other manager sends a packet from
--- `seat` in it; a floor is a generation; merged sightings are in range
+-- `seat` in this event; a floor is a generation; merged sightings are in range
 abbrev pub CanBe : NodePort → ManagerEvent → Type 0
 CanBe seat (Around event) = CanHappen event × IsElsewhere seat event
 CanBe seat (Raise floor) = IsTrue (is_generation floor)

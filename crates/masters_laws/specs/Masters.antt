@@ -44,7 +44,7 @@ seen_by scene m = record { scene = scene; seat = m.seat; manager = m.manager; ou
 
 -- what events do --------------------------------------------------------------------------
 
--- the manager has begun a sweep of the run, after the event
+-- after the event, the manager has begun a sweep in the run
 abbrev pub has_swept_after : Seated → ManagerEvent → Bool
 has_swept_after m one.Begin = if is_none (begin_fault m.manager) then true else m.has_swept
 has_swept_after m event = m.has_swept
@@ -116,7 +116,7 @@ WritesWhole m one.Write =
 WritesWhole m event = Unit {0}
 
 -- the event is possible: an event on the fabric can happen, and no other sender sends a packet from a manager's seat
--- in it; an event at a manager happens to this manager itself, and is possible there (`CanBe` of `Managing`)
+-- in this event; an event at a manager happens to this manager itself, and is possible there (`CanBe` of `Managing`)
 abbrev pub CanBe : Masters → MastersEvent → Type 0
 CanBe t (Around event) =
     CanHappen event × ((which : ℕ) (m : Seated) → IsAt t which m → IsElsewhere m.seat event)

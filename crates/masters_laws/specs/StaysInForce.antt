@@ -174,7 +174,7 @@ new_at seat port_guid planning =
       knows_one_sweep = false;
     }
 
--- an example: two new managers that write one subnet at once, and what happens to them
+-- an example: two new managers that write the same subnet at the same time, and what happens to them
 pub record SomeMastersWriteAtOnce : Type 0 where
   pub masters : Masters
   pub held : Facts

@@ -17,7 +17,7 @@ switches_by cells positions = map (switch_at cells) (positions_in positions (len
 abbrev pub order_of_step : Cells → Option Goal → Option (List ℕ)
 order_of_step cells goal = option_map (λ (g : Goal). switches_by cells g.positions) goal
 
--- the switches of an order as a list; None for None
+-- the switches of an order as a list; None if there is no order
 abbrev pub items_of : Option (Vec ℕ Global) → Option (List ℕ)
 items_of order = option_map (λ switches. switches.items) order
 

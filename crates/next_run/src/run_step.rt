@@ -47,8 +47,8 @@ struct MadeStep {
 /// On one lane, writes a shortest credit loop and its LIDs, or that there is no credit loop. Lane by lane, writes what
 /// an audit by lane finds by lane. If the step goes towards a goal in between, a last line has the switches in the
 /// order that the step goes by. Returns whether there is no credit loop and, lane by lane, each packet between adapter
-/// ports of one component has a service level and no packet is dropped for want of a lane. A failed write to `told` is
-/// not an error.
+/// ports of the same component has a service level and no packet is dropped for want of a lane. A failed write to
+/// `told` is not an error.
 ///
 /// # Errors
 ///

@@ -48,8 +48,8 @@ pub record IsLoose (cells : Cells) (held next : HeldPlan) (lid : ℕ) (mixed : H
       ⊎ ((x : ℕ) × (cause : Cause) × (step_at cells held lid g ≡ Ends (Lost x cause))))
 
 -- a packet that the held tables deliver at the end port of `line` is delivered there by any loose mixtures of the held
--- and the next tables, if two conditions hold: the plan gives the LID to its owners in the held tables; and `next` has
--- the next entries for it
+-- and the next tables, if two conditions hold: the LID has the same owners in the plan and in the held tables; and
+-- `next` has the next entries for it
 abbrev pub NoneIsLost : Type 0
 NoneIsLost =
     (cells : Cells) (held plan next : HeldPlan) (line : HeldLid) → owners_of plan line.lid ≡ owners_of held line.lid
@@ -58,8 +58,8 @@ NoneIsLost =
     → (source : EndPort) → IsBrought cells held line.lid source (Some (Taken line.port))
     → IsBroughtBy cells mixed line.lid source (Taken line.port)
 
--- each switch delivers a packet for the LID by the next tables, or has the entry 255, if two conditions hold: the plan
--- gives the LID to its owners in the held tables; and `next` has the next entries for it
+-- each switch delivers a packet for the LID by the next tables, or has the entry 255, if two conditions hold: the LID
+-- has the same owners in the plan and in the held tables; and `next` has the next entries for it
 abbrev pub NextDeliverOrDrop : Type 0
 NextDeliverOrDrop =
     (cells : Cells) (held plan next : HeldPlan) (line : HeldLid) → owners_of plan line.lid ≡ owners_of held line.lid
@@ -68,8 +68,8 @@ NextDeliverOrDrop =
     → (entry_for next line.lid g ≡ 255) ⊎ IsEndOf (next_hops_of cells next line.lid) (To i) (Some (Taken line.port))
 
 -- a packet for the LID that does not loop by the held tables does not loop by any mixtures of the held and the next
--- tables, if two conditions hold: the plan gives the LID to its owners in the held tables; and `next` has the next
--- entries for it
+-- tables, if two conditions hold: the LID has the same owners in the plan and in the held tables; and `next` has the
+-- next entries for it
 abbrev pub NoneGoesRound : Type 0
 NoneGoesRound =
     (cells : Cells) (held plan next : HeldPlan) (line : HeldLid) → owners_of plan line.lid ≡ owners_of held line.lid
@@ -92,8 +92,8 @@ EndInThePlan =
     ≡ Ends (Taken line.port) → n ≤ m
     → entry_for (tables m) line.lid g ≡ entry_for plan line.lid g
 
--- if the plan gives a LID to its owners in the held tables, and a step changes none of its entries, each switch from
--- which the plan delivers has the plan's entry
+-- if a LID has the same owners in the plan and in the held tables, and a step changes no entry for the LID, each
+-- switch from which the plan delivers has the plan's entry for the LID
 abbrev pub StillIsThePlan : Type 0
 StillIsThePlan =
     (cells : Cells) (held plan : HeldPlan) (line : HeldLid) → owners_of plan line.lid ≡ owners_of held line.lid

@@ -112,8 +112,8 @@ IsChoice cells q held goal lid next =
 abbrev pub channel_number : ℕ → ℕ → ℕ → ℕ
 channel_number n a b = if nat_lt b a then n - b else n + 1 + b
 
--- the number of a channel from the switch at index `i` to where its wire leads, by the positions `q`; 0 if it leads to
--- no switch
+-- the number, by the positions `q`, of a channel from the switch at index `i` to the given far end; 0 if the far end
+-- is not a switch
 abbrev pub number_over : ℕ → (ℕ → ℕ) → ℕ → Far → ℕ
 number_over n q i Nothing = 0
 number_over n q i (Switch j) = channel_number n (q i) (q j)

@@ -27,7 +27,7 @@ LaterLinesComeBehind =
     ≡ script_text planning topology script
     ++ (after_commands topology.nodes (world_after planning topology script) lines).text
 
--- two managers, each in a world of its own, print the same facts and the same plan
+-- two managers, each in the given world, print the same facts and the same plan
 pub record TellTheSame (one other : WorldValue) (seat seat' : ℕ) : Type 0 where
   pub facts : shown_of one seat Facts ≡ shown_of other seat' Facts
   pub plan : shown_of one seat Plan ≡ shown_of other seat' Plan

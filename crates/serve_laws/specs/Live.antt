@@ -32,8 +32,8 @@ IsOrder (Packet bytes from) = ⊥
 IsOrder (Floor floor) = IsTrue (is_generation floor)
 IsOrder line = Unit {0}
 
--- the event is possible: an event on the fabric can happen, and no other manager sends a packet from `seat` in it; a
--- line that is given by `Tell` may be given so (`IsOrder`)
+-- the event is possible: an event on the fabric can happen, and no other manager sends a packet from `seat` in this
+-- event; a line that is given by `Tell` may be given so (`IsOrder`)
 abbrev pub CanLive : NodePort → LiveEvent → Type 0
 CanLive seat (Around event) = CanHappen event × IsElsewhere seat event
 CanLive seat (Tell line) = IsOrder line

@@ -71,7 +71,7 @@ pub record RefusesRootsText {S : Type 0} (state : S → SourceState) (old new : 
   pub read : IsReadWhole state old new text
   pub refused : IsFaultOfText text fault
 
--- the source's text of roots or of an order is refused for a fault of a text
+-- the source's text of roots or of an order is refused for the given fault of a text
 abbrev pub IsTextRefused : {S : Type 0} → (S → SourceState) → S → S → TextFault → Type 0
 IsTextRefused state old new (texts.Roots fault) = RefusesRootsText state old new fault
 IsTextRefused state old new fault = ⊥

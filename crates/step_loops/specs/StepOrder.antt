@@ -25,7 +25,7 @@ pub record WaitsFor (cells : Cells) (held next : HeldPlan) (a b : ℕ) : Type 0 
   pub is_lid : 1 ≤ lid
   pub waits : WaitsInStep cells held next lid a b
 
--- `waits` has, for each channel, the channels that packets that hold it wait for in the step
+-- `waits` has, for each channel, the channels for which packets that hold this channel wait in the step
 pub record AreWaits (cells : Cells) (held next : HeldPlan) (waits : List (List ℕ)) : Type 0 where
   pub as_many : length waits ≡ 256 * length (switches cells)
   pub follows : (a b : ℕ) → Follows waits a b ↔ WaitsFor cells held next a b
