@@ -12,7 +12,7 @@ use Rattle.lane_report.specs.declared.levels_missing.PacketPair.{PacketPair}
 use Rattle.lane_report.specs.LevelsMissing.{lacks, pair_of}
 
 -- the block of levels of packets from the end port of `site` to the LIDs from 64 times `number` on; None if the text
--- has none
+-- has no such block
 abbrev pub block_of : LanesSaid → ℕ → Site → Option LevelBlock
 block_of said number site = find (is_block site.port.node site.port.port number) said.levels
 

@@ -47,9 +47,9 @@ pub record IsLoose (cells : Cells) (held next : HeldPlan) (lid : ℕ) (mixed : H
       ⊎ ((entry_for mixed lid g ≡ entry_for next lid g)
       ⊎ ((x : ℕ) × (cause : Cause) × (step_at cells held lid g ≡ Ends (Lost x cause))))
 
--- a packet that the held tables deliver at the end port of `line` is delivered there by any loose mixtures of the held
--- and the next tables, if two conditions hold: the LID has the same owners in the plan and in the held tables; and
--- `next` has the next entries for it
+-- a packet that the held tables deliver at the end port of `line` is delivered there by any loose mixtures (`IsLoose`)
+-- of the held and the next tables, if two conditions hold: the LID has the same owners in the plan and in the held
+-- tables; and `next` has the next entries for it
 abbrev pub NoneIsLost : Type 0
 NoneIsLost =
     (cells : Cells) (held plan next : HeldPlan) (line : HeldLid) → owners_of plan line.lid ≡ owners_of held line.lid

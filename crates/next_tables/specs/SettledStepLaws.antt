@@ -35,8 +35,9 @@ abbrev pub StepsFollowTheRule : Type 0
 StepsFollowTheRule = (cells : Cells) (held plan : HeldPlan) (line : HeldLid) → IsKept held plan line
     → IsNext cells held plan line (next_tables cells settled_first held plan)
 
--- a packet that the held tables deliver is delivered at the same end port by any loose mixtures of the held tables and
--- the next ones by settled entries, if this end port alone holds the LID in the held tables and in the plan
+-- a packet that the held tables deliver is delivered at the same end port by any loose mixtures (`IsLoose`) of the
+-- held tables and the next ones by settled entries, if this end port alone holds the LID in the held tables and in the
+-- plan
 abbrev pub StepsLoseNone : Type 0
 StepsLoseNone =
     (cells : Cells) (held plan : HeldPlan) (line : HeldLid) → IsKept held plan line

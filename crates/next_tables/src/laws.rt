@@ -7,9 +7,9 @@ ghost use Rattle.next_tables.specs.NextTextIsRead.{NextTextsAreRead, StepTextsAr
 ghost use Rattle.next_tables.specs.SettledStepLaws.{StepsEndInThePlan, StepsHealInTwo};
 ghost use Rattle.next_tables.specs.SettledStepLaws.{NextTablesAreSo, StepsFollowTheRule, StepsLoseNone, StepsSendNoneRound};
 
-/// A packet that the held tables deliver is delivered at the same end port by any loose mixtures of the held and the
-/// next tables, if its LID has the same owners in the held tables and in the plan. The mixture may change while the
-/// packet travels.
+/// A packet that the held tables deliver is delivered at the same end port by any loose mixtures (`IsLoose`) of the
+/// held and the next tables, if its LID has the same owners in the held tables and in the plan. The mixture may change
+/// while the packet travels.
 pub fn none_is_lost()
     ensures law { NoneIsLost }
 {}
@@ -69,9 +69,9 @@ pub fn steps_follow_the_rule()
     ensures law { StepsFollowTheRule }
 {}
 
-/// A packet that the held tables deliver is delivered at the same end port by any loose mixtures of the held tables and
-/// of what `next_tables` returns by settled entries, if one end port alone holds its LID in the held tables and in the
-/// plan.
+/// A packet that the held tables deliver is delivered at the same end port by any loose mixtures (`IsLoose`) of the
+/// held tables and of what `next_tables` returns by settled entries, if one end port alone holds its LID in the held
+/// tables and in the plan.
 pub fn steps_lose_none()
     ensures law { StepsLoseNone }
 {}

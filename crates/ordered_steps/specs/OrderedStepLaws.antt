@@ -83,8 +83,8 @@ pub record IsLineStep (cells : Cells) (q : ℕ → ℕ) (held goal : HeldPlan) (
     pub goal_right : AreRight cells q goal line.lid
     pub is_next : IsTriedByOrder cells q held goal line next
 
--- in a step of a line by an order, a packet that the held tables deliver at the end port is delivered there by any
--- loose mixtures of the held and the next tables, even if the mixture changes while the packet travels
+-- in a step of a line by an order (`IsLineStep`), a packet that the held tables deliver at the end port is delivered
+-- there by any loose mixtures of the held and the next tables, even if the mixture changes while the packet travels
 abbrev pub NoneIsLostByOrder : Type 0
 NoneIsLostByOrder =
     (cells : Cells) (q : ℕ → ℕ) (held goal next : HeldPlan) (line : HeldLid) → IsLineStep cells q held goal line next
@@ -203,10 +203,10 @@ AllFollowTheRule =
     (cells : Cells) (q : ℕ → ℕ) (held goal next : HeldPlan) (line : HeldLid) → AreNextByOrder cells q held goal next
     → IsKept held goal line → IsNextByOrder cells q held goal line next
 
--- in a step of a line by an order, while switches change to the next tables, each at its own time, a packet that the
--- held tables deliver is delivered over at most 2n + 1 wires, for n usable switches. Its sender is an end port that is
--- joined to the end port `origin`. Premises: the LID is not 0; the facts describe all that is joined to `origin`; and
--- at first the end ports and switches there hold the tables
+-- in a step of a line by an order (`IsLineStep`), while switches change to the next tables, each at its own time, a
+-- packet that the held tables deliver is delivered over at most 2n + 1 wires, for n usable switches. Its sender is an
+-- end port that is joined to the end port `origin`. Premises: the LID is not 0; the facts describe all that is joined
+-- to `origin`; and at first the end ports and switches there hold the tables
 abbrev pub PacketsArriveByOrder : Type 0
 PacketsArriveByOrder =
     (facts : Facts) (q : ℕ → ℕ) (held goal next : HeldPlan) (line : HeldLid) (before : Fabric) (origin : NodePort)

@@ -41,9 +41,9 @@ pub fn rule_is_tried()
     ensures law { RuleIsTried }
 {}
 
-/// A packet that the held tables deliver is delivered at the same end port by any loose mixtures of the held and the
-/// next tables, if the held tables and the goal are right by the order for its LID and have the same owners of the LID.
-/// The mixture may change while the packet travels.
+/// A packet that the held tables deliver is delivered at the same end port by any loose mixtures (`IsLoose`) of the
+/// held and the next tables, if the held tables and the goal are right by the order for its LID and have the same
+/// owners of the LID. The mixture may change while the packet travels.
 pub fn none_is_lost_by_order()
     ensures law { NoneIsLostByOrder }
 {}

@@ -53,8 +53,8 @@ pub fn held_plans_are_planned()
     ensures { HeldPlansArePlanned }
 {}
 
-/// On a fabric whose nodes have different GUIDs, each LID that an accepted report of a sweep claims for a port is the
-/// LID that the port has, while no port gets another LID. Other managers may send what
+/// While no port gets another LID, on a fabric whose nodes have different GUIDs, each LID that an accepted report of a
+/// sweep claims for a port is the LID that the port has. Other managers may send what
 /// `manager_laws::laws::answers_tell` names. Packets may be lost, copied and reordered.
 pub fn accepted_claims_are_true()
     ensures { AcceptedClaimsAreTrue }
@@ -83,9 +83,10 @@ pub fn takeover_changes_nothing()
     ensures { TakeoverChangesNothing }
 {}
 
-/// At each moment of a takeover, before the sweep, until the writing and between its Sets, the subnet holds the plan,
-/// and each ping from an end port there, for each LID of the plan, reaches the owner of the LID, if each Set that an
-/// agent takes carries the values of the plan or, once the writing has begun, is one of the writing's own.
+/// If each Set that an agent takes carries the values of the plan or, once the writing has begun, is one of the
+/// writing's own, then at each moment of a takeover (before the sweep, until the writing, and between the writing's
+/// Sets) the subnet holds the plan, and each ping from an end port there, for each LID of the plan, reaches the owner
+/// of the LID.
 pub fn pings_arrive_throughout()
     ensures { PingsArriveThroughout }
 {}

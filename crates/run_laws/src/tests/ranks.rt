@@ -46,8 +46,8 @@ fn told(attribute: AttributeId, is_far: bool, other: &SmInfo) -> [u8; 64] {
     data
 }
 
-/// Returns whether a manager sweeps. It asks its own node and port, the adapter across and its port, and the manager
-/// there.
+/// Returns whether a manager sweeps. The manager asks its own node and port, the adapter across and the port there,
+/// and the manager at that port.
 pub(super) fn sweeps(manager: &mut Manager, other: &SmInfo) -> bool {
     if manager.begin_sweep().is_err() {
         return false;
