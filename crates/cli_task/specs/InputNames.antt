@@ -82,7 +82,7 @@ abbrev pub names_in : (List ℕ → Option (List ℕ)) → Option (List (List �
 names_in word files task =
     followed_by (texts_of_rule word (rule_of_task task)) (followed_by (texts_asked word task) (files_asked files task))
 
--- the names of the inputs of a task, by the words after the subcommand; None if one is missing
+-- the names of the inputs of a task, according to the words after the subcommand; None if a name is missing
 abbrev pub names_asked : ArgMatches → Task → Option (List (List ℕ))
 names_asked matches task = names_in (word_named matches) (files_named matches) task
 

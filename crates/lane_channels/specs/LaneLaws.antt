@@ -26,8 +26,8 @@ OneLaneSuffices =
 abbrev pub NeverBothByLane : Type 0
 NeverBothByLane = (s : SeenByLane) (answers : Bool) (cycle : List ℕ) → RiseByLane s answers → ¬ (WaitInCycle s answers cycle)
 
--- if all packets that have a service level have a lane below 15 by the text, no packet is dropped for want of a lane,
--- by any of several tables
+-- if all packets that have a service level have a lane below 15 according to the text, no packet is dropped for want
+-- of a lane, by any of several tables
 abbrev pub AllCarried : Type 0
 AllCarried =
     (s : SeenByLane) (others : List HeldPlan) (answers : Bool) → CarriesAll s.said → (dropped : Dropped)

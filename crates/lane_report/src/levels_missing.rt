@@ -73,8 +73,8 @@ fn pairs_at_sites(
     Ok(few)
 }
 
-/// Adds to `few` the packets without a service level that `senders` send to the LID of `line`. `owner` must be the
-/// site of the end port of `line`. `senders` are meant to be those of the row for the block of the LID.
+/// Adds to `few` the packets without a service level that `senders` send to the LID of `line`. `owner` is meant to be
+/// the site of the end port of `line`. `senders` are meant to be those of the row for the block of the LID.
 fn add_for(
     few: &mut FirstFew<PacketPair>,
     lanes: &Lanes,

@@ -169,8 +169,8 @@ StopsBy at moved fault = ⊥
 abbrev pub StopsNext : ℕ → HeldPlan → HeldPlan → Fault → Type 0
 StopsNext at held plan = StopsBy at (first_moved held plan)
 
--- a step ends with a fault: the plan has no room; it gives a LID of the held tables, the input `at`, to another end
--- port; the output has failed; or the plan has room and memory ran out
+-- a step ends with a fault: the plan has no room; the plan gives a LID to an end port, and the held tables, the input
+-- `at`, give it to another one; the output has failed; or the plan has room and memory ran out
 abbrev pub StopsStep : ℕ → ℕ → RuleValue → Facts → HeldPlan → Bool → Fault → Type 0
 StopsStep at lmc rule facts held sink_failed (NoRoom why) = no_room lmc (cells_of facts) ≡ Some why
 StopsStep at lmc rule facts held sink_failed (Text input (Moves lid)) =

@@ -12,7 +12,8 @@ use Rattle.next_tables.specs.SwitchPositions.{AreRight, is_down, is_up}
 abbrev pub leaves_up : (ℕ → ℕ) → List (Option Edge) → ℕ → Bool
 leaves_up q edges j = option_map_or (λ e. is_up q j e.to) (slice_index_or edges j None) false
 
--- by `edges`, packets do not leave the switch at index `i` on a channel down and then the next switch on a channel up
+-- by `edges`, no packet leaves the switch at index `i` on a channel down and then leaves the next switch on a channel
+-- up
 abbrev pub goes_well : (ℕ → ℕ) → List (Option Edge) → ℕ → Bool
 goes_well q edges i =
     option_map_or (λ e. not (is_down q i e.to && leaves_up q edges e.to)) (slice_index_or edges i None) true

@@ -37,8 +37,8 @@ fn is_right_column(positions: &[usize], edges: &[Option<Edge>]) -> bool
     (0..edges.len()).all(|index| goes_well(positions, edges, index))
 }
 
-/// Returns whether packets do not leave the switch at `index` on a channel down and then the next switch on a channel
-/// up.
+/// Returns whether no packet leaves the switch at `index` on a channel down and then leaves the next switch on a
+/// channel up.
 fn goes_well(positions: &[usize], edges: &[Option<Edge>], index: usize) -> bool
     ensures { result ≡ goes_well (position_at positions.now) edges.now index }
 {
