@@ -36,7 +36,7 @@ causes_of packets = record {
   foreign = count_by (is_lost_for Foreign) packets;
 }
 
--- `new` is `old`, where the count of each cause has grown by one if `is_for` is true of the cause
+-- `new` is `old` with one added to the count of each cause for which `is_for` is true
 pub record AreCausesIf (old : Causes) (is_for : Cause → Bool) (new : Causes) : Type 0 where
   pub above_top : new.above_top ≡ old.above_top + (if is_for AboveTop then 1 else 0)
   pub no_entry : new.no_entry ≡ old.no_entry + (if is_for NoEntry then 1 else 0)

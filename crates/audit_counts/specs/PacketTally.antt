@@ -17,8 +17,8 @@ pub record IsTally (most : ℕ) (packets : List SentPacket) (tally : PacketTally
   pub misdelivered : tally.misdelivered ≡ listed_of most is_misdelivered packets
   pub round : tally.round ≡ listed_of most goes_round packets
 
--- in `new`, `packet` is added to the packets of its kind and to its cause, if it does not arrive; the rest is as in
--- `old`, but `all` and `between` are left open
+-- if `packet` does not arrive, it is added in `new` to the packets of its kind and, if it is lost, to the count of its
+-- cause; the rest is as in `old`, but `all` and `between` are left open
 pub record IsTold (old : PacketTally) (packet : SentPacket) (new : PacketTally) : Type 0 where
   pub causes : AreCausesIf old.causes (λ cause. is_lost_for cause packet) new.causes
   pub lost : new.lost ≡ (if is_lost packet then listed old.lost packet else old.lost)

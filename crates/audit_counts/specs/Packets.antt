@@ -22,12 +22,12 @@ abbrev pub sent_to : Cells → HeldPlan → HeldLid → List SentPacket
 sent_to cells held line =
     map (packet_of cells held line) (filter (λ e. in_one_component cells e line.port) (end_ports cells))
 
--- the packets for the LID of `line` from the end ports of its component; none if the line's port is not an end port of
--- the facts
+-- the packets for the LID of `line` from the end ports in the component of the line's port; none if the line's port is
+-- not an end port of the facts
 abbrev pub packets_for : Cells → HeldPlan → HeldLid → List SentPacket
 packets_for cells held line = if is_owner (end_ports cells) line.port then sent_to cells held line else []
 
--- for each held LID, the packets from the end ports of its component
+-- for each line, the packets for its LID from the end ports in the component of its port
 abbrev pub packets_of : Cells → HeldPlan → List SentPacket
 packets_of cells held = flat_map (packets_for cells held) (lines_of held)
 

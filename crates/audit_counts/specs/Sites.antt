@@ -1,5 +1,5 @@
--- Which end ports lie in one component: end ports at switches of one component, and two adapter ports with a wire
--- between them.
+-- Which end ports lie in the same component: end ports at switches of the same component, two adapter ports with a
+-- wire between them, and each end port with itself.
 use Rattle.std.specs.Prelude.{◌≡◌, ℕ, Bool, true, false, ◌==◌, ◌&&◌, ◌||◌, List, [], ◌∷◌, Option, None, Some}
 use Rattle.std.specs.Prelude.{Contains, count_by, option_map, option_and_then}
 use Rattle.std.specs.List.{list_all, list_any}
@@ -42,20 +42,21 @@ is_one_root None s = false
 is_one_root (Some r) None = false
 is_one_root (Some r) (Some s) = r == s
 
--- `a` and `b` are sites of one port, at switches of one component, or joined by a wire
+-- `a` and `b` are sites of the same port, or lie at switches of the same component, or the wire of `a` leads to the
+-- port of `b`
 abbrev pub are_joined : Site → Site → Bool
 are_joined a b = is_same_end a.port b.port || is_one_root a.root b.root || leads_to a.across b.port
 
--- the end ports `e` and `x` lie in one component, or are one
+-- the end ports `e` and `x` lie in the same component, or are the same port
 abbrev pub in_one_component : Cells → EndPort → EndPort → Bool
 in_one_component cells e x = are_joined (site_of cells e) (site_of cells x)
 
--- the root of the first of the sites; None if there is no site or it has no root
+-- the root of the first of the sites; None if there is no site, or the first one has no root
 abbrev pub first_root : List Site → Option ℕ
 first_root [] = None
 first_root (site ∷ sites) = site.root
 
--- each site has a root, and all these roots are equal; true of no sites
+-- each site has a root, and all these roots are equal; true if there are no sites
 abbrev pub are_one_component : List Site → Bool
 are_one_component sites = list_all (λ site. is_one_root site.root (first_root sites)) sites
 
@@ -63,11 +64,12 @@ are_one_component sites = list_all (λ site. is_one_root site.root (first_root s
 abbrev pub are_adapters : EndPort → EndPort → Bool
 are_adapters e x = is_adapter e && is_adapter x
 
--- both sites are of end ports of adapters, and these lie in one component
+-- both sites are of end ports of adapters, and these ports lie in the same component
 abbrev pub are_joined_adapters : Site → Site → Bool
 are_joined_adapters a b = are_joined a b && are_adapters a.port b.port
 
--- `census` says whether all sites lie in one component, and how many are end ports of adapters
+-- `census` says whether all sites lie at usable switches of the same component, and how many of them are sites of
+-- adapter ports
 pub record IsCensus (sites : List Site) (census : Census) : Type 0 where
   pub whole : census.whole ≡ are_one_component sites
   pub adapters : census.adapters ≡ count_by (λ site. is_adapter site.port) sites

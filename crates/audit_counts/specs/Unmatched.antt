@@ -12,11 +12,11 @@ use Rattle.held_tables.specs.Tables.{is_owner, is_same_end, lines_of}
 use Rattle.audit_counts.specs.declared.unmatched.Unmatched.{Unmatched}
 use Rattle.audit_counts.specs.FirstFew.{Listed, all_listed, listed_of}
 
--- the LIDs of `lines` whose ports are not end ports of the facts, the first `most` of them
+-- those of `lines` whose ports are not end ports of the facts: their number, and the first `most` of them
 abbrev pub unowned_among : ℕ → Cells → List HeldLid → Listed HeldLid
 unowned_among most cells lines = listed_of most (λ line. not (is_owner (end_ports cells) line.port)) lines
 
--- the held LIDs whose ports are not end ports of the facts, the first `most` of them
+-- the lines of `held` whose ports are not end ports of the facts: their number, and the first `most` of them
 abbrev pub unowned : ℕ → Cells → HeldPlan → Listed HeldLid
 unowned most cells held = unowned_among most cells (lines_of held)
 
@@ -24,11 +24,11 @@ unowned most cells held = unowned_among most cells (lines_of held)
 abbrev pub is_twice : HeldPlan → HeldLid → Bool
 is_twice held line = has_several_owners (lines_of held) line.lid
 
--- the held LIDs that several end ports hold, each with one of these, the first `most` of them
+-- the lines of `held` whose LID more than one end port holds: their number, and the first `most` of them
 abbrev pub twice : ℕ → HeldPlan → Listed HeldLid
 twice most held = listed_of most (is_twice held) (lines_of held)
 
--- the switches that have tables but are not usable switches of the facts, the first `most` of them
+-- the switches that have tables but are not usable switches of the facts: their number, and the first `most` of them
 abbrev pub unknown : ℕ → Cells → HeldPlan → Listed ℕ
 unknown most cells held = listed_of most (λ g. not (is_usable cells g)) (map (λ s. s.guid) held.switches)
 
@@ -36,11 +36,11 @@ unknown most cells held = listed_of most (λ g. not (is_usable cells g)) (map (�
 abbrev pub is_held : HeldPlan → ℕ → Bool
 is_held held g = list_any (λ s. s.guid == g) held.switches
 
--- the switches of `guids` without tables, the first `most` of them
+-- the switches of `guids` without tables: their number, and the first `most` of them
 abbrev pub tableless_among : ℕ → List ℕ → HeldPlan → Listed ℕ
 tableless_among most guids held = listed_of most (λ g. not (is_held held g)) guids
 
--- the usable switches of the facts without tables, the first `most` of them
+-- the usable switches of the facts without tables: their number, and the first `most` of them
 abbrev pub tableless : ℕ → Cells → HeldPlan → Listed ℕ
 tableless most cells held = tableless_among most (switches cells) held
 
@@ -48,25 +48,25 @@ tableless most cells held = tableless_among most (switches cells) held
 abbrev pub has_lid : HeldPlan → EndPort → Bool
 has_lid held e = list_any (λ line. is_same_end e line.port) held.lids
 
--- the end ports of `ports` without a LID, the first `most` of them
+-- the end ports of `ports` without a LID: their number, and the first `most` of them
 abbrev pub lidless_among : ℕ → List EndPort → HeldPlan → Listed EndPort
 lidless_among most ports held = listed_of most (λ e. not (has_lid held e)) ports
 
--- the end ports of the facts without a LID, the first `most` of them
+-- the end ports of the facts without a LID: their number, and the first `most` of them
 abbrev pub lidless : ℕ → Cells → HeldPlan → Listed EndPort
 lidless most cells held = lidless_among most (end_ports cells) held
 
--- the nodes that the facts name but whose type is unknown, and the switches whose table room is unknown, the first
--- `most` of them
+-- the nodes that the facts name but whose type is unknown, and the switches whose table room is unknown: their number,
+-- and the first `most` of them
 abbrev pub unusable : ℕ → Cells → Listed ℕ
 unusable most cells = all_listed most (unusable_nodes cells)
 
--- the ports that the facts name and that are not known ports, the first `most` of them
+-- the ports that the facts name and that are not known ports: their number, and the first `most` of them
 abbrev pub unjoined : ℕ → Cells → Listed EndPort
 unjoined most cells = all_listed most (unjoined_ports cells)
 
--- `found` has each kind of difference between tables and facts, and of gap in the facts, with the first `most` items of
--- each
+-- `found` has, for each kind of difference between tables and facts and for each kind of gap in the facts, the number
+-- of items and the first `most` of them
 pub record IsUnmatched (most : ℕ) (cells : Cells) (held : HeldPlan) (found : Unmatched) : Type 0 where
   pub unowned_are : found.unowned ≡ unowned most cells held
   pub twice_are : found.twice ≡ twice most held

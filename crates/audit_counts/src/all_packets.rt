@@ -15,7 +15,7 @@ use held_tables::HeldLid;
 use packet_walks::{LidCursor, Network};
 use std::alloc::{AllocError, Global};
 
-/// The counts of packets, and for each line whether all its packets are seen to be delivered.
+/// The counts of packets, and which lines (a held LID and its port) are known to get all their packets.
 #[derive(Drop)]
 pub struct PacketSurvey {
     pub tally: PacketTally,
@@ -24,9 +24,9 @@ pub struct PacketSurvey {
 }
 
 /// Counts the packets that end ports send to the LIDs of their components. Keeps the first `most` packets of each kind
-/// that do not arrive: lost, misdelivered and looping. `sites` must be the sites of the end ports, in order. Takes what
-/// `LidCursor::go_to` takes for each LID. If the deliveries do not show that all packets for a LID arrive, that LID
-/// also costs what `LidCursor::ends` takes.
+/// that do not arrive: lost, misdelivered and looping. `sites` must be the sites of the end ports, in order. Takes the
+/// time of `LidCursor::go_to` for each LID. If the deliveries do not show that all packets for a LID arrive, also
+/// takes the time of `LidCursor::ends` for that LID.
 pub fn survey(
     alloc: Global,
     most: usize,
@@ -45,9 +45,9 @@ pub fn survey(
     Ok(PacketSurvey { tally, told })
 }
 
-/// Adds the packets for the LIDs of all lines to `tally`. Appends to `told`, which must be empty, an entry for each
-/// line, true only if all packets for its LID are delivered at its port. `sites` must be the sites of the end ports, in
-/// order.
+/// Adds the packets for the LIDs of all lines to `tally`. Appends to `told`, which must be empty, a flag for each
+/// line. It is true only if all packets for the line's LID are delivered at the line's port. `sites` must be the sites
+/// of the end ports, in order.
 fn add_lines(
     alloc: Global,
     tally: &mut PacketTally,
@@ -80,8 +80,8 @@ fn add_lines(
 
 /// Adds to `tally` the packets that the end ports in the component of `owner` send to the LID of `line`. Returns true
 /// only if all packets for this LID are delivered at the port of `line`. `cursor` must be at this LID. `sites` must be
-/// the sites of the end ports, in order, and `census` their census. `owner` must be the one of `sites` for the port of
-/// `line`.
+/// the sites of the end ports, in order, and `census` their census. `owner` must be the site, among `sites`, of the
+/// port of `line`.
 fn add_packets(
     alloc: Global,
     tally: &mut PacketTally,

@@ -16,7 +16,7 @@ pub struct Causes {
 impl Causes {
     ghost use Rattle.audit_counts.specs.Causes.{AreCausesWith, causes_of};
 
-    /// Returns counts of 0.
+    /// Creates counts of 0.
     pub(crate) fn new() -> Self
         ensures { result ≡ causes_of [] }
     {

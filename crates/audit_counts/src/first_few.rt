@@ -1,4 +1,4 @@
-//! The number of items of a kind, and the first of them, which are listed.
+//! The number of items of a kind, and the first of these items, which are listed.
 ghost use Rattle.std.specs.Prelude.{◌≡◌, [], IfOk, OnOk};
 ghost use Rattle.audit_counts.specs.FirstFew.{all_listed, listed, more_of, first_few};
 
@@ -34,8 +34,8 @@ impl<T: Drop> FirstFew<T> {
         }
     }
 
-    /// Counts `item`, and keeps it if fewer items are kept than the maximum. Returns an error if the count does not fit
-    /// in 64 bits or memory is refused.
+    /// Counts `item`, and keeps it if fewer items than the maximum are kept. Returns an error if the count does not
+    /// fit in 64 bits, or if memory is refused.
     pub fn add(&mut self, item: T) -> Result<(), AllocError>
         ensures { OnOk result (self.new ≡ listed self.old item) }
     {
@@ -66,7 +66,7 @@ impl<T: Drop> FirstFew<T> {
 }
 
 impl<T: Copy + Drop> FirstFew<T> {
-    /// Returns the number of `items`, with the first `most` of them kept.
+    /// Counts all `items`, and keeps the first `most` of them.
     pub(crate) fn of(alloc: Global, most: usize, items: &[T]) -> Result<Self, AllocError>
         ensures { IfOk result (λ few. few ≡ all_listed most items.now) }
     {

@@ -25,7 +25,7 @@ impl PacketTally {
     ghost use Rattle.audit_counts.specs.Packets.{arrives};
     ghost use Rattle.audit_counts.specs.PacketTally.{IsCountedWith, IsMissed, IsTally, IsWith, IsWithArrived};
 
-    /// Returns an empty tally that keeps the first `most` packets of each kind.
+    /// Creates an empty tally that keeps the first `most` packets of each kind.
     pub(crate) fn new(alloc: Global, most: usize) -> Self
         ensures { IsTally most [] result }
     {

@@ -13,7 +13,7 @@ pub struct Pairs {
 impl Pairs {
     ghost use Rattle.audit_counts.specs.Pairs.{ArePairs, ArePairsIf, ArePairsWithArrived};
 
-    /// Returns counts of 0.
+    /// Creates counts of 0.
     pub(crate) fn new() -> Self
         ensures { ArePairs [] result }
     {

@@ -1,4 +1,4 @@
-//! Where end ports lie: which of them are in one component.
+//! Where end ports lie, and which of them are in the same component.
 ghost use Rattle.std.specs.Prelude.{◌≡◌, false, Contains, IfOk, count_by, map, position, slice_get};
 ghost use Rattle.std.specs.Option.{option_map_or};
 ghost use Rattle.fact_store.specs.View.{cells_of};
@@ -31,8 +31,8 @@ pub struct Site {
 }
 
 impl Site {
-    /// Returns whether the end ports of `self` and `other` lie in one component. Either the two ports are equal, or
-    /// they lie at usable switches of one component, or the wire of the port of `self` leads to the port of `other`.
+    /// Returns whether the end ports of `self` and `other` count as in the same component: they are equal, or they lie
+    /// at usable switches of the same component, or the wire of the port of `self` leads to the port of `other`.
     pub fn is_joined_to(&self, other: &Site) -> bool
         ensures { result ≡ are_joined self.now other.now }
     {
@@ -62,8 +62,8 @@ fn leads_to(far: Option<(Guid, PortNum)>, port: &EndPort) -> bool
     }
 }
 
-/// Returns whether the end ports of all `sites` lie at usable switches of one component. Returns true if `sites` is
-/// empty.
+/// Returns whether the end ports of all `sites` lie at usable switches of the same component. Returns true if `sites`
+/// is empty.
 pub(crate) fn are_one_component(sites: &[Site]) -> bool
     ensures { result ≡ are_one_component sites.now }
 {
@@ -81,11 +81,11 @@ fn first_root(sites: &[Site]) -> Option<Guid>
     }
 }
 
-/// Whether all end ports lie in one component, and how many of them are ports of adapters.
+/// Whether all end ports lie at usable switches of the same component, and how many of them are ports of adapters.
 #[derive(Clone, Copy, Debug, PartialEq, Eq)]
 pub(crate) struct Census {
-    /// Whether each end port lies at a usable switch, and all these switches lie in one component. True if there is no
-    /// end port.
+    /// Whether each end port lies at a usable switch, and all these switches lie in the same component. True if there
+    /// is no end port.
     pub whole: bool,
     /// How many of the end ports are ports of adapters.
     pub adapters: usize,
@@ -107,8 +107,9 @@ fn adapter_count(sites: &[Site]) -> usize
     sites.iter().filter(|site| is_adapter(&site.port)).count()
 }
 
-/// Returns how many of `sites` are in the component of `owner`. `owner` must be one of `sites`, and `census` must be
-/// the census of `sites`. Takes constant time if `census.whole` is true, otherwise time linear in the number of sites.
+/// Returns how many of `sites` are joined to `owner` (`is_joined_to`). `owner` must be one of `sites`, and `census`
+/// must be the census of `sites`. Takes constant time if `census.whole` is true, otherwise time linear in the number
+/// of sites.
 pub(crate) fn joined_count(sites: &[Site], owner: &Site, census: Census) -> usize
     requires census { IsCensus sites.now census }
     requires listed { Contains sites.now owner.now }
@@ -120,9 +121,9 @@ pub(crate) fn joined_count(sites: &[Site], owner: &Site, census: Census) -> usiz
     sites.iter().filter(|site| site.is_joined_to(owner)).count()
 }
 
-/// Returns how many of `sites` are of adapter ports in the component of `owner`, or 0 if `owner` is not of an adapter
-/// port. `owner` must be one of `sites`, and `census` must be the census of `sites`. Takes constant time if `owner` is
-/// not of an adapter port or `census.whole` is true, otherwise time linear in the number of sites.
+/// Returns how many of `sites` are of adapter ports and are joined to `owner` (`is_joined_to`), or 0 if `owner` is not
+/// of an adapter port. `owner` must be one of `sites`, and `census` must be the census of `sites`. Takes constant time
+/// if `owner` is not of an adapter port or `census.whole` is true, otherwise time linear in the number of sites.
 pub(crate) fn joined_adapters(sites: &[Site], owner: &Site, census: Census) -> usize
     requires census { IsCensus sites.now census }
     requires listed { Contains sites.now owner.now }
@@ -140,7 +141,7 @@ pub(crate) fn joined_adapters(sites: &[Site], owner: &Site, census: Census) -> u
         .count()
 }
 
-/// Returns whether `site` and `owner` are of adapter ports in one component.
+/// Returns whether `site` and `owner` are of adapter ports in the same component.
 fn are_joined_adapters(site: &Site, owner: &Site) -> bool
     ensures { result ≡ are_joined_adapters site.now owner.now }
 {

@@ -17,7 +17,7 @@ use subnet_view::{EndPort, Wires, is_end_port, is_usable};
 /// Differences between tables and facts, and gaps in the facts.
 #[derive(Drop)]
 pub struct Unmatched {
-    /// Lines of LIDs whose ports are not end ports of the facts.
+    /// Lines (a LID and the port that holds it) whose ports are not end ports of the facts.
     pub unowned: FirstFew<HeldLid>,
     /// Lines of LIDs that more than one end port holds.
     pub twice: FirstFew<HeldLid>,
@@ -56,7 +56,7 @@ impl Unmatched {
 }
 
 /// Counts the lines of LIDs whose ports are not end ports of the facts, and the lines of LIDs that more than one end
-/// port holds. Keeps the first `most` lines of either kind.
+/// port holds. Keeps the first `most` lines of each kind.
 fn unowned_and_twice(
     alloc: Global,
     most: usize,
@@ -71,7 +71,7 @@ fn unowned_and_twice(
 }
 
 /// Counts the switches that have tables but are not usable switches of the facts, and the usable switches without
-/// tables. Keeps the first `most` switches of either kind.
+/// tables. Keeps the first `most` switches of each kind.
 fn unknown_and_tableless(
     alloc: Global,
     most: usize,
@@ -85,7 +85,7 @@ fn unknown_and_tableless(
     Ok((unknown, tableless))
 }
 
-/// Counts the unusable nodes and the unjoined ports that the facts name. Keeps the first `most` items of either kind.
+/// Counts the unusable nodes and the unjoined ports that the facts name. Keeps the first `most` items of each kind.
 fn unusable_and_unjoined(
     alloc: Global,
     most: usize,
@@ -99,8 +99,8 @@ fn unusable_and_unjoined(
     Ok((unusable, unjoined))
 }
 
-/// Counts the nodes that the facts name but whose type is unknown, and the switches whose table room is unknown. Keeps
-/// the first `most` of these nodes.
+/// Counts the nodes that `unusable_nodes` finds: nodes that the facts name but whose type is unknown, and switches
+/// whose table room is unknown. Keeps the first `most` of these nodes.
 fn unusable_of(alloc: Global, most: usize, store: &Store) -> Result<FirstFew<Guid>, AllocError>
     ensures { IfOk result (λ few. few ≡ unusable most (cells_of store.now)) }
 {
@@ -108,8 +108,8 @@ fn unusable_of(alloc: Global, most: usize, store: &Store) -> Result<FirstFew<Gui
     FirstFew::of(alloc, most, &guids)
 }
 
-/// Counts the ports that the facts name but do not show to be down, to have a wire, or to be the end port of a switch.
-/// Keeps the first `most` of these ports.
+/// Counts the ports that `unjoined_ports` finds: ports that the facts name but do not show to be down, to have a wire,
+/// or to be the end port of a switch. Keeps the first `most` of these ports.
 fn unjoined_of(alloc: Global, most: usize, wires: &Wires) -> Result<FirstFew<EndPort>, AllocError>
     ensures { IfOk result (λ few. few ≡ unjoined most (cells_of wires.now)) }
 {

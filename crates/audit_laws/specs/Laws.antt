@@ -23,9 +23,9 @@ use Rattle.audit_counts.specs.declared.sent_packet.SentPacket.{SentPacket}
 use Rattle.audit_counts.specs.Packets.{arrives, packets_of}
 use Rattle.audit_report.specs.Passing.{EachNodeIsKnown, Passes}
 
--- by each rule and under each LMC, the tables of a view's plan pass by that view, if three conditions hold: its facts
--- are in range; there is room for the LIDs; and the facts have the type of each node that they name, and the table room
--- of each switch
+-- by each rule and under each LMC, the tables of a view's plan pass an audit by that view, if three conditions hold:
+-- the view's facts are in range; there is room for the LIDs; and the facts have the type of each node that they name
+-- and, for a switch, the table room too
 abbrev pub PlansPass : Type 0
 PlansPass =
     (rule : RuleValue) (lmc : ℕ) (facts : Facts) → AreInRange facts → ¬ (IsNoRoom lmc (cells_of facts))
@@ -36,7 +36,7 @@ PlansPass =
 abbrev pub IsKnownOrTold : Cells → ℕ → ℕ → Type 0
 IsKnownOrTold cells g p = IsKnownPort cells g p ⊎ Contains (unjoined_ports cells) (record { node = g; port = p })
 
--- node `g` is known, and it is known where its port `p` leads, or the port is listed as unjoined
+-- node `g` is known; and it is known where its port `p` leads, or the port is listed as unjoined
 abbrev pub AreKnown : Cells → ℕ → ℕ → Type 0
 AreKnown cells g p = IsKnownNode cells g × IsKnownOrTold cells g p
 
@@ -52,7 +52,7 @@ pub record KnowsAll (cells : Cells) : Type 0 where
   pub far_ends : (g p h q : ℕ) → link_of cells g p ≡ Some (h, q) → AreKnown cells h q
   pub switches : (g ports : ℕ) → IsNodeWith cells g Switch ports → AreKnown cells g 0
 
--- if tables pass by the facts, the facts know all (`KnowsAll`)
+-- if tables pass an audit by the facts, the facts know all (`KnowsAll`)
 abbrev pub PassingAuditsKnowAll : Type 0
 PassingAuditsKnowAll = (facts : Facts) (held : HeldPlan) → Passes (cells_of facts) held → KnowsAll (cells_of facts)
 
@@ -63,8 +63,8 @@ EachArrivesIn part f = (source target : NodePort) (from into : Node) (lid : ℕ)
     → IsTrue (owns f target lid) → ArrivesAt f source target lid
 
 -- each packet between end ports of the part that is joined to the end port `origin` is delivered at the end port that
--- owns its LID, if three conditions hold: the facts describe this part; the part holds the tables; and the tables pass
--- by the facts
+-- owns the packet's LID, if three conditions hold: the facts describe this part; the part holds the tables; and the
+-- tables pass an audit by the facts
 abbrev pub PassingAuditsDeliver : Type 0
 PassingAuditsDeliver =
     (facts : Facts) (held : HeldPlan) (f : Fabric) (origin : NodePort) → IsEndPort f origin

@@ -3,18 +3,18 @@ ghost use Rattle.audit_laws.specs.Laws.{MissedPacketsMiss, PassingAuditsDeliver,
 
 /// By each rule and under each LMC, the tables of a view's plan pass an audit by this view, if three conditions hold:
 /// the facts are in range; there is room for the LIDs; and the type of each node that the view names is known and, for
-/// a switch, its table room. Then each end port has a LID. If there is an end port, each usable switch has tables. Each
-/// packet that an end port sends to a LID of its component arrives. Channels can be numbered so that the numbers rise
-/// along every route.
+/// a switch, the table room too. Then each end port has a LID. If there is an end port, each usable switch has tables.
+/// Each packet that an end port sends to a LID of its component arrives. Channels can be numbered so that the numbers
+/// rise along every route.
 pub fn plans_pass()
     ensures law { PlansPass }
 {}
 
 /// If tables pass an audit by facts, the facts have the type and the number of ports of each node that a fact names
-/// and, for a switch, its table room. Each port that a fact names has a wire that both ends report, is known to be down
-/// and is not port 0, or is a switch's port 0 whose port GUID is known, unless lines `unjoined` name or count the port.
-/// A fact, disputed or not, names the node and the port that it is about. A known link also names the node and the port
-/// at its far end. The fact that a node is a switch also names port 0 of the node.
+/// and, for a switch, the table room too. Each port that a fact names has a wire that both ends report, is known to be
+/// down and is not port 0, or is a switch's port 0 whose port GUID is known, unless the audit's lines `unjoined` list
+/// or count the port. A fact, disputed or not, names the node and the port that it is about. A known link also names
+/// the node and the port at its far end. The fact that a node is a switch also names port 0 of the node.
 pub fn passing_audits_know_all()
     ensures law { PassingAuditsKnowAll }
 {}

@@ -34,7 +34,8 @@ abbrev pub counts_line : List ℕ → ℕ → ℕ → List ℕ
 counts_line words sent arrived =
     words ++ codes "pairs " ++ decimal sent ++ codes " arrive " ++ decimal arrived ++ codes "\n"
 
--- the counts of all packets, of those between adapter ports, and of the others, with a switch at one end at least
+-- the counts of all packets, of those between adapter ports, and of the others, which have a switch at one end at
+-- least
 abbrev pub pairs_text : Pairs → Pairs → List ℕ
 pairs_text all between =
     counts_line (codes "") all.sent all.arrived ++ counts_line (codes "between adapters ") between.sent between.arrived
@@ -51,7 +52,7 @@ causes_text causes =
     ++ count_text (codes "no-port") causes.no_port
     ++ count_text (codes "no-link") causes.no_link ++ count_text (codes "foreign") causes.foreign
 
--- the number of packets that are delivered at another port than that of their LID, and the number of those that loop
+-- the number of packets that are delivered at a port other than that of their LID, and the number of those that loop
 abbrev pub others_text : ℕ → ℕ → List ℕ
 others_text misdelivered round = count_text (codes "misdelivered") misdelivered ++ count_text (codes "round") round
 
@@ -60,7 +61,7 @@ abbrev pub missed_line : Causes → ℕ → ℕ → List ℕ
 missed_line causes misdelivered round =
     codes "missed" ++ causes_text causes ++ others_text misdelivered round ++ codes "\n"
 
--- the entry by which a switch drops a packet; empty for None, a node that is no usable switch
+-- the entry by which a switch drops a packet; empty for None, if the node is not a usable switch
 abbrev pub entry_text : Option ℕ → List ℕ
 entry_text entry = option_map_or (λ port. codes " by " ++ decimal port) entry []
 
@@ -76,7 +77,7 @@ cause_text NoPort = codes ": no such port"
 cause_text NoLink = codes ": no link"
 cause_text Foreign = codes ": foreign port"
 
--- the node at which a packet for `lid` is lost, its entry, and the cause
+-- the node at which a packet for `lid` is lost, the node's entry, and the cause
 abbrev pub lost_text : Cells → HeldPlan → ℕ → ℕ → Cause → List ℕ
 lost_text cells held lid g cause =
     codes " at " ++ guid_text g ++ entry_text (entry_by cells held g lid) ++ cause_text cause
@@ -97,7 +98,7 @@ abbrev pub packet_line : Cells → HeldPlan → List ℕ → SentPacket → List
 packet_line cells held word packet =
     sent_text word packet ++ end_text cells held packet.line.lid packet.end ++ codes "\n"
 
--- a line for each packet, with its sender, its LID and where it ends
+-- a line for each packet: `word`, the packet's sender, its LID, and where it ends
 abbrev pub packets_text : Cells → HeldPlan → List ℕ → List SentPacket → List ℕ
 packets_text cells held word packets = flat_map (packet_line cells held word) packets
 
@@ -153,11 +154,12 @@ abbrev pub channels_text : Cells → List ℕ → List ℕ
 channels_text cells [] = codes " none"
 channels_text cells (channel ∷ later) = codes " on one lane" ++ flat_map (channel_text cells) (channel ∷ later)
 
--- the line of a credit loop, which is one if all packets use one virtual lane; `none` if `cycle` is empty
+-- the line of the credit loop `cycle`, which packets can form if all of them use one virtual lane; it says `none` if
+-- `cycle` is empty
 abbrev pub cycle_line : Cells → List ℕ → List ℕ
 cycle_line cells cycle = codes "credit loop" ++ channels_text cells cycle ++ codes "\n"
 
--- the packets that are lost, misdelivered or loop, the first of each kind, and how many more there are
+-- the first packets that are lost, that are misdelivered and that loop, and how many more of each kind there are
 abbrev pub missed_text : Cells → HeldPlan → Listed SentPacket → Listed SentPacket → Listed SentPacket → List ℕ
 missed_text cells held lost misdelivered round =
     listed_text cells held (codes "lost") lost ++ listed_text cells held (codes "misdelivered") misdelivered

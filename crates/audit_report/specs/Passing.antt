@@ -37,8 +37,8 @@ ArriveAt cells held line = (e : EndPort) → Contains (end_ports cells) line.por
     → in_one_component cells e line.port ≡ true
     → IsBrought cells held line.lid e (Some (Taken line.port))
 
--- each packet for a held LID of an end port of the facts is delivered at that end port, if an end port of its component
--- sends the packet
+-- each packet for a held LID of an end port of the facts is delivered at that end port, if an end port of the same
+-- component sends the packet
 abbrev pub EachArrives : Cells → HeldPlan → Type 0
 EachArrives cells held = (line : HeldLid) → Contains held.lids line → ArriveAt cells held line
 
@@ -67,7 +67,7 @@ abbrev pub EachHasTables : Cells → HeldPlan → Type 0
 EachHasTables cells held =
     (e : EndPort) (g : ℕ) → Contains (end_ports cells) e → Contains (switches cells) g → HoldsTables held g
 
--- the type of each node that the facts name is known, and the table room of each switch
+-- the type of each node that the facts name is known and, for a switch, the table room too
 abbrev pub EachNodeIsKnown : Cells → Type 0
 EachNodeIsKnown cells = (g : ℕ) → IsNamedNode cells g → IsKnownNode cells g
 
@@ -108,7 +108,7 @@ pub record DeliversWithin (bound : Option ℕ) (cells : Cells) (held : HeldPlan)
   pub within : is_within bound (figures_of (loads_of cells held)) ≡ true
 
 -- the channels of a list wait for each other in a credit loop; for an empty list, channels can be numbered so that the
--- numbers rise on ways
+-- numbers rise along the route of every packet
 abbrev pub IsCycle : Cells → HeldPlan → List ℕ → Type 0
 IsCycle cells held [] = CanRise cells held
 IsCycle cells held (channel ∷ later) = WaitInCycle cells held (channel ∷ later)

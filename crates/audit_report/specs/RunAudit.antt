@@ -28,8 +28,8 @@ pub record IsAudited (asked : AuditAsked) (facts : Facts) (held : HeldPlan) (pri
       (audit_text (record { most = most_lines asked.all; facts = facts; held = held; cycle = cycle }))
   pub judged : IsTrue passed ↔ PassesWithin asked.max_load (cells_of facts) held
 
--- the tables and then the files were read, and `prints` holds of their audit's text; `passed` says whether the tables
--- pass, within the maximum load that `asked` may have
+-- the tables and then the files were read, and `prints` holds of the text of their audit; `passed` says whether the
+-- tables pass, within the maximum load that `asked` may have
 pub record HasAudited {S : Type 0} (state : S → SourceState) (asked : AuditAsked) (olds news : List S)
     (prints : List ℕ → Type 0) (passed : Bool) : Type 0 where
   pub told : TablesAndFacts

@@ -20,7 +20,7 @@ const MOST_TOLD: usize = 20;
 /// The options of an audit.
 #[derive(Clone, Copy, Debug, PartialEq, Eq)]
 pub struct AuditAsked {
-    /// The floor: older facts are ignored.
+    /// The least floor at which the files are read. Facts below the floor are ignored.
     pub floor: Generation,
     /// Whether to write all lines of each kind, or only the first 20.
     pub all: bool,

@@ -235,7 +235,7 @@ fn write_sent<W: Sink>(sink: &mut W, word: &str, packet: &SentPacket) -> Result<
     write_number(sink, u64::from(packet.line.lid.number()))
 }
 
-/// Writes `end`, where a packet for `lid` ends, or nothing if `end` is `None`: the packet loops.
+/// Writes `end`, where a packet for `lid` ends. Writes nothing if `end` is `None`, which means that the packet loops.
 fn write_end<W: Sink>(
     sink: &mut W,
     network: &Network,

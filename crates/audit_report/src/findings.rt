@@ -64,9 +64,9 @@ impl<'a> Audit<'a> {
     /// of the LID's owner. Counts the wires and channels that packets between adapter ports take, and looks for a
     /// shortest credit loop. Keeps the first `most` lines of each kind.
     ///
-    /// Costs what `LidCursor::go_to` takes for each LID, and twice what `LidCursor::edges` takes. A LID also costs what
-    /// `LidCursor::ends` takes if the deliveries do not show that all its packets arrive, and twice this if not all of
-    /// them are delivered at its port.
+    /// For each LID, takes the time of `LidCursor::go_to`, and twice that of `LidCursor::edges`. If the deliveries do
+    /// not show that all packets for a LID arrive, also takes the time of `LidCursor::ends`, and twice this time if
+    /// not all of the packets are delivered at the LID's port.
     pub fn of(
         alloc: Global,
         most: usize,
@@ -113,15 +113,15 @@ impl<'a> Audit<'a> {
     }
 
     /// Returns whether the tables are whole for the facts. Each end port must hold a LID. Each usable switch must have
-    /// tables if there is an end port. The type of each node that the facts name must be known and, for a switch, its
-    /// table room.
+    /// tables if there is an end port. The type of each node that the facts name must be known and, for a switch, the
+    /// table room too.
     fn is_whole(&self) -> bool
         ensures { IsTrue result ↔ IsWholeFor (cells_of self.now.facts) self.now.held }
     {
         self.has_lids() && self.has_tables() && self.has_nodes()
     }
 
-    /// Returns whether the type of each node that the facts name is known and, for a switch, its table room.
+    /// Returns whether the type of each node that the facts name is known and, for a switch, the table room too.
     fn has_nodes(&self) -> bool
         ensures { IsTrue result ↔ EachNodeIsKnown (cells_of self.now.facts) }
     {

@@ -20,8 +20,8 @@ use Rattle.audit_ways.specs.Ways.{is_adapter}
 abbrev pub IsWithin : ℕ → Far → Type 0
 IsWithin count far = (index : ℕ) → far ≡ Switch index → index < count
 
--- the sum of `number` over all packets of `groups`: at the index of the switch that the packet reaches first, or at
--- None if the packet reaches an adapter over one wire
+-- the sum, over all packets of `groups`, of the value of `number` at the index of the switch that the packet reaches
+-- first, or at None if the packet reaches an adapter over one wire
 abbrev pub total : (Option ℕ → ℕ) → Groups → ℕ
 total number groups = weighed (λ i. number (Some i)) groups.weights.items + groups.direct * number None
 
@@ -30,8 +30,8 @@ pub record IsGroupedWith (old : Groups) (far : Far) (new : Groups) : Type 0 wher
   pub as_many : length new.weights.items ≡ length old.weights.items
   pub sums : (number : Option ℕ → ℕ) → total number new ≡ total number old + number (switch_over far)
 
--- the number of packets of `groups` that reach the switch at the index first; for None, that reach an adapter over one
--- wire
+-- the number of packets of `groups` whose first switch is the one at the given index; for None, the number of those
+-- that reach an adapter over one wire
 abbrev pub packets_at : Groups → Option ℕ → ℕ
 packets_at groups None = groups.direct
 packets_at groups (Some index) = slice_index groups.weights.items index
@@ -49,19 +49,19 @@ pub record AreGrouped (cells : Cells) (ports : List EndPort) (groups : Groups) :
 abbrev pub adapters : Cells → List EndPort
 adapters cells = filter is_adapter (end_ports cells)
 
--- the order of ports by node, and then by port number
+-- the order of ports: by node GUID, and then by port number
 abbrev pub port_cmp : ℕ × ℕ → ℕ × ℕ → Ordering
 port_cmp a b = ordering_then (nat_cmp a.0 b.0) (nat_cmp a.1 b.1)
 
--- the node and the port of a sender
+-- the node GUID and the port of a sender
 abbrev pub port_of : Sender → ℕ × ℕ
 port_of source = (source.port.node, source.port.port)
 
--- `roster` is sorted by node and port
+-- `roster` is in ascending order of node GUID and port
 abbrev pub AreByPort : List Sender → Type 0
 AreByPort roster = IsSortedByKey port_of port_cmp roster
 
--- `roster` is the end ports as senders, sorted by node and port
+-- `roster` has the end ports as senders, in ascending order of node GUID and port
 pub record IsRoster (cells : Cells) (roster : List Sender) : Type 0 where
   pub moved : IsPermutation (map (sender_of cells) (end_ports cells)) roster
   pub by_port : AreByPort roster
@@ -73,8 +73,8 @@ pub record LeadsTo (sources : List Sender) (e : EndPort) (far : Far) : Type 0 wh
   pub port_is : source.port ≡ e
   pub far_is : source.far ≡ far
 
--- the target is where the wire in `e` leads, by one of `sources`; it is None if `e` is no adapter port, or not in
--- `sources`
+-- the target is where the wire in `e` leads, by one of `sources`; it is None if `e` is not an adapter port, or is not
+-- in `sources`
 abbrev pub IsTargetAmong : List Sender → EndPort → Option Far → Type 0
 IsTargetAmong sources e None = (is_adapter e && list_any (λ source. is_same_end e source.port) sources) ≡ false
 IsTargetAmong sources e (Some far) = (is_adapter e ≡ true) × LeadsTo sources e far

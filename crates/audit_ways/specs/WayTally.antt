@@ -20,8 +20,7 @@ pub record IsCounted (channels : ℕ) (sum : Sum) (tally : WayTally) : Type 0 wh
   pub most : (bound : ℕ) → (tally.hops.most ≤ bound) ↔ (sum (λ way. over bound way.wires) ≡ 0)
   pub loads : (channel : ℕ) → slice_index tally.loads.items channel ≡ sum (times_on channel)
 
--- `new` is `old`, where the load of each channel has grown by `times` for each time that the channel occurs in
--- `channels`
+-- `new` is `old` with `times` added to the load of each channel for each time that the channel occurs in `channels`
 pub record IsLoadedWith (old channels : List ℕ) (times : ℕ) (new : List ℕ) : Type 0 where
   pub as_many : length new ≡ length old
   pub load : (channel : ℕ) → slice_index new channel ≡ slice_index old channel

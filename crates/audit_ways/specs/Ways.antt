@@ -46,7 +46,8 @@ way_from edges switch = record {
 abbrev pub one_wire : Way
 one_wire = record { wires = 1; channels = [] }
 
--- the route, by `edges`, of a packet whose sender's wire leads to the given far end; one wire if that is no switch
+-- the route, by `edges`, of a packet whose sender's wire leads to the given far end; the route over one wire if the
+-- far end is not a switch
 abbrev pub way_over : List (Option Edge) → Far → Way
 way_over edges Nothing = one_wire
 way_over edges (Switch index) = way_from edges index
@@ -73,8 +74,8 @@ abbrev pub AllComeTo : Cells → HeldPlan → HeldLid → Type 0
 AllComeTo cells held line =
     (e : EndPort) → Contains (end_ports cells) e → is_at line.port (end_for cells held line.lid e) ≡ true
 
--- for each line that `told` marks, by the line's index, all packets that end ports send for its LID are delivered at
--- the line's port
+-- for each line at whose index `told` is true, all packets that end ports send for the line's LID are delivered at the
+-- line's port
 abbrev pub AreTold : Cells → HeldPlan → List Bool → Type 0
 AreTold cells held told = (index : ℕ) (line : HeldLid) → slice_get (lines_of held) index ≡ Some line
     → slice_index_or told index false ≡ true → AllComeTo cells held line
@@ -93,7 +94,7 @@ abbrev pub is_target : Cells → EndPort → Bool
 is_target cells e = is_adapter e && is_owner (end_ports cells) e
 
 -- the routes of the packets that other adapter ports send for the LID of `line` and that are delivered at the line's
--- port; none if this is no adapter port of the facts
+-- port; none if the line's port is not an adapter port of the facts
 abbrev pub ways_for : Cells → HeldPlan → HeldLid → List Way
 ways_for cells held line = if is_target cells line.port then ways_to cells held line else []
 

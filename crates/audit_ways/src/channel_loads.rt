@@ -8,10 +8,10 @@ ghost use Rattle.audit_ways.specs.Ways.{channels_from};
 use port_graph::Edge;
 use std::alloc::AllocError;
 
-/// Adds `times` to the load of each channel that a packet takes from the switch at index `first` on, by `edges`, each
-/// time that it takes the channel. Stops after as many channels as there are switches. Returns the number of channels
-/// taken. Returns an error if a load does not fit in 64 bits. Takes time linear in the number of channels taken.
-/// `loads` must have 256 channels for each switch of `edges`.
+/// Follows `edges` from the switch at index `first` on, and adds `times` to the load of a channel each time that it is
+/// taken. Stops after as many channels as there are switches. Returns the number of channels taken. Returns an error
+/// if a load does not fit in 64 bits. Takes time linear in the number of channels taken. `loads` must have a load for
+/// each of the 256 channels of each switch of `edges`.
 pub(crate) fn load_channels(
     loads: &mut [u64],
     edges: &[Option<Edge>],

@@ -10,7 +10,7 @@ use smp_bytes::{Guid, PortNum};
 use std::alloc::{AllocError, Global};
 use subnet_view::EndPort;
 
-/// Returns the senders of the network, one for each end port, sorted by node and port.
+/// Returns the senders of the network, one for each end port, in ascending order of node GUID and port.
 pub(crate) fn roster(alloc: Global, network: &Network) -> Result<Vec<Sender>, AllocError>
     ensures { IfOk result (λ roster. IsRoster (cells_of network.now.facts) roster.items) }
 {
@@ -19,7 +19,7 @@ pub(crate) fn roster(alloc: Global, network: &Network) -> Result<Vec<Sender>, Al
     Ok(roster)
 }
 
-/// Sorts `sources` by node and port.
+/// Sorts `sources` in ascending order of node GUID and port.
 fn sort(sources: &mut [Sender])
     ensures permutation { IsPermutation sources.old sources.new }
     ensures by_port { AreByPort sources.new }
@@ -27,15 +27,15 @@ fn sort(sources: &mut [Sender])
     sources.sort_unstable_by_key(port_of);
 }
 
-/// Returns the node and the port of `source`.
+/// Returns the node GUID and the port of `source`.
 fn port_of(source: &Sender) -> (Guid, PortNum)
     ensures { result ≡ port_of source.now }
 {
     (source.port.node, source.port.port)
 }
 
-/// Returns the far end of the wire in `port`, or `None` if `port` is no adapter port or not in `roster`. `roster` must
-/// be sorted by node and port. Does a binary search.
+/// Returns the far end of the wire in `port`, or `None` if `port` is not an adapter port or is not in `roster`.
+/// `roster` must be in ascending order of node GUID and port. Does a binary search.
 pub(crate) fn target_among(roster: &[Sender], port: &EndPort) -> Option<Far>
     requires { AreByPort roster.now }
     ensures { IsTargetAmong roster.now port.now result }

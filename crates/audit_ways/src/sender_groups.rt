@@ -14,7 +14,7 @@ use packet_walks::{Ends, Far, Network, is_same_end};
 use std::alloc::{AllocError, Global};
 use subnet_view::EndPort;
 
-/// How many packets reach each switch first.
+/// Packets, counted by the switch that each reaches first.
 #[derive(Drop)]
 pub(crate) struct Groups {
     /// For each switch, the number of packets whose senders' wires lead to the switch.
@@ -24,7 +24,7 @@ pub(crate) struct Groups {
 }
 
 impl Groups {
-    /// Returns groups of no packets, for the switches of `network`.
+    /// Creates groups without packets, for the switches of `network`.
     fn none(alloc: Global, network: &Network) -> Result<Self, AllocError>
         ensures { IfOk result (AreGrouped (cells_of network.now.facts) []) }
     {
@@ -75,7 +75,8 @@ fn unload(weights: &mut [u64], first: usize)
     weights[first] -= 1;
 }
 
-/// Returns groups with one packet from each adapter port. Takes time linear in the number of end ports.
+/// Returns groups with one packet from each adapter port, by where the wire in the port leads. Takes time linear in
+/// the number of end ports.
 pub(crate) fn senders(alloc: Global, network: &Network) -> Result<Groups, AllocError>
     ensures { IfOk result (AreGrouped (cells_of network.now.facts) (adapters (cells_of network.now.facts))) }
 {
@@ -88,9 +89,9 @@ pub(crate) fn senders(alloc: Global, network: &Network) -> Result<Groups, AllocE
     Ok(groups)
 }
 
-/// Returns groups with the packets for the LID of `line` that other adapter ports send and that are delivered at the
-/// port of `line`. `ends` must have the end of each end port's packet for this LID, and its port must be that of
-/// `line`. Takes time linear in the number of end ports.
+/// Returns the packets for the LID of `line` that other adapter ports send and that are delivered at the port of
+/// `line`, grouped by where the sender's wire leads. `ends` must be the ends of the packets that the end ports send
+/// for this LID, and must be for the port of `line`. Takes time linear in the number of end ports.
 pub(crate) fn group_packets(
     alloc: Global,
     network: &Network,

@@ -37,9 +37,9 @@ pub fn figures_of_ways(alloc: Global, network: &Network) -> Result<WayFigures, A
     figures_of_ways_known(alloc, network, &[])
 }
 
-/// Returns the figures of `figures_of_ways`, with less work for lines whose packets are known to arrive. If `told` is
-/// true at the index of a line, all packets for the line's LID must be delivered at its port. For such a line
-/// `LidCursor::ends` is not called.
+/// Returns the figures of `figures_of_ways`, with less work for lines (a LID and the port that holds it) whose packets
+/// are known to arrive. If `told` is true at the index of a line, all packets for the line's LID must be delivered at
+/// the line's port. For such a line, `LidCursor::ends` is not called.
 pub fn figures_of_ways_known(
     alloc: Global,
     network: &Network,
@@ -56,7 +56,7 @@ pub fn figures_of_ways_known(
 }
 
 /// Counts the routes of the delivered packets between adapter ports. If `told` is true at the index of a line, all
-/// packets for the line's LID must be delivered at its port.
+/// packets for the line's LID must be delivered at the line's port.
 fn tally_of(alloc: Global, network: &Network, told: &[bool]) -> Result<WayTally, AllocError>
     requires { AreTold (cells_of network.now.facts) network.now.held told.now }
     ensures { IfOk result (IsCounted (256 * length (switches (cells_of network.now.facts)))
@@ -87,8 +87,8 @@ fn is_told(told: &[bool], index: usize) -> bool
 /// Adds to `tally` the routes of the delivered packets for the LID of `line` from other adapter ports. The port of
 /// `line` must be an adapter port of the facts, and `far` must be the far end of the wire in it. `cursor` must be at
 /// the LID of `line`. `tally` must have 256 channels for each usable switch. `senders` must have one packet from each
-/// adapter port, and has them again in the end. If `told` is true, all packets for the LID must be delivered at the
-/// port of `line`.
+/// adapter port, and has these again at the end if no error is returned. If `told` is true, all packets for the LID
+/// must be delivered at the port of `line`.
 fn add_ways(
     alloc: Global,
     tally: &mut WayTally,
@@ -120,9 +120,9 @@ fn add_ways(
     senders.join(far)
 }
 
-/// Returns the delivered packets for the LID of `line` from other adapter ports, or `None` if all packets for the LID
-/// are delivered at the port of `line`. If `told` is true, all must be delivered there. `cursor` must be at the LID of
-/// `line`.
+/// Returns the packets for the LID of `line` that other adapter ports send and that are delivered at the port of
+/// `line`, in groups. Returns `None` if all packets for the LID are delivered there. If `told` is true, all must be
+/// delivered there. `cursor` must be at the LID of `line`.
 fn some_of_all(
     alloc: Global,
     cursor: &LidCursor,

@@ -18,7 +18,7 @@ pub(crate) struct WayTally {
 }
 
 impl WayTally {
-    /// Returns an empty tally with `channels` channels.
+    /// Creates an empty tally with `channels` channels.
     pub(crate) fn new(alloc: Global, channels: usize) -> Result<Self, AllocError>
         ensures { IfOk result (IsCounted channels (λ _. 0)) }
     {

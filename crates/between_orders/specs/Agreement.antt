@@ -34,7 +34,8 @@ abbrev pub IsRightByGrown : Cells → HeldPlan → List ℕ → Type 0
 IsRightByGrown cells tables told =
     are_right cells (position_at (positions_in (grown_by (edges_in cells) told) (length (edges_in cells)))) tables ≡ true
 
--- `tables` imply an order, the one nearest to the plan's, and `positions` are the positions of the switches in it
+-- `tables` imply an order, and of several the one nearest to the plan's is taken; `positions` are the positions of the
+-- switches in it
 pub record TellsPositions (cells : Cells) (tables : HeldPlan) (by : List ℕ) : Type 0 where
   pub taken : List ℕ
   pub is_told : IsTold cells tables (order_of_plan cells by) (Some taken)
@@ -88,9 +89,9 @@ GoalsAreFew =
     → AreRightBy (cells_of facts)
     (positions_in (order_of_plan (cells_of facts) by) (length (edges_in (cells_of facts)))) (tables m)
 
--- the order that grew by `told` is the first order of the next step, and the second grows by the plan's positions over
--- its tree, if two conditions hold: the tables are right by the grown order for every LID; and this order is preferred
--- among those that they imply
+-- the order that grew by `told` is the first order of the next step, and the second order grows by the plan's
+-- positions over the tree of the first, if two conditions hold: the tables are right by the grown order for every LID;
+-- and of the orders that they imply, the one nearest to this grown order is taken
 abbrev pub OrdersStay : Type 0
 OrdersStay =
     (facts : Facts) (tables : HeldPlan) (told by taken : List ℕ)

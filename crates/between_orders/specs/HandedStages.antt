@@ -39,9 +39,9 @@ pub record AreHandedSteps (facts : Facts) (by preferred : List ℕ) (plan : Held
       → IsGoal (cells_of facts) (tables n) plan by (handed preferred goals n) (Some (goals n))
   pub step_is : (n : ℕ) → n < count → tables (suc n) ≡ next_towards facts (tables n) (goals n)
 
--- both orders stay in all handed steps: the first grows by the order that `tables 0` imply, and the second by the
--- plan's positions over its tree. All tables are right by the first order. The condition is that `tables 0` are right
--- by this grown order
+-- both orders stay in all handed steps: the first grows by the order that `tables 0` imply, and the second grows by
+-- the plan's positions over the tree of the first. All tables are right by the first order. The condition is that
+-- `tables 0` are right by this grown order
 abbrev pub HandedOrdersStay : Type 0
 HandedOrdersStay =
     (facts : Facts) (by preferred : List ℕ) (plan : HeldPlan) (tables : ℕ → HeldPlan) (goals : ℕ → Goal) (count : ℕ)
@@ -75,8 +75,8 @@ pub record IsOwnLid (cells : Cells) (plan : HeldPlan) (i lid : ℕ) : Type 0 whe
   pub takes : step_at cells plan lid (switch_at cells i) ≡ Ends (Taken (record { node = switch_at cells i; port = 0 }))
 
 -- in the plan, each LID is held by no end port, or by one alone. In the latter case, no usable switch has a top below
--- the LID. The plan delivers at that end port from each switch from which any tables do that give the LID to this end
--- port alone
+-- the LID. The plan delivers at that end port from each switch from which any tables deliver there that give the LID
+-- to this end port alone
 pub record IsWholePlan (cells : Cells) (plan : HeldPlan) : Type 0 where
   pub lines : (lid : ℕ) → 1 ≤ lid → (owners_of plan lid ≡ [])
       ⊎ ((port : EndPort) × (owners_of plan lid ≡ port ∷ [])
@@ -88,8 +88,9 @@ pub record IsWholePlan (cells : Cells) (plan : HeldPlan) : Type 0 where
 abbrev pub HaveOwnLids : Cells → HeldPlan → Type 0
 HaveOwnLids cells plan = (i : ℕ) → i < length (switches cells) → (lid : ℕ) × IsOwnLid cells plan i lid
 
--- after 2n + 2 handed steps towards a whole plan, for n switches, no further one changes the tables, if two conditions
--- hold: the facts are in range; and `tables 0` are right by the order that grows by the order that they imply
+-- after 2n + 2 handed steps towards a whole plan, for n switches, no further handed step changes the tables, if two
+-- conditions hold: the facts are in range; and `tables 0` are right by the order that grows by the order that they
+-- imply
 abbrev pub HandedStepsEnd : Type 0
 HandedStepsEnd =
     (facts : Facts) → AreInRange facts → (by preferred : List ℕ) (plan : HeldPlan) (tables : ℕ → HeldPlan)

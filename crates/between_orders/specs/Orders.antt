@@ -24,7 +24,7 @@ told_positions taken n = map (position_in taken) (range_with_len 0 n)
 
 -- the two orders of a step, from the positions `told` in the order that the tables imply, and the order `grown` that
 -- grows by them. If the tables are right by the grown order, that one is the first, and the second grows by the
--- positions `plan` over its tree. Otherwise the implied order is the first, and the grown one the second
+-- positions `plan` over the tree of the first. Otherwise the implied order is the first, and the grown one the second
 abbrev pub orders_by : Cells → HeldPlan → List (List Edge) → List ℕ → List ℕ → List ℕ → TwoOrders
 orders_by cells held edges plan told grown =
     if are_right cells (position_at (positions_in grown (length edges))) held
@@ -37,8 +37,8 @@ abbrev pub orders_from : Cells → HeldPlan → List (List Edge) → List ℕ �
 orders_from cells held edges plan told = orders_by cells held edges plan told (grown_by edges told)
 
 -- the two orders of a step from `held`, by the order that it implies; of several switches that may be last, the one
--- that comes last in the order that grows by the positions `preferred` is taken first. None exactly if `held` implies
--- no order
+-- that comes last in the order that grows by the positions `preferred` is taken first. None exactly when `held`
+-- implies no order
 abbrev pub AreOrders : Cells → HeldPlan → List (List Edge) → List ℕ → List ℕ → Option TwoOrders → Type 0
 AreOrders cells held edges plan preferred None = IsTold cells held (grown_by edges preferred) None
 AreOrders cells held edges plan preferred (Some orders) =

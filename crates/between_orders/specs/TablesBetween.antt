@@ -29,8 +29,8 @@ arrives port (Ends e) = is_at port (Some e)
 abbrev pub first_label : EndPort → SwitchStep → Option Sides
 first_label port plan = if arrives port plan.hop then Some both_down else None
 
--- the hop leads on from switch `i`, which has the label `sides`, as the labels and the two orders allow; false of an
--- end
+-- the hop leads on from switch `i`, which has the label `sides`, as the labels and the two orders allow; false if the
+-- hop is an end
 abbrev pub fits : TwoOrders → List (Option Sides) → Sides → ℕ → NextHop → Bool
 fits orders labels sides i (To j) = leads_on orders labels sides i j
 fits orders labels sides i (Ends e) = false
@@ -53,7 +53,7 @@ abbrev pub entry_with : List (List Edge) → TwoOrders → List (Option Sides) �
 entry_with edges orders labels None i x = 255
 entry_with edges orders labels (Some sides) i x = entry_to edges orders labels sides i x
 
--- the entry of a switch towards `port`: the plan's if it leads there, otherwise the one by the switch's label
+-- the entry of a switch towards `port`: the plan's if its hop ends there, otherwise the one by the switch's label
 abbrev pub entry_between : EndPort → List (List Edge) → TwoOrders → List (Option Sides) → ℕ × Both → ℕ
 entry_between port edges orders labels x =
     if arrives port x.1.1.hop then x.1.1.entry else entry_with edges orders labels (label_at labels x.0) x.0 x.1
@@ -65,8 +65,8 @@ labels_towards port edges orders plan = labels_from edges orders (map (first_lab
 -- the entries of all switches towards `port`, by two orders, from what each switch does by the held tables and by the
 -- plan
 unfoldable pub entries_towards : EndPort → List (List Edge) → TwoOrders → List SwitchStep → List SwitchStep → List ℕ
--- the tables between two orders, from held tables and a plan: the plan's LIDs, the greater tops, and for each LID
--- entries that lead up and then down by both orders
+-- the tables between two orders, from held tables and a plan: they have the plan's LIDs, for each usable switch the
+-- greater of its tops in the held tables and in the plan, and for each LID the entries of `column_between`
 unfoldable pub tables_between : Cells → List (List Edge) → TwoOrders → HeldPlan → HeldPlan → HeldPlan
 
 entries_towards port edges orders held plan =

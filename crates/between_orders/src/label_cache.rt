@@ -16,7 +16,7 @@ pub(crate) struct Labelled {
 }
 
 impl Labelled {
-    /// Returns the labels that follow if no switch has a first label.
+    /// Creates the labels that follow if no switch has a first label.
     pub fn none(alloc: Global, edges: &Adjacency, orders: &Orders) -> Self
         ensures { result.labels.items ≡ labels_from edges.now orders.now result.firsts.items }
     {
@@ -27,7 +27,8 @@ impl Labelled {
     }
 
     /// Replaces the labels by those that follow from `firsts`. The old labels must follow from the old first labels.
-    /// Takes time linear in the number of switches if the first labels do not change, otherwise what `label_all` takes.
+    /// Takes time linear in the number of switches if the first labels do not change, otherwise the time that
+    /// `label_all` takes.
     pub fn relabel(
         &mut self,
         alloc: Global,

@@ -39,7 +39,7 @@ pub fn goal_delivers()
 
 /// The tables between two orders deliver from each switch from which wires lead, directly or over other switches, to a
 /// switch whose plan entry leads to the end port, if three conditions hold: the facts are in range; no usable switch
-/// has a top below the LID in the plan; and the first order grows, and the second grows over its tree.
+/// has a top below the LID in the plan; and the first order grows, and the second grows over the tree of the first.
 pub fn goal_reaches_all()
     ensures law { GoalReachesAll }
 {}
@@ -51,22 +51,22 @@ pub fn goals_are_safe()
     ensures law { GoalsAreSafe }
 {}
 
-/// A step towards the goal of `between` follows the rule of the goal's first order (`ordered_steps`) for a LID that one
-/// end port alone holds in the held tables and in the plan: no packet that the held tables deliver is lost in any
-/// mixture.
+/// If one end port alone holds a LID in the held tables and in the plan, the next tables towards the goal of `between`
+/// are a step of this LID's line by the goal's first order (`IsLineStep`). So no packet for the LID that the held
+/// tables deliver is lost by any mixture.
 pub fn goals_follow_the_rule()
     ensures law { GoalsFollowTheRule }
 {}
 
-/// After a step towards the goal, the tables imply an order that agrees with the plan's order on at least as many first
-/// switches as the order of the held tables does, if the plan's order is the preferred one.
+/// If the plan's order is the preferred one, the tables after a step towards the goal imply an order that agrees with
+/// the plan's order on at least as many of its first switches as the order of the held tables does.
 pub fn steps_keep_agreement()
     ensures law { StepsKeepAgreement }
 {}
 
 /// If tables are right by the order that grows by the order that they imply, tables that reach the next goal imply an
-/// order that agrees with the plan's order on at least one more first switch. In between, the agreement never gets
-/// less.
+/// order that agrees with the plan's order on at least one more of its first switches. In between, the agreement never
+/// gets less.
 pub fn goals_go_further()
     ensures law { GoalsGoFurther }
 {}
@@ -83,16 +83,16 @@ pub fn goal_stands_still()
     ensures law { GoalStandsStill }
 {}
 
-/// In steps towards goals between an order that grows and one that grows over its tree (`AreGoalSteps`), each switch
-/// from which the first goal delivers has that goal's entry after 2n or more steps, for n switches, and the tables then
-/// deliver from it. At first the tables have the plan's owners of the LID and are right by the first order, and each
-/// entry is 255 or delivers. Facts and tops are as in `goal_delivers`.
+/// In steps towards goals between an order that grows and one that grows over the tree of the first (`AreGoalSteps`),
+/// each switch from which the first goal delivers has that goal's entry after 2n or more steps, for n switches, and
+/// the tables then deliver from it. At first the tables have the plan's owners of the LID and are right by the first
+/// order, and each entry is 255 or delivers. Facts and tops are as in `goal_delivers`.
 pub fn goal_is_reached()
     ensures law { GoalIsReached }
 {}
 
-/// If tables are right by an order that grew, and this order is the list of preferences, it is the first order of the
-/// next step, and the second order grows by the plan's positions over the tree of the first.
+/// If tables are right for every LID by an order that grew, and this order is the list of preferences, then it is the
+/// first order of the next step, and the second order grows by the plan's positions over the tree of the first.
 pub fn orders_stay()
     ensures law { OrdersStay }
 {}
@@ -103,9 +103,9 @@ pub fn whole_tables_grow()
     ensures law { WholeTablesGrow }
 {}
 
-/// After 2n steps as in `goal_is_reached`, for n switches, and at least one, the tables are right for the LID by the
-/// second order, if the first goal delivers from each switch that sends packets for the LID straight to the end port by
-/// the first tables.
+/// After 2n or more steps as in `goal_is_reached`, for n switches, and at least one step, the tables are right for the
+/// LID by the second order, if the first goal delivers from each switch that sends packets for the LID straight to the
+/// end port by the first tables.
 pub fn goal_ends_right()
     ensures law { GoalEndsRight }
 {}
@@ -116,8 +116,8 @@ pub fn right_tables_have_goals()
     ensures law { RightTablesHaveGoals }
 {}
 
-/// If the first tables are right by the order that grows by the order that they imply, all handed steps have the two
-/// orders of the first step.
+/// If the first tables are right by the order that grows by the order that they imply, all handed steps
+/// (`AreHandedSteps`) have the two orders of the first step.
 pub fn handed_orders_stay()
     ensures law { HandedOrdersStay }
 {}
@@ -130,9 +130,9 @@ pub fn handed_steps_are_goal_steps()
     ensures law { HandedStepsAreGoalSteps }
 {}
 
-/// After 2n + 2 handed steps, for n switches, no further one changes the tables, if three conditions hold: the facts
-/// are in range; the plan is whole (`IsWholePlan`); and the first tables are right by the order that grows by the order
-/// that they imply.
+/// After 2n + 2 handed steps, for n switches, no further handed step changes the tables, if three conditions hold: the
+/// facts are in range; the plan is whole (`IsWholePlan`); and the first tables are right by the order that grows by
+/// the order that they imply.
 pub fn handed_steps_end()
     ensures law { HandedStepsEnd }
 {}

@@ -25,9 +25,9 @@ pub struct StepGoal {
 /// Returns the goal of a step from the tables of `held` towards the tables of `plan`: tables that lead packets up and
 /// then down by two orders. The first is the order that the held tables imply, or the order that grows by it. The
 /// second is the next order on the way to the plan's. Returns `None` if the held tables imply no order. If they imply
-/// several, takes the one nearest to the order that grows by `preferred`. `held` and `plan` must have the same facts.
-/// `positions` must have the position of each usable switch in the plan's order, in ascending order of GUID, and
-/// `preferred` that in the preferred order.
+/// several orders, takes the one nearest to the order that grows by `preferred`. `held` and `plan` must have the same
+/// facts. `positions` must have the position of each usable switch in the plan's order, in ascending order of GUID,
+/// and `preferred` must have its position in the preferred order.
 pub fn between(
     alloc: Global,
     held: &Network,

@@ -17,10 +17,12 @@ use std::alloc::{AllocError, Global};
 use subnet_view::EndPort;
 use two_orders::{Orders, Sides, label_at, leads_on};
 
-/// Returns the tables between two orders, with the plan's LIDs. A switch has the plan's entry if that leads to the
-/// first end port that has the LID in the plan. Another switch with a label has the first of these whose channel leads
-/// on: its held entry, the plan's entry, the least port. A switch has no entry if no channel leads on or the switch has
-/// no label. `edges` has the wires of each switch. `held` and `plan` must have the same facts.
+/// Returns the tables between two orders. They have the plan's LIDs and, for each usable switch, the greater of its
+/// tops in `held` and `plan`. For a LID, a switch has the plan's entry if the hop by that entry ends at the first end
+/// port that has the LID in the plan. Another switch with a label has the first of these whose channel leads on: its
+/// held entry, the plan's entry, the port of its first edge that leads on. A switch has no entry (255) if no channel
+/// leads on, if the switch has no label, or if no end port has the LID in the plan. `edges` has the wires of each
+/// switch. `held` and `plan` must have the same facts.
 pub(crate) fn tables_between(
     alloc: Global,
     edges: &Adjacency,
@@ -67,8 +69,8 @@ fn columns(
 }
 
 /// Returns the entries between the two orders of all usable switches, for the LID of both cursors. `held` and `plan`
-/// must be at one LID, and have the same facts. `labelled` has the labels for an earlier LID at first. If the LID has
-/// an owner in the plan, `labelled` has the labels for this LID afterwards.
+/// must be at the same LID, and have the same facts. The labels in `labelled` must follow from its first labels, and
+/// do so afterwards too. If the LID has an owner in the plan, they are then the labels for this LID.
 fn column(
     alloc: Global,
     edges: &Adjacency,
@@ -102,8 +104,9 @@ fn column(
     )
 }
 
-/// Returns the entries of all switches towards `port`, by `orders`. `held` and `plan` have what each switch does by the
-/// held tables and by the plan. The labels in `labelled` are replaced by the labels towards `port`.
+/// Returns the entries of all switches towards `port`, by `orders`. `held` and `plan` have what each switch does by
+/// the held tables and by the plan. The labels in `labelled` must follow from its first labels. They are replaced by
+/// the labels towards `port`.
 fn entries_towards(
     alloc: Global,
     port: &EndPort,
@@ -162,7 +165,8 @@ fn arrives(port: &EndPort, hop: &NextHop) -> bool
     }
 }
 
-/// Returns the entry of each switch towards `port`, by `labels`.
+/// Returns the entry of each switch towards `port`, by `labels` and `orders`. `held` and `plan` have what each switch
+/// does by the held tables and by the plan.
 fn entries_by(
     alloc: Global,
     port: &EndPort,
@@ -227,7 +231,8 @@ fn entry_to(
     }
 }
 
-/// Returns whether `hop` leads on from the switch at `index`, which has the label `sides`.
+/// Returns whether `hop` leads on from the switch at `index`, which has the label `sides`. Returns false if the hop is
+/// an end.
 fn fits(
     orders: &Orders,
     labels: &[Option<Sides>],

@@ -54,7 +54,7 @@ of_step = told_order_rule ∷ option_rule (codes "last-order") ∷ []
 abbrev pub max_load_rule : Rule
 max_load_rule = record (option_rule (codes "max-load")) { parser = Some (Signed (pos 0) (pos 4294967295)) }
 
--- the options of an audit: how much it prints, and the load that it lets pass
+-- the options of an audit: how much the audit prints, and the load that it lets pass
 abbrev pub of_report : List Rule
 of_report = all_rule ∷ max_load_rule ∷ []
 
@@ -63,7 +63,7 @@ of_report = all_rule ∷ max_load_rule ∷ []
 abbrev pub answers_rule : Rule
 answers_rule = record (new_rule (codes "answers-as-asked")) { long = Some (codes "answers-as-asked"); action = Some SetTrue }
 
--- the options of what is judged by lane: the file of lanes, and which service levels answers have
+-- the options for judging by lane: the file of lanes, and which service levels answers have
 abbrev pub of_lanes : List Rule
 of_lanes = option_rule (codes "lanes") ∷ answers_rule ∷ []
 
@@ -189,8 +189,8 @@ AddsRules rules old new =
 abbrev pub conflict_of : App → List Text → Bool
 conflict_of app words = has_conflict_behind (subcommand_of app words)
 
--- what the words of a command line, the program's name first, are read as: the subcommand with its arguments. They are
--- refused if they have a fault or a conflict, and otherwise only for lack of memory
+-- what the words of a command line, the program's name first, are read as: the subcommand with its arguments. The
+-- words are refused if they have a fault or a conflict, and otherwise only for lack of memory
 abbrev pub IsReadAs : App → List Text → Result ArgMatches Error → Type 0
 IsReadAs app words (Ok matches) =
     (subcommand_rows_of matches ≡ subcommand_of app words) × (fault_of app words ≡ []) × (conflict_of app words ≡ false)

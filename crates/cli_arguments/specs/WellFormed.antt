@@ -34,14 +34,15 @@ pub record NamesPlanning (word : Text → Option Text) : Type 0 where
   pub apart : has_conflict_of (word (codes "routing")) (is_some (word (codes "roots"))) (is_some (word (codes "order")))
       ≡ false
 
--- the options of the subcommand `order`: the rule, if named, is a rule of routing, and else `spread`. Roots and an
--- order are not both named, and either is named only with a rule that takes it
+-- the options of the subcommand `order`: the rule, if named, is a rule of routing; otherwise it is `spread`. Roots and
+-- an order are not both named, and either is named only with a rule that takes it
 pub record NamesOrder (word : Text → Option Text) : Type 0 where
   pub routing : IsRouting (word (codes "routing"))
   pub apart : has_conflict_of (order_rule (word (codes "routing"))) (is_some (word (codes "roots")))
       (is_some (word (codes "order"))) ≡ false
 
--- the GUID and the number of a manager's port and its priority are named, and its SM_Key, if any, is 1 to 16 hex digits
+-- the GUID of a manager's port, which is 1 to 16 hex digits, the number of the port and the manager's priority are
+-- named; the manager's SM_Key, if named, is 1 to 16 hex digits
 pub record NamesSeat (word : Text → Option Text) : Type 0 where
   pub guid : is_guid (word (codes "GUID")) ≡ true
   pub port_given : IsGiven (word (codes "PORT"))

@@ -33,7 +33,8 @@ lacks_rule (Some word) rooted ordered =
     if bytes_eq word (codes "spread") then false
     else (if bytes_eq word (codes "balance") then rooted else rooted || ordered)
 
--- options contradict each other: roots and an order are both named, or one of them without a rule that takes it
+-- options contradict each other: roots and an order are both named, or one of them is named without a rule that takes
+-- it
 abbrev pub has_conflict_of : Option (List ℕ) → Bool → Bool → Bool
 has_conflict_of routing rooted ordered = (rooted && ordered) || lacks_rule routing rooted ordered
 
@@ -60,7 +61,8 @@ is_key (Some word) = is_guid_word word
 abbrev pub is_wrong_seat : (List ℕ → Option (List ℕ)) → Bool
 is_wrong_seat word = not (is_guid (word (codes "GUID"))) || not (is_key (word (codes "sm-key")))
 
--- the options of a plan or an order contradict each other in the subcommand `name`; `order` needs no word for its rule
+-- the options of a plan or an order contradict each other in the subcommand `name`; the subcommand `order` needs no
+-- word for its rule
 abbrev pub planning_conflict : List ℕ → (List ℕ → Option (List ℕ)) → Bool
 planning_conflict name word =
     has_conflict_of (if bytes_eq name (codes "order") then order_rule (word (codes "routing")) else word (codes "routing"))

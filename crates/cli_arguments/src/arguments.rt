@@ -213,7 +213,7 @@ pub(crate) fn order_file<'a>(alloc: Global) -> Arg<'a>
         .action(ArgAction::Set)
 }
 
-/// Builds the argument for the files, at least one. Options may stand between the files.
+/// Builds the argument for the files. At least one file is required, and options may stand between the files.
 pub(crate) fn files<'a>(alloc: Global) -> Arg<'a>
     ensures rule { rule_of result ≡ files_rule }
     ensures own { result.global ≡ false }

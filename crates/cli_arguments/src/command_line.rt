@@ -133,7 +133,7 @@ fn with<'a>(
     command?.subcommand(subcommand)
 }
 
-/// Builds the program, which requires a subcommand, without its subcommands.
+/// Builds the command of the program, which requires a subcommand, but without its subcommands.
 fn program<'a>(alloc: Global) -> Command<'a>
     ensures { IsApp program_app result }
 {
@@ -284,7 +284,7 @@ fn of_tables<'a>(alloc: Global, command: Command<'a>) -> Result<Command<'a>, All
     of_files(alloc, command)
 }
 
-/// Adds the options of an audit: how much it prints, and which load passes.
+/// Adds the options of an audit: how much the audit prints, and which load passes.
 fn with_report<'a>(alloc: Global, command: Command<'a>) -> Result<Command<'a>, AllocError>
     ensures { IfOk result (AddsRules of_report command.entry) }
 {
@@ -336,7 +336,8 @@ fn with_order<'a>(alloc: Global, command: Command<'a>) -> Result<Command<'a>, Al
     command.arg(roots(alloc))?.arg(order_file(alloc))
 }
 
-/// Builds the subcommand `name`: `audit`, `next`, `run`, `order` or `serve`, and `plan` for any other name.
+/// Builds the subcommand `name` if it is `audit`, `next`, `run`, `order` or `serve`. Builds `plan` for any other name,
+/// and for `None`.
 pub(crate) fn subcommand<'a>(alloc: Global, name: Option<&str>) -> Result<Command<'a>, AllocError> {
     match name {
         Some(AUDIT) => audit(alloc)?.bin_name("ibsm audit"),

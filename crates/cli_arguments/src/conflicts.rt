@@ -1,4 +1,4 @@
-//! Arguments of a command line that exclude each other or lack another.
+//! Arguments of a command line that exclude each other, or that need another argument that is not given.
 ghost use Rattle.std.specs.Prelude.{◌≡◌, IfOk, codes, false, if◌then◌else◌};
 ghost use Rattle.std.specs.Char.{is_ascii_hexdigit};
 ghost use Rattle.std.specs.List.{list_all};
@@ -21,9 +21,9 @@ use clap::{ArgMatches, Error};
 use std::alloc::{AllocError, Global};
 
 /// Returns whether options contradict each other, or the GUID or the SM_Key of `serve` is wrong. Options contradict
-/// each other if roots and an order are both named, if roots or an order are named without a rule of routing that takes
-/// them, or if `--answers-as-asked` is set without a file of lanes. The subcommand `order` needs no rule. The GUID must
-/// be 1 to 16 hex digits, and an SM_Key too if it is named.
+/// each other if roots and an order are both named, if roots or an order are named without a rule of routing that
+/// takes them, or if `--answers-as-asked` is set without a file of lanes. The subcommand `order` needs no rule. The
+/// GUID must be 1 to 16 hex digits, and so must the SM_Key if one is named.
 pub(crate) fn has_conflict(matches: &ArgMatches<'_>) -> bool
     ensures { result ≡ has_conflict_behind (subcommand_rows_of matches.now) }
 {
@@ -63,7 +63,8 @@ fn lacks_lanes(words: &ArgMatches<'_>) -> bool
     is_set(words, ANSWERS_AS_ASKED) && !is_named(words, LANES)
 }
 
-/// Returns whether no GUID of 1 to 16 hex digits is named, or an SM_Key is named that is not 1 to 16 hex digits.
+/// Returns whether no GUID of 1 to 16 hex digits is named, or whether an SM_Key is named that is not 1 to 16 hex
+/// digits.
 fn has_wrong_seat(words: &ArgMatches<'_>) -> bool
     ensures { result ≡ is_wrong_seat (first_value (found_of words.now)) }
 {
@@ -127,8 +128,8 @@ pub(crate) fn conflict(alloc: Global, matches: &ArgMatches<'_>) -> Result<Error,
     command.error(ErrorKind::ArgumentConflict, conflict_text(matches))
 }
 
-/// Returns the text of the error for options that contradict each other, or for a GUID or an SM_Key that is not 1 to 16
-/// hex digits. Returns an empty text without a subcommand.
+/// Returns the text of the error for options that contradict each other, or for a GUID or an SM_Key that is not 1 to
+/// 16 hex digits. Returns an empty text if there is no subcommand.
 fn conflict_text(matches: &ArgMatches<'_>) -> &'static str {
     let Some((_, words)) = matches.subcommand() else {
         return "";

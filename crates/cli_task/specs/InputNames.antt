@@ -12,7 +12,8 @@ use Rattle.cli_task.specs.declared.task.Task.{Task}
 use Rattle.cli_task.specs.declared.task.Task.TheVariants.{Answer, Audit, AuditByLane, OrderOf, Next, Run, Serve}
 use Rattle.cli_task.specs.Tasks.{task_asked}
 
--- the names of the texts that a rule takes, from the words for roots and order; None if one is missing
+-- the names of the texts that a rule takes, from the words for roots and order; None if the name of such a text is
+-- missing
 abbrev pub texts_of_rule : (List ℕ → Option (List ℕ)) → RuleAsked → Option (List (List ℕ))
 texts_of_rule word UpDown = Some []
 texts_of_rule word Spread = Some []
@@ -35,7 +36,7 @@ rule_of_task (Serve asked) = asked.rule
 abbrev pub followed_by : Option (List (List ℕ)) → Option (List (List ℕ)) → Option (List (List ℕ))
 followed_by first later = option_and_then (λ names. option_map (λ others. names ++ others) later) first
 
--- the name of a text that is asked for (true), None if the name is missing; empty if no text is asked for (false)
+-- the name of a text if one is asked for (true), or None if the name is missing; empty if no text is asked for (false)
 abbrev pub text_if : Bool → Option (List ℕ) → Option (List (List ℕ))
 text_if false name = Some []
 text_if true name = option_map (λ text. text ∷ []) name
@@ -47,7 +48,8 @@ step_texts word by_lane ordered =
     followed_by (text_if by_lane (word (codes "lanes"))) (followed_by (text_if ordered (word (codes "last-order")))
     (option_map (λ tables. tables ∷ []) (word (codes "TABLES"))))
 
--- the names of the texts that a task takes after that of its rule; None if one is missing; for `serve`, standard input
+-- the names of the texts that a task takes after the text of its rule; for `serve`, standard input. None if a name is
+-- missing, or if `serve` has no word for the GUID
 abbrev pub texts_asked : (List ℕ → Option (List ℕ)) → Task → Option (List (List ℕ))
 texts_asked word (Answer request) = Some []
 texts_asked word (Audit asked) = option_map (λ tables. tables ∷ []) (word (codes "TABLES"))
@@ -70,7 +72,7 @@ takes_files (Next asked) = true
 takes_files (Run lmc rule) = false
 takes_files (Serve asked) = false
 
--- the names of the files that a task takes, None if they are missing; empty if it takes no files
+-- the names of the files that a task takes, or None if they are missing; empty if the task takes no files
 abbrev pub files_asked : Option (List (List ℕ)) → Task → Option (List (List ℕ))
 files_asked files task = if takes_files task then files else Some []
 
@@ -80,7 +82,7 @@ abbrev pub names_in : (List ℕ → Option (List ℕ)) → Option (List (List �
 names_in word files task =
     followed_by (texts_of_rule word (rule_of_task task)) (followed_by (texts_asked word task) (files_asked files task))
 
--- the names of the inputs of a task, by the words after the subcommand; None if one is missing
+-- the names of the inputs of a task, according to the words after the subcommand; None if a name is missing
 abbrev pub names_asked : ArgMatches → Task → Option (List (List ℕ))
 names_asked matches task = names_in (word_named matches) (files_named matches) task
 

@@ -21,7 +21,8 @@ number_in word =
     if starts_with_minus word then option_and_then (within 0 0) (number_of 10 (drop 1 word))
     else number_of 10 (without_leading_plus word)
 
--- the number of the word if it fits 32 bits, and otherwise None; `otherwise` if there is no word
+-- the number of the word, or None if it does not fit in 32 bits or the word is not a number; `otherwise` if there is
+-- no word
 abbrev pub number_or : ℕ → Option (List ℕ) → Option ℕ
 number_or otherwise None = Some otherwise
 number_or otherwise (Some word) = option_and_then (within 0 4294967295) (number_in word)
@@ -43,12 +44,12 @@ spread_asked true false = Some SpreadFromRoots
 spread_asked false true = Some SpreadInOrder
 spread_asked true true = None
 
--- the rule that spreads with balanced loads, in a named order if `ordered`
+-- the rule that spreads with balanced loads, in a named order if `ordered` is true
 abbrev pub balance_asked : Bool → RuleAsked
 balance_asked ordered = if ordered then BalanceInOrder else Balance
 
--- the rule that the word names; up and down if there is no word. None if the word names no rule, or if roots or an
--- order are named with a rule that does not take them
+-- the rule that the word names; up and down if there is no word. None if the word names no rule, if roots or an order
+-- are named with a rule that does not take them, or if roots and an order are both named
 abbrev pub rule_asked : Option (List ℕ) → Bool → Bool → Option RuleAsked
 rule_asked None rooted ordered = if rooted || ordered then None else Some UpDown
 rule_asked (Some word) rooted ordered =
@@ -68,7 +69,7 @@ order_asked word =
     rule_asked (order_rule (word (codes "routing"))) (is_some (word (codes "roots"))) (is_some (word (codes "order")))
 
 -- the greatest load that passes, as the word names it; the inner value is None if there is no word. None if the word
--- names no number of 32 bits
+-- names no 32-bit number
 abbrev pub max_load_asked : Option (List ℕ) → Option (Option ℕ)
 max_load_asked None = Some None
 max_load_asked (Some word) = option_map Some (option_and_then (within 0 4294967295) (number_in word))

@@ -26,7 +26,8 @@ audit_asked word = option_and_then (λ floor. option_map
     (λ max_load. record { floor = floor; all = is_set (word (codes "all")); max_load = max_load })
     (max_load_asked (word (codes "max-load")))) (floor_asked (word (codes "floor")))
 
--- the task of an audit, lane by lane if `by_lane`; None if `answers`, which is about lanes, is set without it
+-- the task of an audit, lane by lane if the first argument is true; None if `answers`, which is about lanes, is true
+-- and the first argument is false
 abbrev pub audit_by : Bool → Bool → AuditAsked → Option Task
 audit_by true answers audit = Some (AuditByLane (record { audit = audit; answers = answers }))
 audit_by false false audit = Some (Audit audit)
@@ -37,14 +38,15 @@ abbrev pub audit_task : (List ℕ → Option (List ℕ)) → Option Task
 audit_task word = option_and_then
     (audit_by (is_some (word (codes "lanes"))) (is_set (word (codes "answers-as-asked")))) (audit_asked word)
 
--- the order that a step may go by, of those that the held tables imply: if `named`, the one nearest to the order that a
--- text names; otherwise, if `told`, the one nearest to the plan's; otherwise none
+-- of the orders that the held tables imply, the one that a step may go by: if the second argument is true, the one
+-- nearest to the order that a text names; otherwise, if `told` is true, the one nearest to the plan's order; otherwise
+-- none
 abbrev pub held_order_asked : Bool → Bool → HeldOrder
 held_order_asked told true = NearNamed
 held_order_asked true false = NearPlan
 held_order_asked false false = Ignored
 
--- the order that the words let a step go by, of those that the held tables imply, or none
+-- of the orders that the held tables imply, the one that the words let a step go by, or none
 abbrev pub held_order_of : (List ℕ → Option (List ℕ)) → HeldOrder
 held_order_of word = held_order_asked (is_set (word (codes "told-order"))) (is_some (word (codes "last-order")))
 
@@ -55,7 +57,8 @@ lanes_asked true answers = Some (ByText answers)
 lanes_asked false false = Some One
 lanes_asked false true = None
 
--- the choice of how credit loops in a step are judged, by the words; None if one of them is wrong
+-- the choice of how credit loops in a step are judged, as the words ask; None if a flag about lanes is set without a
+-- file of lanes
 abbrev pub lanes_of : (List ℕ → Option (List ℕ)) → Option StepLanes
 lanes_of word = lanes_asked (is_some (word (codes "lanes"))) (is_set (word (codes "answers-as-asked")))
 
@@ -78,7 +81,8 @@ serving_asked word = option_and_then (λ by. serving_by by (guid_asked (word (co
     (port_asked (word (codes "PORT"))) (priority_asked (word (codes "PRIORITY"))) (sm_key_asked (word (codes "sm-key"))))
     (planning_asked word)
 
--- the output that the subcommand `command` writes from facts; None if it is another subcommand, or a word is wrong
+-- the output that the subcommand `command` writes from facts; None if `command` is another subcommand, or if a word is
+-- wrong
 abbrev pub output_asked : (List ℕ → Option (List ℕ)) → List ℕ → Option Output
 output_asked word command =
     if bytes_eq command (codes "facts") then Some Facts

@@ -27,7 +27,7 @@ fn lmc_of(words: &ArgMatches<'_>) -> Option<Lmc>
 }
 
 /// Returns the number after the option `name`, or `otherwise` if the option is not given. Returns `None` if the option
-/// is not followed by a number of 32 bits.
+/// is not followed by a 32-bit number.
 fn number_or(words: &ArgMatches<'_>, name: &str, otherwise: u32) -> Option<u32>
     ensures { result ≡ number_or otherwise (first_value (found_of words.now) name.now) }
 {
@@ -37,8 +37,8 @@ fn number_or(words: &ArgMatches<'_>, name: &str, otherwise: u32) -> Option<u32>
     }
 }
 
-/// Returns the number that `text` writes in decimal, with or without a sign, as the parser of words reads it. Returns
-/// `None` if `text` does not write a number of 32 bits.
+/// Returns the number that `text` writes in decimal, with or without a sign, as the parser of the command line reads
+/// numbers. Returns `None` if `text` does not write a 32-bit number.
 fn number_in(text: &str) -> Option<u32>
     ensures { result ≡ option_and_then (within 0 4294967295) (number_in text.now) }
 {
@@ -63,8 +63,8 @@ fn rule_of(words: &ArgMatches<'_>) -> Option<RuleAsked>
     }
 }
 
-/// Returns the rule that spreads: from roots if `rooted`, in a named order if `ordered`. Returns `None` if `rooted` and
-/// `ordered` are both true.
+/// Returns the rule that spreads: from roots if `rooted` is true, in a named order if `ordered` is true. Returns
+/// `None` if `rooted` and `ordered` are both true.
 fn spread_by(rooted: bool, ordered: bool) -> Option<RuleAsked>
     ensures { result ≡ spread_asked rooted ordered }
 {
@@ -76,7 +76,7 @@ fn spread_by(rooted: bool, ordered: bool) -> Option<RuleAsked>
     }
 }
 
-/// Returns the rule that spreads with balanced loads, in a named order if `ordered`.
+/// Returns the rule that spreads with balanced loads, in a named order if `ordered` is true.
 fn balance_by(ordered: bool) -> RuleAsked
     ensures { result ≡ balance_asked ordered }
 {
@@ -163,8 +163,8 @@ pub(crate) fn sm_key_of(words: &ArgMatches<'_>) -> Option<u64>
     }
 }
 
-/// Returns the maximum load that passes, as asked by `words`, which are those after a subcommand. The inner value is
-/// `None` if the words name no maximum load. Returns `None` if the maximum load is not a number of 32 bits.
+/// Returns the maximum load that passes, as asked by `words`, which are those after a subcommand. Returns `Some(None)`
+/// if the words name no maximum load. Returns `None` if the maximum load is not a 32-bit number.
 pub(crate) fn max_load_of(words: &ArgMatches<'_>) -> Option<Option<u64>>
     ensures { result ≡ max_load_asked (first_value (found_of words.now) (codes "max-load")) }
 {

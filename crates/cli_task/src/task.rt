@@ -201,8 +201,8 @@ fn serving_of(words: &ArgMatches<'_>) -> Option<Serving>
     })
 }
 
-/// Returns what the subcommand `command` writes about files. Returns `None` if `command` is not `facts`, `join`, `plan`
-/// or `order`, or if one of `words` is wrong.
+/// Returns the output that the subcommand `command` writes from files. Returns `None` if `command` is not `facts`,
+/// `join`, `plan` or `order`, or if one of `words` is wrong.
 fn output_of(command: &str, words: &ArgMatches<'_>) -> Option<Output>
     ensures { result ≡ output_asked (first_value (found_of words.now)) command.now }
 {
@@ -218,8 +218,8 @@ fn output_of(command: &str, words: &ArgMatches<'_>) -> Option<Output>
     }
 }
 
-/// Returns the names of the inputs of `task` in the order in which they are read: the text of its rule, its own texts,
-/// and its files. Returns `None` if there is no subcommand, or if an input is not named.
+/// Returns the names of the inputs of `task` in the order in which they are read: the text that its rule takes, its
+/// other texts, and its files. Returns `None` if there is no subcommand, or if an input is not named.
 pub fn names_of<'a>(
     alloc: Global,
     matches: &ArgMatches<'a>,
@@ -234,8 +234,8 @@ pub fn names_of<'a>(
     }
 }
 
-/// Returns the names of the inputs of `task`, by `words`, which are those after the subcommand. Returns `None` if an
-/// input is not named.
+/// Returns the names of the inputs of `task` according to `words`, which are those after the subcommand. The names are
+/// in the order in which the inputs are read. Returns `None` if an input is not named.
 fn names_behind<'a>(
     alloc: Global,
     words: &ArgMatches<'a>,

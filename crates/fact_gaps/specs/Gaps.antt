@@ -19,7 +19,7 @@ use Rattle.fact_gaps.specs.NamedPorts.{IsNamedNode, IsNamedPort, named_nodes, na
 abbrev pub is_known_type : Option (NodeType × ℕ) → Bool → Bool
 is_known_type node room = option_map_or (λ n. not (is_switch n.0) || room) node false
 
--- the type of the node `g` is known and, if it is a switch, its table room
+-- the type of the node `g` is known and, if the node is a switch, its table room is known
 abbrev pub is_known_node : Cells → ℕ → Bool
 is_known_node cells g = is_known_type (node_of cells g) (is_some (cap_of cells g))
 
@@ -37,16 +37,16 @@ is_known_port cells e =
     if e.1 == 0 then is_end_port cells e.0 e.1
     else is_some (across cells e.0 e.1) || is_said_down (up_of cells e.0 e.1)
 
--- the end port of the node `e.0` with the number `e.1`
+-- the port with the number `e.1` of the node `e.0`, as an end port
 abbrev pub port_at : ℕ × ℕ → EndPort
 port_at e = record { node = e.0; port = e.1 }
 
--- the named ports that are not known (`is_known_port`), each once, by node and port
+-- the named ports that are not known (`is_known_port`), each once, in ascending order of node GUID and port
 abbrev pub unjoined_ports : Cells → List EndPort
 unjoined_ports cells =
     map port_at (each_once port_cmp (filter (λ e. not (is_known_port cells e)) (named_ports cells)))
 
--- each of `guids` is the GUID of a node whose type is known and, if it is a switch, its table room
+-- each of `guids` is the GUID of a node whose type is known and, if it is a switch, whose table room is known
 abbrev pub AreKnownNodes : Cells → List ℕ → Type 0
 AreKnownNodes cells guids = (g : ℕ) → Contains guids g → is_known_node cells g ≡ true
 
@@ -56,7 +56,7 @@ AreKnownPorts cells ports = (e : ℕ × ℕ) → Contains ports e → is_known_p
 
 -- laws -------------------------------------------------------------------------------------------
 
--- the type of the node `g` and its number of ports are known and, if it is a switch, its table room
+-- the type of the node `g` and its number of ports are known and, if the node is a switch, its table room is known
 abbrev pub IsKnownNode : Cells → ℕ → Type 0
 IsKnownNode cells g = (kind : NodeType) × (ports : ℕ) × IsNodeWith cells g kind ports
     × MatchBool (is_switch kind) (IsSome (cap_of cells g)) (Unit {0})
@@ -85,8 +85,8 @@ pub record ListsNodes (cells : Cells) (guids : List ℕ) : Type 0 where
   pub only : (g : ℕ) → Contains guids g → IsNamedNode cells g × ¬ (IsKnownNode cells g)
   pub rises : AllPairs (λ a b. a < b) guids
 
--- each named port is known or listed; a port is listed only if it is named and not known, and only once, by node and
--- port
+-- each named port is known or listed; a port is listed only if it is named and not known, and only once, in ascending
+-- order of node GUID and port
 pub record ListsPorts (cells : Cells) (ports : List EndPort) : Type 0 where
   pub each : (g p : ℕ) → IsNamedPort cells (g, p) → IsKnownPort cells g p ⊎ Contains ports (port_at (g, p))
   pub only : (e : EndPort) → Contains ports e
@@ -97,6 +97,7 @@ pub record ListsPorts (cells : Cells) (ports : List EndPort) : Type 0 where
 abbrev pub NodesLaw : Type 0
 NodesLaw = (cells : Cells) → ListsNodes cells (unusable_nodes cells)
 
--- `unjoined_ports` lists exactly the named ports that are not known, each once, by node and port
+-- `unjoined_ports` lists exactly the named ports that are not known, each once, in ascending order of node GUID and
+-- port
 abbrev pub PortsLaw : Type 0
 PortsLaw = (cells : Cells) → ListsPorts cells (unjoined_ports cells)

@@ -21,6 +21,6 @@ abbrev pub each_once : {X : Type 0} → (X → X → Ordering) → List X → Li
 each_once cmp [] = []
 each_once cmp (x ∷ xs) = put_once cmp x (each_once cmp xs)
 
--- the order of ports by node, then by port
+-- the order of ports: by node GUID, and then by port
 abbrev pub port_cmp : ℕ × ℕ → ℕ × ℕ → Ordering
 port_cmp a b = ordering_then (nat_cmp a.0 b.0) (nat_cmp a.1 b.1)

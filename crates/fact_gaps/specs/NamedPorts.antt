@@ -13,8 +13,8 @@ use Rattle.subnet_view.specs.Reading.{Cells, is_switch_in}
 abbrev pub own_node : Key × Cell Value → Option ℕ
 own_node s = Some (key_guid s.0)
 
--- the port that a cell is about; port 0 for the cell of a node that is known to be a switch; None for the cell of any
--- other node, and for that of a table room
+-- the port that a cell is about; for the cell of a node, port 0 if the node is known to be a switch, otherwise None;
+-- None for a cell of table room
 abbrev pub own_port : Key × Cell Value → Option (ℕ × ℕ)
 own_port ((Node g), c) = if is_switch_in (kind_in (value_in (Some c))) then Some (g, 0) else None
 own_port ((PortGuid g p), c) = Some (g, p)
@@ -33,12 +33,12 @@ abbrev pub link_key : Key × Cell Value → Option (ℕ × ℕ)
 link_key ((Link g p), c) = Some (g, p)
 link_key (_, c) = None
 
--- the port to which a link leads, by its cell; None if that is not known, or for a cell of another kind
+-- the port to which a link leads, by the link's cell; None if the port is not known, or for a cell of another kind
 abbrev pub far_port : Key × Cell Value → Option (ℕ × ℕ)
 far_port ((Link g p), c) = peer_in (value_in (Some c))
 far_port (_, c) = None
 
--- the node to which a link leads, by its cell; None if that is not known, or for a cell of another kind
+-- the node to which a link leads, by the link's cell; None if the node is not known, or for a cell of another kind
 abbrev pub far_node : Key × Cell Value → Option ℕ
 far_node s = option_map (λ q. q.0) (far_port s)
 
@@ -66,6 +66,6 @@ named_nodes cells = filter_map own_node cells ++ filter_map far_node cells
 abbrev pub named_ports : Cells → List (ℕ × ℕ)
 named_ports cells = filter_map own_port cells ++ filter_map far_port cells
 
--- what the cell names by `name`; None if it names nothing, or this does not pass `test`
+-- what the cell names by `name`; None if it names nothing, or if what it names does not pass `test`
 abbrev pub kept : {X : Type 0} → (X → Bool) → (Key × Cell Value → Option X) → Key × Cell Value → Option X
 kept test name s = option_and_then (λ x. if test x then Some x else None) (name s)

@@ -5,7 +5,7 @@ ghost use Rattle.fact_gaps.specs.InOrder.{each_once, port_cmp};
 
 use smp_bytes::{Guid, PortNum};
 
-/// Sorts `guids` and removes duplicates.
+/// Sorts `guids` in ascending order, and removes duplicates.
 pub(crate) fn order_guids(guids: &mut Vec<Guid>)
     ensures { guids.new.items ≡ each_once nat_cmp guids.old.items }
 {
@@ -13,7 +13,7 @@ pub(crate) fn order_guids(guids: &mut Vec<Guid>)
     guids.dedup();
 }
 
-/// Sorts `ports` by node and port, and removes duplicates.
+/// Sorts `ports` by node GUID and then by port, and removes duplicates.
 pub(crate) fn order_ports(ports: &mut Vec<(Guid, PortNum)>)
     ensures { ports.new.items ≡ each_once port_cmp ports.old.items }
 {

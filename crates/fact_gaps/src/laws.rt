@@ -7,8 +7,8 @@ pub fn unusable_nodes_are_listed()
     ensures { NodesLaw }
 {}
 
-/// Each port that facts name is listed once, by node and port, unless it has a wire, is known to be down and is not
-/// port 0, or is a switch's port 0 whose port GUID is known. No other port is listed.
+/// Each port that facts name is listed once, in ascending order of node GUID and port, unless it has a wire, is known
+/// to be down and is not port 0, or is a switch's port 0 whose port GUID is known. No other port is listed.
 pub fn unjoined_ports_are_listed()
     ensures { PortsLaw }
 {}

@@ -110,8 +110,8 @@ fn is_known_by(store: &Store, known: &[Guid], node: Guid) -> bool
     known.binary_search(&node).is_ok() || is_known_node(store, node)
 }
 
-/// Returns whether the type of `node` is known and, if `node` is a switch, its table room is known too. Takes at most
-/// two searches of `store`.
+/// Returns whether the type of `node` is known and, if `node` is a switch, its table room is known too. Searches
+/// `store` at most twice.
 fn is_known_node(store: &Store, node: Guid) -> bool
     ensures { result ≡ is_known_node (cells_of store.now) node }
 {
@@ -133,7 +133,7 @@ pub(crate) fn far_port(sighting: &Sighting) -> Option<(Guid, PortNum)>
     }
 }
 
-/// Returns the port that is the value of `sighting`, or `None` if that value is disputed or is not a port.
+/// Returns the port that is the value of `sighting`, or `None` if the value is disputed or is not a port.
 fn peer_said(sighting: &Sighting) -> Option<(Guid, PortNum)>
     ensures { result ≡ peer_in (value_in (Some sighting.now.1)) }
 {

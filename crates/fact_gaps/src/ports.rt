@@ -14,10 +14,10 @@ use smp_bytes::{Guid, NodeType, PortNum};
 use std::alloc::{AllocError, Global};
 use subnet_view::{EndPort, Wires, is_end_port};
 
-/// Returns the unjoined ports that the cells of `wires` name, each once, by node and port. Port 0 is unjoined if it is
-/// not the end port of a switch. Any other port is unjoined if it has no wire and is not known to be down. A cell names
-/// the port of its key, if the key has one. The cell of a link also names the port at the far end, if the cell says
-/// where the link leads. The cell of a known switch names port 0 of the switch.
+/// Returns the unjoined ports that the cells of `wires` name, each once, in ascending order of node GUID and port.
+/// Port 0 is unjoined if it is not the end port of a switch. Any other port is unjoined if it has no wire and is not
+/// known to be down. A cell names the port of its key, if the key has one. The cell of a link also names the port at
+/// the far end, if the cell says where the link leads. The cell of a known switch names port 0 of the switch.
 pub fn unjoined_ports(alloc: Global, wires: &Wires) -> Result<Vec<EndPort>, AllocError>
     ensures { IfOk result (λ ports. ports.items ≡ unjoined_ports (cells_of wires.now)) }
 {
@@ -29,7 +29,7 @@ pub fn unjoined_ports(alloc: Global, wires: &Wires) -> Result<Vec<EndPort>, Allo
     end_ports_at(alloc, &ports)
 }
 
-/// Returns the ports that have a link cell and are not unjoined, by node and port.
+/// Returns the ports that have a link cell and are not unjoined, in ascending order of node GUID and port.
 fn known_ports(alloc: Global, wires: &Wires) -> Result<Vec<(Guid, PortNum)>, AllocError>
     ensures { IfOk result (λ known. known.items
         ≡ filter_map (kept (is_known_port (cells_of wires.now)) link_key) (cells_of wires.now)) }
@@ -155,7 +155,7 @@ fn if_unjoined(
 }
 
 /// Returns whether `port` of `node` is not unjoined. No port in `known` may be unjoined. Does a binary search among
-/// `known`, and what `is_known_port` takes if `known` lacks the port.
+/// `known`. If `known` lacks the port, also takes the time of `is_known_port`.
 fn is_known_by(wires: &Wires, known: &[(Guid, PortNum)], node: Guid, port: PortNum) -> bool
     requires { AreKnownPorts (cells_of wires.now) known.now }
     ensures { result ≡ is_known_port (cells_of wires.now) (node, port) }
@@ -163,8 +163,8 @@ fn is_known_by(wires: &Wires, known: &[(Guid, PortNum)], node: Guid, port: PortN
     known.binary_search(&(node, port)).is_ok() || is_known_port(wires, node, port)
 }
 
-/// Returns the port that `sighting` is about. If `sighting` says that its node is a switch, that is port 0 of the node.
-/// Returns `None` for the cell of any other node, and for the cell of a table room.
+/// Returns the port that `sighting` is about. If `sighting` says that its node is a switch, returns port 0 of the
+/// node. Returns `None` for the cell of any other node, and for a cell of table room.
 fn own_port(sighting: &Sighting) -> Option<(Guid, PortNum)>
     ensures { result ≡ own_port sighting.now }
 {
@@ -191,8 +191,8 @@ fn is_switch_said(sighting: &Sighting) -> bool
     matches!(sighting.value(), Some(Value::Kind(NodeType::Switch, _)))
 }
 
-/// Returns whether `port` of `node` is known to be down or has a wire. For port 0, returns whether `port` is the end
-/// port of a switch.
+/// Returns whether `port` of `node` is known to be down or has a wire. For port 0, returns whether it is the end port
+/// of a switch.
 fn is_known_port(wires: &Wires, node: Guid, port: PortNum) -> bool
     ensures { result ≡ is_known_port (cells_of wires.now) (node, port) }
 {

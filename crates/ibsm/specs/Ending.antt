@@ -27,7 +27,8 @@ use Rattle.ibsm.specs.Opening.{AreOpened, IsOpenFault}
 
 -- what is done ----------------------------------------------------------------------------------
 
--- `count` names are enough for the texts that a task takes; a run and the serving of a manager take no files after them
+-- `count` names are enough for the texts that a task takes; for a run and for serving a manager, there is no further
+-- name
 abbrev pub HasEnoughNames : Task → ℕ → Type 0
 HasEnoughNames (Answer request) count = texts_for (rule_for request.output) ≤ count
 HasEnoughNames (Audit asked) count = 1 ≤ count
@@ -56,7 +57,7 @@ Does state (Run lmc rule) olds news prints says passed =
 Does state (Serve asked) olds news prints says passed =
     (passed ≡ true) × HasServedLines state asked olds news prints
 
--- standard error is as it was before the task; for a step (`Next`), which may write to it, this says nothing
+-- standard error is as it was before the task; nothing is said for a step (`Next`), which may write to standard error
 abbrev pub StaysSilent : {E : Type 0} → Task → E → E → Type 0
 StaysSilent (Next asked) errors errors' = Unit {0}
 StaysSilent task errors errors' = errors' ≡ errors
@@ -145,7 +146,7 @@ abbrev pub name_at : Option (Bor (List ℕ)) → List ℕ
 name_at None = []
 name_at (Some name) = name.now
 
--- the name of the file that a fault concerns; empty if it concerns none
+-- the name of the file that a fault concerns; empty if the fault concerns no file
 abbrev pub name_of : List (Bor (List ℕ)) → Fault → List ℕ
 name_of names (Open input) = name_at (slice_get names input)
 name_of names (File input fault) = name_at (slice_get names input)

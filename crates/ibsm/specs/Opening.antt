@@ -29,7 +29,7 @@ abbrev pub AreThere : {S : Type 0} → (List ℕ → Result S OpenFault → Type
 AreThere answers names input =
     (k : ℕ) (name : Bor (List ℕ)) → k < input → slice_get names k ≡ Some name → IsThere (answers name.now)
 
--- the name at `input` is missing, and no earlier one is
+-- the name at `input` is missing, and no earlier name is
 pub record IsFirstMissing {S : Type 0} (answers : List ℕ → Result S OpenFault
     → Type 0) (names : List (Bor (List ℕ))) (input : ℕ) : Type 0 where
   pub name : Bor (List ℕ)
@@ -51,8 +51,8 @@ pub record LacksMemory {S : Type 0} (answers : List ℕ → Result S OpenFault
   pub refused : WasRefusedMemory answers names
   pub there : AreThere answers names (length names)
 
--- opening the files `names` ends with a fault: the fault names the first name that is missing, or none is missing and
--- memory ran out
+-- opening the files `names` ends with a fault: the fault has the index of the first name that is missing, or no name
+-- is missing and memory ran out
 abbrev pub IsOpenFault : {S : Type 0} → (List ℕ → Result S OpenFault → Type 0) → List (Bor (List ℕ)) → Fault → Type 0
 IsOpenFault answers names (faults.Open input) = IsFirstMissing answers names input
 IsOpenFault answers names faults.Memory = LacksMemory answers names

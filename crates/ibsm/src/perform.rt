@@ -23,8 +23,8 @@ use std::alloc::Global;
 use std::io::Write;
 
 /// Performs `task` over the files `names`, the inputs of `task` in the order in which they are read. There must be
-/// enough names for the task. All files are opened before the first one is read. If the task cannot be done, writes the
-/// reason to `errors`.
+/// enough names for the task; a run and serving a manager take no further names. All files are opened before the first
+/// one is read. If the task cannot be done, writes the reason to `errors`.
 pub(crate) fn perform_or_explain<R, O, E>(
     rt: &R,
     task: Task,
@@ -68,8 +68,8 @@ fn status_after(passed: bool) -> ExitStatus
     }
 }
 
-/// Opens the files `names` and performs `task` over them. There must be enough names for the task. Returns whether what
-/// `task` judges passes. A task that judges nothing passes.
+/// Opens the files `names` and performs `task` over them. There must be enough names for the task; a run and serving a
+/// manager take no further names. Returns whether what `task` judges passes. A task that judges nothing passes.
 fn perform<R, O, E>(
     rt: &R,
     task: Task,
@@ -102,8 +102,8 @@ where
     }
 }
 
-/// Performs `task` over `inputs`, which are open. There must be enough inputs for the task. Returns whether what `task`
-/// judges passes. A task that judges nothing passes.
+/// Performs `task` over `inputs`, which are open. There must be enough inputs for the task; a run and serving a
+/// manager take no further inputs. Returns whether what `task` judges passes. A task that judges nothing passes.
 fn do_task<S: Source, W: Sink, E: Sink>(
     alloc: Global,
     task: Task,
@@ -144,7 +144,7 @@ fn do_task<S: Source, W: Sink, E: Sink>(
 }
 
 /// Writes the line of `fault` to `errors`, and returns the exit status of `fault`, whether or not the write fails.
-/// `names` are the files of the run.
+/// `names` are the names of the run's files.
 pub(crate) fn say<E: Write>(errors: &mut ToWrite<E>, names: &[&str], fault: &Fault) -> ExitStatus
     ensures status { result ≡ status_of fault.now }
     ensures said { IsSaid ⟦<ToWrite<E> as Sink>⟧.written ⟦<ToWrite<E> as Sink>⟧.has_failed errors.old errors.new

@@ -37,7 +37,7 @@ pub record IsDroppedByAny (s : SeenByLane) (others : List HeldPlan) (answers : B
   pub one : IsDroppedOne s.said (cells_of s.seen.facts) (columns_for s others dropped.lid) (SentFor s answers dropped.lid)
       dropped.lid dropped
 
--- a packet is dropped for want of a lane, by any of the tables: the given one; for None, no packet is
+-- the given packet is dropped for want of a lane, by the tables of `s` or one of `others`; for None, no packet is
 abbrev pub IsSomeDropByAny : SeenByLane → List HeldPlan → Bool → Option Dropped → Type 0
 IsSomeDropByAny s others answers None = (dropped : Dropped) → IsDroppedByAny s others answers dropped → ⊥
 IsSomeDropByAny s others answers (Some dropped) = IsDroppedByAny s others answers dropped
@@ -54,7 +54,7 @@ WaitOnByAny s others answers channel [] last = WaitsByAny s others answers chann
 WaitOnByAny s others answers channel (next ∷ later) last =
     WaitsByAny s others answers channel next × WaitOnByAny s others answers next later last
 
--- the channels by lane of a list, at least one, wait in a credit loop by any of the tables: each for the next one, and
+-- a list is not empty, and its channels by lane wait in a credit loop by any of the tables: each for the next one, and
 -- the last for the first
 abbrev pub WaitInCycleByAny : SeenByLane → List HeldPlan → Bool → List ℕ → Type 0
 WaitInCycleByAny s others answers [] = ⊥

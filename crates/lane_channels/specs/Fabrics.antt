@@ -13,8 +13,8 @@ use Rattle.lanes_file.specs.Lanes.{LanesSaid, lane_of}
 use Rattle.lane_channels.specs.LaneNetwork.{SeenByLane}
 use Rattle.lane_channels.specs.Levels.{HasLevel}
 
--- the lane of a packet, by the node, the port by which the packet comes in, the port by which it leaves, and its
--- service level
+-- the lane of a packet; it depends on the node, the port by which the packet comes in, the port by which it leaves,
+-- and its service level
 abbrev pub LaneMaps : Type 0
 LaneMaps = ℕ → ℕ → ℕ → ℕ → ℕ
 
@@ -24,16 +24,18 @@ HoldLanes part said f vl =
     (port : NodePort) (node : Node) (into out level : ℕ) → IsEndPortIn part f port node → IsTrue (is_switch node.kind)
     → vl port.node into out level ≡ lane_of said node.guid into out level
 
--- the port by which a packet came in at the node where it takes the hop at an index of the list; 0 if it was sent there
+-- the port by which a packet came in at the node from which it takes the hop at the given index of the list; 0 if the
+-- packet was sent from that node
 abbrev pub came_by : ℕ → List Hop → ℕ
 came_by zero hops = 0
 came_by (suc nth) hops = option_map_or (λ (h : Hop). h.into.port) (slice_get hops nth) 0
 
--- the lane by which a packet of `level` takes `hop`, the one at index `nth`
+-- the lane on which a packet of `level` takes `hop`, the hop at index `nth`
 abbrev pub lane_at : LaneMaps → ℕ → List Hop → ℕ → Hop → ℕ
 lane_at vl level hops nth hop = vl hop.out.node (came_by nth hops) hop.out.port level
 
--- the hop at index `nth` goes from one switch to another, and `channel` is its channel by lane
+-- the hop at index `nth` goes from one switch to another, and `channel` is the channel by lane on which a packet of
+-- `level` takes this hop
 pub record IsLaneChannel (cells : Cells) (f : Fabric) (vl : LaneMaps) (level : ℕ) (hops : List Hop) (nth channel : ℕ)
     : Type 0 where
   pub hop : Hop

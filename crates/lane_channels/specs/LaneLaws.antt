@@ -15,8 +15,8 @@ use Rattle.fabric_model.specs.Forwarding.{Hop}
 use Rattle.packet_walks.specs.Fabrics.{IsSeenIn}
 use Rattle.lane_channels.specs.Fabrics.{LaneMaps, HoldLanes, IsLaneChannel, IsCarried, TravelsAt}
 
--- if numbers of channels rise on one lane by the held tables, numbers of channels by lane rise, whatever the lanes and
--- the service levels are
+-- if numbers of channels on one lane rise by the held tables, channels by lane also have numbers that rise, whatever
+-- the lanes and the service levels are
 abbrev pub OneLaneSuffices : Type 0
 OneLaneSuffices =
     (s : SeenByLane) (answers : Bool) (numbers : List ℕ) → RiseOnWays (cells_of s.seen.facts) s.seen.held numbers
@@ -26,8 +26,8 @@ OneLaneSuffices =
 abbrev pub NeverBothByLane : Type 0
 NeverBothByLane = (s : SeenByLane) (answers : Bool) (cycle : List ℕ) → RiseByLane s answers → ¬ (WaitInCycle s answers cycle)
 
--- if all packets that have a service level have a lane below 15 by the text, no packet is dropped for want of a lane,
--- by any of several tables
+-- if all packets that have a service level have a lane below 15 according to the text, no packet is dropped for want
+-- of a lane, by any of several tables
 abbrev pub AllCarried : Type 0
 AllCarried =
     (s : SeenByLane) (others : List HeldPlan) (answers : Bool) → CarriesAll s.said → (dropped : Dropped)

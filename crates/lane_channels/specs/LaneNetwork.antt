@@ -20,7 +20,7 @@ abbrev pub seen_by_lane_code : Coded SeenByLane
 seen_by_lane_code = code_by (Seen × LanesSaid) (coded× seen_code (lanes.the_row).coded) (λ s. (s.seen, s.said)) (λ p.
     record { seen = p.0; said = p.1 }) (λ _. refl)
 
--- the lists of numbers that vectors have
+-- the items of each of the given vectors
 abbrev pub lists_of : List (Vec ℕ Global) → List (List ℕ)
 lists_of = map (λ lids. lids.items)
 

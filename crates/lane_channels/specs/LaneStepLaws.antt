@@ -14,28 +14,30 @@ use Rattle.fabric_model.specs.Forwarding.{Hop}
 use Rattle.packet_walks.specs.Fabrics.{IsSeenIn}
 use Rattle.lane_channels.specs.Fabrics.{LaneMaps, HoldLanes, IsLaneChannel, IsCarried, TravelsAt}
 
--- if numbers of channels rise on one lane in a step, numbers of channels by lane rise in it, whatever the lanes and the
--- service levels are
+-- if numbers of channels on one lane rise in a step, channels by lane also have numbers that rise in the step,
+-- whatever the lanes and the service levels are
 abbrev pub OneLaneSufficesInStep : Type 0
 OneLaneSufficesInStep =
     (s : SeenByLane) (next : HeldPlan) (answers : Bool) (numbers : List ℕ)
     → RiseInStep (cells_of s.seen.facts) s.seen.held next numbers → RiseByAny s (next ∷ []) answers
 
--- if numbers of channels by lane rise in a step, no channels by lane wait in a credit loop in it
+-- if channels by lane have numbers that rise in a step, no channels by lane wait in a credit loop in the step
 abbrev pub NeverBothByLaneInStep : Type 0
 NeverBothByLaneInStep =
     (s : SeenByLane) (next : HeldPlan) (answers : Bool) (cycle : List ℕ) → RiseByAny s (next ∷ []) answers
     → ¬ (WaitInCycleByAny s (next ∷ []) answers cycle)
 
--- if numbers of channels by lane rise in a step, they also rise by the tables held before it
+-- if channels by lane have numbers that rise in a step, they also have numbers that rise by the tables held before the
+-- step
 abbrev pub HeldRiseInStep : Type 0
 HeldRiseInStep =
     (s : SeenByLane) (next : HeldPlan) (answers : Bool) → RiseByAny s (next ∷ []) answers → RiseByLane s answers
 
 -- in a step, of two channels by lane that a packet takes one right after the other, without being dropped, the second
--- has the greater number. An end port that is joined to the end port `origin` sends the packet, at a level that it has.
--- Premises: numbers rise by the tables of `s` and by those of `next_held`; the facts describe all that is joined to
--- `origin`; and this part holds the lanes, and tables that are a mixture of both for the packet's LID
+-- has the greater number. An end port that is joined to the end port `origin` sends the packet, at a level that it
+-- has. Premises: numbers rise by the tables of `s` and by those of `next_held`; the facts describe all that is joined
+-- to `origin`; and this part holds the lanes, and tables that for the packet's LID are a mixture of the tables of `s`
+-- and of `next_held`
 abbrev pub StepLaneChannelsRise : Type 0
 StepLaneChannelsRise =
     (s : SeenByLane) (next_held : HeldPlan) (answers : Bool) (f : Fabric) (origin : NodePort) (vl : LaneMaps)

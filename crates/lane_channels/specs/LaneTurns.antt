@@ -6,8 +6,8 @@ use Rattle.subnet_view.specs.Reading.{Cells}
 use Rattle.lanes_file.specs.Lanes.{LanesSaid}
 use Rattle.lane_channels.specs.Stops.{Columns, HasEdge, lane_between, lane_by, lane_number, port_across}
 
--- a packet of `level` at `stop` leaves that switch by `channel` and the next one by `next`, channels by lane, each
--- along the switch's edge in some column; the packet is dropped at neither switch
+-- a packet of `level` at `stop` leaves that switch on the channel by lane `channel`, along an edge of some column. It
+-- leaves the next switch on the channel by lane `next`, along an edge of some column. Neither switch drops it
 pub record TakesByLane (said : LanesSaid) (cells : Cells) (columns : Columns) (level : ℕ) (stop : ℕ) (channel next : ℕ)
     : Type 0 where
   pub first : Edge

@@ -26,20 +26,20 @@ pub record AnswersOf (said : LanesSaid) (asker : EndPort) (lids : List ℕ) (cou
 abbrev pub AnswersTo : LanesSaid → List EndPort → List ℕ → Option ℕ → ℕ → Option ℕ → Type 0
 AnswersTo said owners lids first level begin = (begin ≡ first) × IsAsked said owners lids level
 
--- the end port at `index` sends packets of `level` for `lid`, and they first reach a usable switch at the stop `begin`;
--- at none for None
+-- the end port at `index` sends packets of `level` for `lid`, and they first reach a usable switch at the stop
+-- `begin`; if this is None, they reach no usable switch
 pub record SentFrom (s : SeenByLane) (answers : Bool) (lid index level : ℕ) (begin : Option ℕ) : Type 0 where
   pub source : EndPort
   pub source_is : slice_get (end_ports (cells_of s.seen.facts)) index ≡ Some source
   pub has_level : HasLevel s.said answers s.seen.held source lid level
   pub begins : begin ≡ first_stop (cells_of s.seen.facts) source
 
--- some end port sends packets of `level` for `lid`, and they first reach a usable switch at the stop `begin`; at none
--- for None
+-- some end port sends packets of `level` for `lid`, and they first reach a usable switch at the stop `begin`; if this
+-- is None, they reach no usable switch
 abbrev pub SentFor : SeenByLane → Bool → ℕ → ℕ → Option ℕ → Type 0
 SentFor s answers lid level begin = (index : ℕ) × SentFrom s answers lid index level begin
 
--- if answers are followed, `asked` has, for each end port, the LIDs that it holds
+-- if answers are followed, `asked` has, for each end port, the LIDs that this end port holds
 abbrev pub HasAsked : SeenByLane → Asked → Type 0
 HasAsked s asked =
     asked.answers ≡ true

@@ -1,5 +1,6 @@
 -- Where packets come in at usable switches, and where they go from there. A stop is a port by which packets come in at
--- a usable switch: its number is 256 times the switch's index, plus the port, which is 0 for the switch's own packets.
+-- a usable switch. Its number is 256 times the index of the switch, plus the port. The port is 0 for packets that the
+-- switch itself sends.
 use Rattle.std.specs.Prelude.{◌≡◌, ℕ, zero, suc, ◌/◌, ◌%◌, ◌+◌, ◌*◌, ◌&&◌, List, [], Option, None, Some, length, nat_lt, slice_get, slice_index_or}
 use Rattle.std.specs.Prelude.{if◌then◌else◌}
 use Rattle.std.specs.Option.{option_map_or}
@@ -31,8 +32,9 @@ abbrev pub far_port_by : Cells → ℕ → ℕ
 far_port_by cells number =
     option_map_or (λ g. far_port cells g (number % 256)) (slice_get (switches cells) (number / 256)) 0
 
--- the stop at which a sender's packets first reach a usable switch: port 0 of the sender's own switch, if it has an
--- index, or else port `port` of the switch to which its wire leads; None if they reach none
+-- the stop at which a sender's packets first reach a usable switch: port 0 of the switch that the sender itself is, if
+-- its index is given, or else port `port` of the switch to which the sender's wire leads; None if the packets reach no
+-- usable switch
 abbrev pub stop_by : Option ℕ → Far → ℕ → Option ℕ
 stop_by (Some index) far port = Some (stop_at index 0)
 stop_by None (Switch index) port = Some (stop_at index port)
@@ -56,7 +58,7 @@ guid_at cells index = slice_index_or (switches cells) index 0
 abbrev pub lane_between : LanesSaid → Cells → ℕ → ℕ → ℕ → ℕ → ℕ
 lane_between said cells level index into out = lane_of said (guid_at cells index) into out level
 
--- the lane by which a packet of `level` at `stop` leaves along `edge`
+-- the lane on which a packet of `level` at `stop` leaves along `edge`
 abbrev pub lane_by : LanesSaid → Cells → ℕ → ℕ → Edge → ℕ
 lane_by said cells level stop edge = lane_between said cells level (stop / 256) (stop % 256) edge.port
 
@@ -73,7 +75,7 @@ abbrev pub port_across : Cells → ℕ → ℕ → ℕ
 port_across cells index out = far_port_by cells (256 * index + out)
 
 -- the stop to which a packet of `level` at `stop` goes along `edge`; None if the packet is dropped, or if `edge` leads
--- to no switch
+-- to no usable switch
 abbrev pub carried : LanesSaid → Cells → ℕ → ℕ → Edge → Option ℕ
 carried said cells level stop edge =
     if nat_lt edge.to (length (switches cells)) && nat_lt (lane_by said cells level stop edge) 15

@@ -24,7 +24,7 @@ FirstEdges columns index count edge = (nth : ℕ) × (nth < count) × (edge_by c
 abbrev pub IsNoOther : Columns → ℕ → ℕ → Type 0
 IsNoOther columns index nth = (edge : Edge) → edge_by columns index nth ≡ Some edge → FirstEdges columns index nth edge
 
--- packets of `level` that come in at the switch at `index` by port `into` leave it by `channel`, a channel by lane,
+-- packets of `level` that come in at the switch at `index` by port `into` leave it on the channel by lane `channel`,
 -- along one of the edges `these`; they are not dropped there
 pub record LeavesAlong (said : LanesSaid) (cells : Cells) (these : Edges) (level index into channel : ℕ) : Type 0 where
   pub edge : Edge
@@ -32,7 +32,7 @@ pub record LeavesAlong (said : LanesSaid) (cells : Cells) (these : Edges) (level
   pub lane_is : lane_between said cells level index into edge.port < 15
   pub channel_is : channel ≡ lane_number index edge.port (lane_between said cells level index into edge.port)
 
--- in `new` a channel `b` follows a channel `a` exactly if it does in `old`, or if `b` is one of `nexts` and `a` is
+-- in `new` a channel `b` follows a channel `a` exactly when it does in `old`, or if `b` is one of `nexts` and `a` is
 -- `channel`
 pub record IsWithNexts (old : List (List ℕ)) (channel : ℕ) (nexts : ℕ → Type 0) (new : List (List ℕ)) : Type 0 where
   pub as_many : length new ≡ length old
@@ -58,11 +58,11 @@ pub record Walking : Type 0 where
   pub kept : Walked
   pub stops : List ℕ
 
--- the record of packets, without the stops that are left to visit
+-- the record of the packets followed so far, without the stops that are left to visit
 abbrev pub walked : Walks → Walked
 walked walks = record { marks = walks.marks.items; waits = walks.waits; dropped = walks.dropped }
 
--- the record of packets, and the stops that are left to visit
+-- the record of the packets followed so far, and the stops that are left to visit, as `Walks` holds them
 abbrev pub walking : Walks → Walking
 walking walks = record { kept = walked walks; stops = walks.stops.items }
 

@@ -22,7 +22,7 @@ AreLaneWaits s answers waits = AreWaitsByAny s [] answers waits
 abbrev pub IsDroppedByLane : SeenByLane → Bool → Dropped → Type 0
 IsDroppedByLane s answers dropped = IsDroppedByAny s [] answers dropped
 
--- by the held tables, `dropped` is a packet that is dropped for want of a lane; if it is None, there is none
+-- by the held tables, `dropped` is a packet that is dropped for want of a lane; if `dropped` is None, no packet is
 abbrev pub IsSomeDrop : SeenByLane → Bool → Option Dropped → Type 0
 IsSomeDrop s answers dropped = IsSomeDropByAny s [] answers dropped
 
@@ -30,12 +30,12 @@ IsSomeDrop s answers dropped = IsSomeDropByAny s [] answers dropped
 abbrev pub RiseByLane : SeenByLane → Bool → Type 0
 RiseByLane s answers = RiseByAny s [] answers
 
--- by the held tables, the channels by lane of a list, at least one, wait in a credit loop: each for the next one, and
+-- a list is not empty, and by the held tables its channels by lane wait in a credit loop: each for the next one, and
 -- the last for the first
 abbrev pub WaitInCycle : SeenByLane → Bool → List ℕ → Type 0
 WaitInCycle s answers channels = WaitInCycleByAny s [] answers channels
 
--- the channels of the order, if it is a cycle; none if it is numbers that rise
+-- the channels of the cycle, if the order is a cycle; none if the order has numbers that rise
 abbrev pub cycle_in : ChannelOrder → List ℕ
 cycle_in (Rises numbers) = []
 cycle_in (Cycle channels) = channels.items

@@ -1,5 +1,5 @@
--- Packets for one LID followed from stop to stop. `columns` has the LID's edges by each table. A mark says from which
--- stops packets of which level were followed; 4096 marks belong to each switch.
+-- Packets for one LID followed from stop to stop. `columns` has the LID's edges by each table. The mark of a stop and
+-- a level has the last LID whose packets of that level were followed from the stop. Each switch has 4096 marks.
 use Rattle.std.specs.Prelude.{◌≡◌, ◌⊎◌, ◌<◌, ◌≤◌, ◌+◌, ◌*◌, ℕ, ◌==◌, ◌||◌, Bool, List, Option, None, Some, length, nat_le, slice_index_or}
 use Rattle.subnet_view.specs.Reading.{Cells, switches}
 use Rattle.audit_channels.specs.ChannelOrders.{Follows}
@@ -16,14 +16,14 @@ mark_number level stop = 16 * stop + level
 abbrev pub IsMarked : ℕ → List ℕ → ℕ → ℕ → Type 0
 IsMarked lid marks level stop = slice_index_or marks (mark_number level stop) 0 ≡ lid
 
--- nothing is left to follow from `stop`: none of `count` switches has it, or packets of `level` for `lid` were followed
--- from there
+-- nothing is left to follow from `stop`: it is at none of `count` switches, or packets of `level` for `lid` were
+-- followed from there
 abbrev pub is_done : ℕ → ℕ → List ℕ → ℕ → ℕ → Bool
 is_done count lid marks level stop =
     nat_le (256 * count) stop || slice_index_or marks (mark_number level stop) 0 == lid
 
--- nothing is left to follow from `stop`: packets of `level` for `lid` were followed from there, or none of `count`
--- switches has it
+-- nothing is left to follow from `stop`: packets of `level` for `lid` were followed from there, or it is at none of
+-- `count` switches
 abbrev pub IsDone : ℕ → ℕ → List ℕ → ℕ → ℕ → Type 0
 IsDone count lid marks level stop = IsMarked lid marks level stop ⊎ (256 * count ≤ stop)
 
@@ -109,6 +109,6 @@ pub record AreFollowed (said : LanesSaid) (cells : Cells) (columns : Columns) (l
 abbrev pub Begins : ℕ → Option ℕ → Beginnings
 Begins level first l f = (l ≡ level) × (f ≡ first)
 
--- the packets of the given level that begin at `first`; none for None
+-- the packets of the given level that begin at `first`; no packets if the level is None
 abbrev pub BeginsIf : Option ℕ → Option ℕ → Beginnings
 BeginsIf level first l f = (level ≡ Some l) × (f ≡ first)

@@ -48,7 +48,7 @@ fn far_port(subnet: &Subnet, node: Guid, port: PortNum) -> PortNum
     }
 }
 
-/// Returns, for each sender, the stop at which its packets first reach a usable switch, or `None` if there is none.
+/// Returns, for each sender, the stop at which its packets first reach a usable switch, or `None` if they reach none.
 /// There must be fewer than 2^56 usable switches.
 pub(crate) fn first_stops(
     alloc: Global,
@@ -65,7 +65,8 @@ pub(crate) fn first_stops(
     Ok(firsts)
 }
 
-/// Returns the stop at which the packets of `source` first reach a usable switch, or `None` if there is none.
+/// Returns the stop at which the packets of `source` first reach a usable switch, or `None` if they reach none. The
+/// numbers of all stops at the first switch must fit in 64 bits.
 fn first_stop(subnet: &Subnet, source: &Sender) -> Option<usize>
     requires { (index : ℕ) → first_switch source.now ≡ Some index → 256 * index + 256 < 2 ^ 64 + 1 }
     ensures { result ≡ stop_from source.now (far_port (cells_of subnet.now) source.now.port.node source.now.port.port) }
@@ -79,7 +80,8 @@ fn first_stop(subnet: &Subnet, source: &Sender) -> Option<usize>
     }
 }
 
-/// Returns the stop at `port` of the switch `far`, or `None` if `far` is no usable switch.
+/// Returns the stop at `port` of the switch `far`, or `None` if `far` is not a usable switch. The numbers of all stops
+/// at the switch must fit in 64 bits.
 fn stop_over(far: Far, port: PortNum) -> Option<usize>
     requires { (index : ℕ) → switch_over far ≡ Some index → 256 * index + 256 < 2 ^ 64 + 1 }
     ensures { result ≡ stop_by None far port }
@@ -90,7 +92,8 @@ fn stop_over(far: Far, port: PortNum) -> Option<usize>
     }
 }
 
-/// Returns the number of the stop at `port` of the usable switch at `index`.
+/// Returns the number of the stop at `port` of the usable switch at `index`. The numbers of all stops at the switch
+/// must fit in 64 bits.
 pub(crate) fn stop_at(index: usize, port: PortNum) -> usize
     requires { 256 * index + 256 < 2 ^ 64 + 1 }
     ensures { result ≡ stop_at index port }

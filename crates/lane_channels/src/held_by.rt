@@ -13,7 +13,7 @@ use smp_bytes::Lid;
 use std::alloc::{AllocError, Global};
 use subnet_view::EndPort;
 
-/// The LIDs of senders, for which other end ports send packets that the senders answer.
+/// The LIDs that each sender holds. Other end ports send packets for these LIDs, and the sender answers them.
 #[derive(Drop)]
 pub(crate) struct Asked {
     /// Whether packets that answer others are followed.
@@ -22,8 +22,8 @@ pub(crate) struct Asked {
     pub(crate) held_by: Vec<Vec<Lid>>,
 }
 
-/// Returns the LIDs that each sender holds if `answers` is true, and otherwise none. If `answers` is true, takes a walk
-/// over the held LIDs for each end port.
+/// Returns the LIDs that each sender holds if `answers` is true, otherwise no LIDs. If `answers` is true, walks over
+/// the held LIDs once for each end port.
 pub(crate) fn asked_of(
     alloc: Global,
     by_lane: &LaneNetwork,
@@ -42,7 +42,7 @@ pub(crate) fn asked_of(
     Ok(Asked { answers, held_by })
 }
 
-/// Returns the LIDs that each end port holds, in the order of the end ports. Takes a walk over the held LIDs for each
+/// Returns the LIDs that each end port holds, in the order of the end ports. Walks over the held LIDs once for each
 /// end port.
 fn held_by(alloc: Global, network: &Network) -> Result<Vec<Vec<Lid>>, AllocError>
     ensures { IfOk result (λ held_by. lists_of held_by.items
@@ -55,7 +55,7 @@ fn held_by(alloc: Global, network: &Network) -> Result<Vec<Vec<Lid>>, AllocError
     Ok(held_by)
 }
 
-/// Returns the LIDs that `port` holds by `lines`.
+/// Returns the LIDs that `port` holds according to `lines`.
 fn lids_on(alloc: Global, lines: &[HeldLid], port: EndPort) -> Result<Vec<Lid>, AllocError>
     ensures { IfOk result (λ lids. lids.items ≡ lids_on lines.now port) }
 {

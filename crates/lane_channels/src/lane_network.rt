@@ -11,7 +11,7 @@ use smp_bytes::{Guid, PortNum};
 use std::alloc::{AllocError, Global};
 use std::marker::Model;
 
-/// A network whose packets take the lanes that a text gives.
+/// A network whose packets take the virtual lanes that a text gives.
 #[derive(Drop)]
 pub struct LaneNetwork<'a> {
     network: &'a Network<'a>,
@@ -36,8 +36,8 @@ impl<'a> Model for LaneNetwork<'a> {
 }
 
 impl<'a> LaneNetwork<'a> {
-    /// Returns `network` with the lanes of `lanes`. Takes a search for a wire for each of 256 ports of each usable
-    /// switch, and for each end port.
+    /// Returns `network` with the lanes of `lanes`. Searches for the wire in each of 256 ports of each usable switch,
+    /// and in each end port.
     pub fn of(alloc: Global, network: &'a Network<'a>, lanes: &'a Lanes) -> Result<Self, AllocError>
         ensures seen { IfOk result (λ by_lane. by_lane.seen ≡ network.now) }
         ensures said { IfOk result (λ by_lane. by_lane.said ≡ lanes.now) }
@@ -76,8 +76,8 @@ impl<'a> LaneNetwork<'a> {
         &self.firsts
     }
 
-    /// Returns the lane of packets of `level` that come in at the switch at `index` by port `into` and leave it by port
-    /// `out`, or `None` if they are dropped there. Does a binary search among the maps.
+    /// Returns the lane of packets of `level` that come in at the switch at `index` by port `into` and leave it by
+    /// port `out`, or `None` if they are dropped there. Does a binary search among the maps of lanes.
     pub(crate) fn lane(&self, level: u8, index: usize, into: PortNum, out: PortNum) -> Option<u8>
         ensures { result
             ≡ lane_if_carried (lane_between self.now.said (cells_of self.now.seen.facts) level index into out) }
@@ -87,8 +87,8 @@ impl<'a> LaneNetwork<'a> {
         if lane < DROPPED { Some(lane) } else { None }
     }
 
-    /// Returns the port at the far end of the wire in port `out` of the switch at `index`, or 0 if there is none. Takes
-    /// constant time.
+    /// Returns the port at the far end of the wire in port `out` of the switch at `index`, or 0 if there is none. The
+    /// numbers of all channels of the switch must fit in 64 bits. Takes constant time.
     pub(crate) fn port_across(&self, index: usize, out: PortNum) -> PortNum
         requires { 256 * index + 256 < 2 ^ 64 + 1 }
         ensures { result ≡ port_across (cells_of self.now.seen.facts) index out }
@@ -98,7 +98,7 @@ impl<'a> LaneNetwork<'a> {
     }
 }
 
-/// Packets are dropped if their lane is not below this one.
+/// The least lane on which packets are dropped.
 const DROPPED: u8 = 15;
 
 /// Returns the port of `stop`, at which packets come in.
@@ -122,7 +122,8 @@ fn far_port_at(far_ports: &[PortNum], number: usize) -> PortNum
     far_ports.get(number).copied().unwrap_or(PortNum::new(0))
 }
 
-/// Returns the number of the channel by port `out` of the switch at `index`, on `lane`. `lane` must be below 15.
+/// Returns the number of the channel by port `out` of the switch at `index`, on `lane`. `lane` must be below 15, and
+/// the numbers of all channels by lane of the switch must fit in 64 bits.
 pub(crate) fn lane_number(index: usize, out: PortNum, lane: u8) -> usize
     requires within { lane < 15 }
     requires room { 4096 * index + 4096 < 2 ^ 64 + 1 }

@@ -1,5 +1,5 @@
-//! Channels by lane: whether packets of several service levels can wait for each other in a cycle (a credit loop), if
-//! the switches map service levels to virtual lanes.
+//! Channels by lane. Finds whether packets of several service levels can wait for each other in a credit loop if the
+//! switches map service levels to virtual lanes.
 #![tactic(auto)]
 
 mod far_ports;

@@ -7,7 +7,7 @@ use crate::waits_by_lane::lane_waits;
 use audit_channels::{ChannelOrder, order_channels};
 use std::alloc::{AllocError, Global};
 
-/// A credit loop by lane, and a packet that is dropped for want of a lane, if there are any.
+/// A credit loop by lane, if there is one, and a packet that is dropped for want of a lane, if there is one.
 #[derive(Drop)]
 pub struct LaneOrder {
     /// A shortest credit loop; empty if there is none. The number of a channel is 16 times its number on one lane, plus
@@ -17,9 +17,9 @@ pub struct LaneOrder {
     pub dropped: Option<Dropped>,
 }
 
-/// Returns a shortest credit loop of channels by lane, and a packet that is dropped for want of a lane, if there are
-/// any. If `answers` is true, packets that answer other packets also have the levels of these. Takes what `lane_waits`
-/// and `order_channels` take.
+/// Returns a shortest credit loop of channels by lane, if there is one, and a packet that is dropped for want of a
+/// lane, if there is one. If `answers` is true, packets that answer other packets also have the levels of those
+/// packets. Takes the time that `lane_waits` and `order_channels` take.
 pub fn lane_order(
     alloc: Global,
     by_lane: &LaneNetwork,

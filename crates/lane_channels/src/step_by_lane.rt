@@ -16,11 +16,11 @@ use packet_walks::{LidCursor, Network};
 use smp_bytes::Lid;
 use std::alloc::{AllocError, Global};
 
-/// Returns a shortest credit loop of channels by lane, and a packet that is dropped for want of a lane, if there are
-/// any, in the step to the tables of `next`. In a step, each switch forwards packets for a LID by its entry in the held
-/// tables or by its entry in those of `next`. LIDs and service levels stay as they are. `next` must have the facts of
-/// `by_lane`. If `answers` is true, packets that answer other packets also have the levels of these. Takes what
-/// `step_lane_waits` and `order_channels` take.
+/// Returns a shortest credit loop of channels by lane in the step to the tables of `next`, if there is one, and a
+/// packet that is dropped there for want of a lane, if there is one. In the step, each switch forwards packets for a
+/// LID by its entry in the held tables or by its entry in the tables of `next`. LIDs and service levels stay as they
+/// are. `next` must have the facts of `by_lane`. If `answers` is true, packets that answer other packets also have the
+/// levels of those packets. Takes the time that `step_lane_waits` and `order_channels` take.
 pub fn step_lane_order(
     alloc: Global,
     by_lane: &LaneNetwork,
@@ -40,10 +40,10 @@ pub fn step_lane_order(
     Ok(LaneOrder { cycle, dropped })
 }
 
-/// Follows the packets that each end port sends for each LID, at their service level. At each switch these packets go
-/// by its entry in the held tables and by its entry in those of `next`. `next` must have the facts of `by_lane`. If
-/// `answers` is true, packets that answer other packets also have the levels of these. Takes what `lane_waits` takes
-/// for both tables together, up to a constant factor.
+/// Follows the packets that each end port sends for each LID, at their service level. At each switch, follows them
+/// both by the switch's entry in the held tables and by its entry in the tables of `next`. `next` must have the facts
+/// of `by_lane`. If `answers` is true, packets that answer other packets also have the levels of those packets. Takes
+/// the time that `lane_waits` takes for both tables together, up to a constant factor.
 fn step_lane_waits(
     alloc: Global,
     by_lane: &LaneNetwork,
@@ -75,7 +75,8 @@ fn step_lane_waits(
     })
 }
 
-/// Returns the edges for the LID of `held` by the held tables and by the next ones. `next` must be at the same LID.
+/// Returns two columns under the LID of `held`: the edges by the held tables for this LID, and the edges by the next
+/// tables for the LID of `next`.
 fn two_columns(alloc: Global, held: &LidCursor, next: &LidCursor) -> Result<LidColumns, AllocError>
     ensures lid { IfOk result (λ columns. columns.lid ≡ held.now.lid) }
     ensures columns { IfOk result (λ columns. columns_in columns

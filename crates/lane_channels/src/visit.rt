@@ -1,4 +1,4 @@
-//! One step of following packets by lane: what they do at a stop, and which stops they reach next.
+//! One step of following packets by lane: what the packets do at a stop, and which stops they reach next.
 ghost use Rattle.std.specs.Prelude.{◌≡◌, ◌<◌, ◌≤◌, ◌+◌, ◌*◌, ◌/◌, ◌^◌, None, OnOk, Some, length, slice_index_or};
 ghost use Rattle.std.specs.Prelude.{slice_set};
 ghost use Rattle.std.specs.Option.{option_or};
@@ -18,8 +18,9 @@ use port_graph::Edge;
 use smp_bytes::{Lid, PortNum};
 use std::alloc::AllocError;
 
-/// Visits `stop`, unless no usable switch has it or packets of `level` for the LID were followed from there before.
-/// `level` must be below 16. `walks` must have 4096 channels and 4096 marks for each usable switch.
+/// Visits `stop`, unless it is at no usable switch, or packets of `level` for the LID were followed from there before.
+/// `level` must be below 16. `walks` must have 4096 channels and 4096 marks for each usable switch. There must be
+/// fewer than 2^52 usable switches, and at most as many edges in each column.
 pub(crate) fn visit_if_new(
     by_lane: &LaneNetwork,
     columns: &LidColumns,
@@ -43,11 +44,12 @@ pub(crate) fn visit_if_new(
 }
 
 /// Marks `stop` for the LID and `level`, and follows a packet of `level` from there along the edge of each column.
-/// `stop` must be at a usable switch, and `level` below 16.
+/// `stop` must be at a usable switch, and `level` below 16. `walks` must have 4096 channels and 4096 marks for each
+/// usable switch. There must be fewer than 2^52 usable switches, and at most as many edges in each column.
 ///
 /// For each edge, records which channels the packet can take after the channel of the edge, and adds the stop that the
-/// edge leads to. Notes the packet if it is dropped for want of a lane and no packet is noted yet. Takes, for each
-/// edge, a binary search among the maps of lanes, and one more for each edge of the next switch.
+/// edge leads to. If the packet is dropped for want of a lane, notes the packet, unless one is noted already. For each
+/// edge, does a binary search among the maps of lanes, and one more for each edge of the next switch.
 fn visit(
     by_lane: &LaneNetwork,
     columns: &LidColumns,
@@ -68,7 +70,8 @@ fn visit(
     leave(by_lane, columns, level, stop, walks)
 }
 
-/// Follows a packet of `level` from `stop` along the edge of each column.
+/// Follows a packet of `level` from `stop` along the edge of each column. `walks` must have 4096 channels for each
+/// usable switch. There must be fewer than 2^52 usable switches, and at most as many edges in each column.
 fn leave(
     by_lane: &LaneNetwork,
     columns: &LidColumns,
@@ -93,6 +96,8 @@ fn leave(
 }
 
 /// Follows a packet of `level` from `stop` along `edge`. `edge` must be an edge of the stop's switch by some column.
+/// `walks` must have 4096 channels for each usable switch. There must be fewer than 2^52 usable switches, and at most
+/// as many edges in each column.
 fn leave_along(
     by_lane: &LaneNetwork,
     columns: &LidColumns,
@@ -148,6 +153,8 @@ fn note(noted: &mut Option<Dropped>, dropped: Dropped)
 
 /// Adds, to the channels that can come after `channel`, those that packets of `level` take from the switch at `index`
 /// along its edge in any column. These packets come in by port `into`. Leaves out edges along which they are dropped.
+/// `waits` must have 4096 channels for each usable switch, and `channel` must be one of them. There must be fewer than
+/// 2^52 usable switches, and at most as many edges in each column.
 fn record(
     by_lane: &LaneNetwork,
     columns: &LidColumns,
@@ -173,7 +180,9 @@ fn record(
 }
 
 /// Adds the channel along `edge` from the switch at `index` to those that can come after `channel`. Adds nothing if
-/// packets of `level` that come in there by port `into` are dropped along `edge`.
+/// packets of `level` that come in there by port `into` are dropped along `edge`. `index` must be the index of a
+/// usable switch. `waits` must have 4096 channels for each usable switch, and `channel` must be one of them. There
+/// must be fewer than 2^52 usable switches.
 fn record_along(
     by_lane: &LaneNetwork,
     level: u8,
@@ -204,8 +213,8 @@ fn mark(marks: &mut [u16], number: usize, lid: Lid)
     marks[number] = lid.number();
 }
 
-/// Returns whether nothing has to be followed from `stop`: none of `count` switches has it, or packets of `level` for
-/// `lid` were followed from there before. `level` must be below 16.
+/// Returns whether nothing is left to follow from `stop`: it is at none of `count` switches, or packets of `level` for
+/// `lid` were followed from there before. `level` must be below 16, and `count` below 2^52.
 fn is_done(count: usize, lid: Lid, marks: &[u16], level: u8, stop: usize) -> bool
     requires level { level < 16 }
     requires room { 4096 * count < 2 ^ 64 }
@@ -221,7 +230,8 @@ fn mark_at(marks: &[u16], number: usize) -> u16
     marks.get(number).copied().unwrap_or(0)
 }
 
-/// Returns the number of the mark of `stop` and `level`. `level` must be below 16.
+/// Returns the number of the mark of `stop` and `level`. `level` must be below 16, and the numbers of all marks of
+/// `stop` must fit in 64 bits.
 fn mark_number(level: u8, stop: usize) -> usize
     requires level { level < 16 }
     requires room { 16 * stop + 16 < 2 ^ 64 + 1 }

@@ -36,7 +36,7 @@ pub struct LaneWaits {
 }
 
 /// Follows the packets that each end port sends for each LID, at their service level. If `answers` is true, packets
-/// that answer other packets also have the levels of these.
+/// that answer other packets also have the levels of those packets.
 pub fn lane_waits(
     alloc: Global,
     by_lane: &LaneNetwork,
@@ -75,7 +75,7 @@ fn one_column(alloc: Global, lid: Lid, edges: Vec<Option<Edge>>) -> Result<LidCo
     Ok(LidColumns { lid, columns })
 }
 
-/// Returns what is known before any packet is followed, for `count` channels by lane.
+/// Returns what is known before any packet is followed, for `count` channels by lane and `count` marks.
 pub(crate) fn nothing_followed(alloc: Global, count: usize) -> Result<Walks, AllocError>
     ensures { IfOk result (λ walks. IsNothing count (walked walks)) }
 {
@@ -89,9 +89,10 @@ pub(crate) fn nothing_followed(alloc: Global, count: usize) -> Result<Walks, All
     })
 }
 
-/// Follows the packets for the LID of `columns` that end ports send. `owners` must be the end ports that hold the LID,
-/// which must not be 0, and `asked` must be of `by_lane`. `walks` must have 4096 channels and 4096 marks for each
-/// usable switch.
+/// Follows the packets for the LID of `columns` that end ports send. The LID must not be 0, and `owners` must be the
+/// end ports that hold it. If answers are followed, `asked` must have the LIDs that each end port of `by_lane` holds.
+/// `walks` must have 4096 channels and 4096 marks for each usable switch. There must be fewer than 2^52 usable
+/// switches, and at most as many edges in each column.
 pub(crate) fn follow_lid(
     by_lane: &LaneNetwork,
     asked: &Asked,
@@ -116,8 +117,9 @@ pub(crate) fn follow_lid(
 }
 
 /// Follows the packets for the LID of `columns` that the end port at `index` sends. There must be such an end port.
-/// `owners` must be the end ports that hold the LID, which must not be 0, and `asked` must be of `by_lane`. `walks`
-/// must have 4096 channels and 4096 marks for each usable switch.
+/// The LID must not be 0, and `owners` must be the end ports that hold it. If answers are followed, `asked` must have
+/// the LIDs that each end port of `by_lane` holds. `walks` must have 4096 channels and 4096 marks for each usable
+/// switch. There must be fewer than 2^52 usable switches, and at most as many edges in each column.
 fn follow_sender(
     by_lane: &LaneNetwork,
     asked: &Asked,
@@ -174,8 +176,9 @@ fn lids_at(held_by: &[Vec<Lid>], index: usize) -> &[Lid]
     &held_by[index]
 }
 
-/// Follows a packet of `level` from `first` on. Follows none if `level` or `first` is `None`. The level must be below
-/// 16, and the LID of `columns` must not be 0. `walks` must have 4096 channels and 4096 marks for each usable switch.
+/// Follows a packet of `level` from the stop `first` on. Follows none if `level` or `first` is `None`. The level must
+/// be below 16, and the LID of `columns` must not be 0. `walks` must have 4096 channels and 4096 marks for each usable
+/// switch. There must be fewer than 2^52 usable switches, and at most as many edges in each column.
 fn walk_at_level(
     by_lane: &LaneNetwork,
     columns: &LidColumns,
@@ -198,8 +201,9 @@ fn walk_at_level(
     }
 }
 
-/// Follows, from `first` on, the answers to packets that each of `owners` sends for each of `lids`. The LID of
-/// `columns` must not be 0. `walks` must have 4096 channels and 4096 marks for each usable switch.
+/// Follows, from the stop `first` on, the answers to packets that each of `owners` sends for each of `lids`. Follows
+/// none if `first` is `None`. The LID of `columns` must not be 0. `walks` must have 4096 channels and 4096 marks for
+/// each usable switch. There must be fewer than 2^52 usable switches, and at most as many edges in each column.
 fn follow_answers(
     by_lane: &LaneNetwork,
     columns: &LidColumns,
@@ -233,8 +237,9 @@ fn level_from(lanes: &Lanes, port: &EndPort, lid: Lid) -> Option<u8>
     lanes.level(port.node, port.port, lid)
 }
 
-/// Follows, from `first` on, the answers to packets that `asker` sends for each of `lids`. The LID of `columns` must
-/// not be 0. `walks` must have 4096 channels and 4096 marks for each usable switch.
+/// Follows, from the stop `first` on, the answers to packets that `asker` sends for each of `lids`. Follows none if
+/// `first` is `None`. The LID of `columns` must not be 0. `walks` must have 4096 channels and 4096 marks for each
+/// usable switch. There must be fewer than 2^52 usable switches, and at most as many edges in each column.
 fn follow_answers_to(
     by_lane: &LaneNetwork,
     columns: &LidColumns,

@@ -11,9 +11,10 @@ use crate::visit::visit_if_new;
 use crate::walk_state::{LidColumns, Walks};
 use std::alloc::AllocError;
 
-/// Follows a packet of `level` from `first` on, at each stop along the edge of each column. Follows none if `first` is
-/// `None`. `level` must be below 16, and the LID of `columns` must not be 0. `walks` must have 4096 channels and 4096
-/// marks for each usable switch.
+/// Follows a packet of `level` from the stop `first` on, at each stop along the edge of each column. Follows none if
+/// `first` is `None`. `level` must be below 16, and the LID of `columns` must not be 0. `walks` must have 4096
+/// channels and 4096 marks for each usable switch. There must be fewer than 2^52 usable switches, and at most as many
+/// edges in each column.
 pub(crate) fn walk(
     by_lane: &LaneNetwork,
     columns: &LidColumns,

@@ -25,8 +25,8 @@ pub(crate) struct Walks {
 #[derive(Drop)]
 pub(crate) struct LidColumns {
     pub(crate) lid: Lid,
-    /// For each table, a column that has, for each usable switch in ascending order of GUID, the edge along which it
-    /// forwards packets for the LID to a usable switch. The edge is `None` if there is none.
+    /// A column for each table. It has, for each usable switch in ascending order of GUID, the edge along which the
+    /// switch forwards packets for the LID to a usable switch, or `None` if there is no such edge.
     pub(crate) columns: Vec<Vec<Option<Edge>>>,
 }
 

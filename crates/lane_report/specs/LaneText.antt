@@ -9,7 +9,7 @@ use Rattle.lane_channels.specs.declared.stop.Dropped.{Dropped}
 use Rattle.lane_channels.specs.Stops.{guid_at}
 use Rattle.lane_report.specs.declared.levels_missing.PacketPair.{PacketPair}
 
--- the line of a packet without a service level: the end port that sends it, and its LID
+-- the line of text for a packet without a service level: the end port that sends it, and its LID
 abbrev pub pair_line : PacketPair → List ℕ
 pair_line pair =
     codes "no-level " ++ port_text pair.source.node pair.source.port ++ codes " " ++ decimal pair.lid ++ codes "\n"
@@ -18,8 +18,8 @@ pair_line pair =
 abbrev pub missing_text : Listed PacketPair → List ℕ
 missing_text few = flat_map pair_line few.first ++ more_line (codes "no-level") (more_of few)
 
--- the line of a dropped packet: its LID, the switch, the ports by which it comes in and would leave, and its service
--- level
+-- the line of a dropped packet: its LID, the switch, the ports by which the packet comes in and would leave, and its
+-- service level
 abbrev pub drop_line : Cells → Dropped → List ℕ
 drop_line cells d =
     codes "dropped " ++ decimal d.lid ++ codes " at " ++ guid_text (guid_at cells (d.stop / 256)) ++ codes " "
@@ -44,7 +44,7 @@ channels_text cells (channel ∷ later) = codes " by lane" ++ flat_map (channel_
 abbrev pub cycle_line : Cells → List ℕ → List ℕ
 cycle_line cells cycle = codes "credit loop" ++ channels_text cells cycle ++ codes "\n"
 
--- the findings by lane, as lines: the first packets without a service level, a dropped packet and a credit loop, each
--- if there is one
+-- the findings by lane, as lines: the first packets without a service level and how many more there are, a dropped
+-- packet if there is one, and the credit loop, or that there is none
 abbrev pub lanes_text : Cells → Listed PacketPair → Option Dropped → List ℕ → List ℕ
 lanes_text cells few dropped cycle = missing_text few ++ dropped_text cells dropped ++ cycle_line cells cycle

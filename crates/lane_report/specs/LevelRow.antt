@@ -1,5 +1,5 @@
--- The end ports whose packets may lack a service level, for 64 LIDs at a time: what an audit by lane looks at instead of
--- all end ports.
+-- The end ports whose packets may lack a service level, for 64 LIDs at a time. An audit by lane looks at these instead
+-- of all end ports.
 use Rattle.std.specs.Prelude.{ℕ, ◌%◌, ◌≡◌, Bool, false, not, List, filter, find, map, Option, None, Some, nat_lt}
 use Rattle.std.specs.Prelude.{slice_index}
 use Rattle.std.specs.List.{list_all, range_with_len}
@@ -12,7 +12,7 @@ use Rattle.lane_report.specs.declared.levels_missing.PacketPair.{PacketPair}
 use Rattle.lane_report.specs.LevelsMissing.{lacks, pair_of}
 
 -- the block of levels of packets from the end port of `site` to the LIDs from 64 times `number` on; None if the text
--- has none
+-- has no such block
 abbrev pub block_of : LanesSaid → ℕ → Site → Option LevelBlock
 block_of said number site = find (is_block site.port.node site.port.port number) said.levels
 
@@ -37,8 +37,8 @@ row_of said sites number = filter (λ sender. not (is_full sender.block)) (map (
 abbrev pub IsRow : LanesSaid → List Site → ℕ → List RowSender → Type 0
 IsRow said sites number senders = senders ≡ row_of said sites number
 
--- `sender` and `owner` are different adapter ports of one component, and by the block of `sender` its packets for the
--- LID of `line` have no service level
+-- `sender` and `owner` are of different adapter ports in the same component, and the block of `sender` gives no
+-- service level to its packets for the LID of `line`
 abbrev pub sender_lacks : LanesSaid → HeldLid → Site → RowSender → Bool
 sender_lacks said line owner sender = lacks sender.site owner (level_by said.level (line.lid % 64) sender.block)
 

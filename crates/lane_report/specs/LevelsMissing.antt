@@ -12,15 +12,15 @@ use Rattle.audit_counts.specs.Sites.{are_adapters, are_joined, site_of}
 use Rattle.lanes_file.specs.Lanes.{LanesSaid, level_of}
 use Rattle.lane_report.specs.declared.levels_missing.PacketPair.{PacketPair}
 
--- `site` and `owner` are of different adapter ports in one component, and packets from `site` to `owner` have no
--- `level`
+-- `site` and `owner` are of different adapter ports in the same component, and `level`, that of packets from `site` to
+-- `owner`, is None
 abbrev pub lacks : Site → Site → Option ℕ → Bool
 lacks site owner level =
     are_joined site owner && are_adapters site.port owner.port && not (is_same_end site.port owner.port)
     && not (is_some level)
 
--- `site` and `owner` are of different adapter ports in one component, and the text gives packets from `site` for the
--- LID of `line` no service level
+-- `site` and `owner` are of different adapter ports in the same component, and the text gives packets from `site` for
+-- the LID of `line` no service level
 abbrev pub lacks_level : LanesSaid → HeldLid → Site → Site → Bool
 lacks_level said line owner site =
     lacks site owner (level_of said site.port.node site.port.port line.lid)
@@ -33,13 +33,13 @@ pair_of line site = record { source = site.port; lid = line.lid }
 abbrev pub missing_for : LanesSaid → List Site → HeldLid → Site → List PacketPair
 missing_for said sites line owner = map (pair_of line) (filter (lacks_level said line owner) sites)
 
--- for the LID of `line`, the packets without a service level from other adapter ports of its component; none if the
--- line's end port is not one of the facts
+-- for the LID of `line`, the packets without a service level from other adapter ports in the component of the line's
+-- port; none if the line's end port is not one of the facts
 abbrev pub missing_at : LanesSaid → Cells → HeldLid → List PacketPair
 missing_at said cells line =
     if is_owner (end_ports cells) line.port
     then missing_for said (map (site_of cells) (end_ports cells)) line (site_of cells line.port) else []
 
--- for all held LIDs, the packets without a service level between adapter ports of one component
+-- for all held LIDs, the packets without a service level between adapter ports of the same component
 abbrev pub missing_levels : LanesSaid → Cells → HeldPlan → List PacketPair
 missing_levels said cells held = flat_map (missing_at said cells) (lines_of held)

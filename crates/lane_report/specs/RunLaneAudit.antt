@@ -1,5 +1,5 @@
--- What an audit by lane of lanes, tables and files does: it reads all of them and writes what happens to packets, or
--- returns the fault of an input.
+-- What an audit by lane does with a text of lanes, a text of tables, and files: it reads all of them and writes what
+-- happens to packets, or returns the fault of an input.
 use Rattle.std.specs.Prelude.{◌≡◌, ◌↔◌, ◌⊎◌, ◌++◌, ℕ, Bool, List, [], Option, None, IsTrue}
 use Rattle.byte_io.specs.Source.{SourceState}
 use Rattle.fact_store.specs.View.{Facts, cells_of}

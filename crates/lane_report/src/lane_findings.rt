@@ -15,7 +15,7 @@ use packet_walks::Network;
 /// The findings by lane of an audit or of a step.
 #[derive(Drop)]
 pub struct LaneFindings {
-    /// The packets between adapter ports of one component that have no service level.
+    /// The packets between adapter ports of the same component that have no service level.
     pub missing: FirstFew<PacketPair>,
     /// A credit loop by lane, and a packet that is dropped for want of a lane, each if one was found.
     pub order: LaneOrder,

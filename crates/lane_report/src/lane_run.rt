@@ -115,9 +115,9 @@ fn answer<W: Sink>(
     tell(sink, asked, &audit, lanes, &found)
 }
 
-/// Finds the packets between adapter ports that have no service level, a packet that is dropped for want of a lane, and
-/// a shortest credit loop by lane. Either of the last two may be missing. Keeps the first `most` packets without a
-/// service level.
+/// Finds the packets between adapter ports that have no service level, a packet that is dropped for want of a lane,
+/// and a shortest credit loop by lane. There may be no dropped packet and no credit loop. Keeps the first `most`
+/// packets without a service level.
 fn findings(
     alloc: Global,
     most: usize,
@@ -133,9 +133,9 @@ fn findings(
     Ok(LaneFindings { missing, order })
 }
 
-/// Finds a shortest credit loop of channels by lane, and a packet that is dropped for want of a lane. Neither exists if
-/// numbers of channels rise on one lane and each packet with a service level has a lane below 15. Otherwise packets are
-/// followed by lane.
+/// Finds a shortest credit loop of channels by lane, and a packet that is dropped for want of a lane. Neither exists
+/// if channels on one lane have numbers that rise, and each packet with a service level has a lane below 15. Otherwise
+/// packets are followed by lane.
 #[tactic(auto, using(crate::proofs::Judged::none_by_lane, lane_channels::proofs::LaneLaws::all_carried))]
 fn order_by_lane(
     alloc: Global,

@@ -27,7 +27,7 @@ pub(crate) struct LevelRow {
 }
 
 impl LevelRow {
-    /// Returns the row of `sites` for the 64 LIDs from 64 times `number` on. Does a binary search of `lanes` for each
+    /// Returns the row of `sites` for the 64 LIDs from 64 times `number` on. Does a binary search in `lanes` for each
     /// site.
     pub(crate) fn of(
         alloc: Global,

@@ -27,9 +27,9 @@ pub struct PacketPair {
 
 /// Counts the packets without a service level that adapter ports send to the LIDs of other adapter ports of their
 /// components. Keeps the first `most` packets, in the order of the held LIDs and then of the end ports. Takes constant
-/// time if `lanes` has a line `level`, which gives each packet a level. Otherwise takes what `sites` takes, what
-/// `LevelRow::of` takes each time that the next held LID is of another block, and time linear in the number of held
-/// LIDs times the number of end ports.
+/// time if `lanes` has a line `level`, which gives each packet a level. Otherwise takes the time of `sites`, the time
+/// of `LevelRow::of` each time that the next held LID is in another block, and time linear in the number of held LIDs
+/// times the number of end ports.
 #[tactic(auto, using(crate::proofs::NoneMissing::nothing_listed))]
 pub fn pairs_without_level(
     alloc: Global,
@@ -73,8 +73,8 @@ fn pairs_at_sites(
     Ok(few)
 }
 
-/// Adds to `few` the packets without a service level that `senders` send to the LID of `line`. `owner` must be the site
-/// of the end port of `line`. `senders` must be those of the row for the block of the LID.
+/// Adds to `few` the packets without a service level that `senders` send to the LID of `line`. `owner` is meant to be
+/// the site of the end port of `line`. `senders` are meant to be those of the row for the block of the LID.
 fn add_for(
     few: &mut FirstFew<PacketPair>,
     lanes: &Lanes,
@@ -97,8 +97,8 @@ fn add_for(
     Ok(())
 }
 
-/// Returns whether packets from `sender` for the LID of `line` have no service level, by the block of `sender`. Returns
-/// false unless `owner` and the site of `sender` are of different adapter ports in one component.
+/// Returns whether packets from `sender` for the LID of `line` have no service level, by the block of `sender`.
+/// Returns false unless `owner` and the site of `sender` are of different adapter ports in the same component.
 fn lacks_level(lanes: &Lanes, line: &HeldLid, owner: &Site, sender: &RowSender) -> bool
     ensures { result ≡ sender_lacks lanes.now line.now owner.now sender.now }
 {

@@ -47,8 +47,8 @@ pub record SwitchThere (part : PartSeen) : Type 0 where
   pub there : IsEndPortIn (IsJoinedTo part.fabric part.origin) part.fabric port node
   pub kind : IsTrue (is_switch node.kind)
 
--- tables are in a change towards a plan by settled entries, for a LID that one end port keeps. One switch of the part
--- has another entry than before, and one does not have its next entry yet
+-- tables are in a change towards a plan by settled entries, for a LID that one end port alone holds in the held tables
+-- and in the plan. One switch of the part has another entry than before, and one does not have its next entry yet
 pub record ChangesThere (part : PartSeen) : Type 0 where
   pub plan : HeldPlan
   pub line : HeldLid

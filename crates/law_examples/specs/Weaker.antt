@@ -22,8 +22,8 @@ up_before = (key.Port 16 1, Known 1 (Up true))
 abbrev pub down_now : Key × Cell Value
 down_now = (key.Port 16 2, Known 3 (Up false))
 
--- a fact that one store forgot is not brought back by another store that has it, whether the floor is raised before or
--- after the merge
+-- a fact that one store forgot is not brought back by another store that has this fact, whether the floor is raised
+-- before or after the merge
 abbrev pub FloorsStayInGroupings : Type 0
 FloorsStayInGroupings =
     (cells_of (merged (of_two (of_raised (of_sightings (up_before ∷ [])) 2) (of_sightings (up_before ∷ down_now ∷ []))))
@@ -31,7 +31,7 @@ FloorsStayInGroupings =
     × (cells_of (merged (of_raised (of_two (of_sightings (up_before ∷ [])) (of_sightings (down_now ∷ []))) 2))
     ≡ down_now ∷ [])
 
--- a route that passes two switches and then the first one again is no route of a rule of routing
+-- a route that passes two switches and then the first one again is not a route of any rule of routing
 abbrev pub NoSwitchTwice : Type 0
 NoSwitchTwice =
     (rule : Routing) (f : Fabric) (source : NodePort) (hops : List Hop) (s t : ℕ) → switches_met f source hops

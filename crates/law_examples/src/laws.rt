@@ -14,7 +14,8 @@ pub fn some_packet_travels()
 {}
 
 /// In some part that facts describe and that holds tables, the tables change to the next ones for a LID that one end
-/// port keeps: one switch has another entry than before, and one does not have its next entry yet.
+/// port alone holds in the held tables and in the plan: one switch has another entry than before, and one does not
+/// have its next entry yet.
 pub fn some_tables_change()
     ensures law { SomeTablesChange }
 {}
@@ -25,7 +26,7 @@ pub fn floors_stay_in_groupings()
     ensures law { FloorsStayInGroupings }
 {}
 
-/// A route that passes two switches and then the first one again is no route of a routing rule.
+/// A route that passes two switches and then the first one again is not a route of any routing rule.
 pub fn no_switch_twice()
     ensures law { NoSwitchTwice }
 {}

@@ -9,8 +9,8 @@ use Rattle.manager_laws.specs.Scene.{Handed, Scene, Event, CanHappen, IsQuiet, a
 abbrev pub IsBack : Handed → Type 0
 IsBack h = (is_directed h.packet.bytes ≡ true) × (is_returning h.packet.bytes ≡ true)
 
--- after any events that can happen on a quiet scene, each directed packet that was handed up on its way back (`IsBack`)
--- tells of the end of its path (`TellsOfEnd`)
+-- after any events that can happen from a quiet scene (`IsQuiet`) on, each directed packet that was handed up on its
+-- way back (`IsBack`) tells of the end of its path (`TellsOfEnd`)
 abbrev pub AnswersTell : Type 0
 AnswersTell =
     (s : Scene) (events : List Event) → IsQuiet s → All CanHappen events

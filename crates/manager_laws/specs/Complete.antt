@@ -33,8 +33,8 @@ facts_of reports = view (flat_map sightings_of reports)
 abbrev pub AgreeWith : List Report → Simulation → NodePort → Type 0
 AgreeWith reports s seat = AgreesOn (IsJoinedTo (fabric_of s) seat) (cells_of (facts_of reports)) (fabric_of s)
 
--- the sweep has a path to the port `port` of the node with the GUID `guid`. In `f` this path leads from `seat` to that
--- port of an adapter, or to any port of that switch, whose `port` is then 0
+-- the sweep has a path to the port `port` of the node with the GUID `guid`. In `f`, this path leads from `seat` to
+-- that port if the node is an adapter, or to some port of the node if it is a switch, for which `port` is 0
 pub record HasWay (f : Fabric) (seat : NodePort) (s : Sweep) (guid port : ℕ) : Type 0 where
   pub path : List ℕ
   pub told : path_to s guid port ≡ Some path
@@ -53,8 +53,8 @@ pub record HasFoundAll (begun ended : Sweeping) : Type 0 where
   pub ways : (guid port : ℕ) → IsEndPort (cells_of (facts_of ended.reports)) guid port
       → HasWay (fabric_of begun.scene.fabric) begun.seat ended.sweep guid port
 
--- a sweep with every answer has found exactly what is joined to its seat, if it began on a quiet scene whose nodes have
--- different GUIDs (`Begins`). Any events that can be may have happened since
+-- a sweep with every answer has found exactly what is joined to its seat, if it began on a quiet scene whose nodes
+-- have different GUIDs (`Begins`). Any possible events (`CanBe`) may have happened since
 abbrev pub DoneSweepsAreComplete : Type 0
 DoneSweepsAreComplete =
     (w : Sweeping) (generation first : ℕ) (events : List SweepEvent) → Begins w generation first → All CanBe events

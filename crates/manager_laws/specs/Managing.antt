@@ -52,8 +52,8 @@ abbrev pub IsElsewhere : NodePort → Event → Type 0
 IsElsewhere seat (around.Send other sending) = other ≢ seat
 IsElsewhere seat event = Unit {0}
 
--- the event can be: one on the fabric can happen, and in it no other manager sends a packet from `seat`; a floor is a
--- generation; merged sightings are in range
+-- the event is possible: an event on the fabric can happen (`CanHappen`), and no other manager sends a packet from
+-- `seat` in this event; a floor is a generation; merged sightings are in range
 abbrev pub CanBe : NodePort → ManagerEvent → Type 0
 CanBe seat (Around event) = CanHappen event × IsElsewhere seat event
 CanBe seat (Raise floor) = IsTrue (is_generation floor)
@@ -71,7 +71,7 @@ abbrev pub one_more : List Outgoing → Option Outgoing → List Outgoing
 one_more out None = out
 one_more out (Some packet) = out ++ packet ∷ []
 
--- the managing once its manager has given out its first packet, if it had one
+-- the `Managing` once its manager has given out its first packet, if it had one
 abbrev pub taking : Managing → Taken → Managing
 taking w t = record w { manager = t.manager; out = one_more w.out t.packet }
 
@@ -80,7 +80,7 @@ taking w t = record w { manager = t.manager; out = one_more w.out t.packet }
 abbrev pub packet_of : Outgoing → Packet
 packet_of o = record { bytes = o.packet; slid = permissive_lid; dlid = unwrap_or o.to permissive_lid }
 
--- the managing once the packet, if there is one, was sent from the manager's seat
+-- the `Managing` once the packet, if there is one, was sent from the manager's seat
 abbrev pub sending : Managing → Option Outgoing → Managing
 sending w None = w
 sending w (Some o) = record w { scene = sent_from w.scene w.seat (packet_of o) }
@@ -106,7 +106,7 @@ after_manager_event w (Merge floor sightings) = calling w (calls.Merge floor sig
 after_manager_event w (Poll lid) = calling w (calls.Poll lid)
 after_manager_event w HandOver = calling w calls.Handover
 
--- the managing after `events`, in turn
+-- the `Managing` after `events`, in turn
 abbrev pub after_manager_events : List ManagerEvent → Managing → Managing
 after_manager_events [] w = w
 after_manager_events (event ∷ events) w = after_manager_events events (after_manager_event w event)

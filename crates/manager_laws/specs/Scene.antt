@@ -75,7 +75,8 @@ handed_by (Ok (Answered serial)) = []
 handed_by (Ok (Discarded reason)) = []
 handed_by (Err fault) = []
 
--- the scene once the packet was sent from the port `seat`; unchanged if `seat` is no seat, or no serial number is left
+-- the scene once the packet was sent from the port `seat`; unchanged if `seat` is not a seat, or if no serial number
+-- is left
 abbrev pub sent_from : Scene → NodePort → Packet → Scene
 sent_from s seat packet = with_fabric s (after_inject s.fabric seat packet).fabric
 
@@ -84,7 +85,8 @@ abbrev pub asks_manager : NodePort → Handed → Bool
 asks_manager seat h =
     is_same_port h.at seat && not (is_response h.packet.bytes) && number_in attribute_id h.packet.bytes == sm_info
 
--- the answer to `request`: back along its path if `request` is directed, else to the LID that `request` came from
+-- the answer to `request`: back along the path of `request` if that is directed, otherwise to the LID that `request`
+-- came from
 abbrev pub answer_to : Packet → ℕ → List ℕ → Packet
 answer_to request status payload =
     let answer = answer_packet request.bytes status payload in
@@ -119,7 +121,7 @@ abbrev pub after_events : List Event → Scene → Scene
 after_events [] s = s
 after_events (event ∷ events) s = after_events events (after_event s event)
 
--- a scene is quiet: agents may be in any state, no packet is on its way, and none was handed up
+-- a scene is quiet: no packet is on its way, and none was handed up; agents may be in any state
 pub record IsQuiet (s : Scene) : Type 0 where
   pub fabric : IsSimulation s.fabric
   pub flights : s.fabric.flights ≡ []

@@ -23,8 +23,8 @@ use Rattle.fabric_sim.specs.Flights.{flight_with}
 use Rattle.fabric_sim.specs.Delivery.{after_deliver}
 use Rattle.manager_laws.specs.Scene.{Event, Deliver}
 
--- the delivery of the packet with the number `serial` makes the agent `a` take a Set, `packet`, that reached it at the
--- port `at`
+-- the delivery of the packet with the number `serial` makes the agent `a` take a Set, `packet`, that reached the agent
+-- at the port `at`
 pub record TakesSet (s : Simulation) (serial : ℕ) (at : NodePort) (a : Agent) (packet : List ℕ) : Type 0 where
   pub flight : Flight
   pub waits : flight_with s.flights serial ≡ Some flight
@@ -62,7 +62,7 @@ pub record IsOwnSet (f : Fabric) (seat : NodePort) (phases : List Phase) (at : N
     pub modifier : number_in attribute_modifier packet ≡ step.modifier
     pub payload : bytes_in attribute_data packet ≡ step.payload
 
--- the packets, at the ports that they reach, that are Sets of one writing's own steps
+-- which packets, at the ports that they reach, are Sets of a writing's own steps
 abbrev pub OwnSets : Type 1
 OwnSets = NodePort → List ℕ → Type 0
 

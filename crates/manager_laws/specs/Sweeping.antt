@@ -32,7 +32,7 @@ pub data SweepEvent : Type 0 where
   Hear : (which : ℕ) → SweepEvent
   TimeOut : (transaction : ℕ) → SweepEvent
 
--- the event can be: if it is on the fabric, it can happen (`CanHappen`)
+-- the event is possible: if it is on the fabric, it can happen (`CanHappen`)
 abbrev pub CanBe : SweepEvent → Type 0
 CanBe (Around event) = CanHappen event
 CanBe Ask = Unit {0}
@@ -47,11 +47,11 @@ abbrev pub one_more : List (List ℕ) → Option (List ℕ) → List (List ℕ)
 one_more asked None = asked
 one_more asked (Some packet) = asked ++ packet ∷ []
 
--- the sweeping once the sweep has given out its next request, if it had one
+-- the `Sweeping` once the sweep has given out its next request, if it had one
 abbrev pub asking_more : Sweeping → Sent → Sweeping
 asking_more w s = record w { sweep = s.sweep; asked = one_more w.asked s.packet }
 
--- the sweeping once the request, if there is one, was sent from the sweep's seat
+-- the `Sweeping` once the request, if there is one, was sent from the sweep's seat
 abbrev pub sending : Sweeping → Option (List ℕ) → Sweeping
 sending w None = w
 sending w (Some packet) = record w { scene = sent_from w.scene w.seat (directed_packet packet) }
@@ -74,7 +74,7 @@ hearing w None = w
 hearing w (Some h) =
     if is_same_port h.at w.seat then with_answer w h.packet.bytes (judged w.sweep h.packet.bytes) else w
 
--- the sweeping after an event
+-- the `Sweeping` after an event
 abbrev pub after_sweep_event : Sweeping → SweepEvent → Sweeping
 after_sweep_event w (Around event) = record w { scene = after_event w.scene event }
 after_sweep_event w Ask = asking_more w (after_next_request w.sweep)
@@ -82,7 +82,7 @@ after_sweep_event w (Send which) = sending w (slice_get w.asked which)
 after_sweep_event w (Hear which) = hearing w (slice_get w.scene.handed which)
 after_sweep_event w (TimeOut transaction) = record w { sweep = after_timeout w.sweep transaction }
 
--- the sweeping after `events`, in turn
+-- the `Sweeping` after `events`, in turn
 abbrev pub after_sweep_events : List SweepEvent → Sweeping → Sweeping
 after_sweep_events [] w = w
 after_sweep_events (event ∷ events) w = after_sweep_events events (after_sweep_event w event)
@@ -107,7 +107,7 @@ pub record Begins (w : Sweeping) (at from : ℕ) : Type 0 where
   pub reports : w.reports ≡ []
 
 -- whatever happens, each fact of a report that a sweep accepts is true of the fabric, except that a claimed LID may be
--- any
+-- any LID
 abbrev pub AcceptedFactsAreTrue : Type 0
 AcceptedFactsAreTrue =
     (w : Sweeping) (generation first : ℕ) (events : List SweepEvent) → Begins w generation first → All CanBe events

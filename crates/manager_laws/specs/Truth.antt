@@ -26,7 +26,8 @@ pub record HasCable (f : Fabric) (id port peer via : ℕ) : Type 0 where
   pub node : HasNode f peer far.node other
   pub port_is : far.port ≡ via
 
--- the fabric has the value for the key. For a claim any LID will do; a value of another kind than the key's is not true
+-- the fabric has the value for the key. For a claim any LID will do; a value of a kind other than the key's is not
+-- true
 abbrev pub IsTrueOf : Fabric → Key → Value → Type 0
 IsTrueOf f (Node guid) (Kind kind ports) =
     (id : ℕ) × (node : fabric.Node) × HasNode f guid id node × (node.kind ≡ kind) × (node.ports ≡ ports)

@@ -76,7 +76,8 @@ abbrev pub AllKeep : PlanValue → OwnSets → List ManagerEvent → Managing �
 AllKeep plan own [] w = Unit {0}
 AllKeep plan own (event ∷ events) w = Keeps plan own w event × AllKeep plan own events (after_manager_event w event)
 
--- the managing when the writing begins: after the events `before`, the beginning of a sweep, and the events `between`
+-- the `Managing` when the writing begins: after the events `before`, the beginning of a sweep, and the events
+-- `between`
 abbrev pub at_writing : Managing → List ManagerEvent → List ManagerEvent → Managing
 at_writing w before between = after_manager_events between (after_manager_event (after_manager_events before w) Begin)
 
@@ -88,22 +89,23 @@ plan_at w = plan_of w.manager.planning.rule w.manager.planning.lmc (cells_of w.m
 abbrev pub own_sets : Managing → Managing → OwnSets
 own_sets start w = IsOwnSet (fabric_of start.scene.fabric) start.seat (phases_by w.manager w.manager.sweep)
 
--- the managing once the writing has begun and its first steps are queued: after `before`, a sweep's beginning and
+-- the `Managing` once the writing has begun and its first steps are queued: after `before`, a sweep's beginning and
 -- `between`
 abbrev pub at_first_steps : Managing → List ManagerEvent → List ManagerEvent → Managing
 at_first_steps w before between = after_manager_event (at_writing w before between) Write
 
--- the managing at the end of the run: after `before`, a sweep's beginning, `between`, a writing's beginning, and
+-- the `Managing` at the end of the run: after `before`, a sweep's beginning, `between`, a writing's beginning, and
 -- `after`
 abbrev pub at_end : Managing → List ManagerEvent → List ManagerEvent → List ManagerEvent → Managing
 at_end w before between after = after_manager_events after (at_first_steps w before between)
 
--- a run that may start begins a sweep and, after the events `between`, a writing. Before the first sweep and after this
--- writing no other writing begins. Each Set that an agent takes after the writing began is one of the writing's own or
--- carries the plan's values
+-- a run that may start begins a sweep and, after the events `between`, a writing. No other writing begins before the
+-- first sweep or after this writing. Each Set that an agent takes after the writing began is one of the writing's own
+-- or carries the plan's values
 pub record IsWritingRun (w : Managing) (before between after : List ManagerEvent) : Type 0 where
   pub starts : Starts w
-  -- only events that can be happen before the sweep, between the sweep and the writing, and after the writing began
+  -- only possible events (`CanBe`) happen before the sweep, between the sweep and the writing, and after the writing
+  -- began
   pub before_can : All (CanBe w.seat) before
   pub between_can : All (CanBe w.seat) between
   pub after_can : All (CanBe w.seat) after

@@ -19,8 +19,8 @@ pub fn answers_tell()
 {}
 
 /// On a fabric whose nodes have different GUIDs, each fact of a report that a sweep accepts is true of the fabric,
-/// except that a claimed LID may be any. Other managers may send what `answers_tell` names. Packets may be lost, copied
-/// and reordered. Requests may be sent, and replies given to the sweep, however often or late.
+/// except that a claimed LID may be any LID. Other managers may send what `answers_tell` names. Packets may be lost,
+/// copied and reordered. Requests may be sent, and replies given to the sweep, however often or late.
 pub fn accepted_facts_are_true()
     ensures { AcceptedFactsAreTrue }
 {}
@@ -46,14 +46,14 @@ pub fn done_sweeps_are_complete()
 
 /// Each ping from an end port of the part that is joined to a sweep's seat, for each LID of the plan of what the sweep
 /// has found, reaches the end port that owns the LID, if three conditions hold: the sweep has every answer; there is
-/// room for the LIDs; and the part holds the plan. The fabric is any whose nodes have different GUIDs.
+/// room for the LIDs; and the part holds the plan. The fabric may be any whose nodes have different GUIDs.
 pub fn swept_pings_arrive()
     ensures { SweptPingsArrive }
 {}
 
-/// Some sweep has every answer: a sweep of an adapter, a switch with a loop in a port, and another adapter. The other
-/// adapter has a port without a cable and a manager at its other port. The sweep takes twelve requests and their
-/// answers, including the answer of that manager.
+/// Some sweep has every answer: a sweep of an adapter, a switch with a cable that loops one of its ports, and another
+/// adapter. The other adapter has a port without a cable and a manager at its other port. The sweep takes twelve
+/// requests and their answers, including the answer of that manager.
 #[tactic(auto, using(crate::proofs::Example::some_sweep_is_whole))]
 pub fn some_sweep_is_whole()
     ensures { SomeSweepIsWhole }
@@ -79,19 +79,19 @@ pub fn new_managers_sweep_first()
 
 /// If the plan counts as written at the end of a writing run, each end port of the plan that the last sweep before the
 /// writing reached holds its LID and LMC, and each usable switch that this sweep reached holds its blocks and, as its
-/// top, the greatest LID. The fabric is any whose nodes have different GUIDs, with agents in any state. Other managers
-/// may send from their seats what `manager_laws::laws::answers_tell` names. Packets may be lost, copied and reordered.
-/// Packets of the manager may be sent, or given to it, however often or late. Anything may be asked of the manager, but
-/// no writing begins before a sweep. No cable changes. Once the writing has begun, the manager begins no other writing,
-/// and each Set that an agent takes is one of the writing's own or carries the plan's values.
+/// top, the greatest LID. The fabric may be any whose nodes have different GUIDs, with agents in any state. Other
+/// managers may send from their seats what `manager_laws::laws::answers_tell` names. Packets may be lost, copied and
+/// reordered. Packets of the manager may be sent, or given to it, however often or late. Anything may be asked of the
+/// manager, but no writing begins before a sweep. No cable changes. Once the writing has begun, the manager begins no
+/// other writing, and each Set that an agent takes is one of the writing's own or carries the plan's values.
 pub fn written_plans_are_held()
     ensures { WrittenPlansAreHeld }
 {}
 
-/// Each ping from an end port that a manager's seat is joined to, for each LID of the plan that it wrote, reaches the
-/// end port that owns the LID, if four conditions hold: the manager held no facts, at whatever floor, when its sweep
-/// began; the sweep has every answer; the manager learned nothing else until its writing began; and in the end the plan
-/// counts as written. Whatever else happens is as in `written_plans_are_held`.
+/// Each ping from an end port that a manager's seat is joined to, for each LID of the plan that the manager wrote,
+/// reaches the end port that owns the LID, if four conditions hold: the manager held no facts, at whatever floor, when
+/// its sweep began; the sweep has every answer; the manager learned nothing else until its writing began; and in the
+/// end the plan counts as written. Whatever else happens is as in `written_plans_are_held`.
 pub fn pings_arrive_once_written()
     ensures { PingsArriveOnceWritten }
 {}

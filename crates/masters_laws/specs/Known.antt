@@ -36,15 +36,15 @@ pub record LearntFromOne (t : Masters) (events : List MastersEvent) (which : ℕ
   pub knew_nothing : cells_of swept.then.manager.store ≡ []
   pub alone : LearnNothingElse which swept.between (after_masters_events (swept.before ++ At which one.Begin ∷ []) t)
 
--- a manager that knew no sweep at first knows one at the end of a run exactly if it learned only from one of the run's
--- sweeps
+-- a manager that knew no sweep at first knows one at the end of a run exactly when it learned only from one of the
+-- run's sweeps
 abbrev pub KnowsOneSweepMeans : Type 0
 KnowsOneSweepMeans =
     (t : Masters) (events : List MastersEvent) (which : ℕ) (m later : Seated) → IsAt t which m
     → m.knows_one_sweep ≡ false → IsAt (after_masters_events events t) which later
     → (later.knows_one_sweep ≡ true) ↔ LearntFromOne t events which
 
--- a manager that had not swept at first has swept at the end of a run exactly if it began a sweep in this run
+-- a manager that had not swept at first has swept at the end of a run exactly when it began a sweep in this run
 abbrev pub HasSweptMeans : Type 0
 HasSweptMeans =
     (t : Masters) (events : List MastersEvent) (which : ℕ) (m later : Seated) → IsAt t which m

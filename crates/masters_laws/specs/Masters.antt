@@ -44,7 +44,7 @@ seen_by scene m = record { scene = scene; seat = m.seat; manager = m.manager; ou
 
 -- what events do --------------------------------------------------------------------------
 
--- the manager has begun a sweep of the run, after the event
+-- after the event, the manager has begun a sweep in the run
 abbrev pub has_swept_after : Seated → ManagerEvent → Bool
 has_swept_after m one.Begin = if is_none (begin_fault m.manager) then true else m.has_swept
 has_swept_after m event = m.has_swept
@@ -59,7 +59,7 @@ knows_one_after m (one.Merge floor sightings) =
     m.knows_one_sweep && (length sightings == 0 && nat_le floor m.manager.store.floor)
 knows_one_after m event = m.knows_one_sweep
 
--- `m` after `event`, if `w` is its managing after that
+-- `m` after `event`; `w` is the `Managing` of `m` after the event
 abbrev pub seated_after : Seated → ManagerEvent → Managing → Seated
 seated_after m event w =
     record {
@@ -115,15 +115,15 @@ WritesWhole m one.Write =
     writing_fault m.manager ≡ None → (m.knows_one_sweep ≡ true) × IsWholeSweep m.manager.sweep
 WritesWhole m event = Unit {0}
 
--- the event can be: one on the fabric can happen and is no packet that another sender sends from a manager's seat; one
--- at a manager is its own, and can be there (`CanBe` of `Managing`)
+-- the event is possible: an event on the fabric can happen, and no other sender sends a packet from a manager's seat
+-- in this event; an event at a manager happens to this manager itself, and is possible there (`CanBe` of `Managing`)
 abbrev pub CanBe : Masters → MastersEvent → Type 0
 CanBe t (Around event) =
     CanHappen event × ((which : ℕ) (m : Seated) → IsAt t which m → IsElsewhere m.seat event)
 CanBe t (At which event) =
     (m : Seated) → IsAt t which m → IsItsOwn event × one.CanBe m.seat event
 
--- each of `events` can be when it happens
+-- each of `events` is possible when it happens
 abbrev pub AllCanBe : List MastersEvent → Masters → Type 0
 AllCanBe [] t = Unit {0}
 AllCanBe (event ∷ events) t = CanBe t event × AllCanBe events (after_masters_event t event)

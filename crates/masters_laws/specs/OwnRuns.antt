@@ -9,15 +9,15 @@ use Rattle.manager_laws.specs.Written.{SweepsFirst}
 use Rattle.masters_laws.specs.Masters.{Seated, Masters, MastersEvent, Around, At, IsAt, seen_by, after_masters_event, after_masters_events}
 use Rattle.masters_laws.specs.Masters.{AllCanBe, StartTogether}
 
--- the packet `o`, which the manager gave out, can be sent from its seat as one of the packets that other managers may
--- send
+-- the packet `o`, which the manager gave out, can be sent from the manager's seat as one of the packets that other
+-- managers may send
 pub record IsSendable (w : Managing) (o : Outgoing) : Type 0 where
   pub sending : Sending
   pub can_send : CanSend w.seat sending
   pub is : sent w.scene w.seat sending ≡ sent_from w.scene w.seat (packet_of o)
 
--- each packet that a manager gives out can be sent as one of other managers (`IsSendable`), if the manager may start a
--- run (`Starts`) and begins no writing before a sweep
+-- each packet that a manager gives out can be sent as a packet of another manager (`IsSendable`), if the manager may
+-- start a run (`Starts`) and begins no writing before a sweep
 abbrev pub WhatIsGivenOutCanBeSent : Type 0
 WhatIsGivenOutCanBeSent =
     (w : Managing) (events : List ManagerEvent) → Starts w → SweepsFirst events w → All (one.CanBe w.seat) events

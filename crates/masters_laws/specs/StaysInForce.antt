@@ -32,7 +32,7 @@ HoldsLids part plan f = (port : NodePort) (node : fabric.Node) → IsEndPortIn p
     → range_of plan.given (record { node = node.guid; port = port.port }) ≡ Some (range_at f port)
 
 -- managers start together, and all plan by `planning`. The facts have room, and describe exactly the part that is
--- joined to each seat. The end ports there have the LIDs and the LMC of the plan of these facts
+-- joined to each manager's seat. The end ports there have the LIDs and the LMC of the plan of these facts
 pub record ShareLids (facts : Facts) (planning : Planning) (t : Masters) : Type 0 where
   pub starts : StartTogether t
   pub has_room : ¬ (IsNoRoom planning.lmc (cells_of facts))
@@ -44,8 +44,8 @@ pub record ShareLids (facts : Facts) (planning : Planning) (t : Masters) : Type 
 
 -- managers start together after a cut, and all plan by `planning`. The facts `facts` have room, describe exactly what
 -- is joined to each seat, and claim the LIDs that the ports there have. The facts `earlier` have room, and have each
--- end port there, with the LID and the LMC that it has as their plan says; they may have other end ports, which are
--- gone
+-- end port there; each of these end ports has the LID and the LMC that the plan of `earlier` gives it. The facts
+-- `earlier` may have other end ports, which are gone
 pub record ShareRest (earlier facts : Facts) (planning : Planning) (t : Masters) : Type 0 where
   pub starts : StartTogether t
   pub had_room : ¬ (IsNoRoom planning.lmc (cells_of earlier))
@@ -163,7 +163,7 @@ MastersChangeNothing =
 
 -- two new managers that write one subnet at once ---------------------------------------------------
 
--- a new manager of the lowest priority and the plain conduct at its seat, which has done nothing yet
+-- a new manager at its seat, with the lowest priority and the plain conduct, which has done nothing yet
 abbrev pub new_at : NodePort → ℕ → Planning → Seated
 new_at seat port_guid planning =
     record {
@@ -174,7 +174,7 @@ new_at seat port_guid planning =
       knows_one_sweep = false;
     }
 
--- an example: two new managers that write one subnet at once, and what happens to them
+-- an example: two new managers that write the same subnet at the same time, and what happens to them
 pub record SomeMastersWriteAtOnce : Type 0 where
   pub masters : Masters
   pub held : Facts

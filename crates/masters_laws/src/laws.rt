@@ -11,15 +11,15 @@ pub fn what_is_given_out_can_be_sent()
     ensures { WhatIsGivenOutCanBeSent }
 {}
 
-/// One of several managers, if it had not swept at the start of a run, has swept at the end exactly if in the run it
+/// One of several managers, if it had not swept at the start of a run, has swept at the end exactly when in the run it
 /// began a sweep that was not refused.
 pub fn has_swept_means()
     ensures { HasSweptMeans }
 {}
 
-/// One of several managers, if it knew no sweep at the start of a run, knows one sweep at the end exactly if in the run
-/// it began that sweep while it held no facts, and since then began no other sweep, merged no facts of others and was
-/// given no floor above its own.
+/// One of several managers, if it knew no sweep at the start of a run, knows one sweep at the end exactly when in the
+/// run it began that sweep while it held no facts, and since then began no other sweep, merged no facts of others and
+/// was given no floor above its own.
 pub fn knows_one_sweep_means()
     ensures { KnowsOneSweepMeans }
 {}
@@ -33,8 +33,8 @@ pub fn each_runs_on_its_own()
 
 /// After a cut, the end ports that are left have the LIDs of the plan of what is left, if three conditions hold: they
 /// have the LIDs and the LMC of the plan of earlier facts, which have room and have each of these end ports; the facts
-/// of what is left describe it exactly and have room; and these facts claim the LIDs that the end ports have. The other
-/// laws of shared LIDs therefore hold after a cut too.
+/// of what is left describe what is left exactly, and have room; and these facts claim the LIDs that the end ports
+/// have. The other laws of shared LIDs therefore hold after a cut too.
 pub fn rest_shares_lids()
     ensures { RestSharesLids }
 {}

@@ -31,12 +31,12 @@ abbrev pub has_answers : StepLanes → Bool
 has_answers One = false
 has_answers (ByText answers) = answers
 
--- the rule `named` of the order that a text names; without one (None), the plan's rule `rule`
+-- the rule `named`, which is of the order that a text names; for None, the plan's rule `rule`
 abbrev pub rule_or : RuleValue → Option RuleValue → RuleValue
 rule_or rule None = rule
 rule_or rule (Some named) = named
 
--- the positions of switches in the order of the named rule; without one (None), `positions`
+-- the positions of switches in the order of the given rule; for None, `positions`
 abbrev pub preferred_positions : List ℕ → Cells → Option RuleValue → List ℕ
 preferred_positions positions cells None = positions
 preferred_positions positions cells (Some named) = positions_by named cells

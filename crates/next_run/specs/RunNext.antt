@@ -58,8 +58,8 @@ text_of_step lmc rule facts next = next_text (plan_of rule lmc (cells_of facts))
 abbrev pub step_text : ℕ → RuleValue → Facts → HeldPlan → List ℕ
 step_text lmc rule facts held = text_of_step lmc rule facts (stepped lmc rule facts held)
 
--- the choice of a step: how it chooses entries, the tables that it goes towards, if they are not the plan's, and the
--- order that it goes by, if the held tables imply it
+-- the choice of a step: how the step chooses entries, the tables that it goes towards, if they are not the plan's, and
+-- the order that it goes by, if the held tables imply this order
 pub record Choice : Type 0 where
   pub by : StepRuleValue
   pub goal : Option HeldPlan
@@ -158,8 +158,8 @@ abbrev pub fault_of_step : ℕ → StepFault → Fault
 fault_of_step at (steps.Moves lid) = Text at (Moves lid)
 fault_of_step at steps.Memory = Memory
 
--- making the next tables ends with `fault`: the plan gives the LID `moved` of the held tables, the input `at`, to
--- another end port, or memory ran out
+-- making the next tables ends with `fault`: the plan gives the LID `moved` to an end port, and the held tables, the
+-- input `at`, give it to another one; or memory ran out
 abbrev pub StopsBy : ℕ → Option ℕ → Fault → Type 0
 StopsBy at moved (Text input (Moves lid)) = (input ≡ at) × (moved ≡ Some lid)
 StopsBy at moved Memory = Unit {0}
@@ -169,8 +169,8 @@ StopsBy at moved fault = ⊥
 abbrev pub StopsNext : ℕ → HeldPlan → HeldPlan → Fault → Type 0
 StopsNext at held plan = StopsBy at (first_moved held plan)
 
--- a step ends with a fault: the plan has no room; it gives a LID of the held tables, the input `at`, to another end
--- port; the output has failed; or the plan has room and memory ran out
+-- a step ends with a fault: the plan has no room; the plan gives a LID to an end port, and the held tables, the input
+-- `at`, give it to another one; the output has failed; or the plan has room and memory ran out
 abbrev pub StopsStep : ℕ → ℕ → RuleValue → Facts → HeldPlan → Bool → Fault → Type 0
 StopsStep at lmc rule facts held sink_failed (NoRoom why) = no_room lmc (cells_of facts) ≡ Some why
 StopsStep at lmc rule facts held sink_failed (Text input (Moves lid)) =
@@ -186,7 +186,7 @@ StopsStep at lmc rule facts held sink_failed fault = ⊥
 abbrev pub reader_of : {S : Type 0} → (S → SourceState) → StepAsked → Reader S StepInputs
 reader_of state asked = step_reader state asked.floor (has_lanes asked.lanes) (is_named asked.held_order)
 
--- the number of texts that come before the tables
+-- the number of texts that a step reads before the tables
 abbrev pub texts_before : StepAsked → ℕ
 texts_before asked = texts_for asked.rule + texts_if (has_lanes asked.lanes) + texts_if (is_named asked.held_order)
 

@@ -5,8 +5,8 @@ use Rattle.held_tables.specs.Held.{HeldPlan}
 use Rattle.step_loops.specs.LoopLids.{AreLoopLids}
 use Rattle.step_loops.specs.StepOrder.{NoneShorter, NumbersRise, WaitInCycle}
 
--- the channels are a shortest credit loop that mixtures of the two tables make; for an empty list, numbers of channels
--- rise in the step
+-- the channels are a shortest credit loop that mixtures of the two tables make; for an empty list, channels have
+-- numbers that rise in the step
 abbrev pub IsCycleInStep : Cells → HeldPlan → HeldPlan → List ℕ → Type 0
 IsCycleInStep cells held next [] = (numbers : List ℕ) × NumbersRise cells held next numbers
 IsCycleInStep cells held next (channel ∷ later) =

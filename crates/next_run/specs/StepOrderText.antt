@@ -12,11 +12,12 @@ use Rattle.between_orders.specs.Between.{Goal}
 abbrev pub switches_by : Cells → List ℕ → List ℕ
 switches_by cells positions = map (switch_at cells) (positions_in positions (length positions))
 
--- the GUIDs of the switches in the order that a step goes by; None if it goes by none that the held tables imply
+-- the GUIDs of the switches in the order that a step goes by; None if the step goes by no order that the held tables
+-- imply
 abbrev pub order_of_step : Cells → Option Goal → Option (List ℕ)
 order_of_step cells goal = option_map (λ (g : Goal). switches_by cells g.positions) goal
 
--- the switches of an order as a list; None for None
+-- the switches of an order as a list; None if there is no order
 abbrev pub items_of : Option (Vec ℕ Global) → Option (List ℕ)
 items_of order = option_map (λ switches. switches.items) order
 

@@ -17,9 +17,9 @@ use Rattle.next_run.specs.StepLoops.{IsLoopInStep}
 use Rattle.next_run.specs.declared.step_verdict.StepVerdict.{StepVerdict}
 use Rattle.next_run.specs.declared.step_verdict.StepVerdict.TheVariants.{ByLane, OnOneLane}
 
--- the findings in a step: on one lane a credit loop and its LIDs, both empty if there is none (`on_one_lane`); or by
--- lane the packets without a service level, a packet that is dropped for want of a lane, None if none is, and a credit
--- loop, empty if there is none (`by_lane`)
+-- the findings in a step. `on_one_lane` has a credit loop and its LIDs, both empty if there is none. `by_lane` has the
+-- packets without a service level, a packet that is dropped for want of a lane, or None if none is, and a credit loop
+-- by lane, which is empty if there is none
 pub data Verdict : Type 0 where
   on_one_lane : List ℕ → List ℕ → Verdict
   by_lane : Listed PacketPair → Option Dropped → List ℕ → Verdict
@@ -29,16 +29,17 @@ abbrev pub verdict_of : StepVerdict → Verdict
 verdict_of (OnOneLane found) = on_one_lane found.channels.items found.lids.items
 verdict_of (ByLane found) = by_lane found.missing found.order.dropped found.order.cycle.items
 
--- in the step from `held` to `next`, `dropped` is a packet that is dropped for want of a lane by either table, None if
--- none is. `cycle` is a shortest credit loop by lane, empty if there is none
+-- in the step from `held` to `next`, `dropped` is a packet that is dropped for want of a lane by the held or by the
+-- next tables, or None if none is. `cycle` is a shortest credit loop by lane, or empty if there is none
 pub record IsOrderInStep (said : LanesSaid) (answers : Bool) (facts : Facts) (held next : HeldPlan)
     (dropped : Option Dropped) (cycle : List ℕ) : Type 0 where
   pub drop : IsSomeDropByAny (seen_of facts held said) (next ∷ []) answers dropped
   pub waits : IsCycleByAny (seen_of facts held said) (next ∷ []) answers cycle
   pub shortest : NoneShorterByAny (seen_of facts held said) (next ∷ []) answers cycle
 
--- the findings by lane in the step from `held` to `next`: the first packets to LIDs of `next` without a service level;
--- a packet that is dropped for want of a lane, and a shortest credit loop, each if there is one
+-- the findings by lane in the step from `held` to `next`: the number of packets without a service level to LIDs of
+-- `next`, and the first of them; a packet that is dropped for want of a lane, and a shortest credit loop, each if
+-- there is one
 pub record IsFoundInStep (said : LanesSaid) (answers : Bool) (facts : Facts) (held next : HeldPlan)
     (missing : Listed PacketPair) (dropped : Option Dropped) (cycle : List ℕ) : Type 0 where
   pub missing_are : missing ≡ all_listed (most_lines false) (missing_levels said (cells_of facts) next)

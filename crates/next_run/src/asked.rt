@@ -81,7 +81,7 @@ pub struct StepAsked {
     pub lmc: Lmc,
     /// The plan's rule of routing.
     pub rule: RuleAsked,
-    /// The least floor of what is read: older facts are ignored.
+    /// The least floor at which the files are read. Facts below the floor are ignored.
     pub floor: Generation,
     /// The order by which the step goes if the held tables are not right by the order of the plan's switches.
     pub held_order: HeldOrder,

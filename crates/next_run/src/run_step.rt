@@ -29,7 +29,7 @@ use smp_bytes::Guid;
 use std::alloc::{AllocError, Global};
 use tables_file::write_next;
 
-/// A step from held tables.
+/// A step from held tables: the tables to write next, and the order that the step goes by.
 #[derive(Drop)]
 struct MadeStep {
     /// The tables to write next.
@@ -43,12 +43,12 @@ struct MadeStep {
 /// each if it is asked for, then the text of the held tables and the files. There must be an input for each text.
 /// Writes to `sink` the tables to write next, towards the plan of the subnet that the files describe together.
 ///
-/// Writes to `told` what can happen while these tables are written, by any mixtures of the held and the next tables. On
-/// one lane, that is a shortest credit loop and its LIDs, or that there is no credit loop. Lane by lane, that is what
+/// Writes to `told` what can happen while these tables are written, by any mixtures of the held and the next tables.
+/// On one lane, writes a shortest credit loop and its LIDs, or that there is no credit loop. Lane by lane, writes what
 /// an audit by lane finds by lane. If the step goes towards a goal in between, a last line has the switches in the
 /// order that the step goes by. Returns whether there is no credit loop and, lane by lane, each packet between adapter
-/// ports of one component has a service level and no packet is dropped for want of a lane. A failed write to `told` is
-/// no error.
+/// ports of the same component has a service level and no packet is dropped for want of a lane. A failed write to
+/// `told` is not an error.
 ///
 /// # Errors
 ///
@@ -86,7 +86,7 @@ pub fn run_next<S: Source, W: Sink, E: Sink>(
     }
 }
 
-/// Returns the number of texts that come before the text of the held tables.
+/// Returns the number of texts that a step reads before the text of the held tables.
 fn texts_before(asked: StepAsked) -> usize
     ensures { result ≡ texts_before asked }
 {
@@ -94,7 +94,7 @@ fn texts_before(asked: StepAsked) -> usize
 }
 
 /// Writes to `sink` the step that `asked` asks for, from `found`, what the inputs say, towards the plan by `rule`.
-/// Writes to `told` and returns what `run_next` does.
+/// Writes to `told` what `run_next` writes there, and returns what `run_next` returns.
 fn step<W: Sink, E: Sink>(
     alloc: Global,
     asked: StepAsked,

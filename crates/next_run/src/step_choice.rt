@@ -1,4 +1,4 @@
-//! How a step chooses entries.
+//! The choice of a step: how it chooses entries, and which tables it goes towards.
 ghost use Rattle.std.specs.Prelude.{◌≡◌, IfOk, false, length};
 ghost use Rattle.std.specs.Option.{option_map};
 ghost use Rattle.fact_store.specs.View.{cells_of};
@@ -20,7 +20,7 @@ use plan_order::plan_positions;
 use smp_bytes::Guid;
 use std::alloc::Global;
 
-/// How a step chooses entries, and towards what.
+/// How a step chooses entries, and which tables it goes towards.
 #[derive(Drop)]
 pub(crate) struct StepChoice {
     /// The rule by which a switch takes its next entry.

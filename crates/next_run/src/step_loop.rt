@@ -18,7 +18,8 @@ use step_loops::{loop_lids, step_order};
 #[derive(Drop)]
 pub(crate) struct StepLoop {
     pub channels: Vec<usize>,
-    /// For each channel, the least LID for which packets that hold it wait for the next channel.
+    /// For each channel, the least LID for which packets that hold the channel wait for the next one. After the last
+    /// channel comes the first.
     pub lids: Vec<Lid>,
 }
 

@@ -19,9 +19,9 @@ use std::alloc::Global;
 /// What can happen while a step is written.
 #[derive(Drop)]
 pub(crate) enum StepVerdict {
-    /// On one lane, a credit loop, or an empty one if there is none.
+    /// On one lane: a credit loop, whose lists are empty if there is none.
     OnOneLane(StepLoop),
-    /// Lane by lane, packets without a service level, a packet that is dropped for want of a lane, and a credit loop,
+    /// Lane by lane: packets without a service level, a packet that is dropped for want of a lane, and a credit loop,
     /// each if there is one.
     ByLane(LaneFindings),
 }
@@ -49,8 +49,8 @@ impl StepVerdict {
         }
     }
 
-    /// Returns whether no credit loop was found and, lane by lane, no dropped packet and no packet without a service
-    /// level.
+    /// Returns whether no credit loop was found and, lane by lane, also no dropped packet and no packet without a
+    /// service level.
     pub fn is_sound(&self) -> bool
         ensures { IsTrue result ↔ IsSound (verdict_of self.now) }
     {

@@ -15,7 +15,7 @@ use Rattle.next_tables.specs.NextTables.{next_switch}
 abbrev pub entry_in : List (List ℕ) → ℕ → ℕ → ℕ
 entry_in columns index lid = slice_index_or (slice_index_or columns lid []) index 255
 
--- the block `b` of the switch at `index`, from `columns`, which has the entries of all switches for each LID
+-- block number `b` of the switch at `index`, from `columns`, which has the entries of all switches for each LID
 abbrev pub block_in : List (List ℕ) → ℕ → ℕ → List ℕ
 block_in columns index b = map (λ i. entry_in columns index (64 * b + i)) (range_with_len 0 64)
 
@@ -29,8 +29,8 @@ all_blocks columns index [] = []
 all_blocks columns index (s ∷ switches) =
     some_blocks columns index (block_count (Some s.top)) ++ all_blocks columns (suc index) switches
 
--- the plan's LIDs and, for each usable switch, the greater of its tops and its entries in `columns`; `columns` has the
--- entries of all usable switches for each LID
+-- the plan's LIDs and, for each usable switch, its entries in `columns` and the greater of its tops in `held` and in
+-- `plan`; `columns` has the entries of all usable switches for each LID
 abbrev pub tables_with : Cells → HeldPlan → HeldPlan → List (List ℕ) → HeldPlan
 tables_with cells held plan columns = record {
   lids = plan.lids;
@@ -38,6 +38,6 @@ tables_with cells held plan columns = record {
   blocks = all_blocks columns 0 (map (next_switch held plan) (switches cells));
 }
 
--- the number of blocks up to the greatest top of a usable switch, held or planned
+-- the number of blocks up to the greatest top that a usable switch has in `held` or in `plan`
 abbrev pub most_blocks : Cells → HeldPlan → HeldPlan → ℕ
 most_blocks cells held plan = block_count (Some (max (greatest_top cells held) (greatest_top cells plan)))

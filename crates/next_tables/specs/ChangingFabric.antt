@@ -34,14 +34,15 @@ IsLooseEntry cells held next lid g entry =
     (entry ≡ entry_for held lid g)
     ⊎ ((entry ≡ entry_for next lid g) ⊎ ((x : ℕ) × (cause : Cause) × (step_at cells held lid g ≡ Ends (Lost x cause))))
 
--- `now` has the nodes and cables of `before`, and the end ports of `part` own `lid` exactly if they owned it
+-- `now` has the nodes and cables of `before`, and an end port of `part` owns `lid` exactly when it owned it in
+-- `before`
 pub record StandsStill (part : Part) (lid : ℕ) (before now : Fabric) : Type 0 where
   pub nodes : now.nodes ≡ before.nodes
   pub cables : (p : NodePort) → now.across p ≡ before.across p
   pub owners : (port : NodePort) (node : Node) → IsEndPortIn part before port node
       → owns now port lid ≡ owns before port lid
 
--- in `now` nodes, cables and owners of `lid` are as in `before`. For `lid`, each switch of `part` has its held or its
+-- in `now`, nodes, cables and owners of `lid` are as in `before`. For `lid`, each switch of `part` has its held or its
 -- next entry, or any entry if the held tables drop the packet there
 pub record IsInChange (part : Part) (cells : Cells) (held next : HeldPlan) (lid : ℕ) (before now : Fabric) : Type 0
   where
@@ -55,8 +56,8 @@ abbrev pub ChangesMeanwhile : Part → Cells → HeldPlan → HeldPlan → ℕ �
 ChangesMeanwhile part cells held next lid before fabrics =
     (k : ℕ) → IsInChange part cells held next lid before (fabrics k)
 
--- in `now` nodes, cables and owners of `lid` are as in `before`. Each switch of `part` has its old or its next top, and
--- its old or its next entry for `lid`; the top and the entry may be written in any order
+-- in `now`, nodes, cables and owners of `lid` are as in `before`. Each switch of `part` has its old or its next top,
+-- and its old or its next entry for `lid`; the top and the entry may be written in any order
 pub record IsBeingWritten (part : Part) (next : HeldPlan) (lid : ℕ) (before now : Fabric) : Type 0 where
   pub still : StandsStill part lid before now
   pub tops : (port : NodePort) (node : Node) → IsEndPortIn part before port node → IsTrue (is_switch node.kind)
@@ -112,8 +113,8 @@ PacketsArriveWhileTablesChange =
     }) (Some (Taken line.port))
     → ArrivesMeanwhile fabrics line.lid source line.port (2 * length (switches (cells_of facts)) + 1)
 
--- by each rule of steps, a fabric whose tables are being written is in the change (`IsInChange`), if facts and held
--- tables say at first what the part that is joined to `origin` is and holds (`IsSeenIn`)
+-- by each rule of steps, a fabric whose tables are being written is in the change (`IsInChange`), if at first the
+-- facts describe the part that is joined to `origin`, and the part holds the held tables (`IsSeenIn`)
 abbrev pub WrittenTablesAreInChange : Type 0
 WrittenTablesAreInChange =
     (facts : Facts) (rule : StepRuleValue) (held plan : HeldPlan) (lid : ℕ) (before now : Fabric) (origin : NodePort)

@@ -24,20 +24,22 @@ pub record IsMixed (cells : Cells) (held next : HeldPlan) (lid : ℕ) (mixed : H
   pub entries : (g : ℕ) → Contains (switches cells) g → (entry_for mixed lid g ≡ entry_for held lid g)
       ⊎ (entry_for mixed lid g ≡ entry_for next lid g)
 
--- the step `n` steps after `s`, if step number `k` is taken by `steps k`, from 0 on
+-- the hop that is reached from the hop `s` by `n` steps; step number `k`, counted from 0, goes by the next hops `steps
+-- k`
 abbrev pub after_by : ℕ → (ℕ → List NextHop) → NextHop → NextHop
 after_by zero steps s = s
 after_by (suc n) steps s = after_by n (λ k. steps (suc k)) (onward (steps 0) s)
 
--- the packet that `e` sends for `lid` ends at `end` by tables that change; `tables k` are the tables when it has passed
--- `k` switches
+-- the packet that `e` sends for `lid` ends at `end` by tables that change; `tables k` are the tables when the packet
+-- has passed `k` switches
 abbrev pub IsBroughtBy : Cells → (ℕ → HeldPlan) → ℕ → EndPort → End → Type 0
 IsBroughtBy cells tables lid e end =
     (n : ℕ) × (after_by n (λ k. next_hops_of cells (tables k) lid)
     (first_hop (owners_of (tables 0) lid) (sender_of cells e)) ≡ Ends end)
 
--- for `lid`, `mixed` has the owners of `held` and, at each usable switch, the entry of `held` or of `next`. A switch
--- that drops the packet by the held tables may have any entry: its top may be raised before its blocks are written
+-- for `lid`, `mixed` has the owners of `held` and, at each usable switch, the entry of `held` or of `next`. If the
+-- held tables drop the packet at a switch, the switch may have any entry, since its top may be raised before its
+-- blocks are written
 pub record IsLoose (cells : Cells) (held next : HeldPlan) (lid : ℕ) (mixed : HeldPlan) : Type 0 where
   pub owners : owners_of mixed lid ≡ owners_of held lid
   pub entries : (g : ℕ) → Contains (switches cells) g
@@ -45,9 +47,9 @@ pub record IsLoose (cells : Cells) (held next : HeldPlan) (lid : ℕ) (mixed : H
       ⊎ ((entry_for mixed lid g ≡ entry_for next lid g)
       ⊎ ((x : ℕ) × (cause : Cause) × (step_at cells held lid g ≡ Ends (Lost x cause))))
 
--- a packet that the held tables deliver at the end port of `line` is delivered there by any loose mixtures of the held
--- and the next tables, if two conditions hold: the plan gives the LID to its owners in the held tables; and `next` has
--- the next entries for it
+-- a packet that the held tables deliver at the end port of `line` is delivered there by any loose mixtures (`IsLoose`)
+-- of the held and the next tables, if two conditions hold: the LID has the same owners in the plan and in the held
+-- tables; and `next` has the next entries for it
 abbrev pub NoneIsLost : Type 0
 NoneIsLost =
     (cells : Cells) (held plan next : HeldPlan) (line : HeldLid) → owners_of plan line.lid ≡ owners_of held line.lid
@@ -56,8 +58,8 @@ NoneIsLost =
     → (source : EndPort) → IsBrought cells held line.lid source (Some (Taken line.port))
     → IsBroughtBy cells mixed line.lid source (Taken line.port)
 
--- each switch delivers a packet for the LID by the next tables, or has the entry 255, if two conditions hold: the plan
--- gives the LID to its owners in the held tables; and `next` has the next entries for it
+-- each switch delivers a packet for the LID by the next tables, or has the entry 255, if two conditions hold: the LID
+-- has the same owners in the plan and in the held tables; and `next` has the next entries for it
 abbrev pub NextDeliverOrDrop : Type 0
 NextDeliverOrDrop =
     (cells : Cells) (held plan next : HeldPlan) (line : HeldLid) → owners_of plan line.lid ≡ owners_of held line.lid
@@ -66,8 +68,8 @@ NextDeliverOrDrop =
     → (entry_for next line.lid g ≡ 255) ⊎ IsEndOf (next_hops_of cells next line.lid) (To i) (Some (Taken line.port))
 
 -- a packet for the LID that does not loop by the held tables does not loop by any mixtures of the held and the next
--- tables, if two conditions hold: the plan gives the LID to its owners in the held tables; and `next` has the next
--- entries for it
+-- tables, if two conditions hold: the LID has the same owners in the plan and in the held tables; and `next` has the
+-- next entries for it
 abbrev pub NoneGoesRound : Type 0
 NoneGoesRound =
     (cells : Cells) (held plan next : HeldPlan) (line : HeldLid) → owners_of plan line.lid ≡ owners_of held line.lid
@@ -90,8 +92,8 @@ EndInThePlan =
     ≡ Ends (Taken line.port) → n ≤ m
     → entry_for (tables m) line.lid g ≡ entry_for plan line.lid g
 
--- if the plan gives a LID to its owners in the held tables, and a step changes none of its entries, each switch from
--- which the plan delivers has the plan's entry
+-- if a LID has the same owners in the plan and in the held tables, and a step changes no entry for the LID, each
+-- switch from which the plan delivers has the plan's entry for the LID
 abbrev pub StillIsThePlan : Type 0
 StillIsThePlan =
     (cells : Cells) (held plan : HeldPlan) (line : HeldLid) → owners_of plan line.lid ≡ owners_of held line.lid
@@ -108,8 +110,8 @@ HealInTwo =
     → (source : EndPort) → IsBrought cells plan line.lid source (Some (Taken line.port))
     → IsBrought cells (tables 2) line.lid source (Some (Taken line.port))
 
--- a packet leaves some switch by `channel`, by its edge in `before`, and the next switch by `next`, by its edge in
--- `now`
+-- a packet leaves some switch on `channel`, along that switch's edge in `before`, and then leaves the next switch on
+-- `next`, along the next switch's edge in `now`
 abbrev pub TakesBy : List (Option Edge) → List (Option Edge) → ℕ → ℕ → Type 0
 TakesBy before now channel next = (switch : ℕ) × TakesAcross before now switch channel next
 
@@ -123,12 +125,12 @@ TakesInStep held next a b =
 abbrev pub WaitsAcross : Cells → HeldPlan → HeldPlan → ℕ → ℕ → ℕ → Type 0
 WaitsAcross cells before now lid a b = TakesBy (edges_of cells before lid) (edges_of cells now lid) a b
 
--- packets for `lid` that hold channel `a` take `b` next, each of the two by the held or by the next tables
+-- packets for `lid` take channel `a` and then channel `b`, each by the held or by the next tables
 abbrev pub WaitsInStep : Cells → HeldPlan → HeldPlan → ℕ → ℕ → ℕ → Type 0
 WaitsInStep cells held next lid a b = TakesInStep (edges_of cells held lid) (edges_of cells next lid) a b
 
--- if a channel waits for another for `lid` while tables change from one mixture to another, it does so by edges of the
--- held or of the next tables
+-- if a channel waits for another for `lid` while tables change from one mixture to another, packets for `lid` take
+-- each of the two channels along an edge of the held or of the next tables
 abbrev pub MixturesWaitSo : Type 0
 MixturesWaitSo =
     (cells : Cells) (held next before now : HeldPlan) (lid : ℕ) → IsMixed cells held next lid before

@@ -1,4 +1,4 @@
--- The tables to write next, for all LIDs, by either rule of steps.
+-- The tables to write next, for all LIDs, by each rule of steps.
 use Rattle.std.specs.Prelude.{◌≡◌, ℕ, ◌+◌, ◌*◌, Bool, true, false, List, [], ◌∷◌, Option, None, Some, map, max, not, option_map, unwrap_or, if◌then◌else◌}
 use Rattle.std.specs.List.{find, range_with_len}
 use Rattle.subnet_view.specs.declared.end_port.EndPort.{EndPort}
@@ -24,18 +24,19 @@ use Rattle.next_tables.specs.SettledRule.{next_entry}
 abbrev pub moves : HeldPlan → HeldLid → Bool
 moves held line = not (is_sole line.port (owners_of held line.lid))
 
--- the first LID that the plan gives to an end port and that another one holds in the held tables; None if there is none
+-- the first LID that the plan gives to an end port and that another end port holds in the held tables; None if there
+-- is none
 abbrev pub first_moved : HeldPlan → HeldPlan → Option ℕ
 first_moved held plan = option_map (λ line. line.lid) (find (moves held) plan.lids)
 
--- `e` if it is the only end port in the list; None if the list is empty, or has another one or several
+-- `e` if it is the only end port in the list; otherwise None
 abbrev pub kept_by : EndPort → List EndPort → Option EndPort
 kept_by e [] = None
 kept_by e (x ∷ []) = if is_same_end e x then Some e else None
 kept_by e (x ∷ y ∷ xs) = None
 
--- the end port that is the only one in both lists, the LID's owners in the plan and in the held tables; None if there
--- is none
+-- the only one of a LID's owners in the plan (the first list), if it is also the only one in `held`, the LID's owners
+-- in the held tables; otherwise None
 abbrev pub keeper : List EndPort → List EndPort → Option EndPort
 keeper [] held = None
 keeper (e ∷ []) held = kept_by e held
@@ -46,8 +47,8 @@ abbrev pub if_owned : List EndPort → ℕ → ℕ
 if_owned [] entry = 255
 if_owned (e ∷ es) entry = entry
 
--- the next entry of switch `g` for `lid` by settled entries: the one towards the end port that keeps the LID; if there
--- is none (None), the plan's entry, or 255 if `planned` is empty
+-- the next entry of switch `g` for `lid` by settled entries: `next_entry` towards the given end port. For None, it is
+-- the plan's entry, or 255 if `planned`, the LID's owners in the plan, is empty
 abbrev pub next_for : Cells → HeldPlan → HeldPlan → ℕ → List EndPort → Option EndPort → ℕ → ℕ
 next_for cells held plan lid planned None g = if_owned planned (entry_for plan lid g)
 next_for cells held plan lid planned (Some port) g = next_entry cells held plan (record { lid = lid; port = port }) g
@@ -75,8 +76,8 @@ ordered_for cells q held plan lid [] i g = 255
 ordered_for cells q held plan lid (port ∷ ports) i g =
     next_by_order cells q held plan (record { lid = lid; port = port }) i g
 
--- the next entry of switch `g` for `lid`. By settled entries, it is `next_entry` if one end port alone holds the LID,
--- the same in both tables. If not, it is the plan's entry, or 255 for a LID that the plan lacks. By an order, it is
+-- the next entry of switch `g` for `lid`. By settled entries, it is `next_entry` if the same end port alone holds the
+-- LID in both tables. Otherwise it is the plan's entry, or 255 for a LID that the plan lacks. By an order, it is
 -- `ordered_for`
 unfoldable pub next_at : Cells → StepRuleValue → HeldPlan → HeldPlan → ℕ → ℕ → ℕ
 next_at cells settled_first held plan lid g =
@@ -88,7 +89,7 @@ next_at cells (by_order positions) held plan lid g =
 abbrev pub column_of : Cells → StepRuleValue → HeldPlan → HeldPlan → ℕ → List ℕ
 column_of cells rule held plan lid = map (next_at cells rule held plan lid) (switches cells)
 
--- the end port of `line` alone holds its LID, in the plan and in the held tables
+-- the end port of `line` alone holds the LID of `line`, in the plan and in the held tables
 pub record IsKept (held plan : HeldPlan) (line : HeldLid) : Type 0 where
   pub in_plan : owners_of plan line.lid ≡ line.port ∷ []
   pub in_held : owners_of held line.lid ≡ line.port ∷ []
@@ -101,7 +102,7 @@ next_top held plan g = max (top_of held g) (top_of plan g)
 abbrev pub next_switch : HeldPlan → HeldPlan → ℕ → HeldSwitch
 next_switch held plan g = record { guid = g; top = next_top held plan g }
 
--- the block `b` of switch `g`, with the next entries by the rule
+-- block number `b` of switch `g`, with the next entries by the rule
 abbrev pub next_block : Cells → StepRuleValue → HeldPlan → HeldPlan → ℕ → ℕ → List ℕ
 next_block cells rule held plan g b = map (λ i. next_at cells rule held plan (64 * b + i) g) (range_with_len 0 64)
 
@@ -112,7 +113,8 @@ next_table cells rule held plan g = record {
   blocks = map (next_block cells rule held plan g) (range_with_len 0 (block_count (Some (next_top held plan g))));
 }
 
--- the plan's LIDs and, for each usable switch, the greater of its tops and its next entries
+-- the plan's LIDs and, for each usable switch, its next entries and the greater of its tops in the held tables and in
+-- the plan
 unfoldable pub next_tables : Cells → StepRuleValue → HeldPlan → HeldPlan → HeldPlan
 next_tables cells rule held plan = record {
   lids = plan.lids;

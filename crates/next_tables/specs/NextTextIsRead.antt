@@ -25,8 +25,8 @@ NextTextsAreRead =
     (facts : Facts) (by : StepRuleValue) (held : HeldPlan) (plan : PlanValue) → AreInRange facts → IsHeldInRange held
     → IsPlanInRange plan → IsStepRead facts by held plan
 
--- the text of a step is read back as its tables, if the step goes from the tables of any text towards the plan of facts
--- that are in range and have room for the LIDs
+-- the text of a step is read back as its tables, if the step goes from the tables of any text towards the plan, at an
+-- LMC of at most 7, of facts that are in range and have room for the LIDs
 abbrev pub StepTextsAreRead : Type 0
 StepTextsAreRead =
     (rule : RuleValue) (lmc : ℕ) (facts : Facts) (by : StepRuleValue) (text : List ℕ) → lmc ≤ 7 → AreInRange facts

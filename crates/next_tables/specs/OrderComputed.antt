@@ -49,8 +49,8 @@ is_entered positions held goal i = list_any (enters_from positions i) (enumerate
 abbrev pub entered_of : List ℕ → List SwitchStep → List SwitchStep → List Bool
 entered_of positions held goal = map (is_entered positions held goal) (range_with_len 0 (length held))
 
--- the hop of the switch at index `i` makes no turn down and then up with held entries that are not the goal's; an end
--- makes none
+-- the hop of the switch at index `i` makes no turn from down to up with held entries that are not the goal's; true if
+-- the hop is an end
 abbrev pub turns_well_by : List ℕ → List Bool → List Bool → ℕ → NextHop → Bool
 turns_well_by positions going_up entered i (To j) =
     (not (is_up (position_at positions) i j) || not (flag entered i))
@@ -63,7 +63,7 @@ leads_in port delivered (To j) = flag delivered j
 leads_in port delivered (Ends e) = is_at port (Some e)
 
 -- the switch at index `i` may take the goal's entry, by which its hop is `hop`: the hop turns well and, if the held
--- tables deliver from this switch, leads to the port or to a switch from which they deliver
+-- tables deliver from this switch, ends at the port or leads to a switch from which they deliver
 abbrev pub may_change_by : List ℕ → EndPort → List Bool → List Bool → List Bool → ℕ → NextHop → Bool
 may_change_by positions port delivered going_up entered i hop =
     turns_well_by positions going_up entered i hop && (not (flag delivered i) || leads_in port delivered hop)

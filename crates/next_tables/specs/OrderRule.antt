@@ -1,4 +1,4 @@
--- Each switch's next entry for a LID by an order of the switches, towards a goal's.
+-- Each switch's next entry for a LID, by an order of the switches, towards the goal's entry.
 use Rattle.std.specs.Prelude.{◌≡◌, ◌⊎◌, ◌==◌, ◌&&◌, ◌||◌, ◌+◌, ◌-◌, ◌*◌, ◌/◌, ℕ, Bool, true, false, not, List, Some, length, map, nat_lt, slice_get, if◌then◌else◌}
 use Rattle.std.specs.List.{list_all, range_with_len}
 use Rattle.subnet_view.specs.Reading.{Cells, switches}
@@ -29,7 +29,7 @@ none_comes_down cells q held goal lid i =
     list_all (λ x. not (comes_down q x i (step_at cells held lid (switch_at cells x)))
     || is_same cells held goal lid (switch_at cells x)) (range_with_len 0 (length (switches cells)))
 
--- the hop of the switch at index `j` leads up to a switch; false of an end
+-- the hop of the switch at index `j` leads up to a switch; false if the hop is an end
 abbrev pub goes_up : (ℕ → ℕ) → ℕ → NextHop → Bool
 goes_up q j (To k) = is_up q j k
 goes_up q j (Ends e) = false
@@ -41,7 +41,7 @@ none_goes_up cells q held goal lid j =
 
 -- the goal's next hop of the switch at index `i` makes no bad turn with held entries. If the hop leads up, no held
 -- entry that is not the goal's leads down to this switch. If it leads down, the next switch has no held entry that
--- leads up and is not the goal's. An end makes no turn
+-- leads up and is not the goal's. A hop that is an end makes no turn
 abbrev pub turns_well : Cells → (ℕ → ℕ) → HeldPlan → HeldPlan → ℕ → ℕ → NextHop → Bool
 turns_well cells q held goal lid i (To j) =
     (not (is_up q i j) || none_comes_down cells q held goal lid i)
@@ -81,7 +81,7 @@ abbrev pub next_by_order : Cells → (ℕ → ℕ) → HeldPlan → HeldPlan →
 next_by_order cells q held goal line i g =
     if comes_to line.port (tried cells q held goal line) (To i) then tried_entry cells q held goal line i g else 255
 
--- `next` has the next entries by the order `q` for the LID of `line`, whose owners stay the same
+-- `next` has the next entries by the order `q` for the LID of `line`, and the LID's owners stay the same
 pub record IsNextByOrder (cells : Cells) (q : ℕ → ℕ) (held goal : HeldPlan) (line : HeldLid) (next : HeldPlan) : Type 0
   where
     pub owners : owners_of next line.lid ≡ owners_of held line.lid
@@ -97,8 +97,8 @@ pub record IsTriedByOrder (cells : Cells) (q : ℕ → ℕ) (held goal : HeldPla
         → (entry_for next line.lid g ≡ tried_entry cells q held goal line i g)
         ⊎ ((comes_to line.port (tried cells q held goal line) (To i) ≡ false) × (entry_for next line.lid g ≡ 255))
 
--- each entry of `next` for `lid` is the held entry, 255, or the goal's entry if that makes no bad turn with held
--- entries
+-- each entry of `next` for `lid` is the held entry, 255, or the goal's entry; if it is the goal's, its hop makes no
+-- bad turn with held entries
 abbrev pub IsChoice : Cells → (ℕ → ℕ) → HeldPlan → HeldPlan → ℕ → HeldPlan → Type 0
 IsChoice cells q held goal lid next =
     (i g : ℕ) → slice_get (switches cells) i ≡ Some g
@@ -112,8 +112,8 @@ IsChoice cells q held goal lid next =
 abbrev pub channel_number : ℕ → ℕ → ℕ → ℕ
 channel_number n a b = if nat_lt b a then n - b else n + 1 + b
 
--- the number of a channel from the switch at index `i` to where its wire leads, by the positions `q`; 0 if it leads to
--- no switch
+-- the number, by the positions `q`, of a channel from the switch at index `i` to the given far end; 0 if the far end
+-- is not a switch
 abbrev pub number_over : ℕ → (ℕ → ℕ) → ℕ → Far → ℕ
 number_over n q i Nothing = 0
 number_over n q i (Switch j) = channel_number n (q i) (q j)

@@ -11,7 +11,7 @@ use Rattle.packet_walks.specs.EndsBySwitch.{end_of, is_to, onward}
 use Rattle.packet_walks.specs.HopsByTables.{is_at}
 use Rattle.next_tables.specs.SettledRule.{comes_to}
 
--- the steps of a switch by the held tables, and by the plan
+-- what a switch does by the held tables, and what it does by the plan
 abbrev pub Both : Type 0
 Both = SwitchStep × SwitchStep
 

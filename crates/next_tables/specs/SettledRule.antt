@@ -1,4 +1,4 @@
--- The next entry of each switch for a LID, from held tables towards a plan's, by settled entries: the plan's entry once
+-- The next entry of each switch for a LID, from held tables towards a plan, by settled entries: the plan's entry once
 -- it leads on.
 use Rattle.std.specs.Prelude.{◌≡◌, ℕ, ◌==◌, Bool, List, Contains, length, map, if◌then◌else◌}
 use Rattle.subnet_view.specs.declared.end_port.EndPort.{EndPort}

@@ -14,27 +14,30 @@ use Rattle.next_tables.specs.Mixtures.{IsBroughtBy, IsLoose, IsMixed}
 use Rattle.next_tables.specs.SettledRule.{IsNext}
 use Rattle.next_tables.specs.NextTables.{IsKept, StepRuleValue, next_at, next_tables, next_top, settled_first}
 
--- `next` has the plan's owners and, at each usable switch, the greater top and the next entry for each LID
+-- `next` has the plan's owners of each LID and, at each usable switch, the greater of its tops in `held` and in
+-- `plan`, and the next entry for each LID
 pub record AreNextTables (cells : Cells) (rule : StepRuleValue) (held plan next : HeldPlan) : Type 0 where
   pub owners : (lid : ℕ) → owners_of next lid ≡ owners_of plan lid
   pub tops : (g : ℕ) → Contains (switches cells) g → top_of next g ≡ next_top held plan g
   pub entries : (g lid : ℕ) → Contains (switches cells) g → entry_for next lid g
       ≡ next_at cells rule held plan lid g
 
--- the tables of `next_tables` have the plan's owners and, at each usable switch, the greater top and the next entries
+-- the tables of `next_tables` have the plan's owners of each LID and, at each usable switch, the greater of its tops
+-- in the held tables and in the plan, and the next entries
 abbrev pub NextTablesAreSo : Type 0
 NextTablesAreSo =
     (cells : Cells) (rule : StepRuleValue) (held plan : HeldPlan)
     → AreNextTables cells rule held plan (next_tables cells rule held plan)
 
--- the next tables by settled entries have the next entries for a LID that one end port alone holds, the same in the
--- held tables and in the plan
+-- the next tables by settled entries have the next entries for a LID that the same end port alone holds in the held
+-- tables and in the plan
 abbrev pub StepsFollowTheRule : Type 0
 StepsFollowTheRule = (cells : Cells) (held plan : HeldPlan) (line : HeldLid) → IsKept held plan line
     → IsNext cells held plan line (next_tables cells settled_first held plan)
 
--- a packet that the held tables deliver is delivered at the same end port by any loose mixtures of the held tables and
--- the next ones by settled entries, if this end port alone holds the LID in the held tables and in the plan
+-- a packet that the held tables deliver is delivered at the same end port by any loose mixtures (`IsLoose`) of the
+-- held tables and the next ones by settled entries, if this end port alone holds the LID in the held tables and in the
+-- plan
 abbrev pub StepsLoseNone : Type 0
 StepsLoseNone =
     (cells : Cells) (held plan : HeldPlan) (line : HeldLid) → IsKept held plan line
@@ -43,7 +46,7 @@ StepsLoseNone =
     → IsBroughtBy cells mixed line.lid source (Taken line.port)
 
 -- a packet that does not loop by the held tables does not loop by any mixtures of the held tables and the next ones by
--- settled entries, if one end port alone holds its LID, the same in the held tables and in the plan
+-- settled entries, if the same end port alone holds its LID in the held tables and in the plan
 abbrev pub StepsSendNoneRound : Type 0
 StepsSendNoneRound =
     (cells : Cells) (held plan : HeldPlan) (line : HeldLid) → IsKept held plan line
@@ -57,7 +60,7 @@ stepped cells plan held zero = held
 stepped cells plan held (suc n) = next_tables cells settled_first (stepped cells plan held n) plan
 
 -- a switch from which the plan delivers after n hops has the plan's entry after n or more steps by settled entries, if
--- the end port alone holds the LID in the held tables and in the plan
+-- the end port of `line` alone holds the LID in the held tables and in the plan
 abbrev pub StepsEndInThePlan : Type 0
 StepsEndInThePlan =
     (cells : Cells) (held plan : HeldPlan) (line : HeldLid) → IsKept held plan line
@@ -65,8 +68,8 @@ StepsEndInThePlan =
     ≡ Ends (Taken line.port) → n ≤ m
     → entry_for (stepped cells plan held m) line.lid g ≡ entry_for plan line.lid g
 
--- each packet that arrives by the plan arrives after two steps by settled entries, if one end port alone holds its LID,
--- the same in the held tables and in the plan
+-- each packet that arrives by the plan arrives after two steps by settled entries, if the same end port alone holds
+-- its LID in the held tables and in the plan
 abbrev pub StepsHealInTwo : Type 0
 StepsHealInTwo =
     (cells : Cells) (held plan : HeldPlan) (line : HeldLid) → IsKept held plan line

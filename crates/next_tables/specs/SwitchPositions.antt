@@ -7,11 +7,11 @@ use Rattle.packet_walks.specs.declared.next_hop.NextHop.TheVariants.{To}
 use Rattle.held_tables.specs.Switches.{row_of}
 use Rattle.next_tables.specs.SettledRule.{step_at}
 
--- `q` gives each usable switch, by its index, a position below the number of switches
+-- `q` gives each index of a usable switch a position below the number of these switches
 abbrev pub IsOrder : Cells → (ℕ → ℕ) → Type 0
 IsOrder cells q = (i : ℕ) → i < length (switches cells) → q i < length (switches cells)
 
--- the position of the switch at index `i`, 0 past the end
+-- the position of the switch at index `i`; 0 past the end
 abbrev pub position_at : List ℕ → ℕ → ℕ
 position_at positions i = slice_index_or positions i 0
 

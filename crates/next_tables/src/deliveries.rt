@@ -1,4 +1,4 @@
-//! Where packets for a LID get by the held tables, for both rules of next tables.
+//! Where the held tables bring packets for a LID, for both rules of next tables.
 ghost use Rattle.std.specs.Prelude.{◌≡◌, IfOk, ◌<◌, false, map};
 ghost use Rattle.next_tables.specs.SettledComputed.{arrives_by, hops_of};
 ghost use Rattle.next_tables.specs.OrderComputed.{delivered_of, flag, leads_in};
@@ -15,7 +15,7 @@ pub(crate) fn hops(alloc: Global, steps: &[SwitchStep]) -> Result<Vec<NextHop>, 
     steps.iter().map(|step| step.hop).collect(alloc)
 }
 
-/// Returns whether the walk that goes on from `step` arrives at `port`. `ends` has the end of the walk from each
+/// Returns whether the walk that goes on by the hop `step` arrives at `port`. `ends` has the end of the walk from each
 /// switch.
 pub(crate) fn arrives_by(port: &EndPort, ends: &[NextHop], step: NextHop) -> bool
     ensures { result ≡ arrives_by port.now ends.now step }

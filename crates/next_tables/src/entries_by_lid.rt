@@ -40,8 +40,8 @@ pub(crate) fn columns(
     Ok(columns)
 }
 
-/// Returns the next entries of all usable switches for the LID of both cursors, by `rule`. `held` and `plan` must be at
-/// one LID, and have the same facts.
+/// Returns the next entries of all usable switches for the LID of both cursors, by `rule`. `held` and `plan` must be
+/// at the same LID, and have the same facts.
 fn column(
     alloc: Global,
     rule: &StepRule,
@@ -60,7 +60,7 @@ fn column(
 }
 
 /// Returns the next entries of all usable switches for the LID of both cursors, by the order `positions`. `held` and
-/// `plan` must be at one LID, and have the same facts.
+/// `plan` must be at the same LID, and have the same facts.
 fn ordered_column(
     alloc: Global,
     positions: &[usize],
@@ -89,7 +89,7 @@ fn ordered_column(
 }
 
 /// Returns the next entries of all usable switches for the LID of both cursors, by settled entries. `held` and `plan`
-/// must be at one LID, and have the same facts.
+/// must be at the same LID, and have the same facts.
 fn settled_column(alloc: Global, held: &LidCursor, plan: &LidCursor) -> Result<Vec<u8>, AllocError>
     requires facts { plan.now.seen.facts ≡ held.now.seen.facts }
     requires lid { plan.now.lid ≡ held.now.lid }

@@ -7,9 +7,9 @@ ghost use Rattle.next_tables.specs.NextTextIsRead.{NextTextsAreRead, StepTextsAr
 ghost use Rattle.next_tables.specs.SettledStepLaws.{StepsEndInThePlan, StepsHealInTwo};
 ghost use Rattle.next_tables.specs.SettledStepLaws.{NextTablesAreSo, StepsFollowTheRule, StepsLoseNone, StepsSendNoneRound};
 
-/// A packet that the held tables deliver is delivered at the same end port by any loose mixtures of the held and the
-/// next tables, if its LID has the same owners in the held tables and in the plan. The mixture may change while the
-/// packet travels.
+/// A packet that the held tables deliver is delivered at the same end port by any loose mixtures (`IsLoose`) of the
+/// held and the next tables, if its LID has the same owners in the held tables and in the plan. The mixture may change
+/// while the packet travels.
 pub fn none_is_lost()
     ensures law { NoneIsLost }
 {}
@@ -20,14 +20,14 @@ pub fn none_goes_round()
     ensures law { NoneGoesRound }
 {}
 
-/// After n or more steps, a switch has the plan's entry for a LID that has the same owners in the first tables and in
-/// the plan, if the plan delivers from the switch over n switches, that one included.
+/// If a LID has the same owners in the first tables and in the plan, and the plan delivers from a switch over n
+/// switches (itself included), then the switch has the plan's entry for the LID after n or more steps.
 pub fn end_in_the_plan()
     ensures law { EndInThePlan }
 {}
 
-/// If a step changes no entry for a LID that has the same owners in the held tables and in the plan, each switch from
-/// which the plan delivers has the plan's entry for the LID.
+/// If a step changes no entry for a LID that has the same owners in the held tables and in the plan, then each switch
+/// from which the plan delivers has the plan's entry for the LID.
 pub fn still_is_the_plan()
     ensures law { StillIsThePlan }
 {}
@@ -44,21 +44,21 @@ pub fn next_deliver_or_drop()
     ensures law { NextDeliverOrDrop }
 {}
 
-/// If a channel waits for another one by any mixtures of the held and the next tables, packets take the two channels by
-/// entries of the held or of the next tables.
+/// If a channel waits for another one for some LID by any mixtures of the held and the next tables, then packets for
+/// the LID take each of the two channels by an entry of the held or of the next tables.
 pub fn mixtures_wait_so()
     ensures law { MixturesWaitSo }
 {}
 
-/// Channels never wait in a cycle, whatever the mixtures, if channels have numbers that rise in a step. Numbers rise in
-/// a step if each channel has a lesser number than each channel that a packet takes next. The packet may take each of
-/// the two channels by an entry of the held or of the next tables.
+/// If channels have numbers that rise in a step, channels never wait in a credit loop, whatever the mixtures of the
+/// held and the next tables. Numbers rise in a step if each channel has a lesser number than each channel that a
+/// packet takes next. The packet may take each of the two channels by an entry of the held or of the next tables.
 pub fn no_cycle_in_step()
     ensures law { NoCycleInStep }
 {}
 
-/// The tables that `next_tables` returns have the plan's owners, and at each usable switch the greater of its tops and
-/// the next entry for each LID.
+/// The tables that `next_tables` returns have the plan's owners of each LID and, at each usable switch, the greater of
+/// its tops in the held tables and in the plan, and the next entry for each LID.
 pub fn next_tables_are_so()
     ensures law { NextTablesAreSo }
 {}
@@ -69,9 +69,9 @@ pub fn steps_follow_the_rule()
     ensures law { StepsFollowTheRule }
 {}
 
-/// A packet that the held tables deliver is delivered at the same end port by any loose mixtures of the held tables and
-/// of what `next_tables` returns by settled entries, if one end port alone holds its LID in the held tables and in the
-/// plan.
+/// A packet that the held tables deliver is delivered at the same end port by any loose mixtures (`IsLoose`) of the
+/// held tables and of what `next_tables` returns by settled entries, if one end port alone holds its LID in the held
+/// tables and in the plan.
 pub fn steps_lose_none()
     ensures law { StepsLoseNone }
 {}
@@ -82,9 +82,9 @@ pub fn steps_send_none_round()
     ensures law { StepsSendNoneRound }
 {}
 
-/// After n or more steps of `next_tables` by settled entries, a switch has the plan's entry for a LID that one end port
-/// alone holds in the first tables and in the plan, if the plan delivers from the switch over n switches, that one
-/// included.
+/// If one end port alone holds a LID in the first tables and in the plan, and the plan delivers from a switch over n
+/// switches (itself included), then the switch has the plan's entry for the LID after n or more steps of `next_tables`
+/// by settled entries.
 pub fn steps_end_in_the_plan()
     ensures law { StepsEndInThePlan }
 {}
@@ -104,9 +104,9 @@ pub fn packets_arrive_while_tables_change()
     ensures law { PacketsArriveWhileTablesChange }
 {}
 
-/// If the facts describe a part of a fabric that holds the held tables, the part is in a change from the held to the
-/// next tables while tops and blocks of its switches are written, in any order. In this change each switch has the held
-/// entry for a LID or the next one, or drops the LID's packets by the held tables.
+/// If the facts describe a part of a fabric, and this part holds the held tables, then the part is in a change from
+/// the held to the next tables while the tops and blocks of its switches are written, in any order. In this change,
+/// each switch has the held or the next entry for a LID, unless the held tables drop the LID's packets there.
 pub fn written_tables_are_in_change()
     ensures law { WrittenTablesAreInChange }
 {}

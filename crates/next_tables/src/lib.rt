@@ -1,6 +1,7 @@
 //! The tables to write next, from the tables that switches hold towards a plan's, by settled entries or by an order of
-//! the switches. If one end port alone holds a LID in both tables, no mixture of the held and the next tables loses a
-//! packet for the LID that arrived. By an order, both tables must be right by the order.
+//! the switches. If one end port alone holds a LID in the held tables and in the plan, no mixture of the held and the
+//! next tables loses a packet for the LID that the held tables deliver. If the step goes by an order, both tables must
+//! also be right by this order.
 #![tactic(auto)]
 
 mod assembly;

@@ -76,8 +76,8 @@ fn is_same_hop(hop: &NextHop, other: &NextHop) -> bool
     *hop == *other
 }
 
-/// Returns, for each switch, the plan's next hop if the switch's entries in both tables are equal. A switch with
-/// different entries drops the packet.
+/// Returns, for each switch, the plan's next hop if the switch's entries in both tables are equal, and otherwise that
+/// the switch drops the packet.
 fn agreed(
     alloc: Global,
     held: &[SwitchStep],

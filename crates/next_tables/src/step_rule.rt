@@ -7,7 +7,7 @@ pub enum StepRule {
     /// plan's entry.
     SettledFirst,
     /// By an order of the usable switches: a switch takes the plan's entry if no packet can then go down and then up,
-    /// and if no packet that arrived is lost. Has the position of each usable switch in the order, in ascending order
-    /// of GUID.
+    /// and if no packet that arrived is lost. The list has the position of each usable switch in this order. The
+    /// switches are in ascending order of GUID there.
     ByOrder(Vec<usize>),
 }

@@ -1,4 +1,4 @@
-//! Which channels lead up and which lead down, by the positions of switches in an order.
+//! Which channels lead up and which lead down, according to the positions of the switches in an order.
 ghost use Rattle.std.specs.Prelude.{◌≡◌};
 ghost use Rattle.next_tables.specs.SwitchPositions.{is_down, is_up, position_at};
 

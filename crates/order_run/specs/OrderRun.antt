@@ -14,8 +14,8 @@ use Rattle.sm_cli.specs.declared.fault.Fault.{Fault}
 use Rattle.sm_cli.specs.declared.input_tables.TablesAndFacts.{TablesAndFacts}
 use Rattle.audit_report.specs.RunAudit.{IsAnswerFault}
 
--- the GUIDs of the switches of an order, from the first one on, by `taken`, which has the last switch first; empty for
--- None, if there is no order
+-- the GUIDs of the switches of an order, from the first switch on; `taken` has their indices, the last switch first.
+-- Empty for None, which means that there is no order
 abbrev pub told_switches : Cells → Option (List ℕ) → List ℕ
 told_switches cells None = []
 told_switches cells (Some taken) = map (switch_at cells) (reverse taken)

@@ -20,7 +20,7 @@ use std::alloc::{AllocError, Global};
 use told_order::told_order;
 
 /// Reads the tables from the first input, and then the files in order. There must be at least one input. Writes the
-/// usable switches in an order by which these tables send no packet, for any LID, down and then up, and flushes. Each
+/// usable switches in an order by which these tables send no packet for any LID down and then up, and flushes. Each
 /// switch has a line with `0x` and its GUID. Writes nothing if no such order exists. Returns whether one exists.
 ///
 /// # Errors

@@ -47,8 +47,8 @@ pub record IsStep (cells : Cells) (q : ℕ → ℕ) (held goal next : HeldPlan) 
   pub goal_right : (lid : ℕ) → 1 ≤ lid → AreRight cells q goal lid
   pub choice : (lid : ℕ) → 1 ≤ lid → IsChoice cells q held goal lid next
 
--- in a step by an order, the channels' numbers by the order rise from each channel to the channels that it waits for,
--- whatever the mixtures are
+-- in a step by an order, the channels' numbers by the order (`numbers_by`) rise from each channel to the channels that
+-- it waits for, whatever the mixtures are
 abbrev pub NumbersRiseByOrder : Type 0
 NumbersRiseByOrder =
     (cells : Cells) (q : ℕ → ℕ) (held goal next : HeldPlan) → IsStep cells q held goal next
@@ -83,8 +83,8 @@ pub record IsLineStep (cells : Cells) (q : ℕ → ℕ) (held goal : HeldPlan) (
     pub goal_right : AreRight cells q goal line.lid
     pub is_next : IsTriedByOrder cells q held goal line next
 
--- in a step of a line by an order, a packet that the held tables deliver at the end port is delivered there by any
--- loose mixtures of the held and the next tables, even if the mixture changes while the packet travels
+-- in a step of a line by an order (`IsLineStep`), a packet that the held tables deliver at the end port is delivered
+-- there by any loose mixtures of the held and the next tables, even if the mixture changes while the packet travels
 abbrev pub NoneIsLostByOrder : Type 0
 NoneIsLostByOrder =
     (cells : Cells) (q : ℕ → ℕ) (held goal next : HeldPlan) (line : HeldLid) → IsLineStep cells q held goal line next
@@ -120,8 +120,8 @@ pub record IsDepth (cells : Cells) (q : ℕ → ℕ) (goal : HeldPlan) (line : H
   pub earlier : (i j x : ℕ) → Leads cells goal line.lid i j → is_up q i j ≡ true → x < length (switches cells)
       → DeliverFrom cells goal line x → q x < q i → IsWired cells x i → depth x < depth i
 
--- in steps by an order, a switch from which the goal delivers has the goal's entry from as many steps on as its depth,
--- and the tables then deliver from this switch
+-- in steps by an order, a switch from which the goal delivers has the goal's entry after as many steps as its depth or
+-- more, and the tables then deliver from this switch
 abbrev pub EndInTheGoal : Type 0
 EndInTheGoal =
     (cells : Cells) (q : ℕ → ℕ) (goal : HeldPlan) (line : HeldLid) (tables : ℕ → HeldPlan)
@@ -130,8 +130,8 @@ EndInTheGoal =
     → (i g m : ℕ) → slice_get (switches cells) i ≡ Some g → DeliverFrom cells goal line i → depth i ≤ m
     → (entry_for (tables m) line.lid g ≡ entry_for goal line.lid g) × DeliverFrom cells (tables m) line i
 
--- in steps by an order, a switch from which the goal delivers has the goal's entry from 2n steps on, for n switches,
--- and the tables then deliver from this switch
+-- in steps by an order, a switch from which the goal delivers has the goal's entry after 2n or more steps, for n
+-- switches, and the tables then deliver from this switch
 abbrev pub EndInTwiceAsMany : Type 0
 EndInTwiceAsMany =
     (cells : Cells) (q : ℕ → ℕ) (goal : HeldPlan) (line : HeldLid) (tables : ℕ → HeldPlan)
@@ -140,7 +140,7 @@ EndInTwiceAsMany =
     → 2 * length (switches cells) ≤ m
     → (entry_for (tables m) line.lid g ≡ entry_for goal line.lid g) × DeliverFrom cells (tables m) line i
 
--- in steps by an order, each packet that arrives by the goal arrives after 2n steps, for n switches, and from then on
+-- in steps by an order, each packet that arrives by the goal arrives after 2n or more steps, for n switches
 abbrev pub HealByOrder : Type 0
 HealByOrder =
     (cells : Cells) (q : ℕ → ℕ) (goal : HeldPlan) (line : HeldLid) (tables : ℕ → HeldPlan)
@@ -149,9 +149,9 @@ HealByOrder =
     → (m : ℕ) → 2 * length (switches cells) ≤ m
     → IsBrought cells (tables m) line.lid source (Some (Taken line.port))
 
--- in steps by an order, each to exactly the next entries, the tables are right by each order by which the goal is
--- right, from 2n steps on, for n switches, and at least one. The condition is that the goal delivers from each switch
--- that sends packets straight to the end port by the first tables
+-- in steps by an order, each of which takes exactly the next entries, the tables after 2n or more steps, for n
+-- switches, and at least one step, are right by each order by which the goal is right. The condition is that the goal
+-- delivers from each switch that sends packets straight to the end port by the first tables
 abbrev pub EndRightByAny : Type 0
 EndRightByAny =
     (cells : Cells) (q : ℕ → ℕ) (goal : HeldPlan) (line : HeldLid) (tables : ℕ → HeldPlan)
@@ -188,7 +188,7 @@ pub record AreNextByOrder (cells : Cells) (q : ℕ → ℕ) (held goal next : He
       → entry_for next lid g ≡ ordered_for cells q held goal lid (owners_of goal lid) i g
 
 -- if the held tables and the goal are right by the order for every LID, the next tables by the order are a step, and
--- are right for every LID
+-- are right by the order for every LID
 abbrev pub AllAreStep : Type 0
 AllAreStep =
     (cells : Cells) (q : ℕ → ℕ) (held goal next : HeldPlan) → IsOrder cells q
@@ -203,10 +203,10 @@ AllFollowTheRule =
     (cells : Cells) (q : ℕ → ℕ) (held goal next : HeldPlan) (line : HeldLid) → AreNextByOrder cells q held goal next
     → IsKept held goal line → IsNextByOrder cells q held goal line next
 
--- in a step of a line by an order, while switches change to the next tables, each at its own time, a packet that the
--- held tables deliver is delivered over at most 2n + 1 wires, for n usable switches. Its sender is an end port that is
--- joined to the end port `origin`. Premises: the LID is not 0; the facts describe all that is joined to `origin`; and
--- at first the end ports and switches there hold the tables
+-- in a step of a line by an order (`IsLineStep`), while switches change to the next tables, each at its own time, a
+-- packet that the held tables deliver is delivered over at most 2n + 1 wires, for n usable switches. Its sender is an
+-- end port that is joined to the end port `origin`. Premises: the LID is not 0; the facts describe all that is joined
+-- to `origin`; and at first the end ports and switches there hold the tables
 abbrev pub PacketsArriveByOrder : Type 0
 PacketsArriveByOrder =
     (facts : Facts) (q : ℕ → ℕ) (held goal next : HeldPlan) (line : HeldLid) (before : Fabric) (origin : NodePort)

@@ -8,11 +8,12 @@ use Rattle.held_tables.specs.Held.{HeldPlan}
 use Rattle.packet_walks.specs.Edges.{edges_of, greatest_top}
 use Rattle.next_tables.specs.SwitchPositions.{AreRight, is_down, is_up}
 
--- by `edges`, packets leave the switch at index `j` by a channel up
+-- by `edges`, packets leave the switch at index `j` on a channel up
 abbrev pub leaves_up : (ℕ → ℕ) → List (Option Edge) → ℕ → Bool
 leaves_up q edges j = option_map_or (λ e. is_up q j e.to) (slice_index_or edges j None) false
 
--- by `edges`, packets do not leave the switch at index `i` by a channel down and the next switch by a channel up
+-- by `edges`, no packet leaves the switch at index `i` on a channel down and then leaves the next switch on a channel
+-- up
 abbrev pub goes_well : (ℕ → ℕ) → List (Option Edge) → ℕ → Bool
 goes_well q edges i =
     option_map_or (λ e. not (is_down q i e.to && leaves_up q edges e.to)) (slice_index_or edges i None) true
@@ -26,7 +27,7 @@ abbrev pub are_right : Cells → (ℕ → ℕ) → HeldPlan → Bool
 are_right cells q tables =
     list_all (λ lid. is_right_column q (edges_of cells tables lid)) (range_with_len 1 (greatest_top cells tables))
 
--- `are_right` is true exactly if tables are right by the order for every LID
+-- `are_right` is true exactly when tables are right by the order for every LID
 abbrev pub RightnessIsTold : Type 0
 RightnessIsTold =
     (cells : Cells) (q : ℕ → ℕ) (tables : HeldPlan)

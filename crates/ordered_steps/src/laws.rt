@@ -12,7 +12,7 @@ pub fn no_bad_turn()
     ensures law { NoBadTurn }
 {}
 
-/// The next tables are right by the order if the held tables and the goal are.
+/// If the held tables and the goal are right by the order, the next tables are right by it too.
 pub fn next_are_right()
     ensures law { NextAreRight }
 {}
@@ -23,31 +23,33 @@ pub fn numbers_rise_by_order()
     ensures law { NumbersRiseByOrder }
 {}
 
-/// In a step whose held tables and goal are right by the order, channels never wait in a cycle, whatever the mixtures
-/// of the held and the next tables.
+/// In a step whose held tables and goal are right by the order, channels never wait in a credit loop, whatever the
+/// mixtures of the held and the next tables.
 pub fn no_cycle_by_order()
     ensures law { NoCycleByOrder }
 {}
 
-/// Each next entry is the held one, or 255, or the goal's if that turns well.
+/// By the rule of an order, each next entry is the held entry, or 255, or the goal's entry, which then makes no bad
+/// turn with held entries (`IsChoice`).
 pub fn rule_is_choice()
     ensures law { RuleIsChoice }
 {}
 
-/// Each next entry is the tried one, or 255 if the packet does not arrive from the switch by the tried entries.
+/// By the rule of an order, each next entry is the tried one, or 255 if the packet does not arrive from the switch by
+/// the tried entries.
 pub fn rule_is_tried()
     ensures law { RuleIsTried }
 {}
 
-/// A packet that the held tables deliver is delivered at the same end port by any loose mixtures of the held and the
-/// next tables, if the held tables and the goal are right by the order for its LID and have the same owners of the LID.
-/// The mixture may change while the packet travels.
+/// A packet that the held tables deliver is delivered at the same end port by any loose mixtures (`IsLoose`) of the
+/// held and the next tables, if the held tables and the goal are right by the order for its LID and have the same
+/// owners of the LID. The mixture may change while the packet travels.
 pub fn none_is_lost_by_order()
     ensures law { NoneIsLostByOrder }
 {}
 
-/// In steps by an order (`AreStepsByOrder`), a switch from which the goal delivers has the goal's entry from as many
-/// steps on as its depth, and the tables then deliver from it.
+/// In steps by an order (`AreStepsByOrder`), a switch from which the goal delivers has the goal's entry after as many
+/// steps as its depth (`IsDepth`) or more, and the tables then deliver from it.
 pub fn end_in_the_goal()
     ensures law { EndInTheGoal }
 {}
@@ -64,9 +66,9 @@ pub fn heal_by_order()
     ensures law { HealByOrder }
 {}
 
-/// In steps by an order (`AreStepsByOrder`), each to exactly the next entries, the tables are right by every order that
-/// the goal is right by, after 2n or more steps, for n switches, and at least one, if the goal delivers from each
-/// switch that sends packets straight to the end port by the first tables.
+/// In steps by an order (`AreStepsByOrder`), each of which takes exactly the next entries, the tables after 2n or more
+/// steps, for n switches, and at least one step, are right by every order by which the goal is right, if the goal
+/// delivers from each switch that sends packets straight to the end port by the first tables.
 pub fn end_right_by_any()
     ensures law { EndRightByAny }
 {}
@@ -78,24 +80,24 @@ pub fn all_end_by_order()
 {}
 
 /// If a LID has the same owners in the held tables and in the goal, each switch delivers packets for the LID by the
-/// next tables or has no entry for it.
+/// next tables or has no entry (255) for it.
 pub fn next_deliver_or_drop_by_order()
     ensures law { NextDeliverOrDropByOrder }
 {}
 
-/// The next tables for all LIDs, including new LIDs and LIDs that are gone, are a step and are right by the order, if
-/// the held tables and the goal are.
+/// If the held tables and the goal are right by the order for every LID, the next tables for all LIDs, including LIDs
+/// that are new or gone, are a step by the order (`IsStep`) and are right by it.
 pub fn all_are_step()
     ensures law { AllAreStep }
 {}
 
-/// The tables that `next_tables` returns by an order have the goal's owners, and at each usable switch the next entry
-/// by the order for each LID.
+/// The tables that `next_tables` returns by an order have the goal's owners of each LID and, at each usable switch,
+/// the next entry by the order for each LID.
 pub fn ordered_tables_are_next()
     ensures law { OrderedTablesAreNext }
 {}
 
-/// `are_right` is true exactly if tables are right by an order for every LID.
+/// `are_right` is true exactly when tables are right by an order for every LID.
 pub fn rightness_is_told()
     ensures law { RightnessIsTold }
 {}

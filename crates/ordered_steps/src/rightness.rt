@@ -12,8 +12,8 @@ use smp_bytes::Lid;
 use std::alloc::{AllocError, Global};
 
 /// Returns whether no packet, for any LID, goes down and then up again by the tables of `held`, in the order that
-/// `positions` gives. `positions` has the position of each usable switch, in ascending order of GUID. Takes what
-/// `LidCursor::go_to` and `LidCursor::edges` take for each LID up to the greatest top.
+/// `positions` gives. `positions` has the position of each usable switch, in ascending order of GUID. Takes the time
+/// of `LidCursor::go_to` and `LidCursor::edges` for each LID up to the greatest top.
 pub fn are_right(alloc: Global, held: &Network, positions: &[usize]) -> Result<bool, AllocError>
     ensures { IfOk result (λ right.
         right ≡ are_right (cells_of held.now.facts) (position_at positions.now) held.now.held) }
@@ -29,16 +29,16 @@ pub fn are_right(alloc: Global, held: &Network, positions: &[usize]) -> Result<b
     Ok(true)
 }
 
-/// Returns whether packets for a LID never go down and then up again. `edges` has the edge by which these packets leave
-/// each switch, if there is one.
+/// Returns whether packets for a LID never go down and then up again. `edges` has the edge along which these packets
+/// leave each switch for another switch, if there is one. `positions` has the position of each switch.
 fn is_right_column(positions: &[usize], edges: &[Option<Edge>]) -> bool
     ensures { result ≡ is_right_column (position_at positions.now) edges.now }
 {
     (0..edges.len()).all(|index| goes_well(positions, edges, index))
 }
 
-/// Returns whether packets that leave the switch at `index` by a channel down do not leave the next switch by a channel
-/// up.
+/// Returns whether no packet leaves the switch at `index` on a channel down and then leaves the next switch on a
+/// channel up.
 fn goes_well(positions: &[usize], edges: &[Option<Edge>], index: usize) -> bool
     ensures { result ≡ goes_well (position_at positions.now) edges.now index }
 {
@@ -48,7 +48,7 @@ fn goes_well(positions: &[usize], edges: &[Option<Edge>], index: usize) -> bool
     }
 }
 
-/// Returns whether packets leave the switch at `index` by a channel up.
+/// Returns whether packets leave the switch at `index` on a channel up.
 fn leaves_up(positions: &[usize], edges: &[Option<Edge>], index: usize) -> bool
     ensures { result ≡ leaves_up (position_at positions.now) edges.now index }
 {

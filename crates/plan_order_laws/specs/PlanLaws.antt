@@ -1,5 +1,5 @@
--- The tables of a plan are right by the order of switches by which the plan was made, and steps towards the plan end in
--- it.
+-- The tables of a plan are right by the order of switches by which the plan was made, and steps towards the plan end
+-- in the plan.
 use Rattle.std.specs.Prelude.{◌≡◌, ◌≤◌, ◌<◌, ◌*◌, ℕ, suc, Contains, Some, length, slice_get}
 use Rattle.fact_store.specs.View.{Facts, cells_of, AreInRange}
 use Rattle.subnet_view.specs.EndPorts.{end_ports}
@@ -69,9 +69,10 @@ StepsTowardsPlans =
     → RiseInStep (cells_of facts) held next (numbers_by (cells_of facts) (plan_position rule (cells_of facts)))
     × ((lid : ℕ) → 1 ≤ lid → AreRight (cells_of facts) (plan_position rule (cells_of facts)) next lid)
 
--- in steps towards the plan of facts, from 2n steps on, for n switches, each switch from which the plan delivers to the
--- end port of `line` has the plan's entry, and delivers. The first tables must be right by the plan's positions and
--- have the plan's owners for the LID; the facts must be in range and have room
+-- in steps by the plan's order towards the plan of facts, after 2n or more steps, for n switches, each switch from
+-- which the plan delivers to the end port of `line` has the plan's entry, and the tables deliver from this switch. The
+-- first tables must be right by the plan's positions and have the plan's owners for the LID; the facts must be in
+-- range and have room
 abbrev pub StepsEndInPlans : Type 0
 StepsEndInPlans =
     (rule : RuleValue) (lmc : ℕ) (facts : Facts) → AreInRange facts → ¬ (IsNoRoom lmc (cells_of facts))

@@ -24,8 +24,8 @@ pub fn plans_cover()
     ensures law { PlansCover }
 {}
 
-/// A step by the plan's order towards the plan of a view with room can make no credit loop in any mixture, and leads to
-/// tables that are right by this order, if the held tables are right by this order.
+/// If the held tables are right by the plan's order, a step by this order towards the plan of a view with room can
+/// make no credit loop in any mixture, and leads to tables that are right by this order.
 pub fn steps_towards_plans()
     ensures law { StepsTowardsPlans }
 {}

@@ -57,7 +57,8 @@ told_by_packet w accounts packet seat =
     }))
     (slice_get w.managers seat) accounts
 
--- the accounts once a packet has reached the port `p`, where the manager takes it in; unchanged if none sits there
+-- the accounts once a packet has reached the port `p`, where the manager takes it in; unchanged if no manager sits
+-- there
 abbrev pub told_at : WorldValue → Accounts → NodePort → Packet → Accounts
 told_at w accounts p packet = option_map_or (told_by_packet w accounts packet) (seat_at w p) accounts
 
@@ -74,7 +75,7 @@ abbrev pub told_by_step : WorldValue → Accounts → ℕ → Accounts
 told_by_step w accounts serial = let called =
     after_deliver w.fabric serial in told_by_delivery (after_fabric_call w called).now accounts called.result
 
--- the accounts once the packet that `which` names has taken one step; unchanged if it names none
+-- the accounts once the packet that `which` names has taken one step; unchanged if `which` names no packet
 abbrev pub told_by_deliver : WorldValue → Accounts → Which → Accounts
 told_by_deliver w accounts which = option_map_or (told_by_step w accounts) (serial_of w.fabric.flights which) accounts
 
@@ -121,7 +122,7 @@ abbrev pub account_after : Planning → Layout → Script → ℕ → Account
 account_after planning topology script =
     told_by_commands topology.nodes (world_of planning topology script.seats) opened script.commands
 
--- the store of each manager is the view of what it took in by its account, at its greatest floor
+-- the store of each manager is the view of what the manager took in according to its account, at the account's floor
 abbrev pub KnowWhatTheyTookIn : WorldValue → Accounts → Type 0
 KnowWhatTheyTookIn w accounts =
     (seat : ℕ) (s : SeatedValue) → slice_get w.managers seat ≡ Some s → s.manager.store

@@ -27,7 +27,7 @@ LaterLinesComeBehind =
     ≡ script_text planning topology script
     ++ (after_commands topology.nodes (world_after planning topology script) lines).text
 
--- two managers, each in a world, print the same facts and the same plan
+-- two managers, each in the given world, print the same facts and the same plan
 pub record TellTheSame (one other : WorldValue) (seat seat' : ℕ) : Type 0 where
   pub facts : shown_of one seat Facts ≡ shown_of other seat' Facts
   pub plan : shown_of one seat Plan ≡ shown_of other seat' Plan
@@ -43,7 +43,7 @@ SameTakenInSameLines =
     → (account_after planning topology script seat).floor ≡ (account_after planning topology' script' seat').floor
     → TellTheSame (world_after planning topology script) (world_after planning topology' script') seat seat'
 
--- if after a schedule the lines `plan` of two managers follow, they print one text twice
+-- if the lines `plan` of two managers come after a schedule, they print the same text twice
 pub record PrintsPlansAlike (planning : Planning) (topology : Layout) (script : Script) (seat other : ℕ) : Type 0 where
   pub plan : List ℕ
   pub twice :
@@ -68,7 +68,7 @@ MergedManagersPlanAlike =
     < length script.seats
     → PrintsPlansAlike planning topology (and_lines script (Merge seat other ∷ Merge other seat ∷ [])) seat other
 
--- `written` prints `yes` exactly if the manager's plan is written at that moment
+-- `written` prints `yes` exactly when the manager's plan counts as written at that moment
 abbrev pub WrittenLinesTell : Type 0
 WrittenLinesTell =
     (w : WorldValue) (seat : ℕ) (s : SeatedValue) → slice_get w.managers seat ≡ Some s
@@ -81,8 +81,8 @@ pub record SayAllAnswered (w : WorldValue) (seat : ℕ) (name : List ℕ) (unans
   pub progress : shown_of w seat Progress ≡ progress_line (Some name) (Done unanswered 0)
   pub silent : shown_of w seat Silent ≡ silent_line (Some name) (Some unanswered)
 
--- `progress` and `silent` print that all but managers answered exactly if the manager's last sweep has every answer at
--- that moment
+-- `progress` and `silent` print that all but managers answered (`SayAllAnswered`) exactly when the manager's last
+-- sweep has every answer at that moment
 abbrev pub SweepLinesTell : Type 0
 SweepLinesTell =
     (w : WorldValue) (seat : ℕ) (s : SeatedValue) (sweep : Sweep) → slice_get w.managers seat ≡ Some s

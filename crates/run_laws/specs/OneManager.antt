@@ -85,15 +85,17 @@ module _ (plan : PlanValue) (own : OwnSets) where
 
 -- runs -------------------------------------------------------------------------------------------------
 
--- the world before a writing: after a sweep began, and then the lines `between`
+-- in a run of one manager, the world before the writing: after a sweep began, and then the lines `between`
 abbrev pub at_writing : List Node → WorldValue → List SeatCommand → WorldValue
 at_writing nodes w between = (after_commands nodes (after_command nodes w (command.Ask 0 ask.Sweep)).now between).now
 
--- the world once a writing has begun, after a sweep began and then the lines `between`
+-- in a run of one manager, the world once the writing has begun: after a sweep began, then the lines `between`, and
+-- then the writing began
 abbrev pub at_first_steps : List Node → WorldValue → List SeatCommand → WorldValue
 at_first_steps nodes w between = (after_command nodes (at_writing nodes w between) (command.Ask 0 ask.Write)).now
 
--- the world after a sweep began, the lines `between`, a writing began, and the lines `after`
+-- in a run of one manager, the world at its end: after a sweep began, then the lines `between`, then a writing began,
+-- and then the lines `after`
 abbrev pub at_end : List Node → WorldValue → List SeatCommand → List SeatCommand → WorldValue
 at_end nodes w between after = (after_commands nodes (at_first_steps nodes w between) after).now
 
@@ -101,8 +103,8 @@ at_end nodes w between after = (after_commands nodes (at_first_steps nodes w bet
 abbrev pub IsOnly : WorldValue → SeatedValue → Manager → Type 0
 IsOnly w s manager = w.managers ≡ record s { manager = manager } ∷ []
 
--- one new manager sits on a fabric of distinct GUIDs where no packet is on its way. The manager is called to sweep and
--- later, when the sweep has every answer, to write. In the end its plan is written
+-- one new manager sits on a fabric whose nodes have different GUIDs, and where no packet is on its way. The manager is
+-- called to sweep and later, when the sweep has every answer, to write. In the end its plan counts as written
 pub record BringsUpAlone (nodes : List Node) (w : WorldValue) (s : SeatedValue) (between after : List SeatCommand) :
     Type 0 where
   pub port_guid : ℕ

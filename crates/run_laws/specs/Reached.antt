@@ -35,9 +35,9 @@ EachPingSaysReached plan w origin = (nodes : List Node) (source : NodePort) → 
     → IsJoinedTo (fabric_of w.fabric) origin source
     → (lid : ℕ) (owner : EndPort) → owner_of plan.given lid ≡ Some owner → SaysReached nodes w source lid owner
 
--- each ping among the end ports that the end port `origin` is joined to prints that it reaches the owner of its LID, if
--- three conditions hold: the facts have room; they describe exactly this part of the world's fabric; and the part holds
--- their plan
+-- each ping among the end ports that the end port `origin` is joined to prints that it reaches the owner of its LID,
+-- if three conditions hold: the facts have room; they describe exactly this part of the world's fabric; and the part
+-- holds the plan of these facts
 abbrev pub HeldPlansAreReached : Type 0
 HeldPlansAreReached = (rule : RuleValue) (lmc : ℕ) (facts : Facts) (w : WorldValue) (origin : NodePort)
     → ¬ (IsNoRoom lmc (cells_of facts)) → IsSimulation w.fabric
@@ -46,8 +46,8 @@ HeldPlansAreReached = (rule : RuleValue) (lmc : ℕ) (facts : Facts) (w : WorldV
     → HoldsPlan (IsJoinedTo (fabric_of w.fabric) origin) (plan_of rule lmc (cells_of facts)) (fabric_of w.fabric)
     → EachPingSaysReached (plan_of rule lmc (cells_of facts)) w origin
 
--- if a manager has brought its subnet up (`BringsUp`), each ping from its part prints that it reaches its LID's owner,
--- in a world with the fabric at the end of the manager's run
+-- if a manager has brought its subnet up (`BringsUp`), each ping from an end port that is joined to the manager's seat
+-- prints that it reaches its LID's owner, in a world with the fabric at the end of the manager's run
 abbrev pub WrittenPlansAreReached : Type 0
 WrittenPlansAreReached = (m : Managing) (before between after : List ManagerEvent) → BringsUp m before between after
     → (w : WorldValue) → w.fabric ≡ (at_end m before between after).scene.fabric

@@ -31,9 +31,9 @@ pub fn runs_are_accounted_for()
     ensures { RunsAreAccountedFor }
 {}
 
-/// Two managers, of one run or of two, print the same facts and the same plan, whatever else they did or were asked, if
-/// three conditions hold: they plan under one LMC and by one rule; they took in the same sightings, in any order and
-/// however often; and they have the same greatest floor.
+/// Two managers, of one run or of two, print the same facts and the same plan, whatever else they did or were asked,
+/// if three conditions hold: they plan under the same LMC and by the same rule; they took in the same sightings, in
+/// any order and however often; and they have the same greatest floor.
 pub fn same_taken_in_same_lines()
     ensures { SameTakenInSameLines }
 {}
@@ -52,15 +52,15 @@ pub fn merged_managers_plan_alike()
     ensures { MergedManagersPlanAlike }
 {}
 
-/// If a manager has begun a sweep, its last sweep has every answer exactly if two lines say so at that moment:
+/// If a manager has begun a sweep, its last sweep has every answer exactly when two lines say so at that moment:
 /// `progress` prints that the sweep is done, that no port is too far, and how many requests have no answer; and
 /// `silent` prints that this many managers are silent.
 pub fn sweep_lines_tell()
     ensures { SweepLinesTell }
 {}
 
-/// The line `written` prints `yes` exactly if the manager's plan counts as written at that moment: each Set of a LID,
-/// block or top of its last writing was answered with status 0.
+/// The line `written` prints `yes` exactly when the manager's plan counts as written at that moment: each Set of a
+/// LID, block or top of its last writing was answered with status 0.
 #[tactic(auto, using(crate::proofs::WrittenLines::written_lines_tell))]
 pub fn written_lines_tell()
     ensures { WrittenLinesTell }
@@ -82,10 +82,10 @@ pub fn written_plans_are_reached()
 {}
 
 /// After each schedule that begins a sweep of the only manager, which is new, and some lines later a writing, each
-/// `ping` from an end port that is joined to the manager's port, for a LID of its plan, prints that it reached the port
-/// of the LID's owner, if five conditions hold: the sweep has every answer when the writing begins; the line `written`
-/// prints `yes` in the end; no cable moves; no line is `traps` or `resend`; and each Set that an agent takes once the
-/// writing has begun is one of the writing's own or carries the plan's values.
+/// `ping` from an end port that is joined to the manager's port, for a LID of the manager's plan, prints that it
+/// reached the port of the LID's owner, if five conditions hold: the sweep has every answer when the writing begins;
+/// the line `written` prints `yes` in the end; no cable moves; no line is `traps` or `resend`; and each Set that an
+/// agent takes once the writing has begun is one of the writing's own or carries the plan's values.
 pub fn runs_of_one_are_reached()
     ensures { RunsOfOneAreReached }
 {}

@@ -24,7 +24,7 @@ fn manager(alloc: Global) -> Manager {
     manager_by(alloc, Conduct::Plain)
 }
 
-/// Returns a manager of priority 3 at port 1 of an adapter, with the port GUID 0x101, by `conduct`.
+/// Returns a manager of priority 3 at port 1 of an adapter, with the port GUID 0x101 and the conduct `conduct`.
 fn manager_by(alloc: Global, conduct: Conduct) -> Manager {
     let planning = Planning::new(Lmc::ZERO, Rule::UpDown);
     let info = info_in(SmState::Discovering);

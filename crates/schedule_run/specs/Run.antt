@@ -30,18 +30,18 @@ use Rattle.schedule_lines.specs.declared.run_fault.RunFault.TheVariants as runs
 
 -- judging ---------------------------------------------------------------------------------------
 
--- the fault of the schedule at `input`, given the result of parsing it; None if it has none
+-- the fault of the schedule at `input`, given the result of parsing it; None if the schedule has no fault
 abbrev pub fault_of_script : ℕ → Result Script ScheduleFault → Option Fault
 fault_of_script input (Ok script) = None
 fault_of_script input (Err fault) = Some (Text input (Schedule fault))
 
--- the fault of the text of the schedule at `input`, for a fabric with `nodes`; None if it has none
+-- the fault of the text of the schedule at `input`, for a fabric with `nodes`; None if the text has no fault
 abbrev pub schedule_fault : ℕ → List Node → List ℕ → Option Fault
 schedule_fault input nodes text =
     if is_utf8 text then fault_of_script input (schedule_of nodes text) else Some (Text input NotUtf8)
 
--- the fault of the topology at `input`, given the result of parsing it. If the topology is sound, the fault of the
--- schedule at the next input, or None if the schedule has none
+-- the fault of the topology at `input`, given the result of parsing it. If the topology has no fault, it is the fault
+-- of the schedule at the next input, or None if the schedule has no fault
 abbrev pub fault_behind : ℕ → Result Layout TopoFault → List ℕ → Option Fault
 fault_behind input (Ok layout) schedule = schedule_fault (input + 1) layout.nodes schedule
 fault_behind input (Err fault) schedule = Some (Text input (Topology fault))
@@ -119,8 +119,8 @@ pub record FailsAtSchedule {S : Type 0} (state : S → SourceState) (first : ℕ
   pub read : IsReadWhole state old new topology
   pub fails : FailsToRead state old' new' fault
 
--- reading the topology, the input `first`, fails with this fault of the run; or the topology was read, and reading the
--- schedule fails with it
+-- reading the topology, the input `first`, fails with the given fault of the run; or the topology was read, and
+-- reading the schedule fails with this fault
 abbrev pub FailsToReadThem : {S : Type 0} → (S → SourceState) → ℕ → S → S → S → S → Fault
     → Type 0
 FailsToReadThem state first old new old' new' (File input fault) =
@@ -176,8 +176,8 @@ texts_reader state = record {
   has_switch = λ setting. has_switch setting.topology.nodes;
 }
 
--- the inputs were read: the text that the rule takes, the topology and the schedule. `prints` holds of what their run
--- prints, with managers that plan under `lmc` and by the rule
+-- the inputs were read: the text that the rule takes, the topology and the schedule. `prints` holds of what the run of
+-- the schedule prints, with managers that plan under `lmc` and by the rule
 pub record HasRun {S : Type 0} (state : S → SourceState) (lmc : ℕ) (asked : RuleAsked) (olds news : List S)
     (prints : List ℕ → Type 0) : Type 0 where
   pub rule : RuleValue

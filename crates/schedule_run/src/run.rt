@@ -15,7 +15,7 @@ use sm_cli::{Fault, RuleAsked, read_inputs};
 use std::alloc::Global;
 
 /// Runs a schedule in the simulated fabric of a topology, with managers that plan 2^LMC LIDs for each adapter port by
-/// the rule `asked`. The inputs must be the text that the rule takes, if any, the topology and the schedule
+/// the rule `asked`. The inputs must be the text that the rule takes, if it takes one, the topology and the schedule
 /// (`read_inputs`). Reads them to their ends, and judges the topology, the schedule and then any roots. Then runs the
 /// commands in their order, and flushes their output.
 ///
@@ -54,7 +54,7 @@ pub fn run_schedule<S: Source, W: Sink>(
     }
 }
 
-/// Returns `fault`, that of a run of commands, as a fault of the program.
+/// Returns `fault`, the fault of a run of commands, as a fault of the program.
 fn fault_of_run(fault: RunFault) -> Fault
     ensures { result ≡ fault_of_run fault }
 {

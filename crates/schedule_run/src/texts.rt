@@ -28,8 +28,8 @@ pub(crate) struct Setting {
     pub(crate) schedule: Schedule,
 }
 
-/// A reader of the text of a topology and then of the text of a schedule. The switches that it knows are the
-/// topology's.
+/// A reader of the text of a topology and then of the text of a schedule. The switches that the reader knows are those
+/// of the topology.
 #[derive(Clone, Copy, Debug, PartialEq, Eq)]
 pub(crate) struct TopologyAndSchedule;
 
@@ -58,7 +58,7 @@ impl<S: Source> InputReader<S> for TopologyAndSchedule {
 /// # Errors
 ///
 /// Returns the fault of the first text that cannot be read. If both texts were read, returns the fault of the topology
-/// if the topology is refused, and otherwise the fault of the schedule.
+/// if the topology is refused. Otherwise returns the fault of the schedule.
 fn read_setting<S: Source>(alloc: Global, before: usize, texts: &mut [S]) -> Result<Setting, Fault>
     requires two { length texts.old ≡ 2 }
     requires counted { before + length texts.old ≤ usize.MAX }

@@ -26,14 +26,14 @@ pub data LiveEvent : Type 0 where
 
 -- which events there are -----------------------------------------------------------------------------
 
--- the line may be given as an order: it is not a packet, since packets are heard, and a floor is a generation
+-- the line may be given by `Tell`: it is not a packet, since packets are heard (`Hear`), and a floor is a generation
 abbrev pub IsOrder : ServeLine → Type 0
 IsOrder (Packet bytes from) = ⊥
 IsOrder (Floor floor) = IsTrue (is_generation floor)
 IsOrder line = Unit {0}
 
--- the event can be: one around the process can happen and comes from no other manager at `seat`, and a line that is
--- given is an order
+-- the event is possible: an event on the fabric can happen, and no other manager sends a packet from `seat` in this
+-- event; a line that is given by `Tell` may be given so (`IsOrder`)
 abbrev pub CanLive : NodePort → LiveEvent → Type 0
 CanLive seat (Around event) = CanHappen event × IsElsewhere seat event
 CanLive seat (Tell line) = IsOrder line
@@ -70,7 +70,7 @@ events_of_line m (Timeout transaction) = managing.TimeOut transaction ∷ []
 events_of_line m GiveUp = map managing.TimeOut (outstanding m)
 events_of_line m line = []
 
--- the events that take printed packets, one for each
+-- the events that take the printed packets, one event for each packet
 abbrev pub takes_of : List Outgoing → List ManagerEvent
 takes_of [] = []
 takes_of (out ∷ later) = managing.Take ∷ takes_of later
@@ -90,7 +90,7 @@ events_by w (Send which) = managing.Send which ∷ []
 
 -- all events -----------------------------------------------------------------------------------------
 
--- the managing after an event of the process: after the events of its manager for it
+-- the `Managing` after an event of the process: after the events of its manager for it
 abbrev pub after_live : Managing → LiveEvent → Managing
 after_live w event = after_manager_events (events_by w event) w
 
@@ -115,7 +115,7 @@ pub record IsServed (w : Managing) (events : List LiveEvent) : Type 0 where
   pub manager :
       (after_manager_events (events_of events w) w).manager ≡ (served_all w.manager (lines_of events w)).now
   pub out : (after_manager_events (events_of events w) w).out ≡ w.out ++ given_all (lines_of events w) w.manager
-  -- the events are events that can be
+  -- the events are possible (`CanBe`)
   pub can_be : All (CanBe w.seat) (events_of events w)
 
 -- whatever live events happen, the manager of the process is the manager at the seat, and the packets that the process

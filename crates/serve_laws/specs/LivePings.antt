@@ -55,19 +55,19 @@ AllKeepLive plan own [] w = Unit {0}
 AllKeepLive plan own (event ∷ events) w =
     KeepsLive plan own w event × AllKeepLive plan own events (after_live w event)
 
--- the managing after live events
+-- the `Managing` after live events
 abbrev pub all_live : List LiveEvent → Managing → Managing
 all_live events w = after_manager_events (events_of events w) w
 
--- the managing when `write` is given: after the events `before`, `sweep`, and the events `between`
+-- the `Managing` when `write` is given: after the events `before`, `sweep`, and the events `between`
 abbrev pub live_at_writing : Managing → List LiveEvent → List LiveEvent → Managing
 live_at_writing w before between = all_live between (after_live (all_live before w) sweep_line)
 
--- the managing after `write` was given: after the events `before`, `sweep`, the events `between`, and `write`
+-- the `Managing` after `write` was given: after the events `before`, `sweep`, the events `between`, and `write`
 abbrev pub live_after_write : Managing → List LiveEvent → List LiveEvent → Managing
 live_after_write w before between = after_live (live_at_writing w before between) write_line
 
--- the managing at the end of the run: after the events `before`, `sweep`, `between`, `write`, and `after`
+-- the `Managing` at the end of the run: after the events `before`, `sweep`, `between`, `write`, and `after`
 abbrev pub live_at_end : Managing → List LiveEvent → List LiveEvent → List LiveEvent → Managing
 live_at_end w before between after = all_live after (live_after_write w before between)
 

@@ -16,6 +16,6 @@ PacketsArePrinted =
     (m : Manager) (line : ServeLine) → (served m line).text
     ≡ (after_line m line).text ++ flat_map send_line (given_by m line) ++ end_line
 
--- `written` prints `yes` exactly if the manager's plan is written
+-- `written` prints `yes` exactly when the manager's plan counts as written
 abbrev pub WrittenSaysYes : Type 0
 WrittenSaysYes = (m : Manager) → (text_of Written None m ≡ codes "written yes\n") ↔ (is_written m ≡ true)

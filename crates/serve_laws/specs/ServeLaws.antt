@@ -16,8 +16,8 @@ use Rattle.serve_laws.specs.Told.{calls_of, floor_by, told_by}
 abbrev pub manager_after : Manager → List ℕ → Manager
 manager_after m bytes = (served_all m (lines_told [] bytes)).now
 
--- bytes that are read later do not change the text that was printed. They only add to it the answers of the manager at
--- that moment to their lines, the first of which may have begun before
+-- bytes that are read later do not change the text that was printed. They only add to this text the answers that the
+-- manager at that moment gives to their lines; the first of these lines may have begun before
 abbrev pub EarlierAnswersStay : Type 0
 EarlierAnswersStay =
     (m : Manager) (before later : List ℕ) → served_by m (before ++ later)

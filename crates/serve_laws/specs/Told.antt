@@ -29,7 +29,7 @@ calls_told m (Timeout transaction) = calls.Timeout transaction ∷ []
 calls_told m GiveUp = map calls.Timeout (outstanding m)
 calls_told m _ = []
 
--- the calls that take packets that are sent, one for each
+-- the calls that take the packets that are sent, one call for each packet
 abbrev pub takes_for : List Outgoing → List Call
 takes_for [] = []
 takes_for (out ∷ later) = calls.Take ∷ takes_for later

@@ -39,19 +39,19 @@ pub fn same_told_same_texts()
     ensures { SameToldSameTexts }
 {}
 
-/// A process at its seat on a fabric, behind a faithful shell, is a manager there: any live events are events of
-/// `Managing` that can be; the manager at the seat is then the manager that the lines of the process leave; and the
-/// manager has given out, in order, the packets that the process printed.
+/// A process at its seat on a fabric, behind a faithful shell, is a manager there: whatever live events happen are
+/// possible events of `Managing`; the manager at the seat is then the manager that the lines of the process leave; and
+/// this manager has given out, in order, the packets that the process printed.
 pub fn served_is_managing()
     ensures { ServedIsManaging }
 {}
 
 /// Once a new process was given `sweep` and later `write`, and neither line was refused, each ping from an end port
-/// that its seat is joined to, for each LID of the plan, reaches the end port that owns the LID, if seven conditions
-/// hold: the process held no facts at `sweep`; no `sweep` and no `floor` is given between the two lines, and no `write`
-/// after them; the sweep has every answer at `write`; the plan counts as written in the end; the shell is faithful; no
-/// cable moves; and each Set that an agent takes after `write` is one of the writing's own or carries the plan's
-/// values.
+/// that the seat of the process is joined to, for each LID of the plan, reaches the end port that owns the LID, if
+/// seven conditions hold: the process held no facts at `sweep`; no `sweep` and no `floor` is given between the two
+/// lines, and no `write` after them; the sweep has every answer at `write`; the plan counts as written in the end; the
+/// shell is faithful; no cable moves; and each Set that an agent takes after `write` is one of the writing's own or
+/// carries the plan's values.
 pub fn live_pings_arrive()
     ensures { LivePingsArrive }
 {}
@@ -69,7 +69,7 @@ pub fn packets_are_printed()
     ensures { PacketsArePrinted }
 {}
 
-/// The line `written` prints `written yes` exactly if the manager's plan counts as written.
+/// The line `written` prints `written yes` exactly when the manager's plan counts as written.
 #[tactic(auto, using(crate::proofs::Said::written_says_yes))]
 pub fn written_says_yes()
     ensures { WrittenSaysYes }

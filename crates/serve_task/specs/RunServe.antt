@@ -1,4 +1,4 @@
--- Serving a manager by lines: the text that its rule takes is read first, and then the lines.
+-- Serving a manager by lines. The text that the manager's rule takes is read first, and then the lines.
 use Rattle.std.specs.Prelude.{◌≡◌, ◌⊎◌, ℕ, Bool, true, List, [], ◌∷◌, ◌++◌}
 use Rattle.byte_io.specs.Source.{SourceState}
 use Rattle.record_file.specs.declared.file_fault.FileFault.TheVariants as files
@@ -14,7 +14,7 @@ use Rattle.serve_run.specs.declared.serve_fault.ServeFault.{ServeFault}
 use Rattle.serve_run.specs.declared.serve_fault.ServeFault.TheVariants as stop
 use Rattle.serve_task.specs.declared.serving.Serving.{Serving}
 
--- the reader of no inputs, which says of any GUID that it is a usable switch
+-- the reader of no inputs, which says of any GUID that it is that of a usable switch
 abbrev pub no_files : {S : Type 0} → Reader S (Unit {0})
 no_files = record { reads = λ olds news told. news ≡ olds; refuses = λ before olds news fault. ⊥; has_switch = λ told guid. true }
 
@@ -39,8 +39,8 @@ pub record WithManager {S : Type 0} (state : S → SourceState) (asked : Serving
   pub read : AreInputs state no_files asked.rule were.texts are.texts rule tt
   pub so : holds were.lines are.lines (manager_asked asked rule)
 
--- the text that the rule takes was read, and the manager was served to the end of the lines; `prints` holds of what it
--- prints
+-- the text that the rule takes was read, and the manager was served to the end of the lines; `prints` holds of what
+-- was printed
 abbrev pub HasServedLines : {S : Type 0} → (S → SourceState) → Serving → List S → List S → (List ℕ → Type 0) → Type 0
 HasServedLines state asked olds news prints =
     WithManager state asked olds news (λ old new m. HasServed state old new m prints)
@@ -66,8 +66,8 @@ pub record StopsEarly {S : Type 0} (state : S → SourceState) (lines : ℕ) (ol
   pub is : fault ≡ fault_of_serving lines stopped
   pub why : StopsServing state old new m some whole sink_failed stopped
 
--- serving a manager ends with `fault` before the end of its lines: the text that its rule takes is not read or is
--- refused, or serving stopped
+-- serving a manager ends with `fault` before the end of its lines: the text that the manager's rule takes is not read
+-- or is refused, or serving stopped
 abbrev pub IsServeFault : {S : Type 0} → (S → SourceState) → Serving → List S → List S → (List ℕ → Type 0)
     → (List ℕ → Type 0) → Bool → Fault → Type 0
 IsServeFault state asked olds news some whole sink_failed fault =

@@ -1,4 +1,4 @@
-//! The task of serving a manager by lines: the text that its rule of routing takes is read first.
+//! The task of serving a manager by lines. The text that the manager's rule of routing takes is read first.
 #![tactic(auto)]
 
 mod no_files;

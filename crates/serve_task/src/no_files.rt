@@ -3,7 +3,7 @@ use sm_cli::{Fault, InputReader};
 use smp_bytes::Guid;
 use std::alloc::Global;
 
-/// A reader of no files. It takes each GUID for that of a usable switch, since no switch is known.
+/// A reader of no files. It says of each GUID that it is that of a usable switch, since no switch is known.
 #[derive(Clone, Copy, Debug, PartialEq, Eq)]
 pub(crate) struct NoFiles;
 

@@ -18,7 +18,7 @@ use sm_state::Conduct;
 use smp_bytes::{Guid, PortNum};
 use std::alloc::Global;
 
-/// The manager that is to be served, and how it plans.
+/// The manager that is to be served, and how the manager plans.
 #[derive(Clone, Copy, Debug, PartialEq, Eq)]
 pub struct Serving {
     /// The GUID of the port at which the manager sits.
@@ -78,7 +78,8 @@ pub fn run_serve<S: Source, W: Sink>(
     }
 }
 
-/// Returns `fault`, that of serving, as a fault of the program. `lines` is the index of the input that has the lines.
+/// Returns `fault`, the fault of serving, as a fault of the program. `lines` is the index of the input that has the
+/// lines.
 fn fault_of_serving(lines: usize, fault: ServeFault) -> Fault
     ensures { result ≡ fault_of_serving lines fault }
 {

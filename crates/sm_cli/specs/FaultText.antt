@@ -32,13 +32,13 @@ cause_text (Some fault) = codes ": " ++ report_fault_name fault
 abbrev pub words_of : FileFault → List ℕ
 words_of fault = fault_words fault ++ number_text (fault_number fault) ++ cause_text (fault_of_report fault)
 
--- the words about the fault of the file `name`, after the name; lack of memory is not the file's fault, and leaves the
--- name out
+-- the name of the file and then the words about its fault; only the words if the fault is lack of memory, which is not
+-- the file's
 abbrev pub file_fault_text : List ℕ → FileFault → List ℕ
 file_fault_text name fault = if is_of_file fault then named_text name (words_of fault) else words_of fault
 
--- the words about the fault of the text `name`, after the name; lack of memory is not the text's fault, and leaves the
--- name out
+-- the name of the text and then the words about its fault; only the words if the fault is lack of memory, which is not
+-- the text's
 abbrev pub text_fault_text : List ℕ → TextFault → List ℕ
 text_fault_text name fault = if is_of_text fault then named_text name (said_of_text fault) else said_of_text fault
 

@@ -16,8 +16,8 @@ use Rattle.sm_cli.specs.declared.fault.Fault.TheVariants.{File}
 abbrev pub floor_among : ℕ → List (List ℕ) → ℕ
 floor_among floor files = fold max floor (map floor_in files)
 
--- the view of `files` together, by the records of each before its first bad one, at the greatest of `floor` and their
--- floors
+-- the view of `files` together, at the greatest of `floor` and their floors; of each file, the records before its
+-- first bad one count
 abbrev pub facts_of : ℕ → List (List ℕ) → Facts
 facts_of floor files = view_at (floor_among floor files) (flat_map kept files)
 
@@ -28,7 +28,7 @@ pub record IsReadAs {S : Type 0} (state : S → SourceState) (old new : S) (file
   pub accepted : outcome file ≡ Ok tt
   pub works : (state new).has_failed ≡ false
 
--- the source was read to its end, and what its file says was merged into `facts`, which gives `facts'`
+-- the source was read to its end, and merging what its file says into `facts` gives `facts'`
 pub record ReadsInto {S : Type 0} (state : S → SourceState) (old new : S) (facts facts' : Facts) : Type 0 where
   pub file : List ℕ
   pub read : IsReadAs state old new file
@@ -43,8 +43,8 @@ pub record IsReadAt {S : Type 0} (state : S → SourceState) (olds news : List S
   pub there_after : slice_get news input ≡ Some new
   pub read : IsReadAs state old new file
 
--- each of the first sources was read to its end without a failure: the source at an index as the file of `files` at
--- this index, which is accepted
+-- for each of `files`, the source at the same index was read to its end without a failure, and its bytes are this
+-- file, which is accepted
 abbrev pub AreReadAs : {S : Type 0} → (S → SourceState) → List S → List S → List (List ℕ) → Type 0
 AreReadAs state olds news files =
     (input : ℕ) (file : List ℕ) → slice_get files input ≡ Some file → IsReadAt state olds news input file

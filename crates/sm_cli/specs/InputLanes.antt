@@ -36,7 +36,7 @@ pub record RefusesLanes {S : Type 0} (state : S → SourceState) (old new : S) (
   pub read : IsReadWhole state old new text
   pub refused : IsFaultOfText text fault
 
--- the source's text of lanes is refused for a fault of a text
+-- the source's text of lanes is refused for the given fault of a text
 abbrev pub IsTextRefused : {S : Type 0} → (S → SourceState) → S → S → TextFault → Type 0
 IsTextRefused state old new (texts.Lanes fault) = RefusesLanes state old new fault
 IsTextRefused state old new fault = ⊥

@@ -36,7 +36,7 @@ pub record RefusesTables {S : Type 0} (state : S → SourceState) (old new : S) 
   pub read : IsReadWhole state old new text
   pub refused : IsFaultOfText text fault
 
--- the source's text of tables is refused for a fault of a text
+-- the source's text of tables is refused for the given fault of a text
 abbrev pub IsTextRefused : {S : Type 0} → (S → SourceState) → S → S → TextFault → Type 0
 IsTextRefused state old new (texts.Tables fault) = RefusesTables state old new fault
 IsTextRefused state old new fault = ⊥

@@ -19,7 +19,7 @@ use Rattle.sm_cli.specs.declared.text_fault.TextFault.TheVariants as texts
 
 -- checking --------------------------------------------------------------------------------------
 
--- the first of `roots` that is not a usable switch, by `usable`; None if all are usable switches
+-- the first of `roots` that is not a usable switch according to `usable`; None if all are usable switches
 abbrev pub first_unusable : (ℕ → Bool) → List ℕ → Option ℕ
 first_unusable usable roots = find (λ root. not (usable root)) roots
 
@@ -29,8 +29,8 @@ abbrev pub fault_of_first : List ℕ → Option ℕ → Option TextFault
 fault_of_first [] unusable = Some texts.NoRoot
 fault_of_first (root ∷ roots) unusable = option_map texts.NoSwitch unusable
 
--- the fault of `roots`: there is no root, or one is not a usable switch, by `usable`; None if a plan can be made from
--- `roots`
+-- the fault of `roots`: there is no root, or one is not a usable switch according to `usable`; None if a plan can be
+-- made from `roots`
 abbrev pub roots_fault : (ℕ → Bool) → List ℕ → Option TextFault
 roots_fault usable roots = fault_of_first roots (first_unusable usable roots)
 
@@ -71,7 +71,7 @@ pub record RefusesRootsText {S : Type 0} (state : S → SourceState) (old new : 
   pub read : IsReadWhole state old new text
   pub refused : IsFaultOfText text fault
 
--- the source's text of roots or of an order is refused for a fault of a text
+-- the source's text of roots or of an order is refused for the given fault of a text
 abbrev pub IsTextRefused : {S : Type 0} → (S → SourceState) → S → S → TextFault → Type 0
 IsTextRefused state old new (texts.Roots fault) = RefusesRootsText state old new fault
 IsTextRefused state old new fault = ⊥
@@ -118,9 +118,9 @@ IsRuleFault state BalanceInOrder olds news fault =
 
 -- inputs ----------------------------------------------------------------------------------------
 
--- a reader of the inputs after the text that a rule takes. `reads` relates these inputs, before and after, to what they
--- say. `refuses n` relates them to the fault that reading them fails with, if n inputs precede them. `has_switch` says
--- of a GUID whether it is a usable switch, by what the inputs say
+-- a reader of the inputs after the text that a rule takes. `reads` relates these inputs, before and after, to what
+-- they say. `refuses n` relates them to the fault that reading them fails with, if n inputs precede them. `has_switch`
+-- says whether a GUID is that of a usable switch according to what the inputs say
 pub record Reader (S T : Type 0) : Type 1 where
   pub reads : List S → List S → T → Type 0
   pub refuses : ℕ → List S → List S → Fault → Type 0

@@ -22,13 +22,12 @@ use Rattle.sm_cli.specs.OrderText.{order_text}
 
 -- answers ---------------------------------------------------------------------------------------
 
--- the usable switches in the order by which a rule plans; none for up and down, which has no order
+-- the usable switches in the order by which a rule plans; no switches for up and down, which has no order
 abbrev pub order_by : RuleValue → Cells → List ℕ
 order_by up_and_down cells = []
 order_by (spread_in order) cells = order_of order cells
 
--- the bytes that a run writes from `facts`: their text, a store file, a plan or an order; a plan or an order is by
--- `rule`
+-- the bytes that a run writes from `facts`: their text, a store file, or the plan or the order by `rule`
 abbrev pub answer_to : Output → RuleValue → Facts → List ℕ
 answer_to output.Facts rule facts = facts_text facts
 answer_to output.Join rule facts = store_bytes facts.floor (cells_of facts)
@@ -80,7 +79,8 @@ pub record IsAnswer (output : Output) (rule : RuleValue) (facts : Facts) (prints
 
 -- runs ------------------------------------------------------------------------------------------
 
--- the inputs were read, and the output that is asked for can be made from what the files say; `prints` holds of it
+-- the inputs were read, and the output that is asked for can be made from what the files say; `prints` holds of this
+-- output
 abbrev pub HasAnswered : {S : Type 0} → (S → SourceState) → Invocation → List S → List S → (List ℕ → Type 0) → Type 0
 HasAnswered state request olds news prints =
     WithInputs state (files_reader state request.floor) (rule_for request.output) olds news

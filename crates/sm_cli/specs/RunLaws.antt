@@ -20,14 +20,14 @@ use Rattle.sm_cli.specs.declared.asked.RuleAsked.{RuleAsked}
 use Rattle.sm_cli.specs.InputFiles.{facts_of, floor_among}
 use Rattle.sm_cli.specs.Run.{answer_to}
 
--- two lists of files keep the same sightings, in any order and each any number of times, and have the same greatest
--- floor, which is at least `floor`
+-- two lists of files keep the same sightings, in any order and each any number of times, and the greatest of `floor`
+-- and the files' floors is the same for both
 pub record SayTheSame (floor : ℕ) (files others : List (List ℕ)) : Type 0 where
   pub sightings : HaveSameMembers (flat_map kept files) (flat_map kept others)
   pub floors : floor_among floor files ≡ floor_among floor others
 
--- the answer to a request from two lists of files is the same, if they keep the same sightings and have the same
--- greatest floor
+-- the answer to a request from two lists of files is the same, if they keep the same sightings, and the greatest of
+-- the request's floor and the files' floors is the same for both
 abbrev pub SightingsDecideAnswer : Type 0
 SightingsDecideAnswer = (request : Invocation) (rule : RuleValue) (files others : List (List ℕ))
     → SayTheSame request.floor files others → answer_to request.output rule (facts_of request.floor files)
@@ -78,8 +78,8 @@ SplitStoreStands =
     → cells_of facts ≡ first ++ second → front ≡ cells_file told first → back ≡ cells_file told second
     → StandFor request rule whole front back others
 
--- the printed order is read back as the switches `named`. The order that grows as they are named is printed alike and
--- gives the same plans
+-- the printed order is read back as the switches `named`. The order that grows as they are named is printed as the
+-- same text and gives the same plans
 pub record OrderStands (order : OrderValue) (asked again : RuleAsked) (facts : Facts) : Type 0 where
   pub named : List ℕ
   pub is_read : roots_of (answer_to (Order asked) (spread_in order) facts) ≡ Ok named
@@ -88,7 +88,8 @@ pub record OrderStands (order : OrderValue) (asked again : RuleAsked) (facts : F
   pub same_plan : (lmc : ℕ) → answer_to (Plan lmc again) (spread_in (named_in order named)) facts
       ≡ answer_to (Plan lmc asked) (spread_in order) facts
 
--- each printed order stands, if the facts are in range and no switch has the GUID 0, which no text names
+-- each printed order stands (`OrderStands`), if the facts are in range and no usable switch has the GUID 0, which no
+-- text names
 abbrev pub PrintedOrdersStand : Type 0
 PrintedOrdersStand = (order : OrderValue) (asked again : RuleAsked) (facts : Facts) → AreInRange facts
     → ¬ (Contains (switches (cells_of facts)) 0) → OrderStands order asked again facts

@@ -13,7 +13,7 @@ use Rattle.smp_bytes.specs.Text.{guid_text}
 use Rattle.sm_cli.specs.declared.text_fault.TextFault.{TextFault}
 use Rattle.sm_cli.specs.declared.text_fault.TextFault.TheVariants.{NotUtf8, Topology, Schedule, Tables, Lanes, Roots, NoRoot, NoSwitch, Moves}
 
--- the number of the line that a text is refused for; None if it is refused for no line
+-- the number of the line for which a text is refused; None if the text is not refused for a line
 abbrev pub text_fault_line : TextFault → Option ℕ
 text_fault_line NotUtf8 = None
 text_fault_line (Topology fault) = topologies.fault_line fault
@@ -47,7 +47,7 @@ abbrev pub text_fault_lid : TextFault → Option ℕ
 text_fault_lid (Moves lid) = Some lid
 text_fault_lid _ = None
 
--- the text has the fault; lack of memory is no fault of the text
+-- the fault is one of the text; lack of memory is not
 abbrev pub is_of_text : TextFault → Bool
 is_of_text (Topology topology.Memory) = false
 is_of_text (Schedule schedule.Memory) = false

@@ -42,18 +42,18 @@ pub enum Output {
     Facts,
     /// What the files say together, as a store file.
     Join,
-    /// The LID of each end port, with 2^LMC of them for each adapter port, and the forwarding blocks of each switch,
-    /// planned from the facts by a rule of routing.
+    /// The plan that a rule of routing makes from the facts: the LID of each end port, with 2^LMC LIDs for each
+    /// adapter port, and the forwarding blocks of each switch.
     Plan(Lmc, RuleAsked),
-    /// The usable switches in the order by which a rule of routing plans; none by `UpDown`.
+    /// The usable switches in the order by which a rule of routing plans; no switches for `UpDown`.
     Order(RuleAsked),
 }
 
 impl Output {
     ghost use Rattle.sm_cli.specs.Asked.{rule_for};
 
-    /// Returns the rule of routing by which the output is made. Returns `UpDown`, which takes no text, for facts and
-    /// joined files.
+    /// Returns the rule of routing by which the output is made. For facts and joined files, returns `UpDown`, which
+    /// takes no text.
     pub fn rule(self) -> RuleAsked
         ensures { result ≡ rule_for self }
     {
@@ -68,6 +68,6 @@ impl Output {
 #[derive(Clone, Copy, Debug, PartialEq, Eq)]
 pub struct Invocation {
     pub output: Output,
-    /// The least floor of what is read: older facts are ignored.
+    /// The least floor at which the files are read. Facts below the floor are ignored.
     pub floor: Generation,
 }

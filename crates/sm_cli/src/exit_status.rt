@@ -18,7 +18,7 @@ pub enum ExitStatus {
 impl ExitStatus {
     ghost use Rattle.sm_cli.specs.ExitStatus.{code_of};
 
-    /// Returns the exit status of the process.
+    /// Returns the exit status as a number for the process to exit with.
     pub fn code(self) -> u8
         ensures { result ≡ code_of self }
     {

@@ -49,7 +49,7 @@ fn write_no_room<W: Sink>(sink: &mut W, why: NoRoom) -> Result<(), WriteFault>
     write_number(sink, u64::from(why.room))
 }
 
-/// Writes `endports`, the number of end ports, and what is counted.
+/// Writes `endports`, the number of end ports, and the words `end ports`.
 fn write_count<W: Sink>(sink: &mut W, endports: usize) -> Result<(), WriteFault>
     ensures writes { Writes W.written W.has_failed result sink.old sink.new (count_text endports) }
 {
@@ -86,7 +86,7 @@ fn write_number_if_any<W: Sink>(sink: &mut W, number: Option<u64>) -> Result<(),
     }
 }
 
-/// Writes the name of the report's fault, unless `fault` is `None`.
+/// Writes a colon and the name of `fault`, the fault of a report, unless it is `None`.
 fn write_cause<W: Sink>(sink: &mut W, fault: Option<ReportFault>) -> Result<(), WriteFault>
     ensures writes { Writes W.written W.has_failed result sink.old sink.new (cause_text fault) }
 {

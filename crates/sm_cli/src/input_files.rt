@@ -14,7 +14,7 @@ use subnet_view::is_usable;
 /// A reader of files, which knows the usable switches from their facts.
 #[derive(Clone, Copy, Debug, PartialEq, Eq)]
 pub struct FilesFrom {
-    /// The least floor of what is read: older facts are ignored.
+    /// The least floor at which the files are read. Facts below the floor are ignored.
     pub floor: Generation,
 }
 
@@ -67,7 +67,7 @@ pub(crate) fn read_files<S: Source>(
 }
 
 /// Reads `source` to its end into a new store, and merges this store into `all`. Returns an error if `source` is
-/// refused or memory is refused.
+/// refused, or if memory is refused.
 fn read_into<S: Source>(all: &mut Store, alloc: Global, source: &mut S) -> Result<(), FileFault>
     ensures read { OnOk result (ReadsInto S.state
         source.old source.new all.old all.new) }

@@ -13,13 +13,13 @@ use std::alloc::Global;
 /// What a text of an order, a text of tables and the files after them say.
 #[derive(Drop)]
 pub struct OrderAndTables {
-    /// The switches that the text names, from the first on; empty without a text of an order.
+    /// The switches that the text of the order names, from the first on; empty if there is no such text.
     pub order: Vec<Guid>,
     /// What the tables and the files after the order say.
     pub read: TablesAndFacts,
 }
 
-/// Returns 1 if `has_text` is true, otherwise 0: the number of texts.
+/// Returns the number of texts that an option adds to the inputs: 1 if `has_text` is true, otherwise 0.
 pub fn texts_if(has_text: bool) -> usize
     ensures { result ≡ texts_if has_text }
 {

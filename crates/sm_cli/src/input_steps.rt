@@ -17,7 +17,7 @@ use subnet_view::is_usable;
 /// What the inputs of a step say.
 #[derive(Drop)]
 pub struct StepInputs {
-    /// The lanes of packets in each switch, and their service levels; `None` without a text of lanes.
+    /// The lanes of packets in each switch, and their service levels; `None` if there is no text of lanes.
     pub lanes: Option<Lanes>,
     /// What the order, the tables and the files after the lanes say.
     pub others: OrderAndTables,
@@ -26,7 +26,7 @@ pub struct StepInputs {
 /// A reader of the inputs of a step, which knows the usable switches from the files' facts.
 #[derive(Clone, Copy, Debug, PartialEq, Eq)]
 pub struct StepReader {
-    /// The least floor of what is read: older facts are ignored.
+    /// The least floor at which the files are read. Facts below the floor are ignored.
     pub floor: Generation,
     /// Whether the first input is a text of lanes.
     pub has_lanes: bool,

@@ -28,7 +28,7 @@ pub struct TablesAndFacts {
 /// A reader of a text of tables and the files after it, which knows the usable switches from the files' facts.
 #[derive(Clone, Copy, Debug, PartialEq, Eq)]
 pub struct TablesAndFiles {
-    /// The least floor of what is read: older facts are ignored.
+    /// The least floor at which the files are read. Facts below the floor are ignored.
     pub floor: Generation,
 }
 
@@ -58,8 +58,8 @@ impl<S: Source> InputReader<S> for TablesAndFiles {
 
 /// Reads the text of tables, the first of `inputs`, and then the files. What the files say is read at `floor` or a
 /// greater floor. `before` other inputs come before `inputs`. There must be at least one of `inputs`, and at most
-/// `usize::MAX` inputs in all. Returns the fault of the first input that is refused, which may be that memory was
-/// refused.
+/// `usize::MAX` inputs in all. Returns the fault of the first input that is refused. Memory that is refused counts as
+/// a fault of its input.
 pub fn read_tables_and_files<S: Source>(
     alloc: Global,
     before: usize,

@@ -38,19 +38,19 @@ pub trait InputReader<S: Source> {
         ensures read { IfOk result ((reader self.now).reads inputs.old inputs.new) }
         ensures refused { IfErr result ((reader self.now).refuses before inputs.old inputs.new) };
 
-    /// Returns whether `guid` is a usable switch by `told`, which is what the inputs say.
+    /// Returns whether `guid` is a usable switch according to `told`, which is what the inputs say.
     fn has_switch(&self, told: &Self::Told, guid: Guid) -> bool
         ensures { result ≡ (reader self.now).has_switch told.now guid };
 }
 
-/// Reads the inputs in order, each to its end. Returns the rule that is asked for, and what the inputs after its text
-/// say. There must be a text if the rule takes one, and as many inputs after it as `reader` takes.
+/// Reads the inputs in order, each to its end. Returns the rule that is asked for, and what the inputs after the
+/// rule's text say. There must be a text if the rule takes one, and `reader` must take the number of inputs after it.
 ///
 /// # Errors
 ///
 /// Returns the fault of the first input that is refused. Memory that is refused counts as a fault of its input. If the
-/// rule takes a text of roots, and the text names no root, or a root that is not a usable switch, returns this as a
-/// fault of the first input, once all inputs are read.
+/// rule takes a text of roots, and the text names no root, or a root that is not a usable switch, this is returned as
+/// a fault of the first input once all inputs are read.
 pub fn read_inputs<S: Source, R: InputReader<S>>(
     alloc: Global,
     asked: RuleAsked,

@@ -2,13 +2,14 @@
 ghost use Rattle.sm_cli.specs.RunLaws.{FilesDecideAnswer, JoinedFileStands, SightingsDecideAnswer};
 ghost use Rattle.sm_cli.specs.RunLaws.{PrintedOrdersStand, SplitFileStands, SplitStoreStands};
 
-/// The answers for two lists of files are equal if the files keep the same sightings, in any order and however often,
-/// and the greatest of their floors and the floor asked for is the same.
+/// If two lists of files keep the same sightings, in any order and however often, and the greatest of the files'
+/// floors and the floor asked for is the same for both lists, then the answers for the two lists are equal.
 pub fn sightings_decide_answer()
     ensures { SightingsDecideAnswer }
 {}
 
-/// The answers for two lists of files are equal if the lists have the same files, in any order and however often.
+/// If two lists of files have the same files, in any order and however often, then the answers for the two lists are
+/// equal.
 pub fn files_decide_answer()
     ensures { FilesDecideAnswer }
 {}

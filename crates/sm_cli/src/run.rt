@@ -26,8 +26,8 @@ use std::alloc::Global;
 
 /// Reads the inputs in order: the text that the rule takes, if any, and then the files (`read_inputs`). Writes what
 /// `request` asks for, from all that the files say together, and flushes. There must be a text if the rule takes one.
-/// Returns an error if an input is refused, there is no room for a plan, memory is refused, or a write fails. How much
-/// is written before a write fails is unspecified; with any other error nothing is written.
+/// Returns an error if an input is refused, if there is no room for the LIDs of a plan, if memory is refused, or if a
+/// write fails. How much is written before a write fails is unspecified; with any other error nothing is written.
 pub fn run_files<S: Source, W: Sink>(
     alloc: Global,
     inputs: &mut [S],
@@ -78,7 +78,7 @@ fn write_answer<W: Sink>(
 }
 
 /// Writes the plan of the facts in `store`, under `lmc` and by `rule`, and flushes. Returns `NoRoom` if there is no
-/// room for its LIDs, `Memory` if memory is refused, or `Write` if a write fails.
+/// room for the plan's LIDs, `Memory` if memory is refused, or `Write` if a write fails.
 #[tactic(auto, using(crate::proofs::Plans::has_room, crate::proofs::Plans::plan_fault))]
 fn write_plan_by<W: Sink>(
     alloc: Global,
@@ -120,8 +120,8 @@ fn write_order_by<W: Sink>(
     Ok(())
 }
 
-/// Returns the usable switches in the order by which `rule` plans, or none for `UpDown`. Returns an error if memory is
-/// refused.
+/// Returns the usable switches in the order by which `rule` plans, or no switches for `UpDown`. Returns an error if
+/// memory is refused.
 fn order_by(alloc: Global, store: &Store, rule: &Rule) -> Result<Vec<Guid>, Refused>
     ensures { IfOk result (λ found. found.items ≡ order_by (value_of rule.now) (cells_of store.now)) }
 {

@@ -32,7 +32,7 @@ pub enum TextFault {
     /// The text names a root that is not a usable switch of the facts, or not a switch of the topology.
     #[error("no usable switch {0}")]
     NoSwitch(Guid),
-    /// The tables give this LID to a different end port than the plan does.
+    /// The tables give this LID to an end port, and the plan gives it to another.
     #[error("lid {} moves", .0.number())]
     Moves(Lid),
 }
@@ -41,7 +41,7 @@ impl TextFault {
     ghost use Rattle.sm_cli.specs.TextFault.{text_fault_guid, text_fault_lid, text_fault_line, text_fault_word};
     ghost use Rattle.sm_cli.specs.TextFault.{is_of_text};
 
-    /// Returns the number of the faulty line, counted from 1, or `None` if the fault is not one of a line.
+    /// Returns the number of the faulty line, counted from 1, or `None` if the fault does not concern a line.
     pub fn line(&self) -> Option<usize>
         ensures { result ≡ text_fault_line self.now }
     {
@@ -56,7 +56,7 @@ impl TextFault {
         }
     }
 
-    /// Returns what the message says about the line, or about the text if the fault is not one of a line.
+    /// Returns what the message says about the line, or about the text if the fault does not concern a line.
     pub fn word(&self) -> &'static str
         ensures { result.now ≡ text_fault_word self.now }
     {

@@ -1,4 +1,4 @@
--- When repeated steps of whole tables towards a plan end: what `next` prints is what it was given.
+-- When repeated steps of whole tables towards a plan end: `next` prints what it was given.
 use Rattle.std.specs.Prelude.{◌≡◌, ◌≤◌, ◌+◌, ◌*◌, ℕ, zero, suc, Contains, List, [], ◌∷◌, Some, length}
 use Rattle.fact_store.specs.View.{Facts, cells_of, AreInRange}
 use Rattle.subnet_view.specs.Reading.{Cells, switches}
@@ -54,7 +54,7 @@ abbrev pub printed : ℕ → RuleValue → Facts → List ℕ → ℕ → List �
 printed lmc rule facts text zero = text
 printed lmc rule facts text (suc n) = step_text lmc rule facts (held_of (printed lmc rule facts text n))
 
--- n steps are enough: at least `most` + 2 * (the number of switches) + 2, if `most` is at least 2 and no route of the
+-- n steps are enough: n is at least `most` + 2m + 2, for m usable switches; `most` is at least 2; and no route of the
 -- plan passes more than `most` switches
 pub record AreEnough (rule : RuleValue) (lmc : ℕ) (facts : Facts) (n : ℕ) : Type 0 where
   pub most : ℕ
@@ -70,12 +70,13 @@ PrintedStepsEnd =
     → ¬ (IsNoRoom lmc (cells_of facts)) → AreEnough rule lmc facts n
     → printed lmc rule facts text (suc n) ≡ printed lmc rule facts text n
 
--- no route of a plan passes more switches than there are usable ones
+-- no route of a plan passes more switches than there are usable switches
 abbrev pub WaysMeetAtMostAll : Type 0
 WaysMeetAtMostAll = (cells : Cells) (plan : HeldPlan) → MeetAtMost cells plan (length (switches cells))
 
--- after enough steps `next` prints what `plan` prints, if a LID is given, and no usable switch held a top above the
--- greatest LID. The facts must be in range and have room, and the LMC must be at most 7
+-- after enough steps (`AreEnough`), `next` prints what `plan` prints, if the plan gives a LID, and no usable switch
+-- has a top in the tables of `text` above the plan's greatest LID. The facts must be in range and have room, and the
+-- LMC must be at most 7
 abbrev pub LastTextIsThePlans : Type 0
 LastTextIsThePlans =
     (rule : RuleValue) (lmc : ℕ) (facts : Facts) (text : List ℕ) (n top : ℕ) → lmc ≤ 7 → AreInRange facts

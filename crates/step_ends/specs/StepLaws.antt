@@ -1,4 +1,4 @@
--- What a step of whole tables gives: one result, and no credit loop by an order.
+-- What a step of whole tables gives: only one result and, if it goes by an order, no credit loop.
 use Rattle.std.specs.Prelude.{◌≡◌, ℕ, Bool, true, List, [], Option, Some}
 use Rattle.fact_store.specs.View.{Facts, cells_of, AreInRange}
 use Rattle.lid_assign.specs.Lids.{IsNoRoom, lids}

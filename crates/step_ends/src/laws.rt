@@ -20,21 +20,21 @@ pub fn plans_deliver_what_tables_can()
 {}
 
 /// If the held tables are right by the order of the plan's switches, a step of `next` by facts with room can make no
-/// credit loop in any mixture, and its tables are right by that order. Tables are right by an order if they send
-/// packets for no LID down and then up.
+/// credit loop in any mixture, and the tables that it leads to are right by that order. Tables are right by an order
+/// if they send packets for no LID down and then up.
 pub fn right_tables_make_no_loop()
     ensures law { RightTablesMakeNoLoop }
 {}
 
-/// Equal facts, options and held tables give equal next tables, by the same order, with `--told-order` or
-/// `--last-order` and without.
+/// Equal facts, options, held tables and plans give equal next tables and, if a step goes towards a goal in between,
+/// equal goals.
 pub fn steps_have_one_result()
     ensures law { StepsHaveOneResult }
 {}
 
-/// A step of `next` by an order that the held tables imply can make no credit loop in any mixture, and its tables are
-/// right by that order, whatever `--last-order` names. The step goes by that order if the held tables are not right by
-/// the order of the plan's switches, but imply an order.
+/// A step of `next` by an order that the held tables imply can make no credit loop in any mixture, and the tables that
+/// it leads to are right by that order, whatever `--last-order` names. The step goes by that order if the held tables
+/// are not right by the order of the plan's switches, but imply an order.
 pub fn told_steps_make_no_loop()
     ensures law { ToldStepsMakeNoLoop }
 {}
@@ -48,8 +48,8 @@ pub fn printed_steps_end()
 {}
 
 /// After enough steps without `--told-order` and `--last-order`, `next` prints what `plan` prints, if three conditions
-/// hold: there is room for the LIDs; an end port has a LID; and no usable switch held a greater top than the greatest
-/// LID.
+/// hold: there is room for the LIDs; at least one end port has a LID; and no usable switch has a greater top in the
+/// tables at the start than the greatest LID of the plan.
 pub fn last_text_is_the_plans()
     ensures law { LastTextIsThePlans }
 {}
@@ -65,8 +65,8 @@ pub fn plans_are_whole()
     ensures law { PlansAreWhole }
 {}
 
-/// Each usable switch has a LID in the plan of a view with room, if port 0 of each usable switch has a known port GUID,
-/// and so is an end port.
+/// Each usable switch has a LID in the plan of a view with room, if the port GUID of port 0 of each usable switch is
+/// known, so that this port is an end port.
 pub fn plans_give_own_lids()
     ensures law { PlansGiveOwnLids }
 {}

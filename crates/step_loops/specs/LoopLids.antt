@@ -32,8 +32,8 @@ are_known lids = list_all (λ lid. not (lid == 0)) lids
 
 -- packets for one LID ----------------------------------------------------------------------------
 
--- packets leave the switch of channel `a` by `a`, along its edge in `before`, and the next switch by channel `b`, along
--- its edge in `now`
+-- packets leave the switch of channel `a` on `a`, along the switch's edge in `before`, and the next switch on channel
+-- `b`, along that switch's edge in `now`
 abbrev pub TakesFrom : List (Option Edge) → List (Option Edge) → ℕ → ℕ → Type 0
 TakesFrom before now a b = TakesAcross before now (a / 256) a b
 

@@ -8,13 +8,14 @@ use Rattle.audit_channels.specs.declared.order.ChannelOrder.{ChannelOrder}
 use Rattle.audit_channels.specs.declared.order.ChannelOrder.TheVariants.{Rises, Cycle}
 use Rattle.next_tables.specs.Mixtures.{TakesInStep, WaitsInStep, RiseInStep}
 
--- in `new` a channel `b` follows a channel `a` exactly if it does in `old`, or if packets take `a` and then `b`, each
--- by either column
+-- in `new`, a channel `b` follows a channel `a` exactly when it does in `old`, or packets take `a` and then `b`, each
+-- along an edge of `held` or of `next`
 pub record IsWithStep (old : List (List ℕ)) (held next : List (Option Edge)) (new : List (List ℕ)) : Type 0 where
   pub as_many : length new ≡ length old
   pub follows : (a b : ℕ) → Follows new a b ↔ (Follows old a b ⊎ TakesInStep held next a b)
 
--- in `waits` a channel `b` follows a channel `a` if packets take `a` and then `b`, each by either column
+-- in `waits`, a channel `b` follows a channel `a` if packets take `a` and then `b`, each along an edge of `held` or of
+-- `next`
 abbrev pub IsAddedInStep : List (Option Edge) → List (Option Edge) → List (List ℕ) → Type 0
 IsAddedInStep held next waits = (a b : ℕ) → TakesInStep held next a b → Follows waits a b
 
@@ -24,13 +25,13 @@ pub record WaitsFor (cells : Cells) (held next : HeldPlan) (a b : ℕ) : Type 0 
   pub is_lid : 1 ≤ lid
   pub waits : WaitsInStep cells held next lid a b
 
--- `waits` has, for each channel, the channels that packets that hold it wait for in the step
+-- `waits` has, for each channel, the channels for which packets that hold this channel wait in the step
 pub record AreWaits (cells : Cells) (held next : HeldPlan) (waits : List (List ℕ)) : Type 0 where
   pub as_many : length waits ≡ 256 * length (switches cells)
   pub follows : (a b : ℕ) → Follows waits a b ↔ WaitsFor cells held next a b
 
--- `numbers` has a number for each channel of each switch, less than the numbers of the channels that it waits for in
--- the step
+-- `numbers` has a number for each channel of each switch. It is less than the numbers of the channels that the channel
+-- waits for in the step
 pub record NumbersRise (cells : Cells) (held next : HeldPlan) (numbers : List ℕ) : Type 0 where
   pub as_many : length numbers ≡ 256 * length (switches cells)
   pub rise : RiseInStep cells held next numbers
@@ -41,7 +42,7 @@ WaitOn cells held next channel [] last = WaitsFor cells held next channel last
 WaitOn cells held next channel (c ∷ later) last =
     WaitsFor cells held next channel c × WaitOn cells held next c later last
 
--- the channels of a list, at least one, wait in a credit loop of the step: each for the next one, and the last for the
+-- a list is not empty, and its channels wait in a credit loop of the step: each for the next one, and the last for the
 -- first
 abbrev pub WaitInCycle : Cells → HeldPlan → HeldPlan → List ℕ → Type 0
 WaitInCycle cells held next [] = ⊥

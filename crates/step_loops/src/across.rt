@@ -17,7 +17,7 @@ pub(crate) struct Columns {
 }
 
 impl Columns {
-    /// Returns columns without vertices.
+    /// Creates columns without vertices.
     pub fn none(alloc: Global) -> Self
         ensures held { result.held.items ≡ [] }
         ensures next { result.next.items ≡ [] }
@@ -29,8 +29,8 @@ impl Columns {
     }
 }
 
-/// Returns the columns of the LID of both cursors. `held` and `next` must be at one LID. Takes what `LidCursor::edges`
-/// takes for each.
+/// Returns the edges by the held tables for the LID of `held`, and the edges by the next tables for the LID of `next`.
+/// Takes the time that `LidCursor::edges` takes for each.
 pub(crate) fn columns_of(
     alloc: Global,
     held: &LidCursor,
@@ -50,10 +50,10 @@ pub(crate) fn columns_of(
 }
 
 /// Records in `waits` that a channel follows another if packets for the LID of `columns` take the two in this order,
-/// each by either table. `before` has the columns of an earlier LID, whose channels must be recorded already. Equal
-/// columns are not added again. `waits` must have 256 channels for each vertex, fewer than 2^64 in all. Takes time
-/// linear in the number of switches. If a switch's next channel is not known to follow its channel, also takes time
-/// linear in the number of channels that follow its channel.
+/// each by the held or by the next table. `before` has the columns of an earlier LID, whose channels must be recorded
+/// already. Equal columns are not added again. `waits` must have 256 channels for each vertex of each column, fewer
+/// than 2^64 in all. Takes time linear in the number of switches. If it is not recorded yet that a switch's channel is
+/// followed by the next one, also takes time linear in the number of channels that are recorded to follow it.
 pub(crate) fn add_step(
     waits: &mut Waits,
     before: &Columns,
@@ -75,7 +75,7 @@ pub(crate) fn add_step(
 }
 
 /// Records in `waits` that a channel follows another if packets take the two in this order, each by `held` or by
-/// `next`. `waits` must have 256 channels for each vertex of either column, fewer than 2^64 in all.
+/// `next`. `waits` must have 256 channels for each vertex of each column, fewer than 2^64 in all.
 fn add_all(
     waits: &mut Waits,
     held: &[Option<Edge>],

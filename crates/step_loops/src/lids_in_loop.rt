@@ -15,8 +15,9 @@ use std::alloc::{AllocError, Global};
 
 /// Returns, for each channel of the credit loop `cycle` of a step, the least LID for which packets that hold the
 /// channel wait for the next one. After the last channel comes the first. Packets may take each of the two channels by
-/// either table. `held` and `next` must have the same facts, and `cycle` must be a credit loop of the step. For each
-/// LID, until each channel has one, takes time linear in the numbers of switches and of channels.
+/// the held or by the next tables. `held` and `next` must have the same facts, and `cycle` must be a credit loop of
+/// the step. Goes through the LIDs until each channel has one. For each LID, takes time linear in the number of
+/// switches and in the number of channels.
 pub fn loop_lids(
     alloc: Global,
     held: &Network,
@@ -72,8 +73,8 @@ fn are_known(lids: &[Lid]) -> bool
 }
 
 /// Sets `lid`, in `lids`, for each channel of `cycle` that has no LID yet, if packets for `lid` hold the channel and
-/// wait for the channel at the same index of `after`. Packets may take each of the two channels by the edges of either
-/// column. `lids`, `cycle` and `after` must have the same length.
+/// wait for the channel at the same index of `after`. Packets may take each of the two channels along an edge of
+/// `held` or of `next`. `lids`, `cycle` and `after` must have the same length.
 fn note_lid(
     lids: &mut [Lid],
     cycle: &[usize],
@@ -91,8 +92,8 @@ fn note_lid(
     }
 }
 
-/// Returns `lid` if `known` is 0 and packets for `lid` hold `channel` and wait for `other`, each by the edges of either
-/// column. Otherwise returns `known`.
+/// Returns `lid` if `known` is 0 and packets for `lid` hold `channel` and wait for `other`, each along an edge of
+/// `held` or of `next`. Otherwise returns `known`.
 fn noted(
     channel: usize,
     other: usize,
@@ -110,8 +111,8 @@ fn noted(
     }
 }
 
-/// Returns whether packets leave a switch by `channel` and the next switch by `other`, each by the edges of either
-/// column.
+/// Returns whether packets leave a switch on `channel` and the next switch on `other`, each along an edge of `held` or
+/// of `next`.
 fn waits(channel: usize, other: usize, held: &[Option<Edge>], next: &[Option<Edge>]) -> bool
     ensures { IsTrue result ↔ TakesHere held.now next.now channel other }
 {
@@ -121,8 +122,8 @@ fn waits(channel: usize, other: usize, held: &[Option<Edge>], next: &[Option<Edg
         || takes(channel, other, next, next)
 }
 
-/// Returns whether packets leave a switch by `channel`, by the edges in `before`, and the next switch by `other`, by
-/// the edges in `now`.
+/// Returns whether packets leave a switch on `channel`, along an edge in `before`, and the next switch on `other`,
+/// along an edge in `now`.
 fn takes(channel: usize, other: usize, before: &[Option<Edge>], now: &[Option<Edge>]) -> bool
     ensures { IsTrue result ↔ TakesFrom before.now now.now channel other }
 {

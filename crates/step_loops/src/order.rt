@@ -12,8 +12,8 @@ use std::alloc::{AllocError, Global};
 
 /// Returns numbers of channels that rise along the route of every packet, by any mixtures of the held and the next
 /// tables. If there are no such numbers, returns a shortest credit loop of some mixtures. Channels are numbered as in
-/// `audit_channels::channel_order`. `held` and `next` must have the same facts. Takes what `channel_order` takes for
-/// both tables together, up to a constant factor.
+/// `audit_channels::channel_order`. `held` and `next` must have the same facts. Takes the time that `channel_order`
+/// takes for both tables together, up to a constant factor.
 #[tactic(auto, using(crate::proofs::InStep::order_is, crate::proofs::InStep::shortest_is))]
 pub fn step_order(alloc: Global, held: &Network, next: &Network) -> Result<ChannelOrder, AllocError>
     requires facts { next.now.facts ≡ held.now.facts }
@@ -27,8 +27,8 @@ pub fn step_order(alloc: Global, held: &Network, next: &Network) -> Result<Chann
     Ok(found)
 }
 
-/// Returns, for each channel, the channels that packets take next, each of the two by either table. `held` and `next`
-/// must have the same facts.
+/// Returns, for each channel, the channels that packets take next, each of the two by the held or by the next tables.
+/// `held` and `next` must have the same facts.
 fn waits(alloc: Global, held: &Network, next: &Network) -> Result<Waits, AllocError>
     requires facts { next.now.facts ≡ held.now.facts }
     ensures { IfOk result (λ waits.

@@ -37,8 +37,8 @@ RaisedManagersKnowNothing = (w : Managing) (floor : ℕ) → 1 < floor → newes
 
 -- LIDs ---------------------------------------------------------------------------------------------------
 
--- `y` is what is left of `x`. Its end ports are end ports of `x` and claim the LIDs that they have in the plan of `x`.
--- It has room for all LIDs of that plan
+-- `y` is what is left of `x`. The end ports of `y` are end ports of `x`, and claim the LIDs that they have in the plan
+-- of `x`. `y` has room for all LIDs of that plan
 pub record IsRestOf (lmc : ℕ) (x y : Cells) : Type 0 where
   pub had : (e : EndPort) → Contains (end_ports y) e → Contains (end_ports x) e
   pub claimed : (e : EndPort) (lid : ℕ) → Contains (end_ports y) e → lid_of (lids lmc x) e ≡ Some lid
@@ -56,7 +56,8 @@ LidsOutlast = (lmc : ℕ) (x y : Facts) → ¬ (IsNoRoom lmc (cells_of x)) → �
 -- a takeover of the rest ---------------------------------------------------------------------------------
 
 -- the manager sweeps alone. The facts `held` have room, and have each end port that is joined to the manager's seat;
--- each of these end ports has the LID and the LMC of their plan. The facts may have other end ports, which are gone
+-- each of these end ports has the LID and the LMC of the plan of these facts. The facts may have other end ports,
+-- which are gone
 pub record TakesRest (held : Facts) (w : Managing) (before between after : List ManagerEvent) : Type 0 where
   pub sweeps : SweepsAlone w before between after
   pub has_room : ¬ (IsNoRoom (planning_at w before between).lmc (cells_of held))

@@ -1,4 +1,5 @@
--- A manager takes over a subnet that holds a plan: if it sweeps while no LID changes, its plan is the held one.
+-- A manager takes over a subnet that holds a plan: if the manager sweeps while no LID changes, its plan is the plan
+-- that the subnet holds.
 use Rattle.std.specs.Prelude.{◌≡◌, ◌≤◌, ℕ, true, List, [], ◌∷◌, Some}
 use Rattle.fabric_model.specs.Fabric.{Fabric}
 use Rattle.fabric_model.specs.FabricWalks.{IsJoinedTo}
@@ -55,12 +56,12 @@ pub record SweepsAlone (w : Managing) (before between after : List ManagerEvent)
   pub lids_between : LidsStayAround (fabric_of w.scene.fabric) between
       (after_manager_event (after_manager_events before w) Begin)
 
--- the manager sweeps alone; the facts `held` have room, and describe exactly the part that is joined to its seat; and
--- that part holds their plan, by the manager's rule and LMC
+-- the manager sweeps alone; the facts `held` have room, and describe exactly the part that is joined to the manager's
+-- seat; and this part holds the plan of these facts, by the manager's rule and LMC
 pub record TakesOver (held : Facts) (w : Managing) (before between after : List ManagerEvent) : Type 0 where
   pub sweeps : SweepsAlone w before between after
-  -- the facts `held` have room, and describe exactly the part that is joined to the seat; the part holds their plan by
-  -- the manager's rule and LMC
+  -- the facts `held` have room, and describe exactly the part that is joined to the seat; the part holds the plan of
+  -- these facts, by the manager's rule and LMC
   pub has_room : ¬ (IsNoRoom (planning_at w before between).lmc (cells_of held))
   pub agrees : AgreesOn (IsJoinedTo (fabric_of w.scene.fabric) w.seat) (cells_of held) (fabric_of w.scene.fabric)
   pub holds : HoldsPlan (IsJoinedTo (fabric_of w.scene.fabric) w.seat) (plan_by_it (planning_at w before between) held)
@@ -85,7 +86,7 @@ TakeoverChangesNothing =
 
 -- during the writing, too --------------------------------------------------------------------------------
 
--- the Sets of a writing that has none
+-- no Sets: those of a writing that has none
 abbrev pub no_sets : OwnSets
 no_sets at packet = ⊥
 

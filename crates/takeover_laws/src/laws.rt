@@ -1,4 +1,4 @@
-//! The laws of views that have one plan, and of takeovers.
+//! The laws of views that have the same plan, and of takeovers.
 ghost use Rattle.takeover_laws.specs.OnePlan.{AlikeViewsPlanAlike, ClaimedPlansStay, PlansReadKnownValues};
 ghost use Rattle.takeover_laws.specs.OnePlan.{KnownPlansStay, WhoSeesTheSamePlansTheSame};
 ghost use Rattle.takeover_laws.specs.OnePlan.{WhoSeesTheTruthPlansTheSame, HeldPlansArePlanned};
@@ -7,9 +7,9 @@ ghost use Rattle.takeover_laws.specs.AfterCut.{FloorsForget, LidsOutlast, Raised
 ghost use Rattle.takeover_laws.specs.AfterCut.{SomeManagerServesTheRest};
 ghost use Rattle.takeover_laws.specs.Takeover.{PingsArriveThroughout, SomeManagerTakesOver, TakeoverChangesNothing};
 
-/// Two alike views in which each end port claims the same LID, or none in either, have one plan, by each rule and under
-/// each LMC, and both have room or neither has. Views are alike if they have the same end ports with the same port
-/// GUIDs, the same usable switches with as many ports and as much room, and the same wires.
+/// Two alike views in which each end port claims the same LID, or claims no LID in either view, have the same plan, by
+/// each rule and under each LMC, and both have room or neither has. Views are alike if they have the same end ports
+/// with the same port GUIDs, the same usable switches with as many ports and as much room, and the same wires.
 pub fn alike_views_plan_alike()
     ensures { AlikeViewsPlanAlike }
 {}
@@ -21,27 +21,27 @@ pub fn claimed_plans_stay()
     ensures { ClaimedPlansStay }
 {}
 
-/// Two views that know the same value of each key, or none in either, have one plan, by each rule and under each LMC,
-/// and both have room or neither has. Generations do not matter, nor does what is disputed.
+/// Two views that know the same value of each key, or neither of which knows one, have the same plan, by each rule and
+/// under each LMC, and both have room or neither has. Generations do not matter, nor does what is disputed.
 pub fn plans_read_known_values()
     ensures { PlansReadKnownValues }
 {}
 
-/// The second of two views that know the same value of each key that is no claim, or none in either, has room and the
-/// plan of the first, by each rule and under each LMC, if two conditions hold: the first has room; and the second
-/// claims the LIDs of the plan of the first. Generations do not matter.
+/// If two views know the same value of each key that is not a claim, or neither knows one, the second view has room
+/// and the plan of the first, by each rule and under each LMC, if two conditions hold: the first has room; and the
+/// second claims the LIDs of the plan of the first. Generations do not matter.
 pub fn known_plans_stay()
     ensures { KnownPlansStay }
 {}
 
-/// Two views that describe one part of a fabric exactly and have the same claims of its end ports have one plan, by
-/// each rule and under each LMC, and both have room or neither has.
+/// Two views that describe the same part of a fabric exactly and have the same claims of the part's end ports have the
+/// same plan, by each rule and under each LMC, and both have room or neither has.
 pub fn who_sees_the_same_plans_the_same()
     ensures { WhoSeesTheSamePlansTheSame }
 {}
 
-/// Two views that describe one part of a fabric exactly, and in which each end port of the part claims the LID that it
-/// has, have one plan, by each rule and under each LMC, and both have room or neither has.
+/// Two views that describe the same part of a fabric exactly, and in which each end port of the part claims the LID
+/// that the end port has, have the same plan, by each rule and under each LMC, and both have room or neither has.
 pub fn who_sees_the_truth_plans_the_same()
     ensures { WhoSeesTheTruthPlansTheSame }
 {}
@@ -53,15 +53,15 @@ pub fn held_plans_are_planned()
     ensures { HeldPlansArePlanned }
 {}
 
-/// On a fabric whose nodes have different GUIDs, each LID that an accepted report of a sweep claims for a port is the
-/// LID that the port has, while no port gets another LID. Other managers may send what
+/// While no port gets another LID, on a fabric whose nodes have different GUIDs, each LID that an accepted report of a
+/// sweep claims for a port is the LID that the port has. Other managers may send what
 /// `manager_laws::laws::answers_tell` names. Packets may be lost, copied and reordered.
 pub fn accepted_claims_are_true()
     ensures { AcceptedClaimsAreTrue }
 {}
 
-/// If a sweep has every answer while no port gets another LID, each end port that is joined to its seat claims, by the
-/// facts of the sweep, the LID that the end port has.
+/// If a sweep has every answer while no port gets another LID, each end port that is joined to the sweep's seat
+/// claims, according to the facts of the sweep, the LID that the end port has.
 pub fn swept_claims_are_true()
     ensures { SweptClaimsAreTrue }
 {}
@@ -83,9 +83,10 @@ pub fn takeover_changes_nothing()
     ensures { TakeoverChangesNothing }
 {}
 
-/// At each moment of a takeover, before the sweep, until the writing and between its Sets, the subnet holds the plan,
-/// and each ping from an end port there, for each LID of the plan, reaches the owner of the LID, if each Set that an
-/// agent takes carries the values of the plan or, once the writing has begun, is one of the writing's own.
+/// If each Set that an agent takes carries the values of the plan or, once the writing has begun, is one of the
+/// writing's own, then at each moment of a takeover (before the sweep, until the writing, and between the writing's
+/// Sets) the subnet holds the plan, and each ping from an end port there, for each LID of the plan, reaches the owner
+/// of the LID.
 pub fn pings_arrive_throughout()
     ensures { PingsArriveThroughout }
 {}

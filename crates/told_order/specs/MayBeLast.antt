@@ -17,7 +17,7 @@ abbrev pub NoneFromBy : List (List SwitchTurn) → List ℕ → List Bool → �
 NoneFromBy turns preferred left index =
     (k y : ℕ) → index < k + 1 → slice_get preferred k ≡ Some y → may_be_last turns left y ≡ false
 
--- switch `x` may be the last, and no switch after it in `preferred` may be
+-- switch `x` of `preferred` may be the last of those left, and no switch after it there may be
 pub record IsLastBy (turns : List (List SwitchTurn)) (preferred : List ℕ) (left : List Bool) (x : ℕ) : Type 0 where
   pub may_be : may_be_last turns left x ≡ true
   pub index : ℕ

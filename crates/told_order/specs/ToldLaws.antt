@@ -1,4 +1,4 @@
--- Tables are right by the order that they imply, and they imply one if they are right by any.
+-- Tables are right by the order that they imply, and they imply an order if they are right by any order.
 use Rattle.std.specs.Prelude.{◌≡◌, ◌≤◌, ◌<◌, ℕ, List, Contains, None, Some, length}
 use Rattle.subnet_view.specs.Reading.{Cells, switches}
 use Rattle.held_tables.specs.Held.{HeldPlan}

@@ -41,8 +41,8 @@ AreTaken cells tables preferred left (x ∷ taken) end =
 abbrev pub all_left : Cells → List Bool
 all_left cells = replicate (length (switches cells)) true
 
--- all switches are taken in the given order, the last one first; for None, at some point some are left and none of
--- `preferred` may be the last of them
+-- all switches are taken in the given order, the last one first; for None, at some point some switches are left, and
+-- none of `preferred` may be the last of them
 abbrev pub IsTold : Cells → HeldPlan → List ℕ → Option (List ℕ) → Type 0
 IsTold cells tables preferred None =
     (taken : List ℕ) × (end : List Bool) × AreTaken cells tables preferred (all_left cells) taken end

@@ -8,14 +8,14 @@ use Rattle.held_tables.specs.Switches.{far_by}
 use Rattle.next_tables.specs.SwitchPositions.{Leads}
 use Rattle.told_order.specs.declared.turns.SwitchTurn.{SwitchTurn}
 
--- by `tables`, packets for some LID come from switch `i` to switch `j` and leave it for switch `k`, which may be `i`
+-- by `tables`, packets for some LID come from switch `i` to switch `j` and leave `j` for switch `k`, which may be `i`
 pub record IsTurn (cells : Cells) (tables : HeldPlan) (i j k : ℕ) : Type 0 where
   pub lid : ℕ
   pub is_lid : 1 ≤ lid
   pub comes : Leads cells tables lid i j
   pub leaves : Leads cells tables lid j k
 
--- the lists of turns that vectors have
+-- the items of each of the given vectors of turns
 abbrev pub lists_of : List (Vec SwitchTurn Global) → List (List SwitchTurn)
 lists_of = map (λ row. row.items)
 

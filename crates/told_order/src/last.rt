@@ -1,4 +1,4 @@
-//! The switch that may be the last of the switches left.
+//! Which of the switches left may be the last of them.
 ghost use Rattle.std.specs.Prelude.{◌≡◌};
 ghost use Rattle.told_order.specs.MayBeLast.{IsNextBy, may_be_last, turns_in};
 ghost use Rattle.told_order.specs.ToldOrder.{is_left};

@@ -12,19 +12,21 @@ pub fn told_orders_are_right()
     ensures law { ToldOrdersAreRight }
 {}
 
-/// Tables that are right by some order of the switches imply an order, if each usable switch is in the list of
-/// preferences.
+/// If tables are right for every LID by some order of the switches, and each usable switch is in the list of
+/// preferences, then the tables imply an order.
 pub fn some_order_is_told()
     ensures law { SomeOrderIsTold }
 {}
 
-/// If tables are right by an order that agrees with the preferences on their first switches, the order that the tables
-/// imply also agrees with the preferences, which have each usable switch once, on these switches.
+/// If the preferences have each usable switch once, and tables are right for every LID by an order that agrees with
+/// the preferences on their first k switches, then the order that the tables imply agrees with them on these switches
+/// too.
 pub fn told_orders_agree()
     ensures law { ToldOrdersAgree }
 {}
 
-/// If tables are right by the order of the preferences, which have each usable switch once, they imply that order.
+/// If the preferences have each usable switch once, and tables are right for every LID by the order of the
+/// preferences, then an order that the tables imply is that order.
 pub fn told_orders_are_stable()
     ensures law { ToldOrdersAreStable }
 {}

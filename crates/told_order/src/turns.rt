@@ -21,8 +21,8 @@ pub(crate) struct SwitchTurn {
 }
 
 /// Returns the turns that packets make at each usable switch, in ascending order of GUID, by the tables of `network`.
-/// Takes what `channel_waits` takes, and time linear in the number of channels, plus that of the channels that follow
-/// each.
+/// Takes the time that `channel_waits` takes, and time linear in the number of channels plus the number of pairs of a
+/// channel and one that follows it.
 pub(crate) fn turns(alloc: Global, network: &Network) -> Result<Vec<Vec<SwitchTurn>>, AllocError>
     ensures { IfOk result (λ turns.
         AreTurns (cells_of network.now.facts) network.now.held (lists_of turns.items)) }
@@ -31,8 +31,9 @@ pub(crate) fn turns(alloc: Global, network: &Network) -> Result<Vec<Vec<SwitchTu
     turns_over(alloc, network, &waits)
 }
 
-/// Returns, for each usable switch, the turns there: from each channel to the switch into each channel that follows
-/// that one. `waits` must have the channels that packets take next by the tables of `network`.
+/// Returns the turns at each usable switch, in ascending order of GUID. A turn goes from a channel that leads to the
+/// switch into a channel that follows that one. `waits` must have, for each channel, the channels that packets take
+/// next by the tables of `network`.
 fn turns_over(
     alloc: Global,
     network: &Network,

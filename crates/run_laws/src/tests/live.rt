@@ -1,4 +1,4 @@
-//! Tests of a manager by the live conduct beside another manager that behaves like OpenSM.
+//! Tests of a manager with the live conduct beside another manager that behaves like OpenSM.
 use super::controls::{ACKNOWLEDGE, HANDOVER, becomes_master, comes_to};
 use super::ranks::{other, sweeps};
 use super::*;
@@ -63,8 +63,8 @@ fn directed(modifier: u32) -> Smp {
     )
 }
 
-/// Returns whether a standby obeys a handover over a directed route: it answers as a master by its path, and sends no
-/// acknowledgement.
+/// Returns whether a standby obeys a handover over a directed route: its answer says that it is master, and it sends
+/// no acknowledgement.
 fn takes_over(manager: &mut Manager) -> bool {
     if !becomes_master(manager) || !comes_to(manager, SmState::Standby) {
         return false;

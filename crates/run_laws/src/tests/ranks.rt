@@ -1,9 +1,9 @@
-//! Tests of which manager, among those that a sweep saw, outranks the manager that swept. That has priority 3 and the
-//! port GUID 0x101.
+//! Tests of which manager, among those that a sweep saw, outranks the manager that swept. The manager that swept has
+//! priority 3 and the port GUID 0x101.
 use super::*;
 
-/// For each case, the priority, port GUID and state of the other manager, and the state of the manager that swept after
-/// its sweep.
+/// For each case, the priority, port GUID and state of the other manager, and the state after its sweep of the manager
+/// that swept.
 const ROWS: [(u8, u64, SmState, SmState); 12] = [
     // A manager that wins is Standby or Discovering.
     (4, 0x1FF, SmState::Standby, SmState::Standby),
@@ -16,7 +16,7 @@ const ROWS: [(u8, u64, SmState, SmState); 12] = [
     // The other manager does not win.
     (2, 0x100, SmState::Standby, SmState::Master),
     (3, 0x102, SmState::Discovering, SmState::Master),
-    // Neither of two managers with one priority and one port GUID wins.
+    // Neither of two managers with the same priority and the same port GUID wins.
     (3, 0x101, SmState::Standby, SmState::Master),
     (3, 0x101, SmState::Discovering, SmState::Master),
     // A master outranks, whether or not it wins.
@@ -46,8 +46,8 @@ fn told(attribute: AttributeId, is_far: bool, other: &SmInfo) -> [u8; 64] {
     data
 }
 
-/// Returns whether a manager sweeps. It asks its own node and port, the adapter across and its port, and the manager
-/// there.
+/// Returns whether a manager sweeps. The manager asks its own node and port, the adapter across and the port there,
+/// and the manager at that port.
 pub(super) fn sweeps(manager: &mut Manager, other: &SmInfo) -> bool {
     if manager.begin_sweep().is_err() {
         return false;
