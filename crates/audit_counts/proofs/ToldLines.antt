@@ -8,7 +8,7 @@ use Rattle.subnet_view.specs.Reading.{Cells}
 use Rattle.held_tables.specs.declared.held.HeldLid.{HeldLid}
 use Rattle.held_tables.specs.Held.{HeldPlan}
 use Rattle.held_tables.specs.Tables.{lines_of}
-use Rattle.audit_ways.specs.Ways.{AllComeTo, AreTold}
+use Rattle.audit_ways.specs.Ways.{AllComeTo, AreKnownToArrive}
 
 last_of : (told : List Bool) (all : Bool) → slice_index_or (told ++ all ∷ []) (length told) false ≡ all
 last_of [] all = refl
@@ -48,7 +48,7 @@ module _ (cells : Cells) (held : HeldPlan) (lines : List HeldLid) where
                 (come (sym (last_of told all) ∙ ap (λ i. slice_index_or (told ++ all ∷ []) i false) (many ∙ sym same) ∙ h)))
           ]
 
-  pub all_told : (n : ℕ) (told : List Bool) → ToldSoFar n told → lines ≡ lines_of held → AreTold cells held told
+  pub all_told : (n : ℕ) (told : List Bool) → ToldSoFar n told → lines ≡ lines_of held → AreKnownToArrive cells held told
   all_told n told so are k line at h =
       let many = so.as_many in
       elim (cases_lt k n) [

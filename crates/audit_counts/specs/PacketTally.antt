@@ -19,7 +19,7 @@ pub record IsTally (most : ℕ) (packets : List SentPacket) (tally : PacketTally
 
 -- if `packet` does not arrive, it is added in `new` to the packets of its kind and, if it is lost, to the count of its
 -- cause; the rest is as in `old`, but `all` and `between` are left open
-pub record IsTold (old : PacketTally) (packet : SentPacket) (new : PacketTally) : Type 0 where
+pub record IsWithPacket (old : PacketTally) (packet : SentPacket) (new : PacketTally) : Type 0 where
   pub causes : AreCausesIf old.causes (λ cause. is_lost_for cause packet) new.causes
   pub lost : new.lost ≡ (if is_lost packet then listed old.lost packet else old.lost)
   pub misdelivered : new.misdelivered
@@ -29,7 +29,7 @@ pub record IsTold (old : PacketTally) (packet : SentPacket) (new : PacketTally) 
 -- `new` is `old` with `packet` added to the packets of its kind, if it does not arrive; `all` and `between` do not
 -- change
 pub record IsMissed (old : PacketTally) (packet : SentPacket) (new : PacketTally) : Type 0 where
-  pub told : IsTold old packet new
+  pub told : IsWithPacket old packet new
   pub all : new.all ≡ old.all
   pub between : new.between ≡ old.between
 
@@ -45,7 +45,7 @@ pub record IsCountedWith (old : PacketTally) (packet : SentPacket) (new : Packet
 
 -- `new` is `old` with `packet` counted, and added to the packets of its kind if it does not arrive
 pub record IsWith (old : PacketTally) (packet : SentPacket) (new : PacketTally) : Type 0 where
-  pub told : IsTold old packet new
+  pub told : IsWithPacket old packet new
   pub all : ArePairsIf old.all true (arrives packet) new.all
   pub between : ArePairsIf old.between (is_between packet) (arrives packet) new.between
 

@@ -2,7 +2,7 @@
 ghost use Rattle.std.specs.Prelude.{◌≡◌, ◌++◌, ℕ, [], true, Contains, IfOk, List, OnOk, count_by, map};
 ghost use Rattle.fact_store.specs.View.{cells_of};
 ghost use Rattle.subnet_view.specs.EndPorts.{end_ports};
-ghost use Rattle.audit_ways.specs.Ways.{AllComeTo, AreTold};
+ghost use Rattle.audit_ways.specs.Ways.{AllComeTo, AreKnownToArrive};
 ghost use Rattle.audit_counts.specs.declared.sent_packet.SentPacket.{SentPacket as Sent};
 ghost use Rattle.audit_counts.specs.Packets.{packets_of, sent_to};
 ghost use Rattle.audit_counts.specs.Sites.{IsCensus, are_joined, are_joined_adapters, site_of};
@@ -37,7 +37,7 @@ pub fn survey(
     ensures tally { IfOk result (λ survey.
         IsTally most (packets_of (cells_of network.now.facts) network.now.held) survey.tally) }
     ensures told { IfOk result (λ survey.
-        AreTold (cells_of network.now.facts) network.now.held survey.told.items) }
+        AreKnownToArrive (cells_of network.now.facts) network.now.held survey.told.items) }
 {
     let mut tally = PacketTally::new(alloc, most);
     let mut told = Vec::new(alloc);
@@ -61,7 +61,7 @@ fn add_lines(
     ensures tally { OnOk result
         ((most : ℕ) → IsTally most [] tally.old
         → IsTally most (packets_of (cells_of network.now.facts) network.now.held) tally.new) }
-    ensures told { OnOk result (AreTold (cells_of network.now.facts) network.now.held told.new.items) }
+    ensures told { OnOk result (AreKnownToArrive (cells_of network.now.facts) network.now.held told.new.items) }
 {
     let mut index = 0;
     let census = census_of(sites);

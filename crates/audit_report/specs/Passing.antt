@@ -21,7 +21,7 @@ use Rattle.audit_channels.specs.Waiting.{RiseOnWays, WaitInCycle}
 use Rattle.audit_ways.specs.declared.mean.Figures.{Figures}
 use Rattle.audit_ways.specs.declared.way_figures.WayFigures.{WayFigures}
 use Rattle.audit_ways.specs.Figures.{figures_of}
-use Rattle.audit_ways.specs.Ways.{IsToldOfWays, loads_of}
+use Rattle.audit_ways.specs.Ways.{AreWayFigures, loads_of}
 use Rattle.audit_counts.specs.declared.packet_tally.PacketTally.{PacketTally}
 use Rattle.audit_counts.specs.declared.unmatched.Unmatched.{Unmatched}
 use Rattle.audit_counts.specs.Disputed.{disputed}
@@ -136,5 +136,5 @@ pub record IsFound (most : ℕ) (seen : Seen) (tally : PacketTally) (unmatched :
   pub counted : IsTally most (packets_of (cells_of seen.facts) seen.held) tally
   pub differ : IsUnmatched most (cells_of seen.facts) seen.held unmatched
   pub count_is : count ≡ disputed (cells_of seen.facts)
-  pub told : IsToldOfWays (cells_of seen.facts) seen.held ways
+  pub told : AreWayFigures (cells_of seen.facts) seen.held ways
   pub waits : IsCycle (cells_of seen.facts) seen.held cycle

@@ -2,7 +2,7 @@ ghost use Rattle.std.specs.Prelude.{◌≡◌, ◌↔◌, IfOk, IsTrue};
 ghost use Rattle.fact_store.specs.View.{cells_of};
 ghost use Rattle.audit_channels.specs.Waiting.{NoneShorter};
 ghost use Rattle.audit_ways.specs.Figures.{figures_of};
-ghost use Rattle.audit_ways.specs.Ways.{AreTold, IsToldOfWays, loads_of};
+ghost use Rattle.audit_ways.specs.Ways.{AreKnownToArrive, AreWayFigures, loads_of};
 ghost use Rattle.audit_counts.specs.Packets.{packets_of};
 ghost use Rattle.audit_counts.specs.PacketTally.{IsTally};
 ghost use Rattle.audit_counts.specs.Unmatched.{IsUnmatched};
@@ -217,7 +217,7 @@ fn packets_and_ways(
 ) -> Result<(PacketTally, WayFigures), Refused>
     ensures tally { IfOk result (λ both.
         IsTally most (packets_of (cells_of network.now.facts) network.now.held) both.0) }
-    ensures ways { IfOk result (λ both. IsToldOfWays (cells_of network.now.facts) network.now.held both.1) }
+    ensures ways { IfOk result (λ both. AreWayFigures (cells_of network.now.facts) network.now.held both.1) }
 {
     let survey = survey_of(alloc, most, network)?;
     let ways = figures_of_ways_known(alloc, network, &survey.told)?;
@@ -228,7 +228,7 @@ fn packets_and_ways(
 fn survey_of(alloc: Global, most: usize, network: &Network) -> Result<PacketSurvey, Refused>
     ensures tally { IfOk result (λ survey.
         IsTally most (packets_of (cells_of network.now.facts) network.now.held) survey.tally) }
-    ensures told { IfOk result (λ survey. AreTold (cells_of network.now.facts) network.now.held survey.told.items) }
+    ensures told { IfOk result (λ survey. AreKnownToArrive (cells_of network.now.facts) network.now.held survey.told.items) }
 {
     let sites = sites(alloc, network.subnet())?;
     Ok(survey(alloc, most, network, &sites)?)

@@ -14,7 +14,7 @@ use Rattle.audit_ways.specs.declared.way_tally.WayTally.{WayTally}
 use Rattle.audit_ways.specs.declared.way_figures.WayFigures.{WayFigures}
 use Rattle.audit_ways.specs.Figures.{IsTotal, IsTotalWith, figures_by, figures_of, greatest}
 use Rattle.audit_ways.specs.WayTally.{IsCounted}
-use Rattle.audit_ways.specs.Ways.{IsToldOfWays, channels_of, is_to_switch, load_of, ways_of}
+use Rattle.audit_ways.specs.Ways.{AreWayFigures, channels_of, is_to_switch, load_of, ways_of}
 use Rattle.audit_ways.proofs.Counted.{figures_are, hops_are}
 
 -- a number more
@@ -94,7 +94,7 @@ same_map f g (n ∷ ns) h = λ i. h n i ∷ same_map f g ns h i
 pub told : (cells : Cells) (held : HeldPlan) (tally : WayTally) (total : Total) (figures : WayFigures)
     → IsCounted (256 * length (switches cells)) (λ f. sum_by f (ways_of cells held)) tally
     → IsTotal (map (λ n. get_or tally.loads.items n 0) (channels_of cells)) total → figures.hops ≡ figures_by tally.hops.count tally.hops.sum tally.hops.most
-    → figures.load ≡ figures_by total.count total.sum total.most → IsToldOfWays cells held figures
+    → figures.load ≡ figures_by total.count total.sum total.most → AreWayFigures cells held figures
 told cells held tally total figures h t hops load = record {
   hops = hops ∙ hops_are (256 * length (switches cells)) (ways_of cells held) tally h;
   load = load ∙ figures_are (map (λ n. get_or tally.loads.items n 0) (channels_of cells)) total t

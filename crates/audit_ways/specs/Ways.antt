@@ -76,8 +76,8 @@ AllComeTo cells held line =
 
 -- for each line at whose index `told` is true, all packets that end ports send for the line's LID are delivered at the
 -- line's port
-abbrev pub AreTold : Cells → HeldPlan → List Bool → Type 0
-AreTold cells held told = (index : ℕ) (line : HeldLid) → slice_get (lines_of held) index ≡ Some line
+abbrev pub AreKnownToArrive : Cells → HeldPlan → List Bool → Type 0
+AreKnownToArrive cells held told = (index : ℕ) (line : HeldLid) → slice_get (lines_of held) index ≡ Some line
     → slice_index_or told index false ≡ true → AllComeTo cells held line
 
 -- the route of the packet from `e` for the LID of `line`
@@ -130,6 +130,6 @@ abbrev pub loads_of : Cells → HeldPlan → List ℕ
 loads_of cells held = map (load_of (ways_of cells held)) (channels_of cells)
 
 -- `told` has the figures of the numbers of wires that routes take, and of the loads of channels
-pub record IsToldOfWays (cells : Cells) (held : HeldPlan) (told : WayFigures) : Type 0 where
+pub record AreWayFigures (cells : Cells) (held : HeldPlan) (told : WayFigures) : Type 0 where
   pub hops : told.hops ≡ figures_of (hops_of cells held)
   pub load : told.load ≡ figures_of (loads_of cells held)

@@ -8,7 +8,7 @@ ghost use Rattle.held_tables.specs.Switches.{far_of};
 ghost use Rattle.audit_ways.specs.Figures.{IsTotal};
 ghost use Rattle.audit_ways.specs.Groups.{AreGrouped, adapters};
 ghost use Rattle.audit_ways.specs.WayTally.{IsCounted, IsCountedMore};
-ghost use Rattle.audit_ways.specs.Ways.{AllComeTo, AreTold, IsToldOfWays, channels_of};
+ghost use Rattle.audit_ways.specs.Ways.{AllComeTo, AreKnownToArrive, AreWayFigures, channels_of};
 ghost use Rattle.audit_ways.specs.Ways.{is_target, is_to_switch, reaches, ways_of, ways_to};
 
 use crate::mean::{Figures, Total};
@@ -32,7 +32,7 @@ pub struct WayFigures {
 /// Returns figures of the delivered packets between adapter ports: how many wires they take, and how many of them take
 /// each channel.
 pub fn figures_of_ways(alloc: Global, network: &Network) -> Result<WayFigures, AllocError>
-    ensures { IfOk result (IsToldOfWays (cells_of network.now.facts) network.now.held) }
+    ensures { IfOk result (AreWayFigures (cells_of network.now.facts) network.now.held) }
 {
     figures_of_ways_known(alloc, network, &[])
 }
@@ -45,8 +45,8 @@ pub fn figures_of_ways_known(
     network: &Network,
     told: &[bool],
 ) -> Result<WayFigures, AllocError>
-    requires { AreTold (cells_of network.now.facts) network.now.held told.now }
-    ensures { IfOk result (IsToldOfWays (cells_of network.now.facts) network.now.held) }
+    requires { AreKnownToArrive (cells_of network.now.facts) network.now.held told.now }
+    ensures { IfOk result (AreWayFigures (cells_of network.now.facts) network.now.held) }
 {
     let tally = tally_of(alloc, network, told)?;
     let hops = tally.hops.figures()?;
@@ -58,7 +58,7 @@ pub fn figures_of_ways_known(
 /// Counts the routes of the delivered packets between adapter ports. If `told` is true at the index of a line, all
 /// packets for the line's LID must be delivered at the line's port.
 fn tally_of(alloc: Global, network: &Network, told: &[bool]) -> Result<WayTally, AllocError>
-    requires { AreTold (cells_of network.now.facts) network.now.held told.now }
+    requires { AreKnownToArrive (cells_of network.now.facts) network.now.held told.now }
     ensures { IfOk result (IsCounted (256 * length (switches (cells_of network.now.facts)))
         (λ number. sum_by number (ways_of (cells_of network.now.facts) network.now.held))) }
 {

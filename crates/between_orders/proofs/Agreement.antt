@@ -19,7 +19,7 @@ use Rattle.next_tables.proofs.Hops.{leads_within, to_within}
 use Rattle.ordered_steps.specs.Rightness.{are_right}
 use Rattle.ordered_steps.proofs.ToldRight.{rightness_is_told}
 use Rattle.ordered_steps.proofs.Turns.{not_true}
-use Rattle.told_order.specs.ToldOrder.{IsTold, all_left, position_in}
+use Rattle.told_order.specs.ToldOrder.{IsImpliedOrder, all_left, position_in}
 use Rattle.told_order.proofs.Agreed.{told_orders_agree, told_orders_are_stable}
 use Rattle.told_order.proofs.Orders.{bad_is, is_le, some_order_is_told, told_orders_are_right}
 use Rattle.two_orders.specs.Agreement.{AgreesUpTo, AreVertices}
@@ -88,7 +88,7 @@ module _ (facts : Facts) (by : List ℕ) where
     agrees = λ taken told. told_orders_agree cells tables P taken (position_at positions) k are told right agreed;
   }
 
-  module _ (held : HeldPlan) (taken : List ℕ) (told : IsTold cells held P (Some taken)) where
+  module _ (held : HeldPlan) (taken : List ℕ) (told : IsImpliedOrder cells held P (Some taken)) where
     abbrev positions : List ℕ
     positions = told_positions taken (length edges)
 
@@ -255,7 +255,7 @@ goals_are_few facts by tables reached way m many =
 -- the orders of the next step, if the first of these is handed on
 module _ (facts : Facts) (tables : HeldPlan) (told by taken : List ℕ)
     (right : AreRightBy (cells_of facts) (positions_in (grown_by (edges_in (cells_of facts)) told) (length (edges_in (cells_of facts)))) tables)
-    (is_told : IsTold (cells_of facts) tables (grown_by (edges_in (cells_of facts)) told) (Some taken)) where
+    (is_told : IsImpliedOrder (cells_of facts) tables (grown_by (edges_in (cells_of facts)) told) (Some taken)) where
   abbrev all_edges : List (List Edge)
   all_edges = edges_in (cells_of facts)
 

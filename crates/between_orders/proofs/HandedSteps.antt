@@ -20,7 +20,7 @@ use Rattle.ordered_steps.specs.OrderedStepLaws.{AreNextByOrder, DeliverFrom}
 use Rattle.ordered_steps.proofs.OrderedTables.{ordered_tables_are_next}
 use Rattle.ordered_steps.proofs.Round.{all_are_step, all_follow_the_rule}
 use Rattle.ordered_steps.proofs.ToldRight.{rightness_is_told}
-use Rattle.told_order.specs.ToldOrder.{IsTold}
+use Rattle.told_order.specs.ToldOrder.{IsImpliedOrder}
 use Rattle.told_order.proofs.Orders.{some_order_is_told}
 use Rattle.two_orders.specs.Growth.{grown_by, positions_in}
 use Rattle.two_orders.specs.LabelLaws.{grown_twice}
@@ -184,8 +184,8 @@ module _ (facts : Facts) (by preferred : List ℕ) (plan : HeldPlan) (tables : �
       let lead : LeadToVertices all_edges = leads_below (graph_of (cells_of facts)) (graph_law facts) in
       let same : grown_by all_edges (goals n).positions ≡ grown_by all_edges its.positions =
       ap (λ (g : Goal). grown_by all_edges g.positions) made ∙ grows_again all_edges lead its.positions in
-      let told : IsTold (cells_of facts) (tables (suc n)) (grown_by all_edges its.positions) (Some is.are.0) =
-      subst (λ (ps : List ℕ). IsTold (cells_of facts) (tables (suc n)) ps (Some is.are.0)) same is.are.1 in
+      let told : IsImpliedOrder (cells_of facts) (tables (suc n)) (grown_by all_edges its.positions) (Some is.are.0) =
+      subst (λ (ps : List ℕ). IsImpliedOrder (cells_of facts) (tables (suc n)) ps (Some is.are.0)) same is.are.1 in
       made_by (suc n) (goals n).positions is (is.are.2 ∙ orders_stay facts (tables (suc n)) its.positions by is.are.0 right told)
 
   -- the tables so far

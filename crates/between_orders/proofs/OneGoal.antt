@@ -6,7 +6,7 @@ use Rattle.std.proofs.lemmas.Option.{same_Some}
 use Rattle.port_graph.specs.declared.edge.Edge.{Edge}
 use Rattle.subnet_view.specs.Reading.{Cells}
 use Rattle.held_tables.specs.Held.{HeldPlan}
-use Rattle.told_order.specs.ToldOrder.{AreTaken, IsLast, IsTold, MayBeLast, NoneFrom, all_left, is_left}
+use Rattle.told_order.specs.ToldOrder.{AreTaken, IsLast, IsImpliedOrder, MayBeLast, NoneFrom, all_left, is_left}
 use Rattle.two_orders.specs.Growth.{grown_by}
 use Rattle.two_orders.specs.TwoOrders.{TwoOrders}
 use Rattle.between_orders.specs.Between.{Goal, IsGoal, IsGoalBetween, goal_between}
@@ -79,9 +79,9 @@ module _ (cells : Cells) (held plan : HeldPlan) (by preferred : List ℕ) where
 -- the preferred positions matter only by the order that grows by them
 pub goal_by_grown : (cells : Cells) (held plan : HeldPlan) (by one other : List ℕ) (goal : Option Goal)
     → grown_by (edges_in cells) one ≡ grown_by (edges_in cells) other → IsGoal cells held plan by one goal → IsGoal cells held plan by other goal
-goal_by_grown cells held plan by one other None same none = subst (λ (ps : List ℕ). IsTold cells held ps None) same none
+goal_by_grown cells held plan by one other None same none = subst (λ (ps : List ℕ). IsImpliedOrder cells held ps None) same none
 goal_by_grown cells held plan by one other (Some goal) same is = record {
   orders = is.orders;
-  are = (is.are.0, subst (λ (ps : List ℕ). IsTold cells held ps (Some is.are.0)) same is.are.1, is.are.2);
+  are = (is.are.0, subst (λ (ps : List ℕ). IsImpliedOrder cells held ps (Some is.are.0)) same is.are.1, is.are.2);
   is = is.is;
 }

@@ -27,7 +27,7 @@ use Rattle.ordered_steps.proofs.OrderedTables.{ordered_tables_are_next}
 use Rattle.ordered_steps.proofs.ToldRight.{rightness_is_told}
 use Rattle.ordered_steps.proofs.Lost.{rule_is_tried}
 use Rattle.ordered_steps.proofs.Round.{all_are_step, all_follow_the_rule}
-use Rattle.told_order.specs.ToldOrder.{IsTold, all_left}
+use Rattle.told_order.specs.ToldOrder.{IsImpliedOrder, all_left}
 use Rattle.told_order.proofs.Orders.{told_orders_are_right}
 use Rattle.two_orders.specs.Growth.{grown_by, key_of, positions_in}
 use Rattle.two_orders.specs.Trees.{tree}
@@ -93,7 +93,7 @@ module _ (facts : Facts) where
       omega (arith, at, few)
 
   -- the told order is one by which the tables are right
-  pub told_is : (tables : HeldPlan) (preferred taken : List ℕ) → IsTold cells tables preferred (Some taken)
+  pub told_is : (tables : HeldPlan) (preferred taken : List ℕ) → IsImpliedOrder cells tables preferred (Some taken)
       → IsOrderOf cells tables (told_positions taken (length edges))
   told_is tables preferred taken is =
       let law = told_orders_are_right cells tables preferred taken is in

@@ -18,7 +18,7 @@ use Rattle.next_tables.specs.SwitchPositions.{AreRight, Leads, is_bad, is_down, 
 use Rattle.next_tables.proofs.Hops.{leads_within, to_within}
 use Rattle.ordered_steps.proofs.ToldRight.{rightness_is_told}
 use Rattle.ordered_steps.proofs.Turns.{not_true}
-use Rattle.told_order.specs.ToldOrder.{IsTold, all_left, position_in}
+use Rattle.told_order.specs.ToldOrder.{IsImpliedOrder, all_left, position_in}
 use Rattle.told_order.proofs.Orders.{all_within, apart, bad_is, is_le, taken_each}
 use Rattle.two_orders.specs.Agreement.{CouldGrow}
 use Rattle.two_orders.specs.Growth.{grown_by, number_at, positions_in}
@@ -33,7 +33,7 @@ goes_later : (a b c : ℕ) → a ≤ b → (not (nat_lt b a) && not (nat_lt b c)
 goes_later a b c le well = grind arith
 
 module _ (facts : Facts) (tables : HeldPlan) (preferred taken : List ℕ) (whole : ComeEverywhere (cells_of facts) tables)
-    (told : IsTold (cells_of facts) tables preferred (Some taken)) where
+    (told : IsImpliedOrder (cells_of facts) tables preferred (Some taken)) where
   abbrev its_cells : Cells
   its_cells = cells_of facts
 

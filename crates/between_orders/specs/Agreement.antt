@@ -7,7 +7,7 @@ use Rattle.subnet_view.specs.Reading.{Cells, switches}
 use Rattle.held_tables.specs.Held.{HeldPlan}
 use Rattle.next_tables.specs.SwitchPositions.{AreRight, Leads, position_at}
 use Rattle.ordered_steps.specs.Rightness.{are_right}
-use Rattle.told_order.specs.ToldOrder.{IsTold, position_in}
+use Rattle.told_order.specs.ToldOrder.{IsImpliedOrder, position_in}
 use Rattle.two_orders.specs.Agreement.{AgreesUpTo}
 use Rattle.two_orders.specs.Growth.{grown_by, positions_in}
 use Rattle.two_orders.specs.LabelLaws.{grown_twice}
@@ -21,8 +21,8 @@ order_of_plan cells by = grown_by (edges_in cells) by
 
 -- `tables` imply an order, and it agrees with the plan's order on the first `k` switches
 pub record AgreeTo (cells : Cells) (tables : HeldPlan) (by : List ℕ) (k : ℕ) : Type 0 where
-  pub some : IsTold cells tables (order_of_plan cells by) None → ⊥
-  pub agrees : (taken : List ℕ) → IsTold cells tables (order_of_plan cells by) (Some taken)
+  pub some : IsImpliedOrder cells tables (order_of_plan cells by) None → ⊥
+  pub agrees : (taken : List ℕ) → IsImpliedOrder cells tables (order_of_plan cells by) (Some taken)
       → AgreesUpTo (order_of_plan cells by) (position_in taken) k
 
 -- `tables` are right for every LID by `positions`
@@ -38,7 +38,7 @@ IsRightByGrown cells tables told =
 -- switches in it
 pub record TellsPositions (cells : Cells) (tables : HeldPlan) (by : List ℕ) : Type 0 where
   pub taken : List ℕ
-  pub is_told : IsTold cells tables (order_of_plan cells by) (Some taken)
+  pub is_told : IsImpliedOrder cells tables (order_of_plan cells by) (Some taken)
   pub positions : List ℕ
   pub are : positions ≡ told_positions taken (length (edges_in cells))
 
@@ -97,7 +97,7 @@ OrdersStay =
     (facts : Facts) (tables : HeldPlan) (told by taken : List ℕ)
     → AreRightBy (cells_of facts)
     (positions_in (grown_by (edges_in (cells_of facts)) told) (length (edges_in (cells_of facts)))) tables
-    → IsTold (cells_of facts) tables (grown_by (edges_in (cells_of facts)) told) (Some taken)
+    → IsImpliedOrder (cells_of facts) tables (grown_by (edges_in (cells_of facts)) told) (Some taken)
     → orders_from (cells_of facts) tables (edges_in (cells_of facts)) by
     (told_positions taken (length (edges_in (cells_of facts))))
     ≡ grown_twice (edges_in (cells_of facts)) told by
@@ -119,5 +119,5 @@ ComeEverywhere cells tables =
 abbrev pub WholeTablesGrow : Type 0
 WholeTablesGrow =
     (facts : Facts) (tables : HeldPlan) (preferred taken : List ℕ) → ComeEverywhere (cells_of facts) tables
-    → IsTold (cells_of facts) tables preferred (Some taken)
+    → IsImpliedOrder (cells_of facts) tables preferred (Some taken)
     → IsRightByGrown (cells_of facts) tables (told_positions taken (length (edges_in (cells_of facts))))

@@ -9,7 +9,7 @@ use Rattle.held_tables.specs.Held.{HeldPlan}
 use Rattle.spread_routes.specs.Rule.{by_index}
 use Rattle.next_tables.specs.SwitchPositions.{position_at}
 use Rattle.ordered_steps.specs.Rightness.{are_right}
-use Rattle.told_order.specs.ToldOrder.{IsTold, position_in}
+use Rattle.told_order.specs.ToldOrder.{IsImpliedOrder, position_in}
 use Rattle.two_orders.specs.Growth.{grown_by, positions_in}
 use Rattle.two_orders.specs.Trees.{tree}
 use Rattle.two_orders.specs.TwoOrders.{TwoOrders, two_orders}
@@ -40,7 +40,7 @@ orders_from cells held edges plan told = orders_by cells held edges plan told (g
 -- that comes last in the order that grows by the positions `preferred` is taken first. None exactly when `held`
 -- implies no order
 abbrev pub AreOrders : Cells → HeldPlan → List (List Edge) → List ℕ → List ℕ → Option TwoOrders → Type 0
-AreOrders cells held edges plan preferred None = IsTold cells held (grown_by edges preferred) None
+AreOrders cells held edges plan preferred None = IsImpliedOrder cells held (grown_by edges preferred) None
 AreOrders cells held edges plan preferred (Some orders) =
-    (taken : List ℕ) × IsTold cells held (grown_by edges preferred) (Some taken)
+    (taken : List ℕ) × IsImpliedOrder cells held (grown_by edges preferred) (Some taken)
     × (orders ≡ orders_from cells held edges plan (told_positions taken (length edges)))

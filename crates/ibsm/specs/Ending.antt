@@ -14,7 +14,7 @@ use Rattle.sm_cli.specs.declared.fault.Fault.TheVariants.{Open, File, Text, NoRo
 use Rattle.audit_report.specs.RunAudit.{HasAudited, IsAuditFault}
 use Rattle.lane_report.specs.RunLaneAudit.{HasAuditedByLane, IsLaneAuditFault}
 use Rattle.next_run.specs.RunNext.{HasStepped, IsStepFault, texts_before}
-use Rattle.order_run.specs.OrderRun.{HasTold, IsOrderFault}
+use Rattle.order_run.specs.OrderRun.{HasPrintedOrder, IsOrderFault}
 use Rattle.record_file.specs.declared.file_fault.FileFault.TheVariants.{Read}
 use Rattle.schedule_run.specs.Run.{HasRun, IsRunFault}
 use Rattle.serve_task.specs.RunServe.{HasServedLines, IsServeFault}
@@ -49,7 +49,7 @@ Does state (Audit asked) olds news prints says passed =
 Does state (AuditByLane asked) olds news prints says passed =
     HasAuditedByLane state asked olds news prints passed
 Does state (OrderOf floor) olds news prints says passed =
-    HasTold state floor olds news prints passed
+    HasPrintedOrder state floor olds news prints passed
 Does state (Next asked) olds news prints says passed =
     HasStepped state asked olds news prints says passed
 Does state (Run lmc rule) olds news prints says passed =

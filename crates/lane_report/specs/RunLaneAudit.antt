@@ -51,7 +51,7 @@ pub record PassesByLane (bound : Option ℕ) (s : SeenByLane) (answers : Bool) :
 
 -- `prints` holds of the text of an audit with what was found by lane; `passed` says whether the tables pass by lane,
 -- within the maximum load that `asked` may have
-pub record IsTold (asked : LaneAuditAsked) (most : ℕ) (s : SeenByLane) (missing : Listed PacketPair)
+pub record IsLaneAnswer (asked : LaneAuditAsked) (most : ℕ) (s : SeenByLane) (missing : Listed PacketPair)
     (dropped : Option Dropped) (cycle : List ℕ) (prints : List ℕ → Type 0) (passed : Bool) : Type 0 where
   pub answered : prints (findings_text most (cells_of s.seen.facts) s.seen.held
       ++ lanes_text (cells_of s.seen.facts) missing dropped cycle)
@@ -65,7 +65,7 @@ pub record IsAuditedByLane (asked : LaneAuditAsked) (facts : Facts) (held : Held
   pub dropped : Option Dropped
   pub cycle : List ℕ
   pub found : IsFoundByLane (most_lines asked.audit.all) (seen_of facts held said) asked.answers missing dropped cycle
-  pub told : IsTold asked (most_lines asked.audit.all) (seen_of facts held said) missing dropped cycle prints passed
+  pub told : IsLaneAnswer asked (most_lines asked.audit.all) (seen_of facts held said) missing dropped cycle prints passed
 
 -- the lanes, the tables and then the files were read, and `prints` holds of the text of their audit by lane; `passed`
 -- says whether the tables pass

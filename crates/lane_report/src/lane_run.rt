@@ -6,7 +6,7 @@ ghost use Rattle.audit_report.specs.AuditText.{findings_text};
 ghost use Rattle.audit_report.specs.RunAudit.{IsAnswerFault};
 ghost use Rattle.lane_report.specs.LaneText.{lanes_text};
 ghost use Rattle.lane_report.specs.RunLaneAudit.{HasAuditedByLane, IsAuditedByLane, IsFoundByLane, IsLaneAuditFault};
-ghost use Rattle.lane_report.specs.RunLaneAudit.{IsTold, seen_of};
+ghost use Rattle.lane_report.specs.RunLaneAudit.{IsLaneAnswer, seen_of};
 ghost use Rattle.lane_channels.specs.Waiting.{IsLaneCycle, IsSomeDrop, NoneShorter};
 ghost use Rattle.byte_io.specs.Writes.{Writes};
 ghost use Rattle.sm_cli.specs.InputLanes.{AreLanesAndFiles, AreNoLanesAndFiles};
@@ -171,7 +171,7 @@ fn tell<W: Sink>(
 ) -> Result<bool, Fault>
     requires { IsFoundByLane audit.now.most (seen_of audit.now.facts audit.now.held lanes.now)
         asked.now.answers found.now.missing found.now.order.dropped found.now.order.cycle.items }
-    ensures told { IfOk result (λ passed. IsTold asked.now audit.now.most
+    ensures told { IfOk result (λ passed. IsLaneAnswer asked.now audit.now.most
         (seen_of audit.now.facts audit.now.held lanes.now)
         found.now.missing found.now.order.dropped found.now.order.cycle.items
         (Appends (W.written sink.old) (W.written sink.new)) passed) }

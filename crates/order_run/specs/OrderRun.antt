@@ -7,7 +7,7 @@ use Rattle.fact_store.specs.View.{Facts, cells_of}
 use Rattle.subnet_view.specs.Reading.{Cells, switches}
 use Rattle.held_tables.specs.Held.{HeldPlan}
 use Rattle.next_tables.specs.SwitchPositions.{switch_at}
-use Rattle.told_order.specs.ToldOrder.{IsTold}
+use Rattle.told_order.specs.ToldOrder.{IsImpliedOrder}
 use Rattle.sm_cli.specs.OrderText.{order_text}
 use Rattle.sm_cli.specs.InputTables.{AreNoTablesAndFiles, AreTablesAndFiles}
 use Rattle.sm_cli.specs.declared.fault.Fault.{Fault}
@@ -22,19 +22,19 @@ told_switches cells (Some taken) = map (switch_at cells) (reverse taken)
 
 -- `prints` holds of the order that the tables imply, and `has_order` says whether they imply one. Switches are taken
 -- from the end of the order on; if several may be taken next, the one with the greatest GUID is taken
-pub record IsTelling (facts : Facts) (held : HeldPlan) (prints : List ℕ → Type 0) (has_order : Bool) : Type 0 where
+pub record IsOrderAnswer (facts : Facts) (held : HeldPlan) (prints : List ℕ → Type 0) (has_order : Bool) : Type 0 where
   pub order : Option (List ℕ)
-  pub told : IsTold (cells_of facts) held (range_with_len 0 (length (switches (cells_of facts)))) order
+  pub told : IsImpliedOrder (cells_of facts) held (range_with_len 0 (length (switches (cells_of facts)))) order
   pub written : prints (order_text (told_switches (cells_of facts) order))
   pub judged : has_order ≡ is_some order
 
 -- the tables and then the files were read, and `prints` holds of the order that the tables imply; `has_order` says
 -- whether they imply one
-pub record HasTold {S : Type 0} (state : S → SourceState) (floor : ℕ) (olds news : List S)
+pub record HasPrintedOrder {S : Type 0} (state : S → SourceState) (floor : ℕ) (olds news : List S)
     (prints : List ℕ → Type 0) (has_order : Bool) : Type 0 where
   pub read_are : TablesAndFacts
   pub read : AreTablesAndFiles state floor olds news read_are
-  pub telling : IsTelling read_are.store read_are.held prints has_order
+  pub telling : IsOrderAnswer read_are.store read_are.held prints has_order
 
 -- the tables and the files were read, and writing the order of the tables ended with `fault`
 pub record FailsToTell {S : Type 0} (state : S → SourceState) (floor : ℕ) (olds news : List S)

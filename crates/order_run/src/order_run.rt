@@ -7,8 +7,8 @@ ghost use Rattle.fact_store.specs.View.{cells_of};
 ghost use Rattle.subnet_view.specs.Reading.{switches};
 ghost use Rattle.audit_report.specs.RunAudit.{IsAnswerFault};
 ghost use Rattle.next_tables.specs.SwitchPositions.{switch_at};
-ghost use Rattle.told_order.specs.ToldOrder.{IsTold};
-ghost use Rattle.order_run.specs.OrderRun.{HasTold, IsOrderFault, IsTelling, told_switches};
+ghost use Rattle.told_order.specs.ToldOrder.{IsImpliedOrder};
+ghost use Rattle.order_run.specs.OrderRun.{HasPrintedOrder, IsOrderFault, IsOrderAnswer, told_switches};
 
 use byte_io::{Sink, Source};
 use fact_store::Store;
@@ -34,7 +34,7 @@ pub fn run_order_of<S: Source, W: Sink>(
     sink: &mut W,
 ) -> Result<bool, Fault>
     requires { 1 ≤ length inputs.old }
-    ensures done { IfOk result (HasTold S.state floor inputs.old inputs.new
+    ensures done { IfOk result (HasPrintedOrder S.state floor inputs.old inputs.new
         (Appends (W.written sink.old) (W.written sink.new))) }
     ensures flushed { OnOk result (IsTrue (W.is_flushed sink.new)) }
     ensures sink_works { OnOk result (W.has_failed sink.new ≡ false) }
@@ -51,7 +51,7 @@ pub fn run_order_of<S: Source, W: Sink>(
 /// Writes the order of the switches that `held` implies in the subnet of `store`, or nothing if `held` implies no
 /// order, and flushes. Returns whether `held` implies an order.
 fn answer<W: Sink>(alloc: Global, sink: &mut W, store: &Store, held: &Held) -> Result<bool, Fault>
-    ensures told { IfOk result (IsTelling store.now held.now
+    ensures told { IfOk result (IsOrderAnswer store.now held.now
         (Appends (W.written sink.old) (W.written sink.new))) }
     ensures flushed { OnOk result (IsTrue (W.is_flushed sink.new)) }
     ensures sink_works { OnOk result (W.has_failed sink.new ≡ false) }
@@ -78,7 +78,7 @@ fn answer<W: Sink>(alloc: Global, sink: &mut W, store: &Store, held: &Held) -> R
 /// indices of the switches, the last switch first. Whenever several switches may be the last of those left, the one
 /// with the greatest GUID is taken.
 fn order_of(alloc: Global, network: &Network) -> Result<Option<Vec<usize>>, AllocError>
-    ensures { IfOk result (λ order. IsTold (cells_of network.now.facts) network.now.held
+    ensures { IfOk result (λ order. IsImpliedOrder (cells_of network.now.facts) network.now.held
         (range_with_len 0 (length (switches (cells_of network.now.facts)))) (option_map (λ taken. taken.items) order)) }
 {
     let indices = indices(alloc, network.switch_count())?;

@@ -134,7 +134,7 @@ pub record Tells (topology schedule : List ℕ) (layout : Layout) (script : Scri
   pub schedule_told : schedule_of layout.nodes schedule ≡ Ok script
 
 -- both sources were read to their ends, and `setting` is what they describe
-pub record AreTold {S : Type 0} (state : S → SourceState) (olds news : List S) (setting : Setting) : Type 0 where
+pub record DescribeSetting {S : Type 0} (state : S → SourceState) (olds news : List S) (setting : Setting) : Type 0 where
   pub were : AreTexts olds
   pub are : AreTexts news
   pub topology : List ℕ
@@ -171,7 +171,7 @@ pub record AreNotTold {S : Type 0} (state : S → SourceState) (first : ℕ) (ol
 -- the reader of a topology and a schedule, which knows the switches of the topology
 abbrev pub texts_reader : {S : Type 0} → (S → SourceState) → Reader S Setting
 texts_reader state = record {
-  reads = AreTold state;
+  reads = DescribeSetting state;
   refuses = AreNotTold state;
   has_switch = λ setting. has_switch setting.topology.nodes;
 }

@@ -1,7 +1,7 @@
 //! The texts of a topology and of a schedule, which are read and then judged.
 ghost use Rattle.std.specs.Prelude.{◌≡◌, ◌+◌, ◌<◌, ◌≤◌, ℕ, List, IfOk, IfErr, Ok, OnOk, None, length};
 ghost use Rattle.schedule_file.specs.Schedule.{IsScript, schedule_of};
-ghost use Rattle.schedule_run.specs.Run.{AreNotTold, AreRead, AreTold, FailsToReadThem, RefusesScript};
+ghost use Rattle.schedule_run.specs.Run.{AreNotTold, AreRead, DescribeSetting, FailsToReadThem, RefusesScript};
 ghost use Rattle.schedule_run.specs.Run.{RefusesTexts, Tells};
 ghost use Rattle.schedule_run.specs.Run.{TellsTopology, input_fault, schedule_fault};
 
@@ -62,7 +62,7 @@ impl<S: Source> InputReader<S> for TopologyAndSchedule {
 fn read_setting<S: Source>(alloc: Global, before: usize, texts: &mut [S]) -> Result<Setting, Fault>
     requires two { length texts.old ≡ 2 }
     requires counted { before + length texts.old ≤ usize.MAX }
-    ensures told { IfOk result (AreTold S.state texts.old texts.new) }
+    ensures told { IfOk result (DescribeSetting S.state texts.old texts.new) }
     ensures refused { IfErr result
         (AreNotTold S.state before texts.old texts.new) }
 {

@@ -9,7 +9,7 @@ use Rattle.held_tables.specs.Held.{HeldPlan}
 use Rattle.next_tables.specs.SwitchPositions.{AreRight}
 use Rattle.two_orders.specs.Agreement.{AgreesUpTo, AreVertices}
 use Rattle.two_orders.specs.Growth.{number_at}
-use Rattle.told_order.specs.ToldOrder.{AreTaken, IsLast, IsTold, all_left, is_left, position_in}
+use Rattle.told_order.specs.ToldOrder.{AreTaken, IsLast, IsImpliedOrder, all_left, is_left, position_in}
 use Rattle.told_order.specs.ToldLaws.{ToldOrdersAgree, ToldOrdersAreStable}
 use Rattle.told_order.proofs.Orders.{all_within, differ, index_in_list, last_by, last_may, left_before, left_other, left_own, none_beyond}
 use Rattle.told_order.proofs.Orders.{position_here, position_later, position_less as told_less, taken_each}
@@ -107,7 +107,7 @@ module _ (cells : Cells) (tables : HeldPlan) (preferred : List ℕ) (are : AreVe
               ]) refl
         ]) refl
 
-    pub agreed_told : (taken : List ℕ) → IsTold cells tables preferred (Some taken) → AgreesUpTo preferred (position_in taken) k
+    pub agreed_told : (taken : List ℕ) → IsImpliedOrder cells tables preferred (Some taken) → AgreesUpTo preferred (position_in taken) k
     agreed_told taken told i j low less j_in =
         agreed_from (all_left cells) taken told.0 told.1 told.2 (λ x h. none_beyond n x h) i j low less j_in
         (all_within n (number_at preferred i) (are.vertex i (omega (arith, less, j_in)))) (all_within n (number_at preferred j) (are.vertex j j_in))
@@ -127,7 +127,7 @@ module _ (cells : Cells) (tables : HeldPlan) (preferred : List ℕ) (are : AreVe
             )
       ]
 
-  module _ (taken : List ℕ) (told : IsTold cells tables preferred (Some taken)) (all : AgreesUpTo preferred (position_in taken) (length preferred)) where
+  module _ (taken : List ℕ) (told : IsImpliedOrder cells tables preferred (Some taken)) (all : AgreesUpTo preferred (position_in taken) (length preferred)) where
     abbrev at : ℕ → ℕ
     at i = position_in taken (number_at preferred i)
 

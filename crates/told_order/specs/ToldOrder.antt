@@ -43,11 +43,11 @@ all_left cells = replicate (length (switches cells)) true
 
 -- all switches are taken in the given order, the last one first; for None, at some point some switches are left, and
 -- none of `preferred` may be the last of them
-abbrev pub IsTold : Cells → HeldPlan → List ℕ → Option (List ℕ) → Type 0
-IsTold cells tables preferred None =
+abbrev pub IsImpliedOrder : Cells → HeldPlan → List ℕ → Option (List ℕ) → Type 0
+IsImpliedOrder cells tables preferred None =
     (taken : List ℕ) × (end : List Bool) × AreTaken cells tables preferred (all_left cells) taken end
     × NoneFrom cells tables preferred end 0 × ((i : ℕ) × (is_left end i ≡ true))
-IsTold cells tables preferred (Some taken) =
+IsImpliedOrder cells tables preferred (Some taken) =
     (end : List Bool) × AreTaken cells tables preferred (all_left cells) taken end
     × ((i : ℕ) → is_left end i ≡ false)
 

@@ -3,7 +3,7 @@ ghost use Rattle.std.specs.Prelude.{◌≡◌, IfOk, length, replicate, true};
 ghost use Rattle.std.specs.Option.{option_map};
 ghost use Rattle.std.specs.List.{list_any};
 ghost use Rattle.fact_store.specs.View.{cells_of};
-ghost use Rattle.told_order.specs.ToldOrder.{IsTold};
+ghost use Rattle.told_order.specs.ToldOrder.{IsImpliedOrder};
 
 use crate::last::last_of;
 use crate::turns::turns;
@@ -21,7 +21,7 @@ pub fn told_order(
     network: &Network,
     preferred: &[usize],
 ) -> Result<Option<Vec<usize>>, AllocError>
-    ensures { IfOk result (λ told. IsTold (cells_of network.now.facts) network.now.held preferred.now
+    ensures { IfOk result (λ told. IsImpliedOrder (cells_of network.now.facts) network.now.held preferred.now
         (option_map (λ taken. taken.items) told)) }
 {
     let turns = turns(alloc, network)?;

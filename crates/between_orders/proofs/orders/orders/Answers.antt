@@ -3,7 +3,7 @@ use Rattle.std.proofs.Common.{◌≡◌, ◌∙◌, ℕ, List, Option, Vec, Glob
 use Rattle.std.specs.Option.{option_map}
 use Rattle.std.proofs.lemmas.List.FromFn.{length-map-range_with_len}
 use Rattle.fact_store.specs.View.{cells_of}
-use Rattle.told_order.specs.ToldOrder.{IsTold, position_in}
+use Rattle.told_order.specs.ToldOrder.{IsImpliedOrder, position_in}
 use Rattle.two_orders.specs.Growth.{grown_by}
 use Rattle.between_orders.specs.Orders.{orders_from, told_positions}
 use Rattle.between_orders.proofs.orders.orders.Goals as goal
@@ -21,9 +21,9 @@ returns-in-Some c =
     let plan = c.args.plan.now in
     let by = c.args.preferred.now in
     let list : c.deref.result.now ≡ grown_by edges by = c.deref.ensures.value ∙ c.in_ok-list.ensures in
-    let told : IsTold cells held (grown_by edges by) (Some c.in-Some.taken.items) =
-    subst (λ (ps : List ℕ). IsTold cells held ps (Some c.in-Some.taken.items)) list
-    (subst (λ (o : Option (Vec ℕ Global)). IsTold cells held c.deref.result.now (option_map (λ (v : Vec ℕ Global). v.items) o)) c.in-Some.is
+    let told : IsImpliedOrder cells held (grown_by edges by) (Some c.in-Some.taken.items) =
+    subst (λ (ps : List ℕ). IsImpliedOrder cells held ps (Some c.in-Some.taken.items)) list
+    (subst (λ (o : Option (Vec ℕ Global)). IsImpliedOrder cells held c.deref.result.now (option_map (λ (v : Vec ℕ Global). v.items) o)) c.in-Some.is
     c.in_ok-taken.ensures) in
     let positions = c.in_ok-told-in-Some.ensures ∙ (λ i. told_positions (c.deref-in-Some.ensures.value i) (c.len.ensures i)) in
     (c.in-Some.taken.items, told, c.in_ok-orders-in-Some.ensures ∙ ap (orders_from cells held edges plan) positions)

@@ -7,7 +7,7 @@ use Rattle.std.specs.Option.{option_map}
 use Rattle.fact_store.specs.View.{Facts, cells_of}
 use Rattle.subnet_view.specs.Reading.{switches}
 use Rattle.held_tables.specs.Held.{HeldPlan}
-use Rattle.told_order.specs.ToldOrder.{IsTold}
+use Rattle.told_order.specs.ToldOrder.{IsImpliedOrder}
 use Rattle.sm_cli.specs.OrderText.{order_text}
 use Rattle.order_run.specs.OrderRun.{told_switches}
 use Rattle.order_run.proofs.order_run.answer.Goals as goal
@@ -22,7 +22,7 @@ returns-clause-told g c =
     let found = c.in-Ok-of.ensures in
     let facts_are = found.facts ∙ c.in-Ok.ensures in
     let order : Option (List ℕ) = option_map (λ taken. taken.items) c.in-Ok-order_of.order in
-    let Told : Facts × HeldPlan → Type 0 = λ x. IsTold (cells_of x.0) x.1 (range_with_len 0 (length (switches (cells_of x.0)))) order in
+    let Told : Facts × HeldPlan → Type 0 = λ x. IsImpliedOrder (cells_of x.0) x.1 (range_with_len 0 (length (switches (cells_of x.0)))) order in
     let Written : List ℕ → Type 0 = λ text. Appends (g.W.Sink.written c.args.sink.now) (g.W.Sink.written c.write_order.new.sink) text in
     record {
       order = order;
