@@ -1,5 +1,5 @@
 //! The greatest of some numbers, and their mean.
-ghost use Rattle.std.specs.Prelude.{◌≡◌, ◌≤◌, [], IfOk, OnOk};
+ghost use Rattle.std.specs.Prelude.{◌≡◌, [], IfOk, OnOk};
 ghost use Rattle.audit_ways.specs.Figures.{IsTotal, IsTotalWith, figures_by};
 
 use std::alloc::AllocError;

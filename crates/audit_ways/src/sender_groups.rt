@@ -2,7 +2,6 @@
 ghost use Rattle.std.specs.Prelude.{◌≡◌, ◌<◌, ◌≤◌, ◌+◌, [], IfOk, OnOk, filter, length, slice_index, slice_set};
 ghost use Rattle.fact_store.specs.View.{cells_of};
 ghost use Rattle.subnet_view.specs.EndPorts.{end_ports};
-ghost use Rattle.subnet_view.specs.Reading.{switches};
 ghost use Rattle.held_tables.specs.Switches.{switch_over};
 ghost use Rattle.packet_walks.specs.HopsByTables.{AreBrought};
 ghost use Rattle.audit_ways.specs.Groups.{AreGrouped, IsGroupedWith, IsWithin, adapters, packets_at};

@@ -1,4 +1,4 @@
-ghost use Rattle.std.specs.Prelude.{◌≡◌, ◌/◌, ◌*◌, true, false, IfOk, MatchOption, OnOk, filter, length, map};
+ghost use Rattle.std.specs.Prelude.{◌≡◌, ◌*◌, true, false, IfOk, MatchOption, OnOk, filter, length, map};
 ghost use Rattle.std.specs.Prelude.{slice_index, slice_index_or};
 ghost use Rattle.std.specs.List.{sum_by};
 ghost use Rattle.fact_store.specs.View.{cells_of};

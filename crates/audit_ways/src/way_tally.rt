@@ -1,5 +1,5 @@
 //! Counts of routes, of their wires, and of how often they take each channel.
-ghost use Rattle.std.specs.Prelude.{◌≡◌, ◌+◌, ◌*◌, IfOk, OnOk, length};
+ghost use Rattle.std.specs.Prelude.{◌≡◌, ◌*◌, IfOk, OnOk, length};
 ghost use Rattle.audit_ways.specs.WayTally.{IsCounted, IsCountedMore, IsCountedWith, grouped};
 ghost use Rattle.audit_ways.specs.Ways.{one_wire, way_from};
 

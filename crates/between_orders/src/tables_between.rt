@@ -2,7 +2,6 @@
 ghost use Rattle.std.specs.Prelude.{◌≡◌, ◌≤◌, ◌*◌, IfOk, OnOk, map};
 ghost use Rattle.std.specs.List.{enumerate_from, find, range_with_len, zip};
 ghost use Rattle.fact_store.specs.View.{cells_of};
-ghost use Rattle.port_graph.specs.Heads.{edges_at};
 ghost use Rattle.between_orders.specs.TablesBetween.{arrives, column_between, entries_towards, entry_between, entry_to};
 ghost use Rattle.between_orders.specs.TablesBetween.{first_label, fits, port_of, tables_between};
 ghost use Rattle.two_orders.specs.Labels.{labels_from, leads_on};

@@ -1,4 +1,4 @@
-ghost use Rattle.std.specs.Prelude.{◌≡◌, option_map};
+ghost use Rattle.std.specs.Prelude.{◌≡◌};
 ghost use Rattle.text_words.specs.Text.{words};
 ghost use Rattle.lanes_file.specs.LanesLine.{block_line, lanes_line, level_line, line_of, map_line};
 

@@ -2,7 +2,6 @@
 ghost use Rattle.std.specs.Prelude.{◌≡◌, ◌↔◌, ◌==◌, ◌≤◌, ◌*◌, IfOk, IsTrue, length, map, replicate, slice_get};
 ghost use Rattle.std.specs.List.{range_with_len};
 ghost use Rattle.fact_store.specs.View.{cells_of};
-ghost use Rattle.subnet_view.specs.Reading.{switches};
 ghost use Rattle.next_tables.specs.NextTables.{by_order, column_of, keeper, kept_by, settled_first, value_of};
 
 use crate::ordered_entries::ordered_entries;

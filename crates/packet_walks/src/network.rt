@@ -6,7 +6,7 @@ ghost use Rattle.lid_assign.specs.Lids.{greatest};
 ghost use Rattle.subnet_view.specs.Reading.{switches};
 ghost use Rattle.packet_walks.specs.Deliveries.{AreDeliveries};
 ghost use Rattle.packet_walks.specs.Edges.{edges_of, greatest_top};
-ghost use Rattle.held_tables.specs.Switches.{far_by, node_of, sender_of};
+ghost use Rattle.held_tables.specs.Switches.{far_by, sender_of};
 ghost use Rattle.held_tables.specs.Blocks.{AreBlocks};
 ghost use Rattle.packet_walks.specs.HopsByTables.{AreBrought, LineArrives, entry_by, switch_step};
 ghost use Rattle.held_tables.specs.Owners.{AreOwners, has_several_owners, is_sole};

@@ -18,48 +18,6 @@ use Rattle.schedule_file.specs.declared.command.Shown.{Shown}
 use Rattle.schedule_file.specs.declared.command.Shown.TheVariants.{Facts, Plan, Progress, Silent, State, Written}
 use Rattle.schedule_file.specs.declared.command.Which.{Which}
 use Rattle.schedule_file.specs.declared.command.Which.TheVariants.{Last, Serial}
-use Rattle.schedule_file.specs.declared.line.ScheduleLine.TheVariants as line
-
--- the name of the manager at the index `seat`; empty if there is no such manager
-abbrev pub manager_at : List Seat → ℕ → List ℕ
-manager_at seats seat = option_map_or (λ s. s.name) (slice_get seats seat) []
-
--- the port `p`, with its node named by its name in `nodes`, not by its index
-abbrev pub port_at : List Node → NodePort → PortName
-port_at nodes p = record { node = name_at nodes p.node; port = p.port }
-
--- the words of a new manager's line
-abbrev pub seat_words : List Node → Seat → List (List ℕ)
-seat_words nodes s = codes "manager" ∷ s.name ∷ port_word (port_at nodes s.at) ∷ decimal s.priority ∷ sm_key_words s.sm_key
-
--- the words of a command's line, with the names of its managers and nodes
-abbrev pub command_words : List Node → List Seat → SeatCommand → List (List ℕ)
-command_words nodes seats (command.Manager seat) = option_map_or (seat_words nodes) (slice_get seats seat) []
-command_words nodes seats (command.Ask seat what) = named_words (command.Ask (manager_at seats seat) what)
-command_words nodes seats (command.Timeout seat) = named_words (command.Timeout (manager_at seats seat))
-command_words nodes seats (command.Floor seat floor) = named_words (command.Floor (manager_at seats seat) floor)
-command_words nodes seats (command.Merge seat other) =
-    named_words (command.Merge (manager_at seats seat) (manager_at seats other))
-command_words nodes seats (command.Show seat what) = named_words (command.Show (manager_at seats seat) what)
-command_words nodes seats (command.Packet which fate) = named_words (command.Packet which fate)
-command_words nodes seats (command.Drain most) = named_words (command.Drain most)
-command_words nodes seats (command.Cut p) = named_words (command.Cut (port_at nodes p))
-command_words nodes seats (command.Plug p q) = named_words (command.Plug (port_at nodes p) (port_at nodes q))
-command_words nodes seats (command.Ping p lid) = named_words (command.Ping (port_at nodes p) lid)
-command_words nodes seats command.Traps = named_words command.Traps
-command_words nodes seats command.Resend = named_words command.Resend
-command_words nodes seats command.Tables = named_words command.Tables
-command_words nodes seats command.Flight = named_words command.Flight
-
--- the text of a schedule: a line for each command
-abbrev pub schedule_text : List Node → Script → List ℕ
-schedule_text nodes script = lines_text (map (command_words nodes script.seats) script.commands)
-
--- the text of a schedule that was read is read as that schedule
-abbrev pub PrintedSchedulesAreRead : Type 0
-PrintedSchedulesAreRead =
-    (nodes : List Node) (text : List ℕ) (script : Script) → schedule_of nodes text ≡ Ok script
-    → schedule_of nodes (schedule_text nodes script) ≡ Ok script
 
 -- the word for a port: the name of its node in quotes, and its number in brackets
 abbrev pub port_word : PortName → List ℕ
@@ -115,3 +73,44 @@ named_words command.Traps = codes "traps" ∷ []
 named_words command.Resend = codes "resend" ∷ []
 named_words command.Tables = codes "tables" ∷ []
 named_words command.Flight = codes "flight" ∷ []
+
+-- the name of the manager at the index `seat`; empty if there is no such manager
+abbrev pub manager_at : List Seat → ℕ → List ℕ
+manager_at seats seat = option_map_or (λ s. s.name) (slice_get seats seat) []
+
+-- the port `p`, with its node named by its name in `nodes`, not by its index
+abbrev pub port_at : List Node → NodePort → PortName
+port_at nodes p = record { node = name_at nodes p.node; port = p.port }
+
+-- the words of a new manager's line
+abbrev pub seat_words : List Node → Seat → List (List ℕ)
+seat_words nodes s = codes "manager" ∷ s.name ∷ port_word (port_at nodes s.at) ∷ decimal s.priority ∷ sm_key_words s.sm_key
+
+-- the words of a command's line, with the names of its managers and nodes
+abbrev pub command_words : List Node → List Seat → SeatCommand → List (List ℕ)
+command_words nodes seats (command.Manager seat) = option_map_or (seat_words nodes) (slice_get seats seat) []
+command_words nodes seats (command.Ask seat what) = named_words (command.Ask (manager_at seats seat) what)
+command_words nodes seats (command.Timeout seat) = named_words (command.Timeout (manager_at seats seat))
+command_words nodes seats (command.Floor seat floor) = named_words (command.Floor (manager_at seats seat) floor)
+command_words nodes seats (command.Merge seat other) =
+    named_words (command.Merge (manager_at seats seat) (manager_at seats other))
+command_words nodes seats (command.Show seat what) = named_words (command.Show (manager_at seats seat) what)
+command_words nodes seats (command.Packet which fate) = named_words (command.Packet which fate)
+command_words nodes seats (command.Drain most) = named_words (command.Drain most)
+command_words nodes seats (command.Cut p) = named_words (command.Cut (port_at nodes p))
+command_words nodes seats (command.Plug p q) = named_words (command.Plug (port_at nodes p) (port_at nodes q))
+command_words nodes seats (command.Ping p lid) = named_words (command.Ping (port_at nodes p) lid)
+command_words nodes seats command.Traps = named_words command.Traps
+command_words nodes seats command.Resend = named_words command.Resend
+command_words nodes seats command.Tables = named_words command.Tables
+command_words nodes seats command.Flight = named_words command.Flight
+
+-- the text of a schedule: a line for each command
+abbrev pub schedule_text : List Node → Script → List ℕ
+schedule_text nodes script = lines_text (map (command_words nodes script.seats) script.commands)
+
+-- the text of a schedule that was read is read as that schedule
+abbrev pub PrintedSchedulesAreRead : Type 0
+PrintedSchedulesAreRead =
+    (nodes : List Node) (text : List ℕ) (script : Script) → schedule_of nodes text ≡ Ok script
+    → schedule_of nodes (schedule_text nodes script) ≡ Ok script

@@ -1,5 +1,5 @@
 //! Commands with names, as in their lines. There is a function for each number of words after the first one.
-ghost use Rattle.std.specs.Prelude.{◌≡◌, option_map};
+ghost use Rattle.std.specs.Prelude.{◌≡◌};
 ghost use Rattle.text_words.specs.Text.{words};
 ghost use Rattle.schedule_file.specs.Command.{ask, bare_of, bracketed_number, command_in, floor};
 ghost use Rattle.schedule_file.specs.Command.{merge, of_one, of_two, packet, ping, plug, poll};

@@ -1,5 +1,5 @@
 //! Handling of one line: the line is answered, the queued packets are written, and the answer ends.
-ghost use Rattle.std.specs.Prelude.{◌≡◌, OnOk, IsTrue, Some};
+ghost use Rattle.std.specs.Prelude.{OnOk, IsTrue, Some};
 ghost use Rattle.sm_manager.specs.Packets.{after_packet, after_timeout, noted_trap};
 ghost use Rattle.sm_manager.specs.Manager.{outstanding};
 ghost use Rattle.schedule_lines.specs.Prints.{PrintsUnless};

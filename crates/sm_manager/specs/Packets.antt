@@ -29,8 +29,6 @@ use Rattle.sm_manager.specs.ManagerRequests.{with_number}
 use Rattle.sm_manager.specs.NotedManagers.{with_seen}
 use Rattle.sm_manager.specs.Served.{served}
 use Rattle.sm_manager.specs.Traps.{represses, repressing, trap_in}
-use Rattle.sm_state.specs.declared.control.Control.TheVariants as control
-use Rattle.sm_state.specs.declared.event.Event.TheVariants as event
 use Rattle.sm_state.specs.Standing.{poll_answered, poll_lost}
 use Rattle.sm_manager.specs.Writing.{is_done_by, is_spent, after_step, without}
 use Rattle.sm_manager.specs.Election.{is_relieved, after_control_end}

@@ -1,5 +1,5 @@
 //! The end of requests outside sweeps.
-ghost use Rattle.std.specs.Prelude.{◌≡◌, ◌<◌, OnOk, OnErr, length, slice_get, option_map, is_some};
+ghost use Rattle.std.specs.Prelude.{◌≡◌, ◌<◌, OnOk, OnErr, length, slice_get, is_some};
 ghost use Rattle.smp_bytes.specs.Judges.{JudgesButFor};
 ghost use Rattle.sm_manager.specs.declared.pending.Pending.{Pending};
 ghost use Rattle.sm_manager.specs.Fault.{is_memory};

@@ -1,4 +1,4 @@
-ghost use Rattle.std.specs.Prelude.{◌≡◌, ◌≤◌, ◌∷◌, IfSome, option_map};
+ghost use Rattle.std.specs.Prelude.{◌≡◌, ◌≤◌, IfSome};
 ghost use Rattle.text_words.specs.Text.{words};
 ghost use Rattle.tables_file.specs.TablesLine.{block_line, lid_line, line_of, lmc_line, switch_line};
 

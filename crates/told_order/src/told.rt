@@ -1,5 +1,5 @@
 //! The order that tables imply.
-ghost use Rattle.std.specs.Prelude.{◌≡◌, IfOk, length, replicate, true};
+ghost use Rattle.std.specs.Prelude.{◌≡◌, IfOk, replicate, true};
 ghost use Rattle.std.specs.Option.{option_map};
 ghost use Rattle.std.specs.List.{list_any};
 ghost use Rattle.fact_store.specs.View.{cells_of};

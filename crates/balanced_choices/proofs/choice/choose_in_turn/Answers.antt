@@ -1,4 +1,4 @@
-use Rattle.std.proofs.Common.{◌≡◌, ◌+◌, ℕ, sym, ap, ◌∙◌, drop, get_or}
+use Rattle.std.proofs.Common.{◌+◌, ℕ, sym, ap, ◌∙◌, drop, get_or}
 use Rattle.balanced_choices.specs.BalancedChoices.{Chosen, choose_each, first_choice, with_choice}
 use Rattle.balanced_choices.proofs.InOrder.{choose_next}
 use Rattle.balanced_choices.proofs.choice.choose_in_turn.Goals as goal

@@ -5,7 +5,6 @@ use Rattle.port_graph.proofs.Counts.{length_map}
 use Rattle.port_graph.specs.declared.edge.Edge.{Edge}
 use Rattle.port_graph.specs.Heads.{edges_at}
 use Rattle.spread_labels.specs.MarkSets.{picked, sets_at}
-use Rattle.spread_labels.specs.Orders.{numbers_from}
 use Rattle.spread_labels.proofs.Numbers.{numbers_long}
 use Rattle.balanced_choices.specs.declared.choice_rounds.Destination.{Destination}
 use Rattle.balanced_choices.specs.BalancedChoices.{towards}

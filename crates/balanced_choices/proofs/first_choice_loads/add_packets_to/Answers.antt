@@ -1,4 +1,4 @@
-use Rattle.std.proofs.Common.{◌≡◌, ◌<◌, ◌+◌, ℕ, List, [], All, sym, ap, subst, ◌∙◌, arith, drop, get_or, length, map, replicate}
+use Rattle.std.proofs.Common.{◌≡◌, ◌<◌, ◌+◌, [], All, sym, ap, subst, ◌∙◌, arith, drop, get_or, length, map}
 use Rattle.std.proofs.lemmas.List.{drop_more, get_or-map, get_or-replicate, length-replicate, with_items_is}
 use Rattle.std.specs.Prelude.{reverse}
 use Rattle.port_graph.proofs.Counts.{length_map}

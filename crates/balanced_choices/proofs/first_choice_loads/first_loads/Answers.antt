@@ -1,5 +1,5 @@
-use Rattle.std.proofs.Common.{◌≡◌, ◌≤◌, ◌+◌, ◌-◌, ◌*◌, sym, ap, ◌∙◌, arith, drop, length, take, replicate}
-use Rattle.std.proofs.lemmas.List.{drop_all, length-replicate, with_items_is}
+use Rattle.std.proofs.Common.{◌≡◌, ◌+◌, ◌-◌, sym, ap, ◌∙◌, arith, drop, length, take}
+use Rattle.std.proofs.lemmas.List.{drop_all, with_items_is}
 use Rattle.balanced_choices.specs.Loads.{first_loads, loads_with_all}
 use Rattle.balanced_choices.proofs.EachEnd.{part_and_rest}
 use Rattle.balanced_choices.proofs.FirstLoads.{with_both}

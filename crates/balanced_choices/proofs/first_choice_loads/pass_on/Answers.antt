@@ -1,9 +1,8 @@
-use Rattle.std.proofs.Common.{◌≡◌, ◌<◌, ◌+◌, ◌-◌, ◌/◌, ◌%◌, ℕ, List, [], ◌∷◌, sym, ap, subst, ◌∙◌, arith, get_or, length, map, min}
+use Rattle.std.proofs.Common.{◌≡◌, ◌<◌, ◌+◌, ◌-◌, ◌/◌, ◌%◌, ℕ, List, [], ◌∷◌, sym, ap, ◌∙◌, arith, get_or, length, map, min}
 use Rattle.std.proofs.lemmas.List.{get_or-map, map-set, nil_from_length, with_items_is}
 use Rattle.std.specs.Option.{option_map_or}
-use Rattle.std.specs.Prelude.{Option, Some, max, slice_set}
+use Rattle.std.specs.Prelude.{Some, slice_set}
 use Rattle.std.specs.Vec.{with_items}
-use Rattle.port_graph.specs.declared.edge.Edge.{Edge}
 use Rattle.port_graph.proofs.Counts.{length_map}
 use Rattle.spread_labels.specs.Orders.{numbers_from}
 use Rattle.balanced_choices.specs.declared.ways.Change.TheVariants.{Add}
