@@ -12,7 +12,7 @@ use Rattle.fact_store.specs.Seen.{CellMap}
 use Rattle.reply_facts.specs.Value.{is_same_value}
 use Rattle.fact_store.specs.View.{Facts, at_floor, cell_for, no_facts, raised, view_at}
 
--- the join of two cells: the newer one; if they have one generation, known if both say one value, else disputed
+-- the join of two cells: the newer one; if they have the same generation, known if both say one value, else disputed
 abbrev pub join : Cell Value → Cell Value → Cell Value
 join = joined_by is_same_value
 

@@ -73,7 +73,8 @@ IsCellIn key sightings (Known generation value) =
 IsCellIn key sightings (Disputed generation) =
     IsNewest key sightings generation × ((value : Value) → AllSay key sightings generation value → ⊥)
 
--- `found` has a cell for a key exactly if the key was sighted; the cell is what the key's newest sightings say together
+-- `found` has a cell for a key exactly when the key was sighted; the cell is what the key's newest sightings say
+-- together
 pub record IsSeen (sightings : List (Key × Cell Value)) (found : CellMap) : Type 0 where
   pub cells : (key : Key)
       → MatchOption (get found key) ((c : Cell Value) → WasSighted key sightings c → ⊥) (IsCellIn key sightings)

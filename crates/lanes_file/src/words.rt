@@ -7,7 +7,7 @@ use smp_bytes::{Guid, LAST_BLOCK, PortNum};
 use text_words::number;
 
 /// Parses decimal digits as a number. The inner value is `None` if the number is above `most`. Returns `None` if `word`
-/// is no number.
+/// is not a number.
 pub(crate) fn small(word: &[u8], most: u8) -> Option<Option<u8>>
     ensures { result ≡ small_of most word.now }
 {
@@ -19,8 +19,8 @@ pub(crate) fn small(word: &[u8], most: u8) -> Option<Option<u8>>
     })
 }
 
-/// Parses the number of a block. The inner value is `None` if the number is above 767. Returns `None` if `word` is no
-/// number.
+/// Parses the number of a block. The inner value is `None` if the number is above 767. Returns `None` if `word` is not
+/// a number.
 pub(crate) fn block_number(word: &[u8]) -> Option<Option<u16>>
     ensures { result ≡ small_of 767 word.now }
 {
@@ -32,7 +32,7 @@ pub(crate) fn block_number(word: &[u8]) -> Option<Option<u16>>
     })
 }
 
-/// Parses the number of a port. The inner value is `None` if the number is above 254. Returns `None` if `word` is no
+/// Parses the number of a port. The inner value is `None` if the number is above 254. Returns `None` if `word` is not a
 /// number.
 pub(crate) fn port(word: &[u8]) -> Option<Option<PortNum>>
     ensures { result ≡ small_of 254 word.now }

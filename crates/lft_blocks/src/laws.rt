@@ -23,7 +23,7 @@ pub fn blocks_hold_entries()
     ensures { BlocksHoldEntries }
 {}
 
-/// A plan has block `b` of a switch exactly if the switch is usable and the greatest LID is in block `b` or a later
+/// A plan has block `b` of a switch exactly when the switch is usable and the greatest LID is in block `b` or a later
 /// one. That block has the switch's entries.
 pub fn blocks_are_of_switches()
     ensures { BlocksAreOfSwitches }

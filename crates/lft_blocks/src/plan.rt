@@ -99,7 +99,7 @@ impl Plan {
 
     /// Returns block `b` of the switch `guid`. Entry `i` is the port by which packets for the LID `64 * b + i` leave.
     /// It is 0 if the switch has that LID itself, and 255 if nobody has the LID or no way leads to its owner. Returns
-    /// `None` exactly if `guid` is not the GUID of a usable switch, or `b` is greater than the number of the greatest
+    /// `None` exactly when `guid` is not the GUID of a usable switch, or `b` is greater than the number of the greatest
     /// LID's block. Does a binary search among the switches.
     pub fn block(&self, guid: Guid, b: usize) -> Option<&[u8; 64]>
         ensures { option_copied result ≡ block_at self.now guid b }

@@ -16,7 +16,7 @@ pub record AreOwnersMore (e : EndPort) (r : Range) (old new : List (Option EndPo
   pub all : length new ≡ length old
   pub each : (n : ℕ) → slice_index_or new n None ≡ (if is_in r n then Some e else slice_index_or old n None)
 
--- `marks` has true at a number exactly if the number is an end port's LID
+-- `marks` has true at a number exactly when the number is an end port's LID
 abbrev pub AreLidMarks : List (EndPort × ℕ) → List Bool → Type 0
 AreLidMarks given marks = (n : ℕ) → slice_index_or marks n false ≡ is_lid given n
 

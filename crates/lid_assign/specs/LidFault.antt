@@ -18,7 +18,7 @@ abbrev pub is_memory : LidFault → Bool
 is_memory (NoRoom why) = false
 is_memory Memory = true
 
--- the number of end ports and the room if an end port finds no LID, else None
+-- the number of end ports and the room if some end port finds no LID, else None
 abbrev pub no_room : ℕ → Cells → Option Room
 no_room lmc cells =
     if is_no_room lmc cells then Some (record { endports = length (end_ports cells); room = room cells }) else None

@@ -21,7 +21,7 @@ pub record ClaimsFitting (lmc : ℕ) (cells : Cells) (e : EndPort) (c : ℕ) : T
   pub claim_fits : Fits (room cells) (range_at lmc e c)
 
 -- the end port `e` keeps the claim `c`: the range of `e` from `c` on fits, and no end port before `e` claims a range
--- that fits and has a number in common with that range. True of any `e` that is no end port
+-- that fits and has a number in common with that range. True of any `e` that is not an end port
 abbrev pub Keeps : ℕ → Cells → EndPort → ℕ → Type 0
 Keeps lmc cells e c =
     (earlier later : List EndPort) → Stands earlier e later (end_ports cells) → ClaimsFitting lmc cells e c
@@ -64,12 +64,12 @@ abbrev pub LidsAreUnique : Type 0
 LidsAreUnique = (lmc : ℕ) (facts : Facts) (given : List (EndPort × ℕ)) → AreLids lmc (cells_of facts) given
     → given ≡ (lids lmc (cells_of facts)).ports
 
--- there is no room exactly if no LIDs satisfy `AreLids`
+-- there is no room exactly when no LIDs satisfy `AreLids`
 abbrev pub NoRoomLaw : Type 0
 NoRoomLaw = (lmc : ℕ) (facts : Facts) → IsNoRoom lmc (cells_of facts)
     ↔ ((given : List (EndPort × ℕ)) → AreLids lmc (cells_of facts) given → ⊥)
 
--- under LMC 0 an end port finds no LID exactly if there are end ports, and at least as many as the room
+-- under LMC 0 some end port finds no LID exactly when there are end ports, and at least as many as the room
 abbrev pub NoRoomAtLmc0 : Type 0
 NoRoomAtLmc0 = (cells : Cells) → IsNoRoom 0 cells
     ↔ ((0 < length (end_ports cells)) × (room cells ≤ length (end_ports cells)))
@@ -81,7 +81,7 @@ OthersRise = (lmc : ℕ) (facts : Facts) (given earlier middle later : List (End
     → given ≡ earlier ++ (e, n) ∷ middle ++ (f, m) ∷ later → width_of lmc e ≡ width_of lmc f
     → KeepsNothing lmc (cells_of facts) e → KeepsNothing lmc (cells_of facts) f → n < m
 
--- if there is room, an end port is the owner of a number exactly if the number is one of its LIDs
+-- if there is room, an end port is the owner of a number exactly when the number is one of its LIDs
 abbrev pub OwnersAreInverse : Type 0
 OwnersAreInverse = (lmc : ℕ) (facts : Facts) → ¬ (IsNoRoom lmc (cells_of facts)) → (e : EndPort) (n : ℕ)
     → (owner_of (lids lmc (cells_of facts)) n ≡ Some e)

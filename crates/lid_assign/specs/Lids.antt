@@ -34,7 +34,7 @@ hand_out room lmc taken ((e, None) ∷ rest) =
     option_and_then (λ c. option_map (λ given. (e, c) ∷ given) (hand_out room lmc (range_at lmc e c ∷ taken) rest))
     (least_open room taken (width_of lmc e))
 
--- each end port in order, with its LID; None if an end port finds no LID
+-- each end port in order, with its LID; None if some end port finds no LID
 abbrev pub handed_out : ℕ → Cells → Option (List (EndPort × ℕ))
 handed_out lmc cells = hand_out (room cells) lmc (filter_map (kept_range lmc) (kept lmc cells)) (kept lmc cells)
 
@@ -43,15 +43,15 @@ pub record Given : Type 0 where
   pub lmc : ℕ
   pub ports : List (EndPort × ℕ)
 
--- the LIDs of a view under the LMC `lmc`; if an end port finds no LID, no end port has one
+-- the LIDs of a view under the LMC `lmc`; if some end port finds no LID, no end port has one
 abbrev pub lids : ℕ → Cells → Given
 lids lmc cells = record { lmc = lmc; ports = unwrap_or (handed_out lmc cells) [] }
 
--- whether an end port finds no LID
+-- whether some end port finds no LID
 abbrev pub is_no_room : ℕ → Cells → Bool
 is_no_room lmc cells = not (is_some (handed_out lmc cells))
 
--- an end port finds no LID (`is_no_room`), so no LIDs are assigned
+-- some end port finds no LID (`is_no_room`), so no LIDs are assigned
 abbrev pub IsNoRoom : ℕ → Cells → Type 0
 IsNoRoom lmc cells = IsTrue (is_no_room lmc cells)
 

@@ -78,6 +78,6 @@ pub record ArePassed (lmc : ℕ) (marks : List Bool) (next : Next) : Type 0 wher
   pub switches : IsPassed marks 1 next.switch
   pub adapters : IsPassed marks (2 ^ lmc) next.adapter
 
--- `found` has the LIDs that `handed` has; `found` is None exactly if `handed` is None
+-- `found` has the LIDs that `handed` has; `found` is None exactly when `handed` is None
 abbrev pub IsFound : {V : Type 0} → (V → List (EndPort × ℕ)) → Option (List (EndPort × ℕ)) → Option V → Type 0
 IsFound items handed found = option_map items found ≡ handed

@@ -26,7 +26,7 @@ use subnet_view::{EndPort, end_ports};
 ///
 /// # Errors
 ///
-/// Returns `NoRoom` if an end port finds no LID, and `Memory` if each would find a LID but memory runs out.
+/// Returns `NoRoom` if some end port finds no LID, and `Memory` if each would find a LID but memory runs out.
 pub fn assign(alloc: Global, store: &Store, lmc: Lmc) -> Result<LidMap, LidFault>
     ensures judged { JudgesButFor is_memory result (lid_fault (no_room lmc (cells_of store.now))) }
     ensures lids { IfOk result (λ map. map ≡ lids lmc (cells_of store.now)) }
@@ -38,7 +38,7 @@ pub fn assign(alloc: Global, store: &Store, lmc: Lmc) -> Result<LidMap, LidFault
     }
 }
 
-/// Returns the fault if memory runs out before the LIDs are known: `NoRoom` if an end port finds no LID, otherwise
+/// Returns the fault if memory runs out before the LIDs are known: `NoRoom` if some end port finds no LID, otherwise
 /// `Memory`.
 fn out_of_memory(store: &Store, lmc: Lmc) -> LidFault
     ensures { result ≡ unwrap_or (lid_fault (no_room lmc (cells_of store.now))) Memory }
@@ -49,8 +49,8 @@ fn out_of_memory(store: &Store, lmc: Lmc) -> LidFault
     }
 }
 
-/// Returns the end ports in their order, each with its LID, or `None` if an end port finds no LID. Returns an error if
-/// memory runs out.
+/// Returns the end ports in their order, each with its LID, or `None` if some end port finds no LID. Returns an error
+/// if memory runs out.
 fn handed_out(
     alloc: Global,
     store: &Store,

@@ -4,7 +4,7 @@ use fact_store::Refused;
 use std::alloc::AllocError;
 use thiserror::Error;
 
-/// An end port finds no LID: no range that fits below the room is left.
+/// Some end port finds no LID: no range that fits below the room is left.
 #[derive(Clone, Copy, Debug, PartialEq, Eq)]
 pub struct NoRoom {
     /// The number of end ports.
@@ -16,7 +16,7 @@ pub struct NoRoom {
 /// Why no LIDs are assigned.
 #[derive(Clone, Copy, Debug, PartialEq, Eq, Error)]
 pub enum LidFault {
-    /// An end port finds no LID.
+    /// Some end port finds no LID.
     #[error("NoRoom")]
     NoRoom(NoRoom),
     /// Memory for the LIDs was refused. Each end port would find a LID.

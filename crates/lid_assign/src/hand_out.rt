@@ -21,7 +21,7 @@ pub(crate) struct Next {
 }
 
 /// Returns the end ports of `keepers` in their order, each with its LID. This is the claim that the end port keeps, or
-/// the least number whose range fits and has no number that is taken. Returns `None` if an end port finds no LID. In
+/// the least number whose range fits and has no number that is taken. Returns `None` if some end port finds no LID. In
 /// `taken` the ranges of kept claims, and no others, must be marked. `taken` is as long as the room, and must have at
 /// most 49152 numbers.
 pub(crate) fn hand_out(

@@ -21,22 +21,23 @@ pub fn lids_are_unique()
     ensures { LidsAreUnique }
 {}
 
-/// There is no room exactly if no LIDs satisfy `AreLids`.
+/// There is no room exactly when no LIDs satisfy `AreLids`.
 pub fn no_room_law()
     ensures { NoRoomLaw }
 {}
 
-/// Under LMC 0 an end port finds no LID exactly if the view has end ports, and at least as many as the room.
+/// Under LMC 0 some end port finds no LID exactly when the view has end ports, and at least as many as the room.
 pub fn no_room_at_lmc_0()
     ensures { NoRoomAtLmc0 }
 {}
 
-/// End ports of one width that keep no claim have rising LIDs, in the order of end ports.
+/// End ports of the same width that keep no claim have rising LIDs, in the order of end ports.
 pub fn others_rise()
     ensures { OthersRise }
 {}
 
-/// If there is room, an end port is the owner of a number exactly if the end port has a LID whose range has the number.
+/// If there is room, an end port is the owner of a number exactly when the end port has a LID whose range has the
+/// number.
 pub fn owners_are_inverse()
     ensures { OwnersAreInverse }
 {}

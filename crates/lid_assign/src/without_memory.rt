@@ -18,7 +18,7 @@ use subnet_view::next_end_port;
 /// The number of LIDs up to the last unicast LID, including 0.
 const NUMBERS: usize = Lid::UNICAST_END as usize;
 
-/// Returns whether an end port finds no LID. The number of walks over the cells is linear in the number of end ports.
+/// Returns whether some end port finds no LID. The number of walks over the cells is linear in the number of end ports.
 /// Does not allocate.
 pub(crate) fn runs_out(store: &Store, lmc: Lmc) -> bool
     ensures { result ≡ is_no_room lmc (cells_of store.now) }
@@ -26,7 +26,7 @@ pub(crate) fn runs_out(store: &Store, lmc: Lmc) -> bool
     runs_out_below::<NUMBERS>(store, lmc, usize::from(room(store)))
 }
 
-/// Returns whether an end port finds no LID. `most` must be the room, and at most `N`, which must be at most 49152.
+/// Returns whether some end port finds no LID. `most` must be the room, and at most `N`, which must be at most 49152.
 fn runs_out_below<const N: usize>(store: &Store, lmc: Lmc, most: usize) -> bool
     requires room { most ≡ room (cells_of store.now) }
     requires within { most ≤ N }

@@ -52,7 +52,7 @@ pub record IsStepDown (is_target : Bool) (nearest : ℕ × ℕ) (x its_port : �
 
 -- `x` and `its_port` are a vertex's cost and port: its down distance `y` and `port_down`, if `y` is below 255. Else `x`
 -- is one more than the number of `nearest`, the vertex of least cost that an edge up leads to, and `its_port` is the
--- port of `nearest`. `x` is no number if `nearest` has none either
+-- port of `nearest`. `x` is not a number if `nearest` has none either
 pub record IsStepUp (y port_down : ℕ) (nearest : ℕ × ℕ) (x its_port : ℕ) : Type 0 where
   pub number : number_in x ≡ (if nat_lt y 255 then number_in y else option_map suc (number_in nearest.0))
   pub port : its_port ≡ (if nat_lt y 255 then port_down else nearest.1)

@@ -43,7 +43,7 @@ pub record IsWritable (r : Report) : Type 0 where
   pub guid : context_guid r.context < 2 ^ 64
   pub reply : length r.bytes ≡ 256
 
--- 272 bytes spell the report `r` exactly if they are the record of `r`, for each report that fits a record
+-- 272 bytes spell the report `r` exactly when they are the record of `r`, for each report that fits a record
 -- (`IsWritable`)
 abbrev pub ReportsHaveOneSpelling : Type 0
 ReportsHaveOneSpelling =
@@ -80,8 +80,8 @@ pub record IsReportFile (bytes : List ℕ) (rs : List (List ℕ)) : Type 0 where
   pub each : AllByRecursion IsGoodReport rs
   pub short : length bytes < 2 ^ 40
 
--- bytes have the head of a file of reports and are accepted exactly if they are the file of some good reports, of fewer
--- than 2^40 bytes
+-- bytes have the head of a file of reports and are accepted exactly when they are the file of some good reports, of
+-- fewer than 2^40 bytes
 abbrev pub ReportFilesAreAccepted : Type 0
 ReportFilesAreAccepted = (bytes : List ℕ) → ((format_in bytes ≡ Ok Reports) × (outcome bytes ≡ Ok tt))
     ↔ ((rs : List (List ℕ)) × IsReportFile bytes rs)

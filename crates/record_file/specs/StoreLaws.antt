@@ -14,7 +14,7 @@ use Rattle.record_file.specs.Head.{IsFormat, floor_of, floored_magic, format_in}
 use Rattle.record_file.specs.Reading.{facts_in, kept, outcome}
 use Rattle.record_file.specs.StoreFile.{cells_file}
 
--- `bytes` spell `e` exactly if `e` is a sighting and `bytes` are the record of `e`
+-- `bytes` spell `e` exactly when `e` is a sighting and `bytes` are the record of `e`
 abbrev pub RecordsAreSpellings : Type 0
 RecordsAreSpellings =
     (bytes : List ℕ) (e : Key × Cell Value) → (cell_of bytes ≡ Some e) ↔ (IsSighting e × (bytes ≡ record_bytes e))
@@ -28,7 +28,8 @@ pub record IsStoreFile (head_floor : Option ℕ) (bytes : List ℕ) (facts : Fac
   pub in_range : AreInRange facts
   pub short : length bytes < 2 ^ 40
 
--- bytes have the head of a store file and are accepted exactly if they are the store file of some facts (`IsStoreFile`)
+-- bytes have the head of a store file and are accepted exactly when they are the store file of some facts
+-- (`IsStoreFile`)
 abbrev pub StoreFilesAreAccepted : Type 0
 StoreFilesAreAccepted =
     (head_floor : Option ℕ) (bytes : List ℕ) → ((format_in bytes ≡ Ok (Cells head_floor)) × (outcome bytes ≡ Ok tt))

@@ -25,24 +25,24 @@ pub fn first_bad_record_is_told()
     ensures { FirstBadRecordIsTold }
 {}
 
-/// A record of 272 bytes spells a report that fits a record exactly if its bytes are those that are written for that
+/// A record of 272 bytes spells a report that fits a record exactly when its bytes are those that are written for that
 /// report.
 pub fn reports_have_one_spelling()
     ensures { ReportsHaveOneSpelling }
 {}
 
-/// A file of reports is accepted exactly if it is the magic followed by good reports, in fewer than 2^40 bytes.
+/// A file of reports is accepted exactly when it is the magic followed by good reports, in fewer than 2^40 bytes.
 pub fn report_files_are_accepted()
     ensures { ReportFilesAreAccepted }
 {}
 
-/// A record of a store file spells a sighting exactly if its bytes are those that are written for that sighting.
+/// A record of a store file spells a sighting exactly when its bytes are those that are written for that sighting.
 pub fn records_are_spellings()
     ensures { RecordsAreSpellings }
 {}
 
-/// Bytes with the head of a store file are accepted exactly if they are fewer than 2^40, and are the store file of some
-/// facts in range. The facts have the floor in the head, or floor 1 if the head has no floor.
+/// Bytes with the head of a store file are accepted exactly when they are fewer than 2^40, and are the store file of
+/// some facts in range. The facts have the floor in the head, or floor 1 if the head has no floor.
 pub fn store_files_are_accepted()
     ensures { StoreFilesAreAccepted }
 {}

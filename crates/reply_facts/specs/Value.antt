@@ -19,7 +19,7 @@ abbrev pub is_same_flag : Bool → Bool → Bool
 is_same_flag true b = b
 is_same_flag false b = not b
 
--- whether two values are of one kind and have equal parts
+-- whether two values are of the same kind and have equal parts
 abbrev pub is_same_value : Value → Value → Bool
 is_same_value (Kind a m) (Kind b n) = is_same_type a b && m == n
 is_same_value (Guid a) (Guid b) = a == b

@@ -5,8 +5,8 @@ use Rattle.std.specs.Option.{option_map_or}
 use Rattle.subnet_view.specs.Reading.{Cells, is_usable, port_count_of, switches}
 use Rattle.subnet_view.specs.Wires.{across}
 
--- whether the wire in port `p` of node `g` leads to a node that is no usable switch, which is an adapter; false if the
--- port has no wire
+-- whether the wire in port `p` of node `g` leads to a node that is not a usable switch, which is an adapter; false if
+-- the port has no wire
 abbrev pub has_adapter_at : Cells → ℕ → ℕ → Bool
 has_adapter_at cells g p = option_map_or (λ q. not (is_usable cells q.0)) (across cells g p) false
 

@@ -1,5 +1,5 @@
--- The spread rule as a function of the wires between switches, of how many adapters each switch has, and of what the
--- order grows by: these give keys, levels and the number by which a LID chooses.
+-- The spread rule as a function of the wires between switches, of how many adapters each switch has, and of how the
+-- order is grown: these give keys, levels and the number by which a LID chooses.
 use Rattle.std.specs.Prelude.{◌≡◌, ℕ, Bool, List, [], map, filter, length, nat_lt, ◌+◌, ◌/◌, ◌%◌, slice_index, if◌then◌else◌}
 use Rattle.std.specs.Prelude.{Option, None, Some}
 use Rattle.std.specs.List.{list_any}
@@ -85,7 +85,7 @@ abbrev pub keys_least_loaded : List SwitchEdges → List ℕ → List VertexKey
 keys_least_loaded graph adapters =
     least_loaded_keys (by_index graph) adapters (keys_from_roots graph adapters [])
 
--- the keys of switches by what the order grows by: roots, a list of switches, or the least trial load
+-- the keys of switches by how the order is grown: roots, a list of switches, or the least trial load
 abbrev pub keys_by : List SwitchEdges → List ℕ → OrderValue → List VertexKey
 keys_by graph adapters (from_roots roots) = keys_from_roots graph adapters roots
 keys_by graph adapters (as_named switches) = keys_as_named graph switches
@@ -117,7 +117,7 @@ choices_by graph keys levels adapters (as_named switches) = None
 choices_by graph keys levels adapters (balanced_as switches) = Some (balanced_by graph keys levels adapters)
 choices_by graph keys levels adapters least_loaded = Some (balanced_by graph keys levels adapters)
 
--- the grading from a graph, the number of adapters of each switch, and what the order grows by
+-- the grading from a graph, the number of adapters of each switch, and how the order is grown
 abbrev pub grading_of : List SwitchEdges → List ℕ → OrderValue → Grading
 grading_of graph adapters order =
     let levels = levels_of (by_index graph) (leaf_vertices adapters) in
@@ -128,7 +128,7 @@ grading_of graph adapters order =
       choices = choices_by graph (keys_by graph adapters order) levels adapters order;
     }
 
--- the spread rule from a graph, the number of adapters of each switch, and what the order grows by
+-- the spread rule from a graph, the number of adapters of each switch, and how the order is grown
 unfoldable pub spread_by : List SwitchEdges → List ℕ → OrderValue → Routing
 spread_by graph adapters order = spread_at (grading_of graph adapters order)
 

@@ -9,7 +9,7 @@ use Rattle.spread_routes.specs.declared.switch_order.SwitchOrder.{SwitchOrder}
 use Rattle.spread_routes.specs.declared.switch_order.SwitchOrder.TheVariants.{FromRoots, AsNamed, BalancedAs, LeastLoaded}
 use Rattle.spread_routes.specs.Rule.{order_by_keys}
 
--- what the order grows by: distances from roots, or from leaf switches if there are no roots; a list that names
+-- how the order is grown: distances from roots, or from leaf switches if there are no roots; a list that names
 -- switches, with loads balanced or not; or the least trial load, with loads balanced
 pub data OrderValue : Type 0 where
   from_roots : List ℕ → OrderValue
@@ -17,21 +17,21 @@ pub data OrderValue : Type 0 where
   balanced_as : List ℕ → OrderValue
   least_loaded : OrderValue
 
--- what the order grows by, as the value of a `SwitchOrder` of the code
+-- how the order is grown, as the value of a `SwitchOrder` of the code
 abbrev pub order_value_of : SwitchOrder → OrderValue
 order_value_of (FromRoots roots) = from_roots roots.items
 order_value_of (AsNamed switches) = as_named switches.items
 order_value_of (BalancedAs switches) = balanced_as switches.items
 order_value_of LeastLoaded = least_loaded
 
--- whether loads are balanced, by what the order grows by
+-- whether loads are balanced, by how the order is grown
 abbrev pub is_balanced : OrderValue → Bool
 is_balanced (from_roots roots) = false
 is_balanced (as_named switches) = false
 is_balanced (balanced_as switches) = true
 is_balanced least_loaded = true
 
--- what the order grows by if the list `switches` names it; loads are balanced if they are by the value given
+-- how the order is grown if the list `switches` names it; loads are balanced if they are by the value given
 abbrev pub named_in : OrderValue → List ℕ → OrderValue
 named_in (from_roots roots) switches = as_named switches
 named_in (as_named before) switches = as_named switches

@@ -14,6 +14,6 @@ abbrev pub in_one_component : List SwitchEdges → ℕ → ℕ → Bool
 in_one_component graph a b = is_some (distance graph a b)
 
 -- the root of the component of switch `a`: the first switch of the graph in it, whose GUID is the least if GUIDs rise;
--- None if `a` is no switch of the graph
+-- None if `a` is not a switch of the graph
 abbrev pub root_of : List SwitchEdges → ℕ → Option ℕ
 root_of graph a = find (in_one_component graph a) (guids_of graph)

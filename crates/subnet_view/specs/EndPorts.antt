@@ -26,7 +26,7 @@ abbrev pub is_end_port : Cells → ℕ → ℕ → Bool
 is_end_port cells g p = is_end_port_number cells g p && is_some (port_guid_of cells g p)
 
 -- the end port whose GUID a cell gives, with this GUID; None if the cell is of no port GUID, the GUID is disputed, or
--- the port is no end port
+-- the port is not an end port
 abbrev pub guid_and_port : Cells → Key × Cell Value → Option (ℕ × EndPort)
 guid_and_port cells ((PortGuid g p), c) =
     if is_end_port_number cells g p then option_map (λ guid. (guid, record { node = g; port = p }))

@@ -53,7 +53,7 @@ pub record IsWire (cells : Cells) (g p h q : ℕ) : Type 0 where
   pub named_there : link_of cells g p ≡ Some (h, q)
   pub named_back : link_of cells h q ≡ Some (g, p)
 
--- `across` gives a port exactly if a wire (`IsWire`) leads there
+-- `across` gives a port exactly when a wire (`IsWire`) leads there
 abbrev pub WireLaw : Type 0
 WireLaw = (cells : Cells) (g p h q : ℕ) → (across cells g p ≡ Some (h, q)) ↔ IsWire cells g p h q
 
@@ -67,7 +67,7 @@ pub record IsAttached (cells : Cells) (g p h q : ℕ) : Type 0 where
   pub wire : IsWire cells g p h q
   pub to_switch : IsUsable cells h
 
--- `attached` gives a port of a switch exactly if the adapter port is attached to it (`IsAttached`)
+-- `attached` gives a port of a switch exactly when the adapter port is attached to it (`IsAttached`)
 abbrev pub AttachedLaw : Type 0
 AttachedLaw = (cells : Cells) (g p h q : ℕ) → (attached cells g p ≡ Some (h, q)) ↔ IsAttached cells g p h q
 

@@ -25,7 +25,7 @@ pub fn end_ports_are_listed_in_order()
     ensures { EndPortsLaw }
 {}
 
-/// A wire joins two different ports exactly if both can have a wire and their links name each other.
+/// A wire joins two different ports exactly when both can have a wire and their links name each other.
 pub fn wire_is_in_words()
     ensures { WireLaw }
 {}
@@ -35,7 +35,7 @@ pub fn wires_go_both_ways()
     ensures { WiresGoBothWays }
 {}
 
-/// A port of a node that is not known to be a switch is attached to a port of a usable switch exactly if a wire joins
+/// A port of a node that is not known to be a switch is attached to a port of a usable switch exactly when a wire joins
 /// the two.
 pub fn attachment_is_in_words()
     ensures { AttachedLaw }

@@ -6,11 +6,11 @@ use Rattle.std.specs.List.{list_all}
 use Rattle.std.specs.Str.{bytes_eq}
 use Rattle.std.specs.Str.Parse.{digits_value}
 
--- the value of the digit `b` in `base`; None if `b` is no digit of `base`
+-- the value of the digit `b` in `base`; None if `b` is not a digit of `base`
 abbrev pub digit_of : ℕ → ℕ → Option ℕ
 digit_of base b = if is_digit b base then Some (digit_value b) else None
 
--- the number that `word` spells in `base`; None if `word` is empty or has a byte that is no digit of `base`
+-- the number that `word` spells in `base`; None if `word` is empty or has a byte that is not a digit of `base`
 abbrev pub number_of : ℕ → List ℕ → Option ℕ
 number_of base word =
     if nat_le 1 (length word) && list_all (λ b. is_digit b base) word then Some (digits_value base word) else None

@@ -19,7 +19,7 @@ pub fn number(word: &[u8], base: u32) -> Option<u64>
     Some(number)
 }
 
-/// Returns the value of the digit `byte`, or `None` if it is no digit in `base`, which must be from 2 to 36.
+/// Returns the value of the digit `byte`, or `None` if it is not a digit in `base`, which must be from 2 to 36.
 fn digit(byte: u8, base: u32) -> Option<u32>
     requires { 2 ≤ base × base ≤ 36 }
     ensures { result ≡ digit_of base byte }
@@ -37,7 +37,7 @@ fn with_digit(number: u64, base: u32, digit: u32) -> u64
         .saturating_add(u64::from(digit))
 }
 
-/// Parses a word of decimal digits as a number from 1 to `most`. Returns `None` if the word is no number, and
+/// Parses a word of decimal digits as a number from 1 to `most`. Returns `None` if the word is not a number, and
 /// `Some(None)` if the number is 0 or over `most`.
 pub fn count(word: &[u8], most: u16) -> Option<Option<u16>>
     ensures { result ≡ count_of most word.now }
@@ -47,8 +47,8 @@ pub fn count(word: &[u8], most: u16) -> Option<Option<u16>>
     Some(if is_within { Some(number as u16) } else { None })
 }
 
-/// Parses a word of decimal digits as a port from 1 to 254. Returns `None` if the word is no number, and `Some(None)`
-/// if the number is 0 or over 254.
+/// Parses a word of decimal digits as a port from 1 to 254. Returns `None` if the word is not a number, and
+/// `Some(None)` if the number is 0 or over 254.
 pub fn port_number(word: &[u8]) -> Option<Option<u8>>
     ensures { result ≡ count_of 254 word.now }
 {

@@ -29,7 +29,7 @@ abbrev pub RankLaw : Type 0
 RankLaw = (graph : List SwitchEdges) → IsGraph graph → (a : ℕ) → IsSwitch graph a
     → MatchOption (rank_of graph a) ⊥ (HasRank graph a)
 
--- for switches of a graph, `is_before` is true exactly if `IsBefore` holds
+-- for switches of a graph, `is_before` is true exactly when `IsBefore` holds
 abbrev pub BeforeLaw : Type 0
 BeforeLaw = (graph : List SwitchEdges) → IsGraph graph → (a b : ℕ) → IsSwitch graph a → IsSwitch graph b
     → IsTrue (is_before graph a b) ↔ IsBefore graph a b

@@ -6,8 +6,8 @@ use Rattle.subnet_view.specs.Graph.{guids_of}
 use Rattle.subnet_view.specs.GraphLaws.{IsGraph}
 use Rattle.subnet_view.specs.Components.{distance, root_of}
 
--- the rank of switch `a`: the length of a shortest walk from the root of its component to `a`; None if `a` is no switch
--- of the graph
+-- the rank of switch `a`: the length of a shortest walk from the root of its component to `a`; None if `a` is not a
+-- switch of the graph
 abbrev pub rank_of : List SwitchEdges → ℕ → Option ℕ
 rank_of graph a = option_and_then (λ root. distance graph root a) (root_of graph a)
 

@@ -9,20 +9,20 @@ use Rattle.subnet_view.specs.GraphLaws.{IsGraph, IsSwitch}
 use Rattle.subnet_view.specs.Components.{in_one_component}
 use Rattle.updown_routes.specs.Ranks.{slopes_of}
 
--- from a switch of a graph, `down_distance` is the length of a shortest walk down to the target; None exactly if no
+-- from a switch of a graph, `down_distance` is the length of a shortest walk down to the target; None exactly when no
 -- walk down leads there
 abbrev pub DownDistanceLaw : Type 0
 DownDistanceLaw = (graph : List SwitchEdges) → IsGraph graph → (s t : ℕ) → IsSwitch graph s
     → MatchOption (down_distance (slopes_of graph) s t) (HasNoWalk (below (slopes_of graph)) s t)
     (IsDownDistance (slopes_of graph) s t)
 
--- from a switch of a graph, `cost` is as `IsCost` states; None exactly if no route leads to the target
+-- from a switch of a graph, `cost` is as `IsCost` states; None exactly when no route leads to the target
 abbrev pub CostLaw : Type 0
 CostLaw = (graph : List SwitchEdges) → IsGraph graph → (s t : ℕ) → IsSwitch graph s
     → MatchOption (cost (slopes_of graph) s t) ((n : ℕ) → IsRoute (slopes_of graph) s t n
     → ⊥) (IsCost (slopes_of graph) s t)
 
--- from a switch of a graph, `next_port` is as `IsNextPort` states; None exactly if no port is a next port
+-- from a switch of a graph, `next_port` is as `IsNextPort` states; None exactly when no port is a next port
 abbrev pub NextPortLaw : Type 0
 NextPortLaw = (graph : List SwitchEdges) → IsGraph graph → (s t : ℕ) → IsSwitch graph s
     → MatchOption (next_port (slopes_of graph) s t) ((p : ℕ) → IsNextPort (slopes_of graph) s t p

@@ -11,23 +11,24 @@ pub fn ranks_are_in_words()
     ensures { RankLaw }
 {}
 
-/// A switch is before another exactly if its rank is less, or the ranks are equal and its GUID is less.
+/// A switch is before another exactly when its rank is less, or the ranks are equal and its GUID is less.
 pub fn before_is_in_words()
     ensures { BeforeLaw }
 {}
 
-/// A wire from switch `a` to switch `b` leads up exactly if `b` is before `a`, and down exactly if `a` is before `b`.
+/// A wire from switch `a` to switch `b` leads up exactly when `b` is before `a`, and down exactly when `a` is before
+/// `b`.
 pub fn up_and_down_are_in_words()
     ensures { SlopeLaw }
 {}
 
-/// The down distance to a target is the length of a shortest walk down to the target, and is missing exactly if no walk
-/// down leads there.
+/// The down distance to a target is the length of a shortest walk down to the target, and is missing exactly when no
+/// walk down leads there.
 pub fn down_distances_are_in_words()
     ensures { DownDistanceLaw }
 {}
 
-/// The cost to a target is the length of a shortest route there, and is missing exactly if there is no route. A route
+/// The cost to a target is the length of a shortest route there, and is missing exactly when there is no route. A route
 /// is a climb past switches from which no walk leads down to the target, and then a shortest walk down.
 pub fn costs_are_in_words()
     ensures { CostLaw }
