@@ -8,7 +8,7 @@ use smp_bytes::Guid;
 /// The number of hash values of GUIDs.
 const GUIDS: usize = 256;
 
-/// The slots where cells were put last, by the kind of their keys. The next key of a kind is looked for first at the
+/// The slots where cells were put last, by the kind of their keys. The search for the next key of a kind begins at the
 /// slot of that kind. A report has the two ends of a link one after the other, so a link is looked for at the last slot
 /// but one. The neighbors of a switch report it in turn, so nodes, port GUIDs and links also have a last slot for each
 /// hash of a GUID.

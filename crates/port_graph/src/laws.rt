@@ -2,8 +2,8 @@
 ghost use Rattle.port_graph.specs.Heads.{DistancesLaw};
 ghost use Rattle.port_graph.specs.NextPorts.{WaysLaw};
 
-/// If all edges lead to vertices, each distance is the length of a shortest walk, and no walk leads to a vertex without
-/// a distance.
+/// If all edges lead to vertices, each distance is the length of a shortest walk, and no walk leads to a vertex that
+/// has no distance.
 pub fn distances_law()
     ensures { DistancesLaw }
 {}

@@ -45,7 +45,8 @@ pub fn parse(alloc: Global, text: &[u8]) -> Result<Vec<Guid>, RootsTextFault>
     }
 }
 
-/// Returns the roots that the lines of `text` name, or their first fault, or `Memory` if memory is refused before.
+/// Returns the roots that the lines of `text` name, or the first fault of the lines. Returns `Memory` if memory is
+/// refused before the first fault.
 #[tactic(auto, using(crate::proofs::Folds::reading))]
 fn read_lines(alloc: Global, text: &[u8]) -> Result<Roots, RootsTextFault>
     ensures { Reads result (roots_of text.now) }
@@ -94,7 +95,7 @@ fn first_fault(text: &[u8]) -> Option<RootsLineFault>
     None
 }
 
-/// Returns the fault, if there is one, of `line` below the first `above` lines of `text`.
+/// Returns the fault of `line`, or `None` if it has no fault. `line` comes after the first `above` lines of `text`.
 fn wrong_below(text: &[u8], above: usize, line: &[u8]) -> Option<RootsTextError>
     ensures { result ≡ wrong_below (take above (lines text.now)) (root_on line.now) }
 {

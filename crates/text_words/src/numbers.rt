@@ -3,8 +3,8 @@ ghost use Rattle.text_words.specs.Number.{digit_of, number_of, count_of, guid_of
 
 use smp_bytes::Guid;
 
-/// Parses a word of digits in `base`. Returns `None` if the word is empty or has a byte that is no such digit. A number
-/// over `u64::MAX` gives `u64::MAX`. `base` must be from 2 to 36. Takes time linear in the number of digits.
+/// Parses a word of digits in `base`. Returns `None` if the word is empty or has a byte that is not such a digit. A
+/// number over `u64::MAX` gives `u64::MAX`. `base` must be from 2 to 36. Takes time linear in the number of digits.
 pub fn number(word: &[u8], base: u32) -> Option<u64>
     requires { 2 ≤ base × base ≤ 36 }
     ensures { result ≡ option_map (min (2 ^ 64 - 1)) (number_of base word.now) }
@@ -19,7 +19,7 @@ pub fn number(word: &[u8], base: u32) -> Option<u64>
     Some(number)
 }
 
-/// Returns the value of the digit `byte`, or `None` if it is not a digit in `base`, which must be from 2 to 36.
+/// Returns the value of the digit `byte`, or `None` if `byte` is not a digit in `base`. `base` must be from 2 to 36.
 fn digit(byte: u8, base: u32) -> Option<u32>
     requires { 2 ≤ base × base ≤ 36 }
     ensures { result ≡ digit_of base byte }

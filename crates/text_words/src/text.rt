@@ -33,7 +33,7 @@ fn without_return(line: &[u8]) -> &[u8]
 }
 
 /// Returns the first word of `line` and the bytes after it, or `None` if `line` has no word. A `#` outside quotes ends
-/// the line.
+/// the words of the line.
 pub fn split_word(line: &[u8]) -> Option<(&[u8], &[u8])>
     ensures { MatchOption result (words line.now ≡ [])
         (λ x. words line.now ≡ x.0.now ∷ words x.1.now) }
@@ -54,7 +54,7 @@ fn word_start(line: &[u8]) -> Option<usize>
     line.iter().position(|byte| !is_blank(*byte))
 }
 
-/// Returns the length of the word that `line` begins with, or 0 if `line` begins with no word.
+/// Returns the length of the word that `line` begins with, or 0 if `line` does not begin with a word.
 fn word_len(line: &[u8]) -> usize
     ensures within { result ≤ length line.now }
     ensures word { (parts false line.now).0 ≡ take result line.now }
@@ -99,7 +99,7 @@ pub(crate) fn place_of(bytes: &[u8], byte: u8) -> Option<usize>
     bytes.iter().position(|b| *b == byte)
 }
 
-/// Returns whether `byte` is a blank or a tab, which separate words.
+/// Returns whether `byte` is a blank or a tab. These separate words.
 fn is_blank(byte: u8) -> bool
     ensures { result ≡ is_blank byte }
 {

@@ -25,7 +25,8 @@ pub(crate) fn upward(
     Ok(ups)
 }
 
-/// Returns the targets in the sets of those of `edges` that lead up from `position`.
+/// Returns the targets towards which any of `edges` is a candidate that leads up from `position`. `sets` has, for each
+/// edge, the targets towards which the edge is a candidate.
 fn upward_from(edges: &[Edge], sets: &[TargetSet], position: usize) -> TargetSet
     requires { length sets.now ≡ length edges.now }
     ensures { EachTarget (λ k. has result k ≡ leads_up position (picked k sets.now edges.now)) }
