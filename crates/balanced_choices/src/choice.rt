@@ -12,8 +12,9 @@ use crate::ways::{Change, change_way, lightest};
 use port_graph::{Adjacency, Edge};
 use std::alloc::{AllocError, Global};
 
-/// Makes the choices of `round` for the end with the number `number`: first choices in round 0, and new ones in later
-/// rounds. Before new choices, the packets to the end are taken off `loads`.
+/// Makes the choices of `round` for the end with the number `number`: first choices in round 0, and new choices in
+/// later rounds. Before it makes new choices, takes the packets to the end off `loads`. `weights` has the digit weight
+/// of each position, and `sent` the number of packets that each position sends to the end.
 pub(crate) fn choose(
     alloc: Global,
     round: usize,
@@ -76,8 +77,8 @@ fn choose_in_turn(
     }
 }
 
-/// Returns the number of the candidate that `position` takes at first towards the end with the number `number`. Returns
-/// 0 if `position` has no candidate.
+/// Returns the number of the candidate that is the first choice of `position` towards the end with the number `number`.
+/// Returns 0 if `position` has no candidate. `weights` has the digit weight of each position.
 pub(crate) fn first_choice(
     ways: &Adjacency,
     weights: &[usize],
@@ -93,7 +94,7 @@ pub(crate) fn first_choice(
     in_turn(ways.at(position).len().min(PORTS), digits + position)
 }
 
-/// Returns `number` without its digits below the digit of weight `weight`, or `number` itself if `weight` is 0.
+/// Returns `number` without the digits below the digit whose weight is `weight`, or `number` itself if `weight` is 0.
 fn digits_from(weight: usize, number: usize) -> usize
     ensures digits { result ≡ digits_from weight number }
     ensures less { result ≤ number }
@@ -114,7 +115,7 @@ fn in_turn(count: usize, number: usize) -> u8
 }
 
 /// Makes new choices for an end, at each position of `order` in turn. Each position takes the candidate whose way has
-/// the least peak load. Ties go to the first.
+/// the least peak load. If peak loads are equal, it takes the first.
 fn choose_lightest(
     ways: &Adjacency,
     order: &[usize],

@@ -41,7 +41,8 @@ pub fn parse(alloc: Global, text: &[u8]) -> Result<Lanes, LanesTextFault>
     }
 }
 
-/// Returns what the lines of `text` say, or their first fault, or `Memory` if memory is refused before.
+/// Returns what the lines of `text` say, or the first fault of the lines. Returns `Memory` if memory is refused before
+/// the first fault.
 #[tactic(auto, using(crate::proofs::Folds::reading))]
 fn read_lines(alloc: Global, text: &[u8]) -> Result<LanesBuilder, LanesTextFault>
     ensures { IsReadAs text.now result }
@@ -60,7 +61,7 @@ fn read_lines(alloc: Global, text: &[u8]) -> Result<LanesBuilder, LanesTextFault
     Ok(said)
 }
 
-/// Returns the first fault of `text`, or `None` if it has none. Does not allocate.
+/// Returns the first fault of `text`, or `None` if `text` has no fault. Does not allocate.
 #[tactic(auto, using(crate::proofs::Folds::judging))]
 fn first_fault(text: &[u8]) -> Option<LanesLineFault>
     ensures { result ≡ first_fault text.now }

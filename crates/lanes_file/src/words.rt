@@ -43,7 +43,7 @@ pub(crate) fn port(word: &[u8]) -> Option<Option<PortNum>>
     })
 }
 
-/// Parses a GUID of 1 to 16 hex digits. Returns `None` if `word` is no such GUID.
+/// Parses a GUID of 1 to 16 hex digits. Returns `None` if `word` is not such a GUID.
 #[tactic(auto, using(crate::proofs::BareGuids::bare_guid_is, crate::proofs::BareGuids::long_is_none))]
 pub(crate) fn bare_guid(word: &[u8]) -> Option<Guid>
     ensures { result ≡ bare_guid_of word.now }
@@ -54,8 +54,8 @@ pub(crate) fn bare_guid(word: &[u8]) -> Option<Guid>
     Some(Guid::new(number(word, 16)?))
 }
 
-/// Parses a node's GUID and a port of it, as in `0000000000000100/1`. The port is `None` if it is above 254. Returns
-/// `None` if `word` has another form.
+/// Parses the GUID of a node and one of its ports, as in `0000000000000100/1`. The port is `None` if it is above 254.
+/// Returns `None` if `word` has another form.
 pub(crate) fn node_port(word: &[u8]) -> Option<(Guid, Option<PortNum>)>
     ensures { result ≡ port_of word.now }
 {
@@ -81,7 +81,7 @@ fn slash(word: &[u8]) -> Option<usize>
     word.iter().position(|b| *b == b'/')
 }
 
-/// Parses `N` bytes, each as two hex digits of either case. Returns `None` if `word` is not 2 * `N` hex digits.
+/// Parses `N` bytes, each written as two hex digits of either case. Returns `None` if `word` is not 2 * `N` hex digits.
 pub(crate) fn bytes<const N: usize>(word: &[u8]) -> Option<[u8; N]>
     ensures { result ≡ bytes_of N word.now }
 {
