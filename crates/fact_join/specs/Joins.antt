@@ -1,5 +1,5 @@
--- Laws of the order of cells and of their join: `joined_by` gives the least cell above two, if `same` answers true
--- exactly for equal values.
+-- Laws of the order of cells and of their join. If `same` answers true exactly for equal values, `joined_by` gives the
+-- least cell above two cells.
 use Rattle.std.proofs.Common.{◌≡◌, ◌<◌, ◌≤◌, Bool, true, false, inl, inr, refl, sym, ap, ◌∙◌, subst, arith, cond}
 use Rattle.std.specs.Prelude.{nat_lt}
 use Rattle.std.specs.Cmp.{IsEquivalence}
@@ -141,6 +141,6 @@ module _ {V : Type 0} (same : V → V → Bool) (exact : (x y : V) → same x y 
         | alike h e ↦ subst P (sym e) (alike_least a b z h p q)
       ]
 
--- an equivalence `same` answers true for each value and itself
+-- an equivalence `same` answers true for each value and the value itself
 pub equal_itself : {V : Type 0} {same : V → V → Bool} → IsEquivalence same → (x : V) → same x x ≡ true
 equal_itself laws x = laws.refl x

@@ -1,5 +1,4 @@
--- A file that comes in pieces: what an absorber waits for after the bytes that it was fed, and what one more piece
--- does.
+-- A file that comes in pieces: what an absorber awaits after the bytes that it was fed, and what one more piece does.
 use Rattle.std.specs.Prelude.{◌≡◌, ◌⊎◌, ℕ, ◌+◌, ◌*◌, ◌<◌, ◌≤◌, ◌^◌, List, [], ◌∷◌, ◌++◌, Option, None, Some, Result, Ok, Err, IfOk, length, take}
 use Rattle.std.specs.Prelude.{nat_lt, ◌==◌, if◌then◌else◌}
 use Rattle.std.specs.List.{concat}
@@ -19,7 +18,7 @@ use Rattle.record_file.specs.Head.{IsFormat, floor_told, floored_magic, format_i
 use Rattle.record_file.specs.Reading.{AreGoodRecords, floor_in, judged, kept, key_in, last_key, outcome, record_size}
 
 -- an absorber: the part of the file that it awaits, or the fault with which it stopped; and the bytes of the awaited
--- part that have come
+-- part that have come so far
 pub record Absorbing : Type 0 where
   pub awaited : Result Awaited FileFault
   pub part : List ℕ
@@ -40,14 +39,14 @@ offset_of (awaited.Record format index last) = head_size format + record_size fo
 abbrev pub IsShortOf : Awaited → List ℕ → Type 0
 IsShortOf awaited part = length part < awaited_size awaited
 
--- if a part is awaited, `part` has fewer bytes than the awaited part, and fewer than 2^40 bytes have come in all; true
+-- if a part is awaited, `part` has fewer bytes than that part, and fewer than 2^40 bytes have come in all; always true
 -- after a fault
 abbrev pub IsInReach : Result Awaited FileFault → List ℕ → Type 0
 IsInReach (Ok awaited) part = IsShortOf awaited part × (offset_of awaited + length part < 2 ^ 40)
 IsInReach (Err fault) part = Unit {0}
 
--- the bytes `fed` are a head, `index` good records, and `part`, the first bytes of the next record; `last` is the key
--- in the last of the good records (`last_key`)
+-- the bytes `fed` are a head, `index` good records, and `part`, which has the first bytes of the next record. `last` is
+-- the key in the last of the good records (`last_key`)
 pub record IsBehindRecords (format : Format) (index : ℕ) (last : Option Key) (part fed : List ℕ) : Type 0 where
   pub records : List (List ℕ)
   pub sound : IsFormat format
@@ -74,7 +73,7 @@ pub record WasFed (a : Absorbing) (fed : List ℕ) : Type 0 where
 abbrev pub HasStopped : Absorbing → FileFault → Type 0
 HasStopped a fault = a.awaited ≡ Err fault
 
--- the fault in the outcome of `n` bytes, if it stays whatever bytes follow; None if the outcome is no fault, is
+-- the fault in the outcome of `n` bytes, if it stays whatever bytes follow. None if the outcome is not a fault, is
 -- `Truncated`, or is `Magic` and `n` is less than 8
 abbrev pub staying : ℕ → Result (Unit {0}) FileFault → Option FileFault
 staying n (Ok u) = None
@@ -86,19 +85,20 @@ staying n (Err fault) = Some fault
 abbrev pub fault_so_far : List ℕ → Option FileFault
 fault_so_far bytes = staying (length bytes) (outcome bytes)
 
--- the floor that `piece` brings after the bytes `fed`: that of all bytes together if the floor of `fed` is 1, else 1
+-- the floor that `piece` adds after the bytes `fed`: if the floor of `fed` is 1, the floor of all these bytes together;
+-- otherwise 1
 abbrev pub floor_behind : List ℕ → List ℕ → ℕ
 floor_behind fed piece = if floor_in fed == 1 then floor_in (fed ++ piece) else 1
 
 -- the sightings that `piece` adds to those kept of the bytes `fed` were merged into the store, at the floor that
--- `piece` brings (`floor_behind`)
+-- `piece` adds (`floor_behind`)
 pub record AddsSightings (fed piece : List ℕ) (old new : Facts) : Type 0 where
   pub sightings : List (Key × Cell Value)
   pub more : kept (fed ++ piece) ≡ kept fed ++ sightings
   pub held : new ≡ merge old (view_at (floor_behind fed piece) sightings)
 
 -- memory ran out for a good record that `piece` completes. The sightings that `piece` adds before this record were
--- merged into the store, at the floor that `piece` brings
+-- merged into the store, at the floor that `piece` adds
 pub record WantsMemory (fed piece : List ℕ) (old new : Facts) : Type 0 where
   pub format : Format
   pub records : List (List ℕ)
@@ -113,21 +113,21 @@ pub record WantsMemory (fed piece : List ℕ) (old new : Facts) : Type 0 where
   pub more : kept (head_bytes format ++ concat records) ≡ kept fed ++ sightings
   pub held : new ≡ merge old (view_at (floor_behind fed piece) sightings)
 
--- feeding `piece` after the bytes `fed` stops with `fault`: memory ran out for a record that `piece` completes, or all
--- these bytes have this fault. The sightings that `piece` adds before were merged into the store
+-- feeding `piece` after the bytes `fed` stops with `fault`. Either memory ran out for a record that `piece` completes,
+-- or all these bytes together have this fault. The sightings that `piece` adds before it were merged into the store
 abbrev pub StopsWith : FileFault → List ℕ → List ℕ → Facts → Facts → Type 0
 StopsWith fault fed piece old new =
     ((fault ≡ Memory) × WantsMemory fed piece old new)
     ⊎ ((fault_so_far (fed ++ piece) ≡ Some fault) × AddsSightings fed piece old new)
 
--- what feeding `piece` after the bytes `fed` returns and does: after `Ok`, all these bytes were fed and have no fault
--- so far; after an error, the absorber has stopped with it
+-- what feeding `piece` after the bytes `fed` returns and does. After `Ok`, the absorber was fed all these bytes, and
+-- they have no fault so far. After an error, the absorber has stopped with this error
 abbrev pub FeedsBehind : List ℕ → List ℕ → Result (Unit {0}) FileFault → Absorbing → Facts → Facts → Type 0
 FeedsBehind fed piece (Ok u) a old new =
     WasFed a (fed ++ piece) × (fault_so_far (fed ++ piece) ≡ None) × AddsSightings fed piece old new
 FeedsBehind fed piece (Err fault) a old new = HasStopped a fault × StopsWith fault fed piece old new
 
--- what feeding `piece` to the absorber `a` returns and does; if `a` has stopped, its fault is returned again and
+-- what feeding `piece` to the absorber `a` returns and does. If `a` has stopped, its fault is returned again and
 -- nothing changes
 pub record FeedsPiece (a : Absorbing) (piece : List ℕ) (answer : Result (Unit {0}) FileFault) (a' : Absorbing)
     (old new : Facts) : Type 0 where

@@ -29,7 +29,8 @@ is_same_value (Lid a) (Lid b) = a == b
 is_same_value (Count a) (Count b) = a == b
 is_same_value _ _ = false
 
--- whether two cells are equal: known at one generation with equal values, or disputed at one generation
+-- whether two cells are equal: both known in the same generation with equal values, or both disputed in the same
+-- generation
 abbrev pub is_same_cell : Cell Value → Cell Value → Bool
 is_same_cell (Known g a) (Known h b) = g == h && is_same_value a b
 is_same_cell (Known g a) (Disputed h) = false

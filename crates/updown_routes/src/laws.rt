@@ -52,7 +52,7 @@ pub fn next_ports_lead_to_the_target()
     ensures { WayLaw }
 {}
 
-/// A switch has no cost and no next port towards a switch outside its component.
+/// A switch has no cost and no next port towards any vertex outside its component.
 pub fn no_cost_between_components()
     ensures { NoCostBetween }
 {}
