@@ -142,32 +142,32 @@ pub record Finishes (a : Absorbing) (answer : Result (Unit {0}) FileFault) : Typ
 
 -- the steps of a piece -----------------------------------------------------------------
 
--- what is awaited after the first eight bytes of a file, by the format in them: the first record, or the header if it
--- is not there yet; else the fault of the head
+-- what is awaited after the first eight bytes of a file, according to the format in them. It is the first record, or
+-- the header if the header is still to come; otherwise the fault of the head
 abbrev pub behind_magic : Result Format FileFault → Result Awaited FileFault
 behind_magic (Ok format) = Ok (awaited.Record format 0 None)
 behind_magic (Err (Truncated offset)) = Ok awaited.Header
 behind_magic (Err fault) = Err fault
 
--- what is awaited after eight bytes that should be a header: the first record if they are the header of a floor;
--- `BadFloor` if they are no header, which is None here
+-- what is awaited after eight bytes that should be a header. It is the first record if they are the header of a floor,
+-- and otherwise the fault `BadFloor`; None is given if they are not a header
 abbrev pub behind_header : Option ℕ → Result Awaited FileFault
 behind_header None = Err BadFloor
 behind_header (Some floor) = Ok (awaited.Record (Cells (Some floor)) 0 None)
 
--- `facts` raised to the floor that is given; unchanged if none is given
+-- `facts` raised to the given floor; unchanged if none is given
 abbrev pub raised_to : Option ℕ → Facts → Facts
 raised_to None facts = facts
 raised_to (Some floor) facts = raised facts floor
 
--- the outcome of a file that ends after `n` bytes of the awaited part, which has more bytes
+-- the outcome of a file that ends after `n` bytes of the awaited part, if this part has more bytes
 abbrev pub ending_at : Awaited → ℕ → Result (Unit {0}) FileFault
 ending_at awaited.Magic n = Err Magic
 ending_at awaited.Header n = Err (Truncated (offset_of awaited.Header))
 ending_at (awaited.Record format index last) n =
     if n == 0 then Ok tt else Err (Truncated (offset_of (awaited.Record format index last)))
 
--- what taking the awaited part, whose bytes are all in `bytes`, returns and does to the store
+-- what taking the awaited part returns and does to the store. `bytes` are all bytes of the part
 abbrev pub TakesAwaited : Awaited → List ℕ → Result Awaited FileFault → Facts → Facts → Type 0
 TakesAwaited awaited.Magic bytes answer old new = (answer ≡ behind_magic (format_in bytes)) × (new ≡ old)
 TakesAwaited awaited.Header bytes answer old new =
@@ -176,18 +176,19 @@ TakesAwaited (awaited.Record format index last) bytes answer old new =
     AbsorbsJudged (judged format last bytes) index answer old new
     × IfOk answer (λ next. next ≡ awaited.Record format (index + 1) (key_in format bytes))
 
--- what taking `piece` after the bytes `fed` leads to: the next part that is awaited and its first bytes, or a fault
+-- what taking `piece` after the bytes `fed` leads to: the part that is awaited next and its first bytes, or a fault
 abbrev pub TakesTo : List ℕ → List ℕ → Result Awaited FileFault → List ℕ → Facts → Facts → Type 0
 TakesTo fed piece (Ok next) part old new = Awaits next part (fed ++ piece) × AddsSightings fed piece old new
 TakesTo fed piece (Err fault) part old new = StopsWith fault fed piece old new
 
--- taking `piece` leads to `answer`, whatever bytes were fed before, if the bytes `part` of the awaited part have come
--- (`Awaits`)
+-- taking `piece` leads to `answer` if the bytes `part` of the awaited part have come (`Awaits`), whatever bytes were
+-- fed before
 abbrev pub TakesPiece : Awaited → List ℕ → List ℕ → Result Awaited FileFault → List ℕ → Facts → Facts → Type 0
 TakesPiece awaited part piece answer part' old new =
     (fed : List ℕ) → Awaits awaited part fed → TakesTo fed piece answer part' old new
 
--- the first `n` of `bytes`, at least one, were taken; then `next` is awaited, and the bytes `part'` of `next` have come
+-- the first `n` of `bytes` were taken, and `n` is at least 1. Then `next` is awaited, and the bytes `part'` of `next`
+-- have come
 pub record TakesSome (awaited : Awaited) (part bytes : List ℕ) (next : Awaited) (n : ℕ) (part' : List ℕ)
     (old new : Facts) : Type 0 where
   pub some : 0 < n
@@ -196,8 +197,8 @@ pub record TakesSome (awaited : Awaited) (part bytes : List ℕ) (next : Awaited
   pub offset : offset_of next + length part' ≡ (offset_of awaited + length part) + n
   pub takes : TakesPiece awaited part (take n bytes) (Ok next) part' old new
 
--- what taking bytes from the front of `bytes` returns and does: the next part that is awaited and how many bytes were
--- taken, or the fault to which they lead
+-- what taking bytes from the front of `bytes` returns and does. It returns the part that is awaited next and how many
+-- bytes were taken, or the fault to which these bytes lead
 abbrev pub TakesFront : Awaited → List ℕ → List ℕ → Result (Awaited × ℕ) FileFault → List ℕ → Facts → Facts → Type 0
 TakesFront awaited part bytes (Ok taken) part' old new = TakesSome awaited part bytes taken.0 taken.1 part' old new
 TakesFront awaited part bytes (Err fault) part' old new = TakesPiece awaited part bytes (Err fault) part' old new

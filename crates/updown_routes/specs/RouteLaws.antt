@@ -28,8 +28,8 @@ NextPortLaw = (graph : List SwitchEdges) → IsGraph graph → (s t : ℕ) → I
     → MatchOption (next_port (slopes_of graph) s t) ((p : ℕ) → IsNextPort (slopes_of graph) s t p
     → ⊥) (IsNextPort (slopes_of graph) s t)
 
--- the cost to a target is the down distance if there is one; else one more than the least cost of the switches that
--- edges up lead to; None if none of these switches has a cost
+-- the cost of a switch to a target is its down distance, if there is one. Otherwise it is one more than the least cost
+-- of the switches that edges up lead to; None if none of these has a cost
 abbrev pub CostRecursion : Type 0
 CostRecursion = (graph : List SwitchEdges) → IsGraph graph → (s t : ℕ)
     → cost (slopes_of graph) s t
@@ -37,13 +37,13 @@ CostRecursion = (graph : List SwitchEdges) → IsGraph graph → (s t : ℕ)
     if is_some down then down else option_map suc
     (least_of (filter_map (λ e. cost (slopes_of graph) e.to t) (ups_at (slopes_of graph) s))))
 
--- in a graph, from each switch with a cost to a target, a way up and then down leads to the target, over as many edges
--- as the cost
+-- in a graph, from each switch that has a cost to a target, a way up and then down leads to the target over as many
+-- edges as the cost
 abbrev pub WayLaw : Type 0
 WayLaw = (graph : List SwitchEdges) → IsGraph graph → (n s t : ℕ) → cost (slopes_of graph) s t ≡ Some n
     → Way (slopes_of graph) s t n
 
--- a switch of a graph has no cost and no next port towards a vertex outside its component
+-- a switch of a graph has no cost and no next port towards any vertex outside its component
 abbrev pub NoCostBetween : Type 0
 NoCostBetween = (graph : List SwitchEdges) → IsGraph graph → (s t : ℕ) → IsSwitch graph s → in_one_component graph s t
     ≡ false → (cost (slopes_of graph) s t ≡ None) × (next_port (slopes_of graph) s t ≡ None)
