@@ -21,7 +21,7 @@ pub record Passing : Type 0 where
 abbrev pub had_at : Passing → ℕ → ℕ → ℕ
 had_at packets k p = slice_index (slice_index_or packets.had k []) p
 
--- the packets after position `p` has passed on, by edge `e`, the packets for end `k` that have reached it
+-- the packets after position `p` has passed on, by edge `e`, the packets that it had for end `k` (`had_at`)
 abbrev pub with_passed : ℕ → ℕ → Passing → Edge → Passing
 with_passed p k old e = record {
   had = slice_set old.had k (with_changes (Add (had_at old k p)) (slice_index_or old.had k []) (e.to ∷ []));
@@ -34,7 +34,7 @@ with_passed p k old e = record {
 abbrev pub first_edge : List Edge → ℕ → ℕ → ℕ → Option Edge
 first_edge edges weight p number = slice_get edges (in_turn (length (take 256 edges)) (digits_from weight number + p))
 
--- the packets after position `p` has passed on those that have reached it for the ends of a list. `number` is the
+-- the packets after position `p` has passed on those that it had for the ends of a list (`had_at`). `number` is the
 -- number of end 0
 abbrev pub passed_to : List Edge → ℕ → ℕ → ℕ → Passing → List ℕ → Passing
 passed_to edges weight p number old [] = old
@@ -42,8 +42,8 @@ passed_to edges weight p number old (k ∷ ks) =
     passed_to edges weight p number
     (option_map_or (with_passed p k old) (first_edge edges weight p (number + k)) old) ks
 
--- the packets after the positions of a list, one after another, have passed on those that have reached them for the
--- first `ends` ends
+-- the packets after the positions of a list, one after another, have passed on those that they had for the first `ends`
+-- ends (`had_at`)
 abbrev pub passed_on : List (List Edge) → List ℕ → ℕ → ℕ → Passing → List ℕ → Passing
 passed_on ways weights number ends old [] = old
 passed_on ways weights number ends old (p ∷ ps) =

@@ -30,11 +30,12 @@ pub struct Destination {
 }
 
 /// Returns, for each end of each of `destinations` in order, the number of the candidate that each position takes.
-/// Position p sends `sent[p]` packets to each end. For its first choice, it uses the end's number without the digits
-/// below the digit of weight `weights[p]`. The candidates of a position are numbered from 0, in the order of its edges.
-/// A position that has no candidates gets 0. Makes at most three rounds. Each round finds the candidates towards 64
-/// destinations at a time. From the second round on, a round walks, for each end, the ways of all candidates of each
-/// position. Keeps a byte for each end and position.
+/// Position p sends `sent[p]` packets to each end. `sent` and `weights` must have an entry for each position, and
+/// destinations must be at positions. For its first choice, it uses the end's number without the digits below the digit
+/// of weight `weights[p]`. The candidates of a position are numbered from 0, in the order of its edges. A position that
+/// has no candidates gets 0. Makes at most three rounds. Each round finds the candidates towards 64 destinations at a
+/// time. From the second round on, a round walks, for each end, the ways of all candidates of each position. Keeps a
+/// byte for each end and position.
 pub fn balanced_choices(
     alloc: Global,
     graph: &Adjacency,
@@ -104,7 +105,7 @@ fn push_choices(
 }
 
 /// Makes the choices of `round` for all ends of `destinations`. Makes no choices if `round` is not 0 and `loads` are
-/// even.
+/// even. `choices` must have choices for each of these ends. The other preconditions are those of `balanced_choices`.
 fn make_round(
     alloc: Global,
     round: usize,
@@ -145,6 +146,7 @@ fn make_round(
 }
 
 /// Makes the choices of `round` for all ends of `destinations`. Finds the candidates towards 64 destinations at a time.
+/// The preconditions are those of `make_round`.
 fn choose_all(
     alloc: Global,
     round: usize,

@@ -17,8 +17,9 @@ use spread_labels::{CandidateSets, TARGETS};
 use std::alloc::{AllocError, Global};
 
 /// Returns the load of each channel if the packets to all ends of all destinations go by first choices. Position p
-/// sends `sent[p]` packets to each end, and has the digit weight `weights[p]`. Finds the candidates towards 64
-/// destinations at a time. For each end, takes time linear in the number of positions.
+/// sends `sent[p]` packets to each end, and has the digit weight `weights[p]`. `sent` and `weights` must have an entry
+/// for each position, and destinations must be at positions. Finds the candidates towards 64 destinations at a time.
+/// For each end, takes time linear in the number of positions.
 pub fn first_loads(
     alloc: Global,
     graph: &Adjacency,
@@ -50,7 +51,7 @@ pub fn first_loads(
 }
 
 /// Adds the packets to all ends of `destinations`, by first choices, to the loads of channels. There must be at most 64
-/// destinations.
+/// destinations. `loads` must have 256 loads for each position. The other preconditions are those of `first_loads`.
 fn add_packets(
     alloc: Global,
     graph: &Adjacency,
@@ -78,7 +79,8 @@ fn add_packets(
 }
 
 /// Adds the packets to all ends of `destination`, by first choices, to the loads of channels. `ways` must have the
-/// candidates of each position towards the position of `destination`.
+/// candidates of each position towards the position of `destination`. `sent` and `weights` must have an entry for each
+/// position, and `loads` must have 256 loads for each position.
 fn add_packets_to(
     alloc: Global,
     ways: &Adjacency,
@@ -124,9 +126,9 @@ fn copies(alloc: Global, list: &[usize], count: u16) -> Result<Vec<Vec<usize>>, 
     Ok(copies)
 }
 
-/// Passes on, from `position`, the packets that have reached it for each end of `destination`. `edges` are the
-/// candidates of `position`, and `weight` is its digit weight. Adds the packets to the loads of channels. Does nothing
-/// if there is no candidate.
+/// Passes on, from `position`, the packets that `had` has for it, for each end of `destination`: its own and those that
+/// have reached it. `edges` are the candidates of `position`, and `weight` is its digit weight. Adds the packets to the
+/// loads of channels. Does nothing if there is no candidate.
 fn pass_on(
     edges: &[Edge],
     weight: usize,

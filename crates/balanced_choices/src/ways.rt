@@ -25,7 +25,8 @@ fn changed(change: Change, load: usize) -> usize
 }
 
 /// Makes `change` to the load of each channel of the way from position `from`. `taken` has the edge that is taken at
-/// each position. The way ends at a position where no edge is taken, or after as many edges as there are positions.
+/// each position. `loads` must have 256 loads for each position. The way ends at a position where no edge is taken, or
+/// after as many edges as there are positions.
 pub(crate) fn change_way(taken: &[Option<Edge>], loads: &mut [usize], from: usize, change: Change)
     requires { length loads.old ≡ 256 * length taken.now }
     ensures { loads.new ≡ with_changes change loads.old (way_by taken.now from) }
@@ -55,7 +56,9 @@ fn edge_at(taken: &[Option<Edge>], position: usize) -> Option<Edge>
 }
 
 /// Returns the number of the candidate of `position` whose way has the least peak load. If peak loads are equal, the
-/// first such candidate counts. Returns 0 if `position` has no candidate. Only the first 256 candidates count.
+/// first such candidate counts. Returns 0 if `position` has no candidate. Only the first 256 candidates count. There
+/// must be such a position. `taken` must have the edge that is taken at each position, and `loads` 256 loads for each
+/// position.
 pub(crate) fn lightest(
     ways: &Adjacency,
     taken: &[Option<Edge>],

@@ -52,7 +52,7 @@ impl ToRoom {
         })
     }
 
-    /// Returns the bytes that the sink holds.
+    /// Returns the bytes that have been written to the sink.
     pub fn bytes(&self) -> &[u8]
         ensures { result.now ≡ self.now.written }
     {

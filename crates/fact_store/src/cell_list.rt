@@ -28,7 +28,8 @@ fn join_cells(first: &Sighting, second: &Sighting) -> Sighting
 }
 
 /// Adds the cell of `sighting`. If its key already has a cell, joins the two; otherwise inserts the cell. Notes the
-/// slot of the cell in `fingers`. `cells` must have room for one more cell.
+/// slot of the cell in `fingers`. `cells` must be in the order of keys (`AreCells`), and must have room for one more
+/// cell.
 pub(crate) fn put(cells: &mut PageList<Sighting>, fingers: &mut Fingers, sighting: Sighting)
     requires cells { AreCells cells.old.items }
     requires room { 0 < cells.old.room }
@@ -84,8 +85,8 @@ pub(crate) fn put_kept(
 }
 
 /// Returns the merge of the cells of `first` and `second`, by a walk over both lists at once. Each step passes one key,
-/// in one list or in both. Counts the comparisons of keys in `steps`, which must be 0 at first. Returns an error if
-/// memory runs out.
+/// in one list or in both. Counts the comparisons of keys in `steps`, which must be 0 at first. Both lists must be in
+/// the order of keys (`AreCells`). Returns an error if memory runs out.
 pub(crate) fn merge_cells(
     first: &PageList<Sighting>,
     second: &PageList<Sighting>,

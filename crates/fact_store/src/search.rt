@@ -30,8 +30,9 @@ pub(crate) struct Found {
     pub near: Slot,
 }
 
-/// Returns the index of the cell of `key` or, if `key` has no cell, the index at which it would be inserted. Tries the
-/// slots of `fingers`, then the end of the list, and then a binary search.
+/// Returns the index of the cell of `key` or, if `key` has no cell, the index at which it would be inserted. `cells`
+/// must be in the order of keys (`AreCells`). Tries the slots of `fingers`, then the end of the list, and then a binary
+/// search.
 pub(crate) fn index_of(cells: &PageList<Sighting>, key: &Key, fingers: &Fingers) -> Found
     requires { AreCells cells.now.items }
     ensures { IsSearched key.now cells.now.items result.index }
@@ -120,8 +121,9 @@ pub(crate) struct SearchResult {
     pub steps: u32,
 }
 
-/// Searches for the index of the cell of `key` or, if `key` has no cell, for the index at which it would be inserted.
-/// Compares at most as many keys as there are binary digits in the number of cells.
+/// Searches `cells`, which must be in the order of keys (`AreCells`), for the index of the cell of `key` or, if `key`
+/// has no cell, for the index at which it would be inserted. Compares at most as many keys as there are binary digits
+/// in the number of cells.
 pub(crate) fn find(cells: &PageList<Sighting>, key: &Key) -> SearchResult
     requires { AreCells cells.now.items }
     ensures index { IsSearched key.now cells.now.items result.found.index }

@@ -73,8 +73,8 @@ pub record ArrivesBy (rule : Routing) (part : Part) (f : Fabric) (lid : ℕ) (so
 abbrev pub Arrives : RuleValue → Part → Cells → Fabric → ℕ → NodePort → EndPort → Type 0
 Arrives rule part cells f lid source owner = ArrivesBy (routing_by rule cells) part f lid source owner
 
--- if the plan is in force in the part that an end port is joined to, a packet from each end port of the part, for each
--- LID of the plan, is delivered at the LID's owner, over a way of `rule`
+-- if the plan is in force in a part, packets arrive there: a packet from each end port of the part, for each LID of the
+-- plan, is delivered at the LID's owner, over a way of `rule`. The part is what an end port is joined to
 abbrev pub EveryPacketArrivesBy : Routing → Cells → PlanValue → Type 0
 EveryPacketArrivesBy rule cells plan =
     (f : Fabric) (origin : NodePort) → IsEndPort f origin → IsInForce (IsJoinedTo f origin) cells plan f

@@ -19,7 +19,7 @@ pub record PlanValue : Type 0 where
   pub given : Given
   pub tables : List SwitchTable
 
--- the table of each of the switches `guids`, with `count` blocks
+-- the tables of a plan: the table of each of the switches `guids`, with `count` blocks
 abbrev pub tables_of : (ℕ → Option (ℕ × ℕ)) → Next → ℕ → List ℕ → List SwitchTable
 tables_of attachments next count guids = map (λ s. record { guid = s; blocks = blocks attachments next count s }) guids
 

@@ -23,7 +23,7 @@ order_by (Some (true, (false, switches))) = as_named switches
 order_by (Some (true, (true, switches))) = balanced_as switches
 order_by None = least_loaded
 
--- what an order is stored as is read back as this order
+-- an order of switches (`OrderValue`) is read back from what it is stored as
 pub same_order : (order : OrderValue) → order_by (guids_in order) ≡ order
 same_order (from_roots roots) = refl
 same_order (as_named switches) = refl
@@ -46,7 +46,7 @@ abbrev rule_by : Option OrderValue → RuleValue
 rule_by None = up_and_down
 rule_by (Some order) = spread_in order
 
--- what a rule is stored as is read back as this rule
+-- a rule (`RuleValue`) is read back from what it is stored as
 pub same_rule : (rule : RuleValue) → rule_by (order_in rule) ≡ rule
 same_rule up_and_down = refl
 same_rule (spread_in order) = refl

@@ -44,9 +44,9 @@ pub fn packets_arrive_where_covered()
     ensures { PacketsArriveWhereCovered }
 {}
 
-/// If the plan of a view with room for its LIDs is in force in the whole of a connected fabric, a packet from each end
-/// port, for each LID of the plan, is delivered at the end port that owns the LID. `Plan::of` promises this for the
-/// part around one end port, in any fabric.
+/// If the plan of a view with room for its LIDs is in force in the whole of a connected fabric, packets arrive. A
+/// packet from each end port, for each LID of the plan, is delivered at the end port that owns the LID. `Plan::of`
+/// promises this for the part around one end port, in any fabric.
 pub fn packets_arrive_if_connected()
     ensures { PacketsArriveIfConnected }
 {}
@@ -57,7 +57,7 @@ pub fn rules_are_routings()
 {}
 
 /// If two views agree on the wires between switches and on how many adapters each switch has, each rule that can be
-/// asked for routes packets in both in the same way, whatever else the views contain.
+/// asked for routes packets in the same way in both. It does not matter what else the views contain.
 pub fn rules_stay()
     ensures { RulesStay }
 {}

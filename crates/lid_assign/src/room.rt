@@ -14,9 +14,9 @@ use smp_bytes::Lid;
 use subnet_view::{count_end_ports, usable_guid};
 
 /// Returns the room and the number of end ports if some end port of the view finds no LID. Otherwise returns `None`.
-/// Walks the cells at most four times in two cases: if there are at least as many end ports as the room, or if one more
-/// than the number of end ports, times 2^`lmc`, is at most the room. Under LMC 0 one of the two cases always applies.
-/// Otherwise the number of walks is linear in the number of end ports. Does not allocate.
+/// Walks the cells at most four times in two cases. In the first, the number of end ports is at least the room. In the
+/// second, one more than this number, times 2^`lmc`, is at most the room. Under LMC 0 one of the two cases always
+/// applies. Otherwise the number of walks is linear in the number of end ports. Does not allocate.
 pub fn no_room(store: &Store, lmc: Lmc) -> Option<NoRoom>
     ensures { result ≡ no_room lmc (cells_of store.now) }
 {

@@ -20,7 +20,8 @@ pub fn truncation_is_told()
     ensures { TruncationIsTold }
 {}
 
-/// If the first bad record of a file ends within 2^40 bytes, the file is rejected for it, with its index.
+/// If a file has a bad record after good records, and the bad record ends within the first 2^40 bytes, the file is
+/// rejected for this record, with the record's index.
 pub fn first_bad_record_is_told()
     ensures { FirstBadRecordIsTold }
 {}

@@ -31,8 +31,8 @@ is_key (Port g p) = is_guid g && is_any_port p
 is_key (Claim g p) = is_guid g && is_any_port p
 is_key (Cap g) = is_guid g
 
--- whether a value is of the key's kind and in range: 1 to 254 ports, a GUID less than 2^64, a far port from 1 to 254,
--- and a LID and a table size less than 2^16
+-- whether a value is of the key's kind and in range. Port counts and far ports must be from 1 to 254, a GUID less than
+-- 2^64, and a LID and a table size less than 2^16
 abbrev pub is_value_of : Key → Value → Bool
 is_value_of (Node g) (Kind kind ports) = is_cabled_port ports
 is_value_of (PortGuid g p) (Guid guid) = is_guid guid

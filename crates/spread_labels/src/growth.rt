@@ -106,8 +106,8 @@ pub fn is_before(keys: &[VertexKey], one: usize, other: usize) -> bool
     one_key.is_less(&other_key) || (!other_key.is_less(&one_key) && one < other)
 }
 
-/// Sets the stage of `vertex` to `Placed`. Then sets the stage of each vertex that `edges` lead to to `Beside` if it is
-/// `Left`.
+/// Sets the stage of `vertex` to `Placed`. Then each vertex that `edges` lead to and whose stage is `Left` gets the
+/// stage `Beside`. `stages` must have the stage of each of these vertices.
 fn add_vertex(edges: &[Edge], vertex: usize, stages: &mut [Stage])
     requires vertex { vertex < length stages.old }
     requires lead { All (λ edge. edge.to < length stages.old) edges.now }

@@ -35,8 +35,8 @@ pub fn candidates_are_nearer()
     ensures { CandidatesAreNearer }
 {}
 
-/// From each vertex with a label the candidates lead to the LID's home, whichever candidate is picked for each LID and
-/// vertex. The way goes up and then down, takes as many edges as the cost, and passes no vertex twice.
+/// From each vertex with a label, the candidates lead to the LID's home, whichever candidate is picked for each LID and
+/// vertex. The way goes up and then down, takes as many edges as the vertex's cost, and passes no vertex twice.
 pub fn ways_law()
     ensures { WaysLaw }
 {}
@@ -75,8 +75,8 @@ pub fn sides_law()
     ensures { SidesLaw }
 {}
 
-/// If each edge has an edge back, each vertex of the component of a LID's home has a way to the home in the grown
-/// order, whatever the keys and the picked candidates. The way has fewer edges than there are vertices.
+/// If each edge has an edge back, then, whatever the keys and the picked candidates, a way in the grown order leads to
+/// a LID's home from each vertex from which a walk leads to the home. The way has fewer edges than there are vertices.
 pub fn every_pair_law()
     ensures { EveryPairLaw }
 {}

@@ -88,7 +88,7 @@ pub fn greatest_of(levels: &[usize]) -> usize
 }
 
 /// Returns the width of `level`: the greatest number of edges from a vertex of `level` to vertices of higher levels,
-/// but at least 1.
+/// but at least 1. `levels` must have a level for each vertex.
 fn width(edges: &Adjacency, levels: &[usize], level: usize) -> usize
     requires all { length levels.now ≡ length edges.now }
     requires lead { LeadToVertices edges.now }

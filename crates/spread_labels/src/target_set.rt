@@ -12,7 +12,7 @@ pub struct TargetSet {
 }
 
 impl TargetSet {
-    /// Returns the empty set.
+    /// Returns the empty set of targets.
     pub fn none() -> Self
         ensures none { EachTarget (λ k. has result k ≡ false) }
         ensures is { result ≡ no_targets }

@@ -69,7 +69,8 @@ fn far(
 }
 
 /// Returns the distance of each vertex from the first vertex of the component of `vertex`. The first vertex is the one
-/// with the earliest key in `keys`. The distance is `None` for a vertex of another component.
+/// with the earliest key in `keys`. The distance is `None` for a vertex of another component. There must be a key for
+/// each vertex, and `vertex` must be a vertex.
 fn from_first(
     alloc: Global,
     edges: &Adjacency,
@@ -97,8 +98,8 @@ fn fill(far: &mut [Option<usize>], found: &[Option<usize>])
     }
 }
 
-/// Returns the vertex with the earliest key among the vertices that have a distance in `distances`, or `None` if no
-/// vertex has one.
+/// Returns the vertex with the earliest key in `keys` among the vertices that have a distance in `distances`, or `None`
+/// if no vertex has one.
 fn first(keys: &[VertexKey], distances: &[Option<usize>]) -> Option<usize>
     requires { length distances.now ≡ length keys.now }
     ensures first { result ≡ first_among keys.now distances.now }

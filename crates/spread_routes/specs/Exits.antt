@@ -19,8 +19,8 @@ use Rattle.spread_routes.specs.Spread.{Grading, number_by, number_with, lid_digi
 abbrev pub no_lid_digit : LidDigit
 no_lid_digit = record { level = 0; digit_weight = 1; offset = 0 }
 
--- in the order that grows by the keys of `by`: `edges` has the graph's edges from position to position, `positions` has
--- the position of each switch, and `lid_digits` has the LID digit of the switch at each position
+-- the graph in the order that grows by the keys of `by`. `edges` has the edges from position to position, `positions`
+-- has the position of each switch, and `lid_digits` has the LID digit of the switch at each position
 pub record IsByPositions (by : Grading) (edges : List (List Edge)) (positions : List ℕ) (lid_digits : List LidDigit) :
     Type 0 where
   pub is_graph : IsGraph by.graph
@@ -47,9 +47,9 @@ pub record AreTowards (by : Grading) (towards : TowardsValue) : Type 0 where
       → picked k (sets_at towards.sets p) (edges_at (by_positions by.graph by.keys) p)
       ≡ candidates (by_positions by.graph by.keys) (position_of (order_by_keys by.graph by.keys) (towards.first + k)) p
 
--- how packets leave a switch. This has the ports of its candidates towards each target, the targets towards which some
--- candidate leads to a higher level, the switch's LID digit, the choices for adapters if loads are balanced, and the
--- positions of the switch and of the targets
+-- how packets leave a switch: the ports of its candidates towards each target; the targets towards which some candidate
+-- leads to a higher level; the switch's LID digit; the choices for adapters, if loads are balanced; and the positions
+-- of the switch and of the targets
 pub record ExitsValue : Type 0 where
   pub ports : List (List ℕ)
   pub higher : TargetSet

@@ -97,8 +97,9 @@ impl AdapterChoices {
         self.counted.is_some()
     }
 
-    /// Returns the number of the candidate that a LID with the number `number` takes at the position `own` towards the
-    /// position `target`, or 0 if there are no adapters at `target`. The choices must have been made by counted loads.
+    /// Returns the number of the candidate that packets for a LID with the number `number` take at the position `own`
+    /// towards the position `target`. Returns 0 if there are no adapters at `target`. The choices must have been made
+    /// by counted loads.
     pub(crate) fn towards(&self, number: usize, own: usize, target: usize) -> usize
         requires { IsTrue (is_some self.now.counted) }
         ensures { result ≡ choice_towards self.now number own target }
@@ -209,8 +210,9 @@ fn sent(alloc: Global, adapters: &[u16]) -> Result<Vec<usize>, AllocError>
     Ok(sent)
 }
 
-/// Returns the positions that have adapters as destinations. Each destination has one end for each of its adapters. The
-/// number of its first end is its leaf number times the greatest number of adapters at any position.
+/// Returns, as destinations, the positions that have adapters. `leaf_numbers` and `adapters` must be equally long. Each
+/// destination has one end for each of its adapters. The number of its first end is its leaf number times the greatest
+/// number of adapters at any position.
 fn destinations(
     alloc: Global,
     leaf_numbers: &[u16],
@@ -233,7 +235,8 @@ fn destinations(
     Ok(found)
 }
 
-/// Returns balanced choices, or `None` if the loads by first choices are even.
+/// Returns balanced choices, or `None` if the loads by first choices are even. `sent` and `weights` must have an entry
+/// for each position, and destinations must be at positions.
 fn counted_if_uneven(
     alloc: Global,
     edges: &Adjacency,

@@ -31,6 +31,7 @@ pub fn leaf_numbers(
 }
 
 /// Returns the leaf number of the vertex `index`: the number of leaf vertices that come before the vertex, modulo 2^16.
+/// `neighbors` must have the least neighbor of each vertex, and `leaves` the leaf vertices.
 fn leaf_number(neighbors: &[usize], leaves: &[usize], index: usize) -> u16
     requires index { index < length neighbors.now }
     requires leaves { All (λ leaf. leaf < length neighbors.now) leaves.now }

@@ -54,7 +54,8 @@ pub(crate) fn weights_of(alloc: Global, lid_digits: &[LidDigit]) -> Result<Vec<u
 }
 
 /// Returns the LID digit of the switch at each position of `order`. `levels` must have the level of each switch, in
-/// ascending order of GUID.
+/// ascending order of GUID. `edges` must be the edges of `graph` by index, and `order` must have only indices of
+/// switches.
 pub(crate) fn lid_digits(
     alloc: Global,
     graph: &SwitchGraph,

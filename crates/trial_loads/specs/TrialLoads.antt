@@ -21,8 +21,8 @@ with_more more numbers [] = numbers
 with_more more numbers (i ∷ is) =
     with_more more (slice_set numbers i (min (slice_index numbers i + more) (2 ^ 64 - 1))) is
 
--- packets on their way to a target: how many packets have reached each vertex so far, and how many each channel
--- carries, including packets to earlier targets
+-- packets on their way to a target: how many packets each vertex has had so far, its own and those that have reached
+-- it; and how many each channel carries, including packets to earlier targets
 pub record Packets : Type 0 where
   pub had : List ℕ
   pub carried : List ℕ
@@ -31,7 +31,7 @@ pub record Packets : Type 0 where
 abbrev pub share : ℕ → List Edge → ℕ
 share n es = n / length es
 
--- the packets after vertex `s` has shared out, evenly over its candidates `es`, the packets that have reached it
+-- the packets after vertex `s` has shared out, evenly over its candidates `es`, the packets that it had
 abbrev pub with_shares : ℕ → List Edge → Packets → Packets
 with_shares s es packets = record {
   had = with_more (share (slice_index packets.had s) es) packets.had (map (λ e. e.to) es);

@@ -55,6 +55,7 @@ pub fn least_loaded_keys(
 
 /// Tries the order by depth in `direction` from each of the first eight vertices, or from all vertices if there are
 /// fewer. Returns whichever of `first` and these trials has the least load. If loads are equal, returns the earliest.
+/// The load of `first` must be its trial load. The other preconditions are those of `least_loaded_keys`.
 fn try_by_depth(
     alloc: Global,
     edges: &Adjacency,
@@ -81,7 +82,8 @@ fn try_by_depth(
     Ok(best)
 }
 
-/// Returns the trial of `keys`: the keys, with the trial load of the order that grows by them.
+/// Returns the trial of `keys`: the keys, with the trial load of the order that grows by them. The preconditions are
+/// those of `least_loaded_keys`.
 fn trial_of(
     alloc: Global,
     edges: &Adjacency,
@@ -107,7 +109,7 @@ fn lesser(best: Trial, other: Trial) -> Trial
 }
 
 /// Returns the keys of vertices that give the order by depth from `root`. In this order, `keys` and `direction` decide
-/// between equals.
+/// between equals. There must be a key for each vertex, and `root` must be a vertex.
 fn keys_by_depth(
     alloc: Global,
     edges: &Adjacency,

@@ -17,7 +17,8 @@ use std::alloc::{AllocError, Global};
 const PACKETS: usize = 65_536;
 
 /// Adds to the load of each channel the packets that the channel carries from all adapters to the adapters of each of
-/// `targets`. There must be at most 64 targets. Loads are capped at 2^64 - 1.
+/// `targets`. There must be at most 64 targets. `adapters` must have the number of adapters at each vertex, each of
+/// `targets` must be a vertex, and `loads` must have 256 loads for each vertex. Loads are capped at 2^64 - 1.
 pub(crate) fn add_packets_between(
     alloc: Global,
     graph: &Adjacency,
@@ -44,7 +45,8 @@ pub(crate) fn add_packets_between(
 
 /// Adds to the load of each channel the packets that the channel carries to target `k`. At first `had` must have the
 /// number of packets that each position starts with. Packets that reach a position on the way are added to its number
-/// in `had`.
+/// in `had`. `k` must be less than 64, and `loads` must have 256 loads for each position. `sets` must be for the edges
+/// of `graph`, and `ups` must be what `upward` gives for it.
 fn add_packets_to(
     graph: &Adjacency,
     sets: &CandidateSets,
@@ -78,7 +80,7 @@ fn start(adapters: &[u16], to: u16, had: &mut [usize])
 }
 
 /// For each position with a candidate that leads up towards target `k`, shares out its packets. Goes from the last
-/// position to the first.
+/// position to the first. The preconditions are those of `add_packets_to`.
 fn share_up(
     graph: &Adjacency,
     sets: &CandidateSets,
@@ -107,7 +109,7 @@ fn share_up(
 }
 
 /// For each position without a candidate that leads up towards target `k`, shares out its packets. Goes from the first
-/// position to the last.
+/// position to the last. The preconditions are those of `add_packets_to`.
 fn share_down(
     graph: &Adjacency,
     sets: &CandidateSets,
@@ -136,7 +138,8 @@ fn share_down(
 }
 
 /// Shares out the packets of `position` evenly over its candidates towards target `k`: those of `edges` whose set in
-/// `sets` has the target. The remainder of the division is dropped. If there is no candidate, nothing is shared.
+/// `sets` has the target. The remainder of the division is dropped. If there is no candidate, nothing is shared. `k`
+/// must be less than 64. There must be a set for each edge, and 256 loads for each position.
 fn share(
     edges: &[Edge],
     sets: &[TargetSet],

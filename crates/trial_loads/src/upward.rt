@@ -9,7 +9,8 @@ use port_graph::{Adjacency, Edge};
 use spread_labels::{CandidateSets, TargetSet};
 use std::alloc::{AllocError, Global};
 
-/// Returns for each position the targets towards which one of its candidates leads up.
+/// Returns, for each position, the targets towards which any of its candidates leads up. `sets` must be for the edges
+/// of `graph`.
 pub(crate) fn upward(
     alloc: Global,
     graph: &Adjacency,

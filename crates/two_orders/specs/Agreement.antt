@@ -29,8 +29,8 @@ AgreementStays =
     → AgreesUpTo (grown_by edges plan) (number_at told) k
     → AgreesUpTo (grown_by edges plan) (number_at (positions_in (grown_by edges told) (length edges))) k
 
--- if the positions `told` agree with the order that grows by `plan` up to its first `k` vertices (`AgreesUpTo`), the
--- order that grows by `plan` over the tree of `told` agrees with it up to its first `k` + 1 vertices
+-- suppose the positions `told` agree with the order that grows by `plan` up to its first `k` vertices (`AgreesUpTo`).
+-- Then the order that grows by `plan` over the tree of `told` agrees with it up to its first `k` + 1 vertices
 abbrev pub AgreementGrows : Type 0
 AgreementGrows =
     (edges : List (List Edge)) → LeadToVertices edges → (plan told : List ℕ) (k : ℕ)

@@ -30,8 +30,8 @@ pub fn agreement_stays()
     ensures law { AgreementStays }
 {}
 
-/// If positions agree, on the first k vertices, with the order that grows by a plan, then the order that grows by the
-/// plan over the tree of these positions agrees with the plan's order on the first k + 1 vertices.
+/// Suppose that positions agree, on the first k vertices, with the order that grows by a plan. Then the order that
+/// grows by the plan over the tree of these positions agrees with the plan's order on the first k + 1 vertices.
 pub fn agreement_grows()
     ensures law { AgreementGrows }
 {}
