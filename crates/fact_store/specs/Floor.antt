@@ -90,7 +90,7 @@ all_kept floor (e ∷ es) =
 at_least_one : (floor : ℕ) → T (nat_le 1 (max 1 floor))
 at_least_one floor = subst T (sym (le-leb 1 (max 1 floor) (omega arith))) tt
 
--- the map `found` without its cells below the greater of `floor` and 1 has that floor (`has_floor`)
+-- let a floor be the greater of `floor` and 1. The map `found` without the cells below it has that floor (`has_floor`)
 pub dropped_has_floor : (floor : ℕ) (found : CellMap) → T (has_floor (max 1 floor) (dropped (max 1 floor) found))
 dropped_has_floor floor found =
     both_true _ _ (at_least_one floor)

@@ -48,7 +48,8 @@ MergeLaw = (x y : Facts) → IsMerge x y (merge x y)
 abbrev pub MergeIsUnique : Type 0
 MergeIsUnique = (x y z w : Facts) → IsMerge x y z → IsMerge x y w → z ≡ w
 
--- the view of two lists together, at the greater of two floors, is the merge of their views, each at its own floor
+-- the view of two lists together at the greater of two floors is the merge of the views of the lists, each at its own
+-- floor
 abbrev pub ViewOfBoth : Type 0
 ViewOfBoth = (f h : ℕ) (s t : List (Key × Cell Value)) → view_at (max f h) (s ++ t) ≡ merge (view_at f s) (view_at h t)
 

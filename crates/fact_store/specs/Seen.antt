@@ -56,7 +56,7 @@ seen sightings = from_entries (map (λ s. (s.0, cell_at s.0 sightings)) sighting
 abbrev pub WasSighted : Key → List (Key × Cell Value) → Cell Value → Type 0
 WasSighted key sightings c = Contains sightings (key, c)
 
--- some sighting of `key` has `generation`, and none has a greater one
+-- some sighting of `key` has `generation`, and no sighting of `key` has a greater generation
 pub record IsNewest (key : Key) (sightings : List (Key × Cell Value)) (generation : ℕ) : Type 0 where
   pub sighted : (c : Cell Value) × WasSighted key sightings c × (generation_of c ≡ generation)
   pub greatest : (c : Cell Value) → WasSighted key sightings c → generation_of c ≤ generation

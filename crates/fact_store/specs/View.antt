@@ -49,7 +49,7 @@ no_facts = view []
 abbrev pub AreInRange : Facts → Type 0
 AreInRange facts = (key : Key) (c : Cell Value) → cell_for facts key ≡ Some c → IsSighting (key, c)
 
--- some cell of `facts` has `generation`, and none has a greater one
+-- some cell of `facts` has `generation`, and no cell of `facts` has a greater generation
 pub record IsNewestGeneration (facts : Facts) (generation : ℕ) : Type 0 where
   pub held : (key : Key) × (c : Cell Value) × (cell_for facts key ≡ Some c) × (generation_of c ≡ generation)
   pub greatest : (key : Key) (c : Cell Value) → cell_for facts key ≡ Some c → generation_of c ≤ generation

@@ -46,7 +46,7 @@ impl Fingers {
         }
     }
 
-    /// Returns the slot where `key` is looked for first: the last one of its kind, or the last but one for a link.
+    /// Returns the slot where the search for `key` begins: the last slot of its kind, or the last but one for a link.
     pub(crate) fn by_kind(&self, key: &Key) -> Slot
         ensures { Some result ≡ by_kind self.now key.now }
     {
@@ -60,7 +60,8 @@ impl Fingers {
         }
     }
 
-    /// Returns the slot where `key` is looked for next, or `None` if its kind has no slots by GUID.
+    /// Returns the slot where the search for `key` goes on: the last slot of its kind for the hash of its GUID. Returns
+    /// `None` if its kind has no slots by GUID.
     pub(crate) fn by_guid(&self, key: &Key) -> Option<Slot>
         ensures { result ≡ by_guid self.now key.now }
     {

@@ -104,8 +104,8 @@ impl Store {
         Ok(())
     }
 
-    /// Adds all `sightings` that are not below the floor. If memory runs out, returns an error, and nothing changes.
-    /// More than four sightings are first put into a store of their own, which is then merged.
+    /// Adds all `sightings` that are not below the floor. If memory runs out, returns an error, and nothing changes. If
+    /// there are more than four sightings, first puts them into a separate store, and then merges that store.
     pub fn add_all(&mut self, sightings: &[Sighting]) -> Result<(), Refused>
         ensures ok { OnOk result (self.new ≡ merge self.old (view sightings.now)) }
         ensures err { OnErr result (self.new ≡ self.old) }
@@ -118,7 +118,7 @@ impl Store {
     }
 
     /// Builds a store of `sightings`, and merges it. If memory runs out, returns an error, and nothing changes. This is
-    /// a function of its own because a `Store` is large on the stack and a report has few sightings.
+    /// a separate function because a `Store` is large on the stack and a report has few sightings.
     fn add_many(&mut self, sightings: &[Sighting]) -> Result<(), Refused>
         ensures ok { OnOk result (self.new ≡ merge self.old (view sightings.now)) }
         ensures err { OnErr result (self.new ≡ self.old) }

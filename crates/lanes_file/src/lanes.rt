@@ -180,7 +180,7 @@ impl Lanes {
     }
 
     /// Returns the map for packets from port `into` to port `out` of `node`, or `None` if there is no such map. Does a
-    /// binary search.
+    /// binary search among the maps.
     fn map(&self, node: Guid, into: PortNum, out: PortNum) -> Option<&LaneMap>
         ensures is { option_copied result ≡ find (is_map node into out) self.now.maps }
         ensures lanes { IfSome result (λ map. HasLanes map.now) }

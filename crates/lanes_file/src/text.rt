@@ -11,9 +11,10 @@ use crate::lines_before::LinesBefore;
 use std::alloc::Global;
 use text_words::{LinesFault, split_line};
 
-/// Reads a text of lanes. It has at most one line `lanes` and one line `level`. It has a line for each map of a switch,
-/// in ascending order of GUID and ports, and a line for each block of the levels of an end port, in ascending order of
-/// GUID, port and number. Lines end with LF or CR LF, empty lines are skipped, and `#` begins a comment:
+/// Reads a text of lanes. It has at most one `lanes` line and at most one `level` line. It has an `sl2vl` line for each
+/// map of a switch, in ascending order of GUID and ports. It has a `levels` line for each block of the levels of an end
+/// port, in ascending order of GUID, port and number. Lines end with LF or CR LF, empty lines are skipped, and `#`
+/// begins a comment:
 ///
 /// ```text
 /// lanes 00000000000000000000000000000000

@@ -99,8 +99,8 @@ impl Plan {
 
     /// Returns block `b` of the switch `guid`. Entry `i` is the port by which packets for the LID `64 * b + i` leave.
     /// It is 0 if the switch has that LID itself, and 255 if no end port has the LID or no way leads to its owner.
-    /// Returns `None` exactly when `guid` is not a usable switch, or block `b` is after the block of the greatest LID.
-    /// Does a binary search among the switches.
+    /// Returns `None` exactly when `guid` is not a usable switch, no end port has a LID, or block `b` is after the
+    /// block of the greatest LID. Does a binary search among the switches.
     pub fn block(&self, guid: Guid, b: usize) -> Option<&[u8; 64]>
         ensures { option_copied result ≡ block_at self.now guid b }
     {
@@ -155,7 +155,7 @@ fn by_spread(
     Ok((graph.into_switches(), tables))
 }
 
-/// Returns the usable switches, in ascending order of GUID, and the table of each by routes that go up and then down.
+/// Returns the usable switches, in ascending order of GUID, and the table of each by up/down routing.
 fn by_updown(
     alloc: Global,
     wires: &Wires,

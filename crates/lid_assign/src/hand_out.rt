@@ -62,8 +62,8 @@ pub(crate) fn first(lmc: Lmc) -> Next
 }
 
 /// Returns the least number whose range, as wide as that of `port`, is open, and marks this range in `taken`. Returns
-/// `None` if no range of that width is open. `taken` must have at most 49152 numbers. No open range may begin below the
-/// numbers of `next` (`ArePassed`).
+/// `None` if no range of that width is open. `taken` must have at most 49152 numbers. `next` must be passed
+/// (`ArePassed`), so no open range begins below its numbers.
 pub(crate) fn take(taken: &mut [bool], next: &mut Next, lmc: Lmc, port: EndPort) -> Option<Lid>
     requires room { length taken.old ≤ 0xC000 }
     requires passed { ArePassed lmc taken.old next.old }
@@ -82,8 +82,8 @@ pub(crate) fn take(taken: &mut [bool], next: &mut Next, lmc: Lmc, port: EndPort)
 }
 
 /// Returns the least number whose range of `width` numbers is open, and marks this range in `taken`. Returns `None` if
-/// no range of that width is open. `width` must be from 1 to 128, and `taken` must have at most 49152 numbers. No open
-/// range of this width may begin below `next` (`IsPassed`).
+/// no range of that width is open. `width` must be from 1 to 128, and `taken` must have at most 49152 numbers. `next`
+/// must be passed (`IsPassed`), so no open range of this width begins below it.
 fn take_from(taken: &mut [bool], next: &mut usize, width: usize) -> Option<Lid>
     requires some { 1 ≤ width }
     requires few { width ≤ 128 }
@@ -101,8 +101,9 @@ fn take_from(taken: &mut [bool], next: &mut usize, width: usize) -> Option<Lid>
 }
 
 /// Returns the least number, from `next` on, whose range of `width` numbers fits and has no mark. Returns `None` if no
-/// such number exists. `width` must be from 1 to 128, and `marks` must have at most 49152 numbers. No such number may
-/// be below `next`, and `next` must be a multiple of `width` other than 0 (`IsPassed`).
+/// such number exists. `width` must be from 1 to 128, and `marks` must have at most 49152 numbers. `next` must be
+/// passed (`IsPassed`): no such number is below `next`, and `next` is a multiple of `width` other than 0, and at most
+/// `width` past the end of `marks`.
 fn least_unmarked(marks: &[bool], mut next: usize, width: usize) -> Option<usize>
     requires some { 1 ≤ width }
     requires few { width ≤ 128 }

@@ -165,7 +165,7 @@ fn lid_marks(
     Ok(marks)
 }
 
-/// Returns the marked numbers, rising. `marks` must have at most 2^16 entries.
+/// Returns the marked numbers, in ascending order. `marks` must have at most 2^16 entries.
 fn rising(alloc: Global, marks: &[bool]) -> Result<Vec<Lid>, AllocError>
     requires { length marks.now ≤ 2 ^ 16 }
     ensures { IfOk result (λ lids. lids.items ≡ marked_from marks.now 0) }

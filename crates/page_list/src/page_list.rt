@@ -84,7 +84,7 @@ impl<T: Copy> PageList<T> {
         Some(&self.pages[at.page][at.offset])
     }
 
-    /// Returns the index that `slot` stands for, or `None` if the list has no such page or no such index. Takes
+    /// Returns the index that `slot` stands for, or `None` if the list does not have this page or this index. Takes
     /// constant time.
     pub fn index_at(&self, slot: Slot) -> Option<usize>
         ensures { IfSome result (λ i. i < length self.now.items) }

@@ -18,7 +18,7 @@ Climb slopes t s u (suc k) =
 abbrev pub IsRoute : List Slope → ℕ → ℕ → ℕ → Type 0
 IsRoute slopes s t n = (u k d : ℕ) × Climb slopes t s u k × IsDownDistance slopes u t d × (n ≡ k + d)
 
--- `n` is the cost from `s` to `t`: a route takes `n` wires, and none takes fewer
+-- `n` is the cost from `s` to `t`: a route takes `n` wires, and no route takes fewer
 pub record IsCost (slopes : List Slope) (s t n : ℕ) : Type 0 where
   pub route : IsRoute slopes s t n
   pub least : (m : ℕ) → IsRoute slopes s t m → n ≤ m

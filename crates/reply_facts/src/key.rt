@@ -3,7 +3,7 @@ ghost use Rattle.std.specs.Prelude.{◌≡◌};
 use smp_bytes::{Guid, PortNum};
 use std::cmp::Ordering;
 
-/// The subject of a fact. Keys are ordered by kind, in the order of this list, then by GUID and by port.
+/// The subject of a fact. Keys are in the order of kind, as listed here, then of GUID, then of port.
 #[derive(Clone, Copy, Debug)]
 pub enum Key {
     /// A node, by its GUID.

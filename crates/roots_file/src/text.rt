@@ -15,8 +15,8 @@ use smp_bytes::Guid;
 use std::alloc::Global;
 use text_words::{LinesFault, split_line};
 
-/// Parses a text of roots: one GUID a line, as 1 to 16 hex digits, with or without `0x`. Lines end with LF or CR LF,
-/// empty ones are skipped, and `#` begins a comment:
+/// Parses a text of roots. Each line has one GUID, as 1 to 16 hex digits, with or without `0x`. Lines end with LF or CR
+/// LF, empty lines are skipped, and `#` begins a comment:
 ///
 /// ```text
 /// # the cores
@@ -24,8 +24,8 @@ use text_words::{LinesFault, split_line};
 /// 2c903000010b0
 /// ```
 ///
-/// Takes time linear in the number of bytes, and for each line logarithmic in the number of roots. If memory runs out,
-/// also takes a walk over the lines above for each line.
+/// Takes time linear in the number of bytes and, for each line, logarithmic in the number of roots. If memory runs out,
+/// also walks, for each line, the lines above it.
 ///
 /// # Errors
 ///

@@ -62,6 +62,6 @@ abbrev pub with_bits : Bits → ℕ → List ℕ → List ℕ
 with_bits bits number bytes =
     with_number (record { at = bits.at; len = 1 }) (replaced bits number (slice_index bytes bits.at)) bytes
 
--- whether the bits `a` and `b` are in different bytes, or all of one are above all of the other
+-- whether the bits `a` and `b` are in different bytes, or all bits of one are above all bits of the other
 abbrev pub are_bits_apart : Bits → Bits → Bool
 are_bits_apart a b = not (a.at == b.at) || (nat_le (a.shift + a.width) b.shift || nat_le (b.shift + b.width) a.shift)

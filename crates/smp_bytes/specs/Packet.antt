@@ -116,7 +116,7 @@ permissive_lid = 0xFFFF
 abbrev pub max_hops : ℕ
 max_hops = 63
 
--- the first fault in the fields that only the directed class has; None if there is none
+-- the first fault in the fields that only the directed class has; None if these fields have no fault
 abbrev pub directed_fault_of : List ℕ → Option SmpFault
 directed_fault_of packet =
     if nat_lt max_hops (number_in hop_count packet) then Some HopCount

@@ -73,7 +73,7 @@ abbrev pub gave_by : List (List Edge) → ℕ → ℕ → Edge → Option Mark �
 gave_by edges t s e None = false
 gave_by edges t s e (Some m) = gave_before edges t s e m.cost
 
--- whether edge `e` gave vertex `s` the mark that `s` has after `round` rounds; false if `s` has none
+-- whether edge `e` gave vertex `s` the mark that `s` has after `round` rounds; false if `s` has no mark then
 abbrev pub gave : List (List Edge) → ℕ → ℕ → ℕ → Edge → Bool
 gave edges t round s e = gave_by edges t s e (marks_after edges t round s)
 

@@ -41,15 +41,15 @@ first_of (Some x) other = Some x
 abbrev pub next_at : (ℕ → ℕ → Bool) → List Stage → ℕ → Option ℕ
 next_at before stages n = first_of (earliest_at before stages Beside n) (earliest_at before stages Left n)
 
--- `stages`, with `Beside` for vertex `s` if it was `Left`
+-- `stages`, with vertex `s` set to `Beside` if it was `Left`
 abbrev pub beside : List Stage → ℕ → List Stage
 beside stages s = if is_stage (stage_at stages s) Left then slice_set stages s Beside else stages
 
--- `stages`, with `Beside` for each vertex that the edges lead to, if it was `Left`
+-- `stages`, with each vertex that the edges lead to set to `Beside` if it was `Left`
 abbrev pub beside_all : List Stage → List Edge → List Stage
 beside_all stages [] = stages
 beside_all stages (e ∷ es) = beside_all (beside stages e.to) es
 
--- `stages`, with `Placed` for vertex `v`, and then `Beside` for each vertex that `edges` lead to, if it was `Left`
+-- `stages`, with vertex `v` set to `Placed`, and then each vertex that `edges` lead to set to `Beside` if it was `Left`
 abbrev pub after_add_vertex : ℕ → List Edge → List Stage → List Stage
 after_add_vertex v edges stages = beside_all (slice_set stages v Placed) edges

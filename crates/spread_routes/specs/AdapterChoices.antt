@@ -62,8 +62,7 @@ destination leaf_numbers adapters q = record {
 abbrev pub destinations : List ℕ → List ℕ → List Destination
 destinations leaf_numbers adapters = map (destination leaf_numbers adapters) (leaf_vertices adapters)
 
--- None if the loads by first choices are even, and otherwise the balanced choices. Each adapter sends one packet to
--- each adapter
+-- the balanced choices, or None if the loads by first choices are even. Each adapter sends one packet to each adapter
 abbrev pub counted_if_uneven : List (List Edge) → List ℕ → List ℕ → List Destination → Option (List (List ℕ))
 counted_if_uneven graph adapters weights ds =
     if are_even graph (first_loads graph adapters weights ds) then None

@@ -148,7 +148,7 @@ impl<'s> Exits<'s> {
         }
     }
 
-    /// Returns the position of `target`, or 0 if there is no such target.
+    /// Returns the position of the target with the index `target`, or 0 if there is no such target.
     fn position_of(&self, target: usize) -> usize
         ensures { result ≡ slice_index self.now.targets target }
     {

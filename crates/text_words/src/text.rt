@@ -4,8 +4,8 @@ ghost use Rattle.std.specs.Str.{bytes_eq};
 ghost use Rattle.text_words.specs.Text.{lines, words, is_blank, parts, is_behind_word, is_quoted_after};
 ghost use Rattle.text_words.specs.Text.{without_return};
 
-/// Returns the first line of `text` without its line end, and the text after the line end. Returns `None` if `text` is
-/// empty.
+/// Returns the first line of `text`, without its line end, and the text after this line end. Returns `None` if `text`
+/// is empty.
 #[tactic(auto, using(crate::proofs::Splits::lines_at, crate::proofs::Splits::lines_none))]
 pub fn split_line(text: &[u8]) -> Option<(&[u8], &[u8])>
     ensures line { MatchOption result (lines text.now ≡ [])
@@ -21,7 +21,7 @@ pub fn split_line(text: &[u8]) -> Option<(&[u8], &[u8])>
     }
 }
 
-/// Returns `line` without its carriage return, if it ends with one.
+/// Returns `line` without the carriage return at its end, if it ends with one.
 #[tactic(auto, using(crate::proofs::Splits::return_at_end, crate::proofs::Splits::no_return_at_end))]
 fn without_return(line: &[u8]) -> &[u8]
     ensures { result.now ≡ without_return line.now }

@@ -46,8 +46,8 @@ pub fn next_ports_are_in_words()
     ensures { NextPortLaw }
 {}
 
-/// From each switch with a cost to a target, the next ports lead there, up and then down, over as many wires as the
-/// cost.
+/// From each switch that has a cost to a target, the next ports lead to the target, up and then down, over as many
+/// wires as the cost.
 pub fn next_ports_lead_to_the_target()
     ensures { WayLaw }
 {}
@@ -62,7 +62,7 @@ pub fn a_cost_within_a_component()
     ensures { CostInComponent }
 {}
 
-/// Channel numbers rise along each way by next ports, so packets never wait for each other in a credit loop.
+/// Channel numbers rise along each way by next ports, so packets never wait for one another in a credit loop.
 pub fn channels_rise_along_ways()
     ensures { ChannelLaw }
 {}
